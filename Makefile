@@ -56,7 +56,7 @@ test-crate:
 	cd crates/$(CRATE) && $(RT) check
 	[ ! -d crates/$(CRATE)/must-fail ] || $(RT) must-fail $(CRATE)
 	[ ! -d crates/$(CRATE)/planted ] || RT=$(RT) IS_PROVED=1 python3 tests/planted.py planted $(CRATE)
-	cd crates/idn2_rows && $(RT) try --test
+	for rows in label_rows table_rows idn2_rows; do (cd crates/$$rows && $(RT) try --test) || exit 1; done
 
 # The wrong bodies that the gate leaves out, of all crates or of those that CRATES names.
 wrong-bodies:
@@ -64,7 +64,7 @@ wrong-bodies:
 	RT=$(RT) LANES=$(LANES) IS_PROVED=1 python3 tests/planted.py wrong-bodies $(CRATES)
 
 # The program, its manual page, its completions for bash, zsh and fish, and its tables, below $(DESTDIR)$(PREFIX), each under
-# PROGRAM_NAME.
+# PROGRAM_NAME. And idn2-registry, one file that Python runs, with its page and completions.
 BIN = $(DESTDIR)$(PREFIX)/bin/$(PROGRAM_NAME)
 SHARE = $(DESTDIR)$(PREFIX)/share
 PAGE = $(SHARE)/man/man1/$(PROGRAM_NAME).1
@@ -79,6 +79,11 @@ install: program-name all
 	install -D -m 644 completions/idn2.fish $(FOR_FISH)
 	find tables -name '*.txt' | xargs -I % install -D -m 644 % $(SHARE)/$(PROGRAM_NAME)/%
 	sed -i $(IN_PAGE) $(PAGE)
+	python3 registry/pack.py $(PROGRAM_NAME) $(DESTDIR)$(PREFIX)/bin/idn2-registry
+	install -D -m 644 docs/idn2-registry.1 $(SHARE)/man/man1/idn2-registry.1
+	install -D -m 644 completions/idn2-registry.bash $(SHARE)/bash-completion/completions/idn2-registry
+	install -D -m 644 completions/idn2-registry.zsh $(SHARE)/zsh/site-functions/_idn2-registry
+	install -D -m 644 completions/idn2-registry.fish $(SHARE)/fish/vendor_completions.d/idn2-registry.fish
 	sed -i -e 's/^\(complete .*\) idn2$$/\1 $(PROGRAM_NAME)/' $(FOR_BASH)
 	sed -i -e 's/^#compdef idn2$$/#compdef $(PROGRAM_NAME)/' $(FOR_ZSH)
 	sed -i -e 's/^\( *complete -c\) idn2 /\1 $(PROGRAM_NAME) /' $(FOR_FISH)
@@ -92,6 +97,7 @@ IN_PAGE = -e 's/^\.TH IDN2 /.TH \U$(ROFF_NAME)\E /' -e 's/^idn2 \\- /$(ROFF_NAME
 
 program-name:
 	@echo '$(PROGRAM_NAME)' | grep -Eqx '[A-Za-z0-9][A-Za-z0-9._+-]*' || { echo 'PROGRAM_NAME is no file name' >&2; exit 2; }
+	@test '$(PROGRAM_NAME)' != idn2-registry || { echo 'PROGRAM_NAME is the name of another program' >&2; exit 2; }
 
 # One archive for servers without the kit: what is installed, the tables and their scripts, what an engineer reads, and
 # check sums. Each path that these documents name is in it.
@@ -104,8 +110,8 @@ dist:
 	@grep -ao 'GLIBC_[0-9][0-9.]*' $(PROGRAM) | sort -uV | tail -n 1 | grep -Fqx 'GLIBC_$(C_LIBRARY)' || \
 	    { echo 'the program needs another C library than the README says: objdump -T $(PROGRAM)' >&2; exit 1; }
 	find tables -name '*.txt' -o -name '*.py' | xargs -I % install -D -m 644 % $(DIST)/$(PACKED)/%
-	install -D -m 644 -t $(DIST)/$(PACKED)/docs docs/GUIDE.md docs/JSON.md docs/answers.schema.json docs/NOTATION.md \
-	    docs/PROFILE.md docs/GLOSSARY.md docs/idn2.1
+	install -D -m 644 -t $(DIST)/$(PACKED)/docs docs/GUIDE.md docs/CONVERSION.md docs/LIBIDN2.md docs/JSON.md docs/answers.schema.json docs/NOTATION.md \
+	    docs/PROFILE.md docs/GLOSSARY.md docs/idn2.1 docs/idn2-registry.1
 	install -m 644 -t $(DIST)/$(PACKED) CHANGELOG.md $(wildcard LICENSE* LICENCE* COPYING*)
 	cd $(DIST)/$(PACKED) && find . -type f ! -name SHA256SUMS -printf '%P\n' | LC_ALL=C sort | xargs sha256sum > SHA256SUMS
 	cd $(DIST) && tar --sort=name --mtime=@0 --owner=0 --group=0 --numeric-owner -cf - $(PACKED) | gzip -n > $(PACKED).tar.gz
@@ -124,6 +130,7 @@ bench: all
 	python3 bench/collisions.py
 	python3 bench/limits.py
 	python3 bench/rulesets.py
+	python3 bench/registry.py
 
 # Compares the program with libidn2, with a second writing of the rules and of the table notation, and with Unicode's
 # IDNA test file where IDNA_TEST_FILE names it.
@@ -145,13 +152,13 @@ fuzz: all
 	python3 conformance/fuzz.py --seconds $(SECONDS)
 
 # For a new version of Unicode (docs/UNICODE.md): the tables of idn_class from the kit's; and the labels that another
-# program answers otherwise: make changed-answers OLD=PROGRAM [LABELS=FILE] [MODE=register|lookup|decode]
+# program answers otherwise: make changed-answers OLD=PROGRAM [LABELS=FILE] [MODE=register|lookup|decode] [STANDARD=--standard]
 class-table:
 	cd crates/idn_class_table && $(RT) run > stdout && cp stdout ../idn_class/src/class_table.rt
 
 MODE := register
 changed-answers:
-	python3 conformance/changed_answers.py --mode $(MODE) $(OLD) $(PROGRAM) $(LABELS)
+	python3 conformance/changed_answers.py --mode $(MODE) $(STANDARD) $(OLD) $(PROGRAM) $(LABELS)
 
 clean:
-	rm -rf crates/*/out dist
+	rm -rf crates/*/out out dist

@@ -25,7 +25,7 @@ _idn2() {
 _idn2_options() {
     local given=" ${COMP_WORDS[*]:1:COMP_CWORD-1} "
     local modes="-l --lookup -r --register -d --decode --variants --check-table --ruleset --check-ruleset"
-    local options="-N --tr46nt --usestd3asciirules --explain --json --quiet -h --help -V --version" option
+    local options="-N --tr46nt --usestd3asciirules --standard --explain --json --quiet -h --help -V --version" option
     case $given in
         *" -- "*) return ;;
         *" --variants "* | *" --ruleset "*) modes= options="$(_idn2_beside_variants "$given") $options" ;;

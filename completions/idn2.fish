@@ -46,6 +46,7 @@ __idn2_listing_option '--steps --jump --among' -l steps -x -d 'With --variants: 
 
 __idn2_option '-N --tr46nt' -s N -l tr46nt -d 'Non-transitional lookup, which lookup does anyway'
 __idn2_option --usestd3asciirules -l usestd3asciirules -d 'Lookup refuses ASCII but letters, digits, hyphens'
+__idn2_option --standard -l standard -d "Test labels by Unicode's own data, not by lists"
 __idn2_option --explain -l explain -d 'Messages of refused lines go on with the cause'
 __idn2_option --json -l json -d 'Answer by objects of JSON, with causes of refusals'
 __idn2_option --quiet -l quiet -d 'Accepted; there is no banner'

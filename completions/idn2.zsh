@@ -22,6 +22,7 @@ _arguments -S : $listing \
     "($modes)--check-ruleset=[Print the pairs that the ruleset in FILE lacks]:FILE:_files" \
     '(-N --tr46nt)'{-N,--tr46nt}'[Non-transitional lookup, which lookup does anyway]' \
     '--usestd3asciirules[Lookup refuses ASCII but letters, digits, hyphens]' \
+    "--standard[Test labels by Unicode's own data, not by lists]" \
     '--explain[Messages of refused lines go on with the cause]' \
     '--json[Answer by objects of JSON, with causes of refusals]' \
     '--quiet[Accepted; there is no banner]' \

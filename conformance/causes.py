@@ -6,15 +6,14 @@ A cause is the text after the colon, or None where none is told. Places and labe
 import unicodedata
 
 from registration import (BAD_A_LABEL, BIDI, CONTEXT_J, CONTEXT_O, HYPHEN, IS_DISALLOWED, IS_UNASSIGNED, LABEL_TOO_LONG,
-                          LEADING_MARK, MOST_OCTETS, NOT_NFC, Refused, a_label, lowered)
-from rules import stands_between_joining
-from unicode_data import DISALLOWED, EXCEPTIONS, IGNORABLE_BLOCKS, LEFT_OUT, OLD_HANGUL_JAMO, UNASSIGNED, is_in
+                          LEADING_MARK, MOST_OCTETS, NOT_NFC, Refused, a_label, lowered, points_of)
+from rules import NEUTRAL, RIGHT_TO_LEFT, fails_as_a_name, stands_between_joining
+from unicode_data import DISALLOWED, EXCEPTIONS, IGNORABLE_BLOCKS, OLD_HANGUL_JAMO, UNASSIGNED, is_in
 
 NOT_UTF8, LINE_TOO_LONG, OUT_OF_ORDER, FILE_TOO_LONG, INVALID, BAD_LENGTH, NOT_IN_TABLE, NOT_VALID = 1, 2, 4, 5, 20, 21, 40, 41
 # RFC 1035, section 2.3.4, without the last full stop and the lengths of labels.
 MOST_OCTETS_OF_A_NAME = 253
 APPENDICES = {0x200C: 1, 0x200D: 2, 0xB7: 3, 0x375: 4, 0x5F3: 5, 0x5F4: 6, 0x30FB: 7}
-NEUTRAL = {"EN", "ES", "CS", "ET", "ON", "BN", "NSM"}
 
 
 def at(place, point):
@@ -27,7 +26,7 @@ def first(places, fails):
 
 class Causes:
     def __init__(self, registration, classes):
-        self.registration, self.classes, self.profile = registration, classes, registration.profile
+        self.registration, self.classes, self.known = registration, classes, registration.known
         self.ignorable = classes.set_of("DerivedCoreProperties.txt", "Default_Ignorable_Code_Point")
         self.ignorable |= classes.set_of("PropList.txt", "White_Space") | classes.noncharacters
 
@@ -64,7 +63,7 @@ class Causes:
         return None
 
     def of_label(self, label, refusal):
-        points = [ord(letter) for letter in label]
+        points = points_of(label)
         return {
             IS_DISALLOWED: self.barred, IS_UNASSIGNED: self.barred, NOT_NFC: self.changed, HYPHEN: self.hyphen,
             LEADING_MARK: lambda points: at(0, points[0]), CONTEXT_J: self.joiner, CONTEXT_O: self.other, BIDI: self.condition,
@@ -80,7 +79,7 @@ class Causes:
         letter = chr(point)
         stable = lambda text: unicodedata.normalize("NFKC", unicodedata.normalize("NFKC", text).casefold())
         lines = (
-            ("outside the profile", is_in(LEFT_OUT, point)),
+            ("outside the profile", is_in(self.classes.left_out, point)),
             ("RFC 5892 2.6 Exceptions", point in EXCEPTIONS[DISALLOWED]),
             ("RFC 5892 2.10 Unassigned", point not in self.classes.category and point not in self.classes.noncharacters),
             ("RFC 5892 2.2 Unstable", stable(letter) != letter),
@@ -107,8 +106,8 @@ class Causes:
 
     def joiner(self, points):
         def fails(place):
-            after_virama = place > 0 and self.profile.is_virama(points[place - 1])
-            joins = points[place] == 0x200C and stands_between_joining(points, place, self.profile)
+            after_virama = place > 0 and self.known.is_virama(points[place - 1])
+            joins = points[place] == 0x200C and stands_between_joining(points, place, self.known)
             return points[place] in (0x200C, 0x200D) and not after_virama and not joins
         return self.against_appendix(points, first(range(len(points)), fails))
 
@@ -123,22 +122,24 @@ class Causes:
         return f"{at(place, point)}: RFC 5892 A.{appendix}"
 
     def condition(self, points):
-        classes = [self.profile.bidi_class(point) for point in points]
+        classes = [self.known.bidi_class(point) for point in points]
         number, place = self.broken(classes)
         return f"{at(place, points[place])} is {classes[place]}: RFC 5893 2, condition {number}"
 
     @staticmethod
     def broken(classes):
-        """The first condition of RFC 5893, section 2, that is broken, and where."""
+        """The first condition of RFC 5893, section 2, that is broken, and where. The sixth is the first only of a label
+        that the rule is asked of because of another label of its name."""
         places = range(len(classes))
+        last = max((place for place in places if classes[place] != "NSM"), default=0)
         if classes[0] == "L":
-            return 5, first(places, lambda place: classes[place] not in NEUTRAL | {"L"})
+            place = first(places, lambda place: classes[place] not in NEUTRAL | {"L"})
+            return (6, last) if place is None else (5, place)
         if classes[0] not in ("R", "AL"):
             return 1, 0
-        place = first(places, lambda place: classes[place] not in NEUTRAL | {"R", "AL", "AN"})
+        place = first(places, lambda place: classes[place] not in NEUTRAL | RIGHT_TO_LEFT)
         if place is not None:
             return 2, place
-        last = max(place for place in places if classes[place] != "NSM")
         if classes[last] not in ("R", "AL", "EN", "AN"):
             return 3, last
         return 4, first(places, lambda place: {"EN", "AN"} <= set(classes[:place + 1]))
@@ -188,7 +189,14 @@ class Causes:
                 cause = self.of_a_label(lower, refusal)
                 separator = ", " if cause is not None and cause.startswith("decoded: ") else ": "
                 return None if cause is None else f"label {number}{separator}{cause}"
-        return None
+        return self.of_whole_name([lowered(label) for label in name.split(".")]) if refusal == BIDI else None
+
+    def of_whole_name(self, labels):
+        """Of a name that breaks the Bidi rule although each of its A-labels may be registered."""
+        decoded = [self.decoded(label[4:]) if label.startswith("xn--") else label for label in labels]
+        number = fails_as_a_name([points_of(label) for label in decoded], self.known)
+        separator = ", decoded: " if labels[number - 1].startswith("xn--") else ": "
+        return f"label {number}{separator}{self.condition(points_of(decoded[number - 1]))}"
 
     @staticmethod
     def of_length(query):

@@ -1,7 +1,7 @@
 #!/usr/bin/env python3
 """Lists the labels that two programs answer otherwise, say of an old and of a new version of Unicode:
 
-    python3 conformance/changed_answers.py OLD NEW [FILE] [--mode register|lookup|decode]
+    python3 conformance/changed_answers.py OLD NEW [FILE] [--mode register|lookup|decode] [--standard]
 
 OLD and NEW are programs. The labels are the lines of FILE. Without FILE they are all code points: each by itself, after the
 letter a, and after the letter alef, so that what changed of marks and of right-to-left code points shows, too. It prints
@@ -44,18 +44,18 @@ def lines_of(file):
     return lines[:-1] if lines[-1] == b"" else lines
 
 
-def answers_of(program, mode, lines):
+def answers_of(program, options, lines):
     """The answer of a program to each line: whether it is refused, and what is printed, or the refusal's number and text."""
     try:
-        done = subprocess.run([program, f"--{mode}"], input=b"".join(line + b"\n" for line in lines), capture_output=True)
+        done = subprocess.run([program, *options], input=b"".join(line + b"\n" for line in lines), capture_output=True)
     except OSError as error:
         raise Unusable(error) from error
     messages = [MESSAGE.fullmatch(message) for message in done.stderr.splitlines()]
     refused = {int(message.group(1)): message.group(2) for message in messages if message}
     printed = done.stdout.split(b"\n")[:-1]
     if done.returncode not in (0, 1) or not all(messages) or len(printed) + len(refused) != len(lines):
-        raise Unusable(f"{program} --{mode}: status {done.returncode}, {len(printed)} answers and {len(refused)} refusals to "
-                       f"{len(lines)} lines: {done.stderr[-200:]!r}")
+        raise Unusable(f"{program} {' '.join(options)}: status {done.returncode}, {len(printed)} answers and "
+                       f"{len(refused)} refusals to {len(lines)} lines: {done.stderr[-200:]!r}")
     rest = iter(printed)
     return [(True, refused[number]) if number in refused else (False, next(rest)) for number in range(1, len(lines) + 1)]
 
@@ -93,11 +93,13 @@ def main():
     words.add_argument("new", help="another one")
     words.add_argument("file", nargs="?", help="labels, one on each line; all code points if left out")
     words.add_argument("--mode", choices=("register", "lookup", "decode"), default="register")
+    words.add_argument("--standard", action="store_true", help="run both programs with it")
     options = words.parse_args()
     try:
         lines = lines_of(options.file) if options.file else all_code_points()
         programs = map(os.path.abspath, (options.old, options.new))
-        return int(report(lines, *(answers_of(program, options.mode, lines) for program in programs)))
+        asked = [f"--{options.mode}", *(["--standard"] if options.standard else [])]
+        return int(report(lines, *(answers_of(program, asked, lines) for program in programs)))
     except Unusable as error:
         print(f"changed_answers: {error}", file=sys.stderr)
         return 2

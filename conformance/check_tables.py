@@ -1,10 +1,10 @@
 #!/usr/bin/env python3
 """Compares `idn2 --check-table` with the second writing of the notation: python3 conformance/check_tables.py
 
-The second writing is tables/check.py. Both are given the example tables of tables/, texts at the edges of the
-notation and of its limits, and random texts from a fixed seed. What is printed, the message of a faulty table and the
-status must be the same, byte for byte. The classes of code points are those of Unicode's data here, so the texts have
-no code point that is newer.
+The second writing is tables/check.py. Both are given the example tables of tables/, texts at the edges of the notation
+and of its limits, and random texts from a fixed seed, without `--standard` and with it. What is printed, the message of
+a faulty table and the status must be the same, byte for byte. The classes of code points are those of Unicode's data
+here, so the texts have no code point that is newer.
 """
 
 import argparse
@@ -36,8 +36,8 @@ EDGES = [
     b"0061||0062\n", b"0061|0062|0063\n", b"0061:0062\n", b"0061|0062:\n", b"0061|:0062\n", b"0061|0062::0063\n",
     b"0061|-\n", b" 0061\t-\t0062 | 0063 : 0064 - 0065 \n", b"u+0061 | 0062 : 0063-0064\r\n", b"0061\x0b\n",
     b"0061\x000062\n", b"%version 3\n", b" %\n", b"0061..0063\n", b"0061|!0062\n", b"!0061\n",
-    b"0041\n", b"0061|0041\n", b"002D\n", b"00B7\n", b"200D\n", b"0640\n", b"FB1D\n", b"FE70\n", b"10800\n",
-    b"1E800\n", b"50000\n", b"FDD0\n",
+    b"0041\n", b"0061|0041\n", b"002D\n", b"00B7\n", b"200D\n", b"0640\n", b"FB1D\n", b"FB1E\n", b"FE70\n", b"10800\n",
+    b"1E800\n", b"1E900\n", b"1E922\n", b"50000\n", b"FDD0\n",
     b"0061\n0061\n", b"0061\n\n#\n0061|0062\n", b"0061|0061\n", b"0061|0062:0062\n", b"0061|0062\n0061|0062:0062\n",
     b"0061-0062|0061-0062\n", b"0041|0041\n", b"0061\n0041\n0062|\n",
     b"-".join([b"0061"] * 8), b"-".join([b"0061"] * 9), b"-".join([b"0041"] * 9), b"0061|" + b"-".join([b"0062"] * 9),
@@ -90,11 +90,11 @@ def random_text(chance):
     return text
 
 
-def answer_of(program, text):
+def answer_of(program, text, words):
     with tempfile.NamedTemporaryFile() as file:
         file.write(text)
         file.flush()
-        done = subprocess.run([program, "--check-table", file.name], stdin=subprocess.DEVNULL, capture_output=True)
+        done = subprocess.run([program, *words, "--check-table", file.name], stdin=subprocess.DEVNULL, capture_output=True)
     return done.stdout.decode(), done.stderr.decode(), done.returncode
 
 
@@ -121,11 +121,12 @@ def main():
     texts = [*examples.values(), *EDGES, *EDGES_OF_VERSION_2, *version_2]
     texts += [random_text(chance) for _ in range(options.random)]
     wrong = 0
-    for text in texts:
-        given, wanted = answer_of(options.program, text), expected(text, classes)
-        if given != wanted:
-            wrong += 1
-            print(f"{text[:SHOWN]!r}\n  answered {given}\n  expected {wanted}")
+    for words, by_choice in (([], classes), (["--standard"], classes.whole())):
+        for text in texts:
+            given, wanted = answer_of(options.program, text, words), expected(text, by_choice)
+            if given != wanted:
+                wrong += 1
+                print(f"{words} {text[:SHOWN]!r}\n  answered {given}\n  expected {wanted}")
     gaps = [name for name, text in examples.items() if expected(text, classes)[2] != 0]
     print(f"--check-table: {len(texts)} tables, {wrong} answered otherwise")
     print(f"example tables with a gap: {', '.join(gaps) or 'none'}")

@@ -1,11 +1,12 @@
 #!/usr/bin/env python3
 """Compares our idn2 with libidn2 on many thousand names: python3 conformance/compare.py
 
-For registration, decoding and lookup, both are asked about the same names (names.py). Where both refuse, or both
-give the same text, they agree; every other case is a difference. Each difference must be of a known kind (kinds.py),
-of which the script prints the number, the reason and an example. Our answers for registration and decoding, the
-numbers of refusals too, must also be those of the rules as they are written down a second time (registration.py),
-for all names without a code point newer than the data here. Any other difference fails the run: status 1.
+For registration and decoding, without `--standard` and with it, and for lookup, both are asked about the same names
+(names.py). Where both refuse, or both give the same text, they agree; every other case is a difference. Each difference
+must be of a known kind (kinds.py), of which the script prints the number, the reason and an example. Our answers for
+registration and decoding, the numbers of refusals too, must also be those of the rules as they are written down a
+second time (registration.py), for all names without a code point newer than the data here. Any other difference fails
+the run: status 1.
 
 Our program is run once for each mode; libidn2 is asked through its library, with the calls of its program. The
 script needs libidn2 (Debian's package libidn2-0) and Unicode's data (unicode-data).
@@ -24,8 +25,8 @@ sys.path.insert(0, str(HERE.parent / "tables"))
 import kinds
 import names
 from libidn2 import LibIdn2
-from registration import Registration
 from rules import UnicodeProperties
+from second_run import SecondWriting
 from unicode_data import Classes, version
 
 PROGRAM = HERE.parent / "crates/idn2/out/idn2"
@@ -63,9 +64,9 @@ def described(case):
     return f"{shown(case.name) or '(empty)'}: ours {ours or '(empty)'}, libidn2 {theirs or '(empty)'}"
 
 
-def compare(program, option, lines, ask, known_kinds, facts):
+def compare(program, words, lines, ask, known_kinds, facts):
     """Prints the differences by kind; answers our answers, and how many differences are of no known kind."""
-    our = our_answers(program, [option], lines)
+    our = our_answers(program, words, lines)
     cases = [kinds.Case(line, *answer, *ask(line)) for line, answer in zip(lines, our)]
     by_kind, unknown = collections.defaultdict(list), []
     for case in filter(kinds.Case.differs, cases):
@@ -73,7 +74,7 @@ def compare(program, option, lines, ask, known_kinds, facts):
         (by_kind[kind.reason] if kind else unknown).append(case)
     both = sum(1 for case in cases if case.ours is not None and not case.differs())
     neither = sum(1 for case in cases if case.ours is None and case.theirs is None)
-    print(f"\n{option}: {len(cases):,} lines, {both:,} with the same text, {neither:,} refused by both")
+    print(f"\n{' '.join(words)}: {len(cases):,} lines, {both:,} with the same text, {neither:,} refused by both")
     for kind in known_kinds:
         if found := by_kind.get(kind.reason):
             print(f"  {len(found):>7,}  {kind.reason}\n           {described(found[0])}")
@@ -110,14 +111,21 @@ def main():
     facts, points = kinds.Facts(classes, known, library), names.Points(classes, known)
     every = names.every_code_point() if options.every_code_point else []
     print(f"libidn2 {library.version()}, Unicode data {version()}, seed {names.SEED}")
-    registration, failures = Registration(classes), 0
-    for option, lines, ask, known_kinds, second in (
-        ("-r", names.labels(points, options.names) + every, library.register, kinds.REGISTER, registration.register),
-        ("-d", names.coded_names(points, options.names), library.decode, kinds.DECODE, registration.decode),
-        ("-l", names.names(points, options.names) + every, library.lookup, kinds.LOOKUP, None),
+    labels, coded_names = names.labels(points, options.names) + every, names.coded_names(points, options.names)
+    second, failures = SecondWriting.of(classes), 0
+    profile, standard = second.by_profile.registration, second.by_standard.registration
+    for words, lines, ask, known_kinds, registration in (
+        (["-r"], labels, library.register, kinds.REGISTER, profile),
+        (["-r", "--standard"], labels, library.register, kinds.REGISTER_BY_STANDARD, standard),
+        (["-d"], coded_names, library.decode, kinds.DECODE, profile),
+        (["-d", "--standard"], coded_names, library.decode, kinds.DECODE_BY_STANDARD, standard),
+        (["-l"], names.names(points, options.names) + every, library.lookup, kinds.LOOKUP, None),
     ):
-        our, unknown = compare(options.program, option, lines, ask, known_kinds, facts)
-        failures += unknown + (verify(lines, our, second, registration) if second else 0)
+        our, unknown = compare(options.program, words, lines, ask, known_kinds, facts)
+        failures += unknown
+        if registration:
+            ask = registration.register if words[0] == "-r" else registration.decode
+            failures += verify(lines, our, ask, registration)
     print(f"\n{failures} differences of no known kind")
     return 1 if failures else 0
 

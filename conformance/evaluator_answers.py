@@ -27,7 +27,7 @@ from verified import Kind
 SCRIPT = HERE.parent / "tables" / "from_lgr.py"
 # No answer has so many variants.
 MOST_SPELLED = 1_000_000
-# Where version 3 of the notation means something else than RFC 7940 (docs/DECISIONS.md, 62, 67 and 69).
+# Where version 3 of the notation means something else than RFC 7940 (docs/DECISIONS.md, 'Rulesets').
 OF_VERSION_3 = {Kind.LONGEST, Kind.UNCLEAR, Kind.OWN, Kind.NUMBER}
 
 

@@ -1,12 +1,13 @@
 #!/usr/bin/env python3
 """Compares the built program with a second writing of its rules on random input: python3 conformance/fuzz.py
 
-It draws words, tables, labels, registered labels, names and bytes from a seed, which it prints, until the given number of
-seconds is over. Each run's output, messages and status must be those of second_run.py, byte for byte, in half of the runs
-with the causes that causes.py tells. Those are run once more with `--json`: each line must be what Python's json prints of
-the object that it reads there, and the objects must say the same (objects.py). Names for lookup are compared with
-libidn2's answers, whose known kinds of difference are in kinds.py, and with what is said of them with `--explain` and with
-`--json`, the cause of a wrong length included. Status 1 where anything differs.
+It draws words, tables, labels, registered labels, names and bytes from a seed, which it prints, until the given number
+of seconds is over. Each run's output, messages and status must be those of second_run.py, byte for byte, in half of the
+runs with `--standard`, and in half with the causes that causes.py tells. Those are run once more with `--json`: each
+line must be what Python's json prints of the object that it reads there, and the objects must say the same
+(objects.py). Names for lookup are compared with libidn2's answers, whose known kinds of difference are in kinds.py, and
+with what is said of them with `--explain` and with `--json`, the cause of a wrong length included. Status 1 where
+anything differs.
 """
 
 import argparse
@@ -29,10 +30,10 @@ import names
 from causes import BAD_LENGTH, INVALID, Causes
 from drawn_rulesets import DrawnRuleset, spelled
 from libidn2 import LibIdn2
-from registration import EMPTY, LABEL_TOO_LONG, Registration, a_label
+from registration import EMPTY, LABEL_TOO_LONG, a_label
 from rules import UnicodeProperties
 from objects import Wrong, as_explained, without_what_objects_leave_out
-from second_run import LINE_LIMIT, TEXTS, Bad, Options, Run, Show, Unknown, bodies
+from second_run import LINE_LIMIT, TEXTS, Bad, Options, SecondWriting, Show, Unknown, bodies
 from unicode_data import Classes, version
 
 SHOWN = 400
@@ -44,11 +45,14 @@ LOOKUP_TEXTS = {EMPTY: TEXTS[EMPTY], INVALID: "not a valid name", BAD_LENGTH: "n
 FULL_STOPS = "[.\u3002\uff0e\uff61]"
 # What the tables are made of: small alphabets, so that sources, variants and labels meet each other.
 ALPHABETS = ("ab", "sß", "abß-", "a-", "ab\u0301", "qa\u0301", "\u05d0\u05d1a", "\u0627\u0660\u06f0", "中国國", "lа·l",
-             "\u0915\u094d\u200d", "\u0627\u200c\u0647a", "àa\u0300", "0a9\u05d0", "\U00020000中\U00020001")
+             "\u0915\u094d\u200d", "\u0627\u200c\u0647a", "àa\u0300", "0a9\u05d0", "\U00020000中\U00020001",
+             # What the profile and Unicode tell apart: scripts left out, signs, marks, joining letters and viramas.
+             "\U0001e922\U0001e94b\u200ca", "\U00010d00\U00010d300\u0660", "\u05d0\u02c6\u0cbfa", "\u0712\u200c\u1820",
+             "\u1000\u1039\u200d")
 PIECES = [b"a", b"b", b".", b"-", b"--", b"xn--", b"XN--", b"\0", b"\r", b"\r\n", b"\n", b"\xff", b"\xc3", b"\xed\xa0\x80",
           b"\xf4\x90\x80\x80", b"\xc0\x80", "ß".encode(), "\u0301".encode(), "\U00010ffff".encode(), b"a" * 62, b"b" * 1000]
 WORDS = ["-l", "--lookup", "-r", "--register", "-d", "--decode", "-N", "--tr46nt", "--quiet", "--usestd3asciirules",
-         "--explain",
+         "--explain", "--standard",
          "-h", "--help", "-V", "--version", "--variants", "--check-table", "--ruleset", "--check-ruleset", "--after", "--limit", "--tries", "--steps", "--",
          "--among", "--among=registered", "--among=absent", "--among=table", "--jump", "--jump=1", "registered",
          "-", "-rN", "-lr", "-hx", "-xh", "-r=1", "--register=1", "--bogus", "--after=", "--after=-a", "--limit=1",
@@ -68,7 +72,7 @@ RULESET = b"%version 3"
 FAULTY_LINES = ("0061|", "0041", "0061-0061-0061|0061-0061-0061", "%version 2", "%version 3", "%", "0063..0061", "!0061|0062",
                 "0061..0063|0064", "0061|0062..0063", "0061-0062..0063", "0061...0063", "0061. .0063", "0061..D800",
                 "005A..0061", "D7FF..E000", "4E00..5E00", "4E00..5DFF", "0061|!!0062", "0061|!", "0061|0062:!0062",
-                "0061|!0061", "0061|!0041", "0061..0063", "0061|!0062", *drawn_rulesets.FAULTY_LINES)
+                "0061|!0061", "0061|!0041", "0061..0063", "0061|!0062", "\ufeff0061", *drawn_rulesets.FAULTY_LINES)
 
 
 class Fuzz:
@@ -78,11 +82,18 @@ class Fuzz:
         self.points = names.Points(self.classes, known)
         self.library = LibIdn2()
         self.facts = kinds.Facts(self.classes, known, self.library)
-        self.second = Run(Registration(self.classes), self.classes)
+        self.second = SecondWriting.of(self.classes)
+        self.choose_properties()
         self.counts = collections.Counter()
+
+    def choose_properties(self):
+        """The profile or the standards alone, for all runs of a comparison."""
+        self.choice, rules = self.chance.choice((([], self.second.by_profile), (["--standard"], self.second.by_standard)))
+        self.registration = rules.registration
 
     def once(self):
         """One comparison. Answers what differs, or None."""
+        self.choose_properties()
         kind, make = self.chance.choice((
             ("register", self.register), ("decode", self.decode), ("lookup", self.lookup), ("variants", self.variants),
             ("variants", self.variants), ("check of a table", self.check_table), ("words", self.words),
@@ -97,7 +108,7 @@ class Fuzz:
 
     def compare(self, words, given, **files):
         """One run, with the files of these names."""
-        words = self.chance.choice((words, ["--explain", *words]))
+        words = [*self.choice, *self.chance.choice((words, ["--explain", *words]))]
         for name, text in files.items():
             (self.folder / name).write_bytes(text)
         try:
@@ -141,14 +152,14 @@ class Fuzz:
 
     def decode(self):
         return self.compare(["-d"], self.lines(lambda: names.coded_label(self.chance, self.points) + self.chance.choice(
-            ("", ".", ".de", "." + names.coded_label(self.chance, self.points)))))
+            ("", ".", ".de", ".0a", ".a-", ".\u05d0", "." + names.coded_label(self.chance, self.points)))))
 
     def lookup(self):
         name = self.chance.choice((*names.MAKERS, names.coded_label))(self.chance, self.points)
         name += self.chance.choice(("", ".", ".De", ".\u05d0", "." + names.script_label(self.chance, self.points)))
         if any(letter in name for letter in names.NOT_IN_A_LINE):
             return Unknown
-        (ours, refusal), = our_answers(self.program, ["-l"], [name])
+        (ours, refusal), = our_answers(self.program, ["-l", *self.choice], [name])
         (strict, strict_refusal), = our_answers(self.program, ["-l", "--usestd3asciirules"], [name])
         if not obeys(name, (ours, refusal), (strict, strict_refusal)):
             return f"lookup {name!r}: {ours}, {refusal}, and by the rules for ASCII {strict}, {strict_refusal}"
@@ -177,7 +188,7 @@ class Fuzz:
         """The name as a query has it, where it has nothing but letters and digits of ASCII, hyphens, and labels that may be
         registered but for their length; else None."""
         labels = re.split(FULL_STOPS, name)
-        registration = self.second.registration
+        registration = self.second.by_profile.registration
         for place, label in enumerate(labels):
             if re.fullmatch("[A-Za-z0-9-]*", label) and not label.lower().startswith("xn--"):
                 labels[place] = label.lower()
@@ -299,8 +310,8 @@ class Fuzz:
             difference = self.compare([*words, *after], given, table=table)
             if difference is not None:
                 return difference
-            stop = re.search(r"^#stop \d+ (.+)\n\Z", self.second.answer([*words, *after], given, {"table": table})[0].decode(),
-                             re.MULTILINE)
+            answer = self.second.answer([*self.choice, *words, *after], given, {"table": table})
+            stop = re.search(r"^#stop \d+ (.+)\n\Z", answer[0].decode(), re.MULTILINE)
             if not stop:
                 break
             after = ["--after=" + stop.group(1)]
@@ -328,8 +339,7 @@ class Fuzz:
         return sources + [self.chance.choice(single)] * (63 - len("".join(sources)))
 
     def may_be_registered(self, label):
-        registration = self.second.registration
-        return registration.knows(label) and registration.first_fault(label) is None
+        return self.registration.knows(label) and self.registration.first_fault(label) is None
 
     def among(self):
         """Variants of labels, among registered labels: mostly such as these labels spell, and their neighbours."""

@@ -1,5 +1,5 @@
 #!/usr/bin/env python3
-"""Runs our idn2's lookup on Unicode's IDNA test file: python3 conformance/idna_test.py [FILE]
+"""Runs our idn2's lookup, and its decoding by the standard, on Unicode's IDNA test file: python3 conformance/idna_test.py [FILE]
 
 FILE is IdnaTestV2.txt, of Unicode 9 or later; else the path stands in IDNA_TEST_FILE. Without either the script says
 so and ends. The file holds what ToASCII gives with CheckHyphens, CheckBidi, CheckJoiners, UseSTD3ASCIIRules and
@@ -10,6 +10,10 @@ So the program is run with --usestd3asciirules, and
   - a name with another status must be refused with 20;
   - a name with no other status but A4_1, A4_2 or X4_2, those of lengths, must give the file's toAsciiN where the
     lengths, one full stop at the end put aside, are in range, and else be refused with 21.
+
+With --decode --standard the Bidi rule is that of the file, of all labels of a name. So a toAsciiN with a status of that
+rule, B1 to B6, must be refused, and one without may not be refused with 17. What IDNA2008 refuses otherwise says
+nothing here.
 
 Names are passed over that no line of input can hold: with a surrogate, a line feed, a carriage return at the end, or
 over 1,024 bytes. A difference fails the run if the file is of the Unicode version of the program's tables; differences
@@ -26,8 +30,9 @@ import sys
 from compare import PROGRAM, our_answers, shown
 
 HYPHEN_TESTS = {"V2", "V3"}
+BIDI_TESTS = {"B1", "B2", "B3", "B4", "B5", "B6"}
 LENGTH_TESTS = {"A4_1", "A4_2", "X4_2"}
-EMPTY, INVALID, BAD_LENGTH = 3, 20, 21
+EMPTY, BIDI, INVALID, BAD_LENGTH = 3, 17, 20, 21
 MOST_NAME, MOST_LABEL, MOST_LINE_BYTES = 253, 63, 1024
 ESCAPE = re.compile(r"\\u([0-9A-Fa-f]{4})|\\x\{([0-9A-Fa-f]+)\}")
 SHOWN = 20
@@ -68,6 +73,12 @@ def expected(source, text, found):
     return (text, None) if is_in_range else (None, BAD_LENGTH)
 
 
+def differs_decoded(found, answer):
+    """Whether the answer to a name's toAsciiN, decoded by the standard, says otherwise than its statuses of the Bidi rule."""
+    text, refusal = answer
+    return text is not None if found & BIDI_TESTS else refusal == BIDI
+
+
 def fits_a_line(source):
     try:
         encoded = source.encode()
@@ -105,12 +116,23 @@ def main():
     answers = our_answers(options.program, ["-l", "--usestd3asciirules"], sources)
     wrong = [(test, answer) for test, answer in zip(tests, answers) if answer != expected(*test)]
 
+    coded = [test for test in tests if fits_a_line(test[1])]
+    decoded = our_answers(options.program, ["-d", "--standard"], [text for _, text, _ in coded])
+    wrong_decoded = [(test, answer) for test, answer in zip(coded, decoded) if differs_decoded(test[2], answer)]
+
     print(f"IDNA test file of Unicode {its_version}, program of Unicode {our_version}: {len(tests):,} names, "
           f"{len(every) - len(tests)} passed over, {len(wrong)} differences")
+    show(wrong)
+    print(f"decoded by the standard: {sum(text is not None for text, _ in decoded):,} names answered, "
+          f"{sum(refusal == BIDI for _, refusal in decoded):,} refused by the Bidi rule, {len(wrong_decoded)} differences")
+    show(wrong_decoded)
+    return 1 if (wrong or wrong_decoded) and its_version == our_version else 0
+
+
+def show(wrong):
     for (source, text, found), answer in wrong[:SHOWN]:
         given = shown(answer[0]) if answer[0] is not None else answer[1]
         print(f"  {shown(source)}: {given}, the file has {shown(text)} {sorted(found)}")
-    return 1 if wrong and its_version == our_version else 0
 
 
 if __name__ == "__main__":

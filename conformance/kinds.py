@@ -93,6 +93,9 @@ def is_newer_label(facts, case):
     return case.theirs is None and facts.has_newer(case.name)
 
 
+# What docs/PROFILE.md explains: with `--standard` there is no such difference.
+
+
 def is_left_out(facts, case):
     return case.our_refusal == 10 and any(is_in(LEFT_OUT, point) for point in points(case.name))
 
@@ -110,22 +113,29 @@ def has_other_bidi_classes(facts, case):
     return ours != theirs and (case.our_refusal == 17 or case.their_refusal == "IDN2_BIDI")
 
 
+# What it doesn't explain.
+
+
 def breaks_bidi_in_part(facts, case):
     """RFC 5893, section 2: rule 4, and rule 3 where marks stand at the end."""
     is_broken = not rules.passes_bidi_rule(points(case.name), facts.known)
     return case.our_refusal == 17 and case.theirs is not None and is_broken
 
 
-REGISTER = (
+REGISTER_BY_STANDARD = (
     Kind("libidn2 copies a label of ASCII without any test", ascii_is_copied),
     Kind("libidn2's program puts the label into NFC; here one that is not in NFC is refused", is_normalised_there),
     Kind("a code point is newer than libidn2's tables", is_newer_label),
-    Kind("a code point of the blocks that this profile leaves out", is_left_out),
-    Kind("joining types or viramas past this profile's lists", is_joined_otherwise),
-    Kind("Bidi classes past this profile's lists", has_other_bidi_classes),
     Kind("a code point whose properties have changed since libidn2's tables", has_changed),
     Kind("libidn2 passes two kinds of digits in a right-to-left label, and marks at its end after a hyphen or sign",
          breaks_bidi_in_part),
+)
+
+REGISTER = (
+    *REGISTER_BY_STANDARD,
+    Kind("a code point of the blocks that this profile leaves out", is_left_out),
+    Kind("joining types or viramas past this profile's lists", is_joined_otherwise),
+    Kind("Bidi classes past this profile's lists", has_other_bidi_classes),
 )
 
 
@@ -152,11 +162,21 @@ def is_empty_line(facts, case):
     return case.name == "" and case.our_refusal == 3 and case.theirs == ""
 
 
+def breaks_bidi_as_a_decoded_name(facts, case):
+    labels = [points(label) for label in decoded_labels(case.name)]
+    return case.our_refusal == 17 and rules.fails_as_a_name(labels, facts.known) is not None
+
+
 DECODE = (
     Kind("an empty line is refused here and copied there", is_empty_line),
     Kind("libidn2 decodes without testing what comes out; here a decoded label is registrable", is_decoded_untested),
     Kind("ASCII capitals of an A-label are lowered here and kept there", keeps_capitals),
     Kind("libidn2 refuses long labels that are no A-labels; here they are copied", is_long_there),
+)
+
+DECODE_BY_STANDARD = (
+    *DECODE,
+    Kind("the Bidi rule is asked of all labels of a name here, and of none there", breaks_bidi_as_a_decoded_name),
 )
 
 

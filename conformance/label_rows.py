@@ -1,8 +1,8 @@
 """Worked rows of labels and names: what is registered, decoded and looked up, each with its answer or with its first fault.
 
-The A-labels and the queries come from elsewhere: from RFC 3492, and from libidn2's `idn2` 2.3.3. That answers the capital
-sharp s otherwise, which UTS #46 has mapped differently since Unicode 15.1. The faults come from the sections of RFC 5891,
-RFC 5892 and RFC 5893 that are named.
+The A-labels and the queries come from elsewhere: from RFC 3492, from Python's `idna` 3.13, and from libidn2's `idn2`
+2.3.3. That answers the capital sharp s otherwise, which UTS #46 has mapped differently since Unicode 15.1. The faults
+come from the sections of RFC 5891, RFC 5892 and RFC 5893 that are named.
 """
 
 DISALLOWED = "10 disallowed code point"
@@ -85,6 +85,41 @@ REGISTERED = [
     ("a" * 63 + "ß", TOO_LONG), ("a" * 64 + "ß-", HYPHEN),
 ]
 
+# Lines, and what the mode register answers by the profile and with `--standard`, as Python's `idna` has it.
+BY_EITHER = [
+    # Scripts that the profile leaves out: Adlam, Aramaic, Yezidi, a ligature of Hebrew; but a capital is unstable.
+    ("\U0001E922", DISALLOWED, "xn--9d6h"), ("\U00010840", DISALLOWED, "xn--fe9c"), ("\U00010EB1", DISALLOWED, "xn--jq0d"),
+    ("\u05D0\uFB1E", DISALLOWED, "xn--4db0176j"), ("\U0001E900", DISALLOWED, DISALLOWED),
+    # Digits of Hanifi Rohingya are AN, as those of Arabic, and not as the extended ones (RFC 5893, section 2, condition 4).
+    ("\U00010D00\U00010D30", DISALLOWED, "xn--5d0dgd"), ("\U00010D00\u0660\U00010D30", DISALLOWED, "xn--8hb7755kfea"),
+    ("\U00010D00\u06F0\U00010D30", DISALLOWED, BIDI),
+    # A non-joiner between letters of Syriac and Mongolian, between letters of 'Phags-pa of types L and D, after a letter
+    # that is T, and after a letter that causes joining (RFC 5892, appendix A.1).
+    ("\u0712\u200C\u0712", JOINER, "xn--cnba592q"), ("\u1820\u200C\u1820", JOINER, "xn--26ea791d"),
+    ("\uA872\u200C\uA840", JOINER, "xn--0ug4674ciea"), ("\uA840\u200C\uA872", JOINER, JOINER),
+    ("\U0001E922\U0001E94B\u200C\U0001E922", DISALLOWED, "xn--0ug1411pba6n"),
+    ("\u0628\u0883\u200C\u0628", JOINER, JOINER), ("\u0628\u200C\u0883\u0628", JOINER, JOINER),
+    # Joiners after the viramas of Myanmar and Thai, and after no virama.
+    ("\u1000\u1039\u200D\u1001", JOINER, "xn--nidc1ok73d"), ("\u1000\u1039\u200C\u1001", JOINER, "xn--nidc1o663d"),
+    ("\u0E01\u0E3A\u200D", JOINER, "xn--12c8i738c"), ("\u1000\u200D\u1001", JOINER, JOINER),
+    # Signs are ON: they stand in a right-to-left label, but not at its end, nor at its start (conditions 2, 3, 1).
+    ("\u05D0\u02C6\u05D1", BIDI, "xn--wqa96mea"), ("\u05D0\u02C6", BIDI, BIDI), ("\u02C6\u05D0", BIDI, BIDI),
+    # One of eight marks that are L, in labels of both directions.
+    ("\u05D0\u0CBF", "xn--4db466a", BIDI), ("\u0C95\u0CBF", "xn--nsc8f", "xn--nsc8f"),
+    # Either way a context rule comes before the Bidi rule, and a digit begins no right-to-left label.
+    ("\u05D0\u30FB\u05D1", CONTEXT, CONTEXT), ("\u05D0\u0375\u03B1", BIDI, BIDI), ("1\U0001E922", DISALLOWED, BIDI),
+    ("\U0001E922a", DISALLOWED, BIDI),
+]
+
+# Names, and what the mode decode answers by the profile and with `--standard`: the Bidi rule is asked of all labels of a
+# name in which one is right-to-left (RFC 5893, section 2), of a label that is copied, too; of the root it isn't.
+NAMES_BY_EITHER = [
+    ("0a.xn--4db", "0a.א", BIDI), ("xn--4db.0a", "א.0a", BIDI), ("a.xn--4db", "a.א", "a.א"), ("xn--4db.", "א.", "א."),
+    ("xn--4db", "א", "א"), ("_x.xn--4db", "_x.א", BIDI), ("a-.xn--4db", "a-.א", BIDI), ("a..xn--4db", "a..א", "a..א"),
+    ("xn--a-k7a.xn--4db", "a\u02C6.א", BIDI), ("0a.a-._x", "0a.a-._x", "0a.a-._x"), ("xn--9d6h.a", DISALLOWED, "\U0001E922.a"),
+    ("0a.א", "0a.א", BIDI), ("0a.xn--a", DISALLOWED, DISALLOWED), ("xn--4db466a", "\u05D0\u0CBF", BIDI),
+]
+
 # Names, and what the mode decode answers.
 DECODED = [
     # A-labels beside other labels, empty ones too.
@@ -152,7 +187,12 @@ def rows():
     labels = OF_RFC_3492 + OF_LIBIDN2
     yield in_one_run(["-r"], REGISTERED + labels + [(a_label, a_label) for _, a_label in labels])
     yield in_one_run(["-d"], DECODED + [(a_label, label) for label, a_label in labels])
-    for words in (["-l"], [], ["--usestd3asciirules"]):
+    yield in_one_run(["-r", "--standard"], REGISTERED + labels + [(a_label, a_label) for _, a_label in labels])
+    yield in_one_run(["--standard", "-d"], DECODED + [(a_label, label) for label, a_label in labels])
+    for mode, lines in (("-r", BY_EITHER), ("-d", NAMES_BY_EITHER)):
+        yield in_one_run([mode], [(line, answer) for line, answer, _ in lines])
+        yield in_one_run([mode, "--standard"], [(line, answer) for line, _, answer in lines])
+    for words in (["-l"], [], ["--usestd3asciirules"], ["--standard"]):
         yield in_one_run(words, LOOKED_UP)
     yield in_one_run(["-l"], NOT_BY_ASCII_RULES)
     yield in_one_run(["--usestd3asciirules"], [(name, NOT_VALID) for name, _ in NOT_BY_ASCII_RULES])

@@ -5,6 +5,7 @@ import re
 
 from causes import BAD_LENGTH, FILE_TOO_LONG, INVALID, LINE_TOO_LONG, NOT_UTF8, OUT_OF_ORDER
 from registration import BAD_A_LABEL, EMPTY, HYPHEN, LABEL_TOO_LONG, NOT_NFC, a_label
+from table_places import SYNTAX
 
 # The names of the subsections of RFC 5892, section 2, which messages have and objects don't.
 NAMES = {"2.2": "Unstable", "2.3": "IgnorableProperties", "2.4": "IgnorableBlocks", "2.6": "Exceptions", "2.9": "OldHangulJamo",
@@ -68,7 +69,8 @@ def place_of_table(refusal):
     """Where a line of a table has its fault, as far as an object tells it."""
     if "byte" not in refusal:
         return None
-    point = f"{refusal['code_point']} " if "code_point" in refusal else ""
+    # The one of 30 is a byte order mark, which a message tells in words.
+    point = f"{refusal['code_point']} " if "code_point" in refusal and refusal["number"] != SYNTAX else ""
     return f"{point}at byte {refusal['byte']}"
 
 

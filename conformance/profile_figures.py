@@ -48,7 +48,7 @@ class Profile:
             "R": profile_ranges("JoiningType", "right_joining"), "D": profile_ranges("JoiningType", "dual_joining"),
             "T": marks["Mn"],
         })
-        self.viramas = [first for first, _ in profile_ranges("JoiningType", "is_virama")]
+        self.viramas = [first for first, _ in profile_ranges("JoiningType", "is_profile_virama")]
 
     def bidi_class(self, point):
         return self.bidi_classes.get(point, "L")

@@ -1,4 +1,5 @@
-"""Registration and decoding written a second time, from RFC 5891, 5892 and 5893 and this project's range lists.
+"""Registration and decoding written a second time, from RFC 5891, 5892 and 5893, over this project's range lists or, as with
+`--standard`, over Unicode's properties alone.
 
 It tells which of libidn2's answers ours may differ from, and which number a refused label must have. Its Unicode
 data are those of unicode-data and of Python, which may be older than the program's: `knows` tells whether all code
@@ -28,14 +29,20 @@ def a_label(label):
     return label if label.isascii() else "xn--" + label.encode("punycode").decode("ascii")
 
 
+def points_of(label):
+    return [ord(letter) for letter in label]
+
+
 def lowered(text):
     """The text with its ASCII capitals lowered, and no others."""
     return "".join(letter.lower() if letter < "\u0080" else letter for letter in text)
 
 
 class Registration:
-    def __init__(self, classes):
-        self.classes, self.profile, self.scripts = classes, rules.ProfileProperties(), {}
+    """`classes` has the classes of code points, and `known` the properties that rules ask for (rules.py)."""
+
+    def __init__(self, classes, known):
+        self.classes, self.known, self.scripts = classes, known, {}
         for first, last, script in properties("Scripts.txt", "Greek", "Hebrew", "Hiragana", "Katakana", "Han"):
             self.scripts.update(dict.fromkeys(range(first, last + 1), script))
 
@@ -61,6 +68,8 @@ class Registration:
         try:
             labels = [self.decoded(lowered(label)) if lowered(label[:4]) == "xn--" else label
                       for label in name.split(".")]
+            if self.known.ASKS_WHOLE_NAMES and rules.fails_as_a_name([points_of(label) for label in labels], self.known):
+                raise Refused(BIDI)
             return (".".join(labels), None) if name else (None, EMPTY)
         except Refused as refused:
             return None, refused.number
@@ -87,7 +96,7 @@ class Registration:
             raise Refused(number)
 
     def first_fault(self, label):
-        points = [ord(letter) for letter in label]
+        points = points_of(label)
         for point in points:
             if self.classes.of(point) == DISALLOWED:
                 return IS_DISALLOWED
@@ -98,22 +107,22 @@ class Registration:
             NOT_NFC: unicodedata.normalize("NFC", label) != label,
             HYPHEN: label[:1] == "-" or label[-1:] == "-" or label[2:4] == "--",
             LEADING_MARK: self.classes.category.get(points[0] if points else 0) in ("Mn", "Mc", "Me"),
-            CONTEXT_J: not rules.passes_context_j(points, self.profile),
+            CONTEXT_J: not rules.passes_context_j(points, self.known),
             CONTEXT_O: not self.passes_context_o(points),
-            BIDI: rules.is_right_to_left(points, self.profile) and not rules.passes_bidi_rule(points, self.profile),
+            BIDI: rules.is_right_to_left(points, self.known) and not rules.passes_bidi_rule(points, self.known),
             LABEL_TOO_LONG: len(label) > MOST_OCTETS or len(a_label(label)) > MOST_OCTETS,
         }
         return next((number for number, is_there in faults.items() if is_there), None)
 
     def is_hopeless(self, points):
         """A test of the hyphens, of a leading mark or of the Bidi rule has failed, whatever follows."""
-        classes = {self.profile.bidi_class(point) for point in points}
-        begins_right_to_left = self.profile.bidi_class(points[0]) in ("R", "AL")
+        classes = {self.known.bidi_class(point) for point in points}
+        begins_right_to_left = self.known.bidi_class(points[0]) in ("R", "AL")
         has = lambda first, last: any(first <= point <= last for point in points)
         return (
             points[0] == 0x2D or points[2:4] == [0x2D, 0x2D] or self.classes.category.get(points[0]) in ("Mn", "Mc", "Me")
-            or not begins_right_to_left and bool(classes & {"R", "AL", "AN"})
-            or begins_right_to_left and ("L" in classes or {"EN", "AN"} <= classes)
+            or not begins_right_to_left and bool(classes & rules.RIGHT_TO_LEFT)
+            or begins_right_to_left and (not classes <= rules.NEUTRAL | rules.RIGHT_TO_LEFT or {"EN", "AN"} <= classes)
             or has(0x0660, 0x0669) and has(0x06F0, 0x06F9)
         )
 

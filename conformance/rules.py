@@ -10,11 +10,15 @@ import unicodedata
 from unicode_data import is_in, lines_of, properties
 
 ZERO_WIDTH_NON_JOINER, ZERO_WIDTH_JOINER = 0x200C, 0x200D
+# Bidi classes of right-to-left labels alone, and of labels of both directions.
+RIGHT_TO_LEFT, NEUTRAL = {"R", "AL", "AN"}, {"EN", "ES", "CS", "ET", "ON", "BN", "NSM"}
 
 
 class ProfileProperties:
     """This project's range lists, which hold as they stand."""
 
+    # Whether a name that is decoded has to pass the Bidi rule as a whole (RFC 5893, section 2).
+    ASKS_WHOLE_NAMES = False
     VIRAMAS = {0x094D, 0x09CD, 0x0A4D, 0x0ACD, 0x0B4D, 0x0BCD, 0x0C4D, 0x0CCD, 0x0D4D, 0x0DCA}
     RIGHT_JOINING = (
         (0x0622, 0x0625), (0x0627, 0x0627), (0x0629, 0x0629), (0x062F, 0x0632), (0x0648, 0x0648), (0x0671, 0x0673),
@@ -55,7 +59,9 @@ class ProfileProperties:
 
 
 class UnicodeProperties:
-    """Unicode's properties of the same names."""
+    """Unicode's properties of the same names, which `--standard` asks for."""
+
+    ASKS_WHOLE_NAMES = True
 
     def __init__(self):
         self.viramas = set()
@@ -103,17 +109,24 @@ def first_not_transparent(points, known):
 
 
 def is_right_to_left(label, known):
-    return any(known.bidi_class(point) in ("R", "AL", "AN") for point in label)
+    return any(known.bidi_class(point) in RIGHT_TO_LEFT for point in label)
 
 
 def passes_bidi_rule(label, known):
     """RFC 5893, section 2, of a label of a name in which the rule is asked."""
     classes = [known.bidi_class(point) for point in label]
     ending = [name for name in classes if name != "NSM"][-1:]
-    neutral = {"EN", "ES", "CS", "ET", "ON", "BN", "NSM"}
     if classes[:1] == ["L"]:
-        return set(classes) <= neutral | {"L"} and ending[0] in ("L", "EN")
+        return set(classes) <= NEUTRAL | {"L"} and ending[0] in ("L", "EN")
     if classes[:1] in (["R"], ["AL"]):
         is_mixed = "EN" in classes and "AN" in classes
-        return set(classes) <= neutral | {"R", "AL", "AN"} and ending[0] in ("R", "AL", "EN", "AN") and not is_mixed
+        return set(classes) <= NEUTRAL | RIGHT_TO_LEFT and ending[0] in ("R", "AL", "EN", "AN") and not is_mixed
     return False
+
+
+def fails_as_a_name(labels, known):
+    """Which label is the first, counted from 1, that breaks the Bidi rule in a name with a right-to-left label, or None. Empty
+    labels break nothing."""
+    if not any(is_right_to_left(label, known) for label in labels):
+        return None
+    return next((number for number, label in enumerate(labels, 1) if label and not passes_bidi_rule(label, known)), None)

@@ -13,6 +13,12 @@ DIGITS = ("%version 3\n%never (0030 / 0031) .* (0966 / 0967) / (0966 / 0967) .* 
 # A letter from outside, and one that only ends a label.
 ENDS = "%version 3\n%rule end _ $\n0061|!0430\n0062|0063 when end\n0063|0062\n!0430|!0061\n"
 
+# Letters of Adlam, a sign that is ON by Unicode, and a mark that is L by Unicode.
+ADLAM = "1E922|1E923\n1E923|1E922\n1E928\n"
+ADLAM_RULESET = "%version 3\n%set A 1E922..1E943\n%never ^ @A $\n1E922..1E943\n"
+SIGN = "05D0|02C6\n05D1\n"
+MARK = "05D0\n05D1|0CBF\n"
+
 LIST = ["--variants", "t"]
 RULESET = ["--ruleset", "t"]
 
@@ -100,6 +106,12 @@ LINES = [
     (LIST, DOUBLED, "aa\r\n", AA, "", 0),
     # The last line lacks its line feed.
     (LIST, DOUBLED, "aa", AA, "", 0),
+    # All of these in one run; and an empty line as an object.
+    (LIST, DOUBLED, "\r\naa\nab\naa",
+     AA + AA, refused((1, "3 empty"), (3, "40 not made of table entries")), 1),
+    (["-r", "--json"], "", "faß\n\n",
+     '{"line":1,"input":"faß","ulabel":"faß","alabel":"xn--fa-hia"}\n'
+     '{"line":2,"input":"","refusal":{"number":3,"text":"empty"}}\n', "", 1),
     # A line of 1,024 bytes is read; one whose carriage return is its 1,025th byte is not; a carriage return alone is an
     # empty line.
     (["-r"], "", "a" * 1024 + "\n" + "a" * 1024 + "\r\n\r\n",
@@ -135,6 +147,11 @@ LISTED = [
     # Labels without a listing: not in the table, a capital, and an A-label, of which nothing is decoded.
     (LIST, SHARP_S, "sx\nSss\nxn--s-qfa\n",
      "", refused((1, "40 not made of table entries"), (2, "10 disallowed code point"), (3, "13 hyphen out of place")), 1),
+    # Labels at whose beginning, in whose middle or at whose end no source stands.
+    (LIST, DOUBLED, "ba\naba\nab\n",
+     "", refused(*((line, "40 not made of table entries") for line in (1, 2, 3))), 1),
+    (LIST, SHARP_S, "ssx\n",
+     "", refused((1, "40 not made of table entries")), 1),
     # No label is made of entries of the empty table.
     (LIST, "", "a\n",
      "", refused((1, "40 not made of table entries")), 1),
@@ -261,12 +278,23 @@ OF_VERSION_2 = [
     # The listing begins after a label, and ends at a blocked one.
     ([*LIST, "--after", "aa", "--limit", "2"], "%version 2\r\n0061|!0062\n0061-0061|0062-0062\n", "aa\n",
      "ab\tab\tblocked\nba\tba\tblocked\n#stop 2 ba\n", "", 0),
+    # One way to spell a label without a blocked variant is enough.
+    (LIST, "%version 2\n0061|!0062:0063\n0061-0061|0064\n", "a\naa\nab\n",
+     "a\ta\tallocatable\nb\tb\tblocked\nc\tc\tallocatable\n#end 3\n"
+     "aa\taa\tallocatable\nab\tab\tblocked\nac\tac\tallocatable\nba\tba\tblocked\nbb\tbb\tblocked\nbc\tbc\tblocked\n"
+     "ca\tca\tallocatable\ncb\tcb\tblocked\ncc\tcc\tallocatable\nd\td\tallocatable\n#end 10\n",
+     refused((3, "40 not made of table entries")), 1),
     # No variant of the table is blocked.
     (LIST, "%version 2\n0061|0062\n", "a\n",
      "a\ta\tallocatable\nb\tb\tallocatable\n#end 2\n", "", 0),
 ]
 
 OF_RULESETS = [
+    # A label that may arise from two others, and is outside.
+    (RULESET, "%version 3\n0061|0062\n!0062|0061\n0063|!0062\n", "ac\naa\nb\nabc\n",
+     "ab\tab\tblocked\nac\tac\tallocatable\nbb\tbb\tblocked\nbc\tbc\tallocatable\n#end 4\n"
+     "aa\taa\tallocatable\nab\tab\tallocatable\nba\tba\tallocatable\nbb\tbb\tallocatable\n#end 4\n",
+     refused((3, "40 not made of table entries"), (4, "40 not made of table entries")), 1),
     (RULESET, SIGNS, "क\u093C\u093E\nक\u093E\u093E\nकa\n",
      "क\u093C\u093E\txn--11b2fg\tallocatable\n#end 1\n",
      refused((2, "41 not valid under the table"), (3, "40 not made of table entries")), 1),
@@ -288,13 +316,76 @@ OF_RULESETS = [
      "ba\tba\tallocatable\nbа\txn--b-8sb\tblocked\n#end 2\n", refused((3, "40 not made of table entries")), 1),
     ([*RULESET, "--jump"], ENDS, "ab\tb\n", "аb\n", "", 0),
     (["--check-ruleset", "t", "--json"], ENDS, "", '{"entries":4,"gaps":0}\n', "", 0),
+    # A byte order mark before the version line.
+    ([*RULESET, "--explain"], "\ufeff" + ENDS, "aa\n", "", "idn2: table line 1: 30 table syntax: a byte order mark at byte 1\n", 2),
+]
+
+
+ADLAM_LISTED = "\U0001E922\U0001E928\txn--9d6hma\n\U0001E923\U0001E928\txn--be6hka\n#end 2\n"
+SIGN_LAST, SIGN_WITHIN = "\u05D1\u05D0\u05D1\txn--4dbbb\n", "\u05D1\u02C6\u05D1\txn--wqa17mba\n"
+
+# Runs by the profile, and by the standards alone. The A-labels are those of Python's `idna`.
+BY_EITHER = [
+    # A table of a script that the profile leaves out, its listing, its check, a jump, and its ruleset.
+    (LIST, ADLAM, "\U0001E922\U0001E928\n",
+     "", "idn2: table line 1: 33 code point not allowed in a table\n", 2),
+    ([*LIST, "--explain"], ADLAM, "\U0001E922\U0001E928\n",
+     "", "idn2: table line 1: 33 code point not allowed in a table: U+1E922 at byte 1\n", 2),
+    ([*LIST, "--standard"], ADLAM, "\U0001E922\U0001E928\n",
+     ADLAM_LISTED, "", 0),
+    (["--check-table", "t"], ADLAM, "",
+     "", "idn2: table line 1: 33 code point not allowed in a table\n", 2),
+    (["--check-table", "t", "--standard"], ADLAM, "",
+     "#table 3 0\n", "", 0),
+    (["--standard", *LIST, "--jump"], ADLAM, "\U0001E922\U0001E928\t\U0001E923\n",
+     "\U0001E923\U0001E928\n", "", 0),
+    (RULESET, ADLAM_RULESET, "\U0001E922\n",
+     "", "idn2: table line 2: 33 code point not allowed in a table\n", 2),
+    (["--check-ruleset", "t", "--standard"], ADLAM_RULESET, "",
+     "#table 34 0\n", "", 0),
+    ([*RULESET, "--standard"], ADLAM_RULESET, "\U0001E922\n\U0001E922\U0001E928\n",
+     "\U0001E922\U0001E928\txn--9d6hma\tallocatable\n#end 1\n", refused((1, "41 not valid under the table")), 1),
+    # By Unicode a beginning with the sign is not hopeless: it is tested, listed, and the one that is stopped at.
+    (LIST, SIGN, "\u05D1\u05D0\u05D1\n",
+     SIGN_LAST + "#end 1\n", "", 0),
+    ([*LIST, "--standard"], SIGN, "\u05D1\u05D0\u05D1\n",
+     SIGN_WITHIN + SIGN_LAST + "#end 2\n", "", 0),
+    ([*LIST, "--tries", "1"], SIGN, "\u05D1\u05D0\u05D1\n",
+     SIGN_LAST + "#stop 1 \u05D1\u05D0\u05D1\n", "", 0),
+    ([*LIST, "--tries", "1", "--standard"], SIGN, "\u05D1\u05D0\u05D1\n",
+     SIGN_WITHIN + "#stop 1 \u05D1\u02C6\u05D1\n", "", 0),
+    # By the profile the mark may follow a Hebrew letter.
+    (LIST, MARK, "\u05D0\u05D1\n",
+     "\u05D0\u05D1\txn--4dbc\n\u05D0\u0CBF\txn--4db466a\n#end 2\n", "", 0),
+    ([*LIST, "--standard"], MARK, "\u05D0\u05D1\n",
+     "\u05D0\u05D1\txn--4dbc\n#end 1\n", "", 0),
+    # The causes, of the name as a whole, too.
+    (["-r", "--explain"], "", "\u05D0\u02C6\n\u0712\u200C\u0712\n\U0001E922\n",
+     "", refused((1, "17 Bidi rule broken: U+02C6 at place 2 is L: RFC 5893 2, condition 2"),
+                 (2, "15 joiner out of context: U+200C at place 2: RFC 5892 A.1"),
+                 (3, "10 disallowed code point: U+1E922 at place 1: outside the profile")), 1),
+    (["-r", "--explain", "--standard"], "", "\u05D0\u02C6\n\u05D0\u0CBF\n\u0628\u0883\u200C\u0628\n\U0001E900\n",
+     "", refused((1, "17 Bidi rule broken: U+02C6 at place 2 is ON: RFC 5893 2, condition 3"),
+                 (2, "17 Bidi rule broken: U+0CBF at place 2 is L: RFC 5893 2, condition 2"),
+                 (3, "15 joiner out of context: U+200C at place 3: RFC 5892 A.1"),
+                 (4, "10 disallowed code point: U+1E900 at place 1: RFC 5892 2.2 Unstable")), 1),
+    (["-d", "--explain", "--standard"], "", "0a.xn--4db\nxn--4db.a-\nxn--a-k7a.xn--4db\nxn--4db466a\n",
+     "", refused((1, "17 Bidi rule broken: label 1: U+0030 at place 1 is EN: RFC 5893 2, condition 1"),
+                 (2, "17 Bidi rule broken: label 2: U+002D at place 2 is ES: RFC 5893 2, condition 6"),
+                 (3, "17 Bidi rule broken: label 1, decoded: U+02C6 at place 2 is ON: RFC 5893 2, condition 6"),
+                 (4, "17 Bidi rule broken: label 1, decoded: U+0CBF at place 2 is L: RFC 5893 2, condition 2")), 1),
+    (["-d", "--explain", "--standard"], "", "\n.\n0a._x\n",
+     ".\n0a._x\n", refused((1, "3 empty")), 1),
+    (["-d", "--json", "--standard"], "", "xn--4db.a-\n",
+     '{"line":1,"input":"xn--4db.a-","refusal":{"number":17,"text":"Bidi rule broken","label":2,"code_point":"U+002D",'
+     '"place":2,"rule":"RFC 5893 2 condition 6","bidi_class":"ES"}}\n', "", 1),
 ]
 
 
 def rows():
     """The words, the input, the files and what must be answered: output, messages, status."""
     for words, table, given, output, messages, status in [*REGISTERED, *DECODED, *LOOKED_UP, *LINES, *LISTED, *BOUNDED,
-                                                          *LONG_VARIANTS, *OF_VERSION_2, *OF_RULESETS]:
+                                                          *LONG_VARIANTS, *OF_VERSION_2, *OF_RULESETS, *BY_EITHER]:
         yield words, given, {"t": table}, (output, messages, status)
     for count in (1, 99):
         yield ["-r", *["a"] * count], "not read\n", {}, ("a\n" * count, "", 0)

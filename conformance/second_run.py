@@ -6,7 +6,9 @@ Where it does not know, since a code point is newer than the data here, or since
 """
 
 import functools
+import itertools
 import re
+import unicodedata
 
 import check
 import table_places
@@ -14,7 +16,8 @@ from causes import Causes
 from notation import reading
 from notation.faults import TableFault
 from notation.ruleset import Entry, Mapped, Ruleset
-from registration import a_label
+from registration import Registration, a_label
+from rules import ProfileProperties, UnicodeProperties
 from ruleset_labels import NOT_MADE_OF_ENTRIES, NOT_VALID, RulesetLabels, Unknown
 
 LINE_LIMIT, TEXT_LIMIT, LABEL_LIMIT = 1024, 1024, 63
@@ -29,15 +32,18 @@ TEXTS = {
 FAULTY_LINE = re.compile(r"idn2: table line (\d+): (\d+) .*")
 FLAGS = {"-l": "lookup", "--lookup": "lookup", "-r": "register", "--register": "register", "-d": "decode",
          "--decode": "decode", "-N": "nontransitional", "--tr46nt": "nontransitional", "--quiet": "quiet", "--explain": "explain",
-         "--usestd3asciirules": "std3", "--jump": "jump", "-h": "show", "--help": "show", "-V": "show", "--version": "show"}
+         "--usestd3asciirules": "std3", "--standard": "standard", "--jump": "jump",
+         "-h": "show", "--help": "show", "-V": "show", "--version": "show"}
 LISTINGS, CHECKS = {"--variants", "--ruleset"}, {"--check-table", "--check-ruleset"}
-OF_A_LISTING = {"--among", "--after", "--limit", "--tries", "--steps"}
-VALUES = LISTINGS | CHECKS | OF_A_LISTING
+OF_A_LISTING = ("--after", "--limit", "--tries", "--steps", "--among")
+VALUES = LISTINGS | CHECKS | set(OF_A_LISTING)
+# The long names of flags that have another name here.
+LONG = {"nontransitional": "--tr46nt", "std3": "--usestd3asciirules"}
 MODES = {"lookup", "register", "decode"} | LISTINGS | CHECKS
 
 
 class Bad(Exception):
-    """The words can't be used."""
+    """The words can't be used, for this cause."""
 
 
 class Show(Exception):
@@ -76,56 +82,91 @@ class Options:
         if not has_value:
             value = next(words, None)
             if value is None or (value.startswith("-") and value != "-"):
-                raise Bad
+                next_option = value if value is None or value.startswith("--") else value[:2]
+                raise Bad(unknown_option(next_option) or f"{name} takes a value")
         self.take(name, value)
 
     def take_flag(self, word):
         if word not in FLAGS:
-            raise Bad
+            raise Bad(unknown_option(word) or word.partition("=")[0] + " takes no value")
         if FLAGS[word] == "show":
             raise Show
         self.take(FLAGS[word], True)
 
     def take(self, name, value):
         if name in self.given:
-            raise Bad
+            raise Bad(LONG.get(name, "--" + name.removeprefix("--")) + " is given twice")
         self.given[name] = value
 
     def obey_rules(self):
         modes = MODES & self.given.keys()
-        if len(modes) > 1 or (modes & CHECKS and self.strings):
-            raise Bad
+        if len(modes) > 1:
+            raise Bad("two modes are named")
         self.mode = modes.pop() if modes else "lookup"
         self.obey_rules_of_variants()
-        self.after = self.given.get("--after", "")
-        if len(self.after.encode()) > TEXT_LIMIT:
-            raise Bad
         self.limit, self.tries = self.count("--limit", None), self.count("--tries", TRIES)
         self.steps = self.count("--steps", None, 19, 2, 10 ** 18)
+        self.after = self.given.get("--after", "")
+        if len(self.after.encode()) > TEXT_LIMIT:
+            raise Bad(f"--after takes at most {TEXT_LIMIT} bytes")
+        if self.mode in CHECKS and self.strings:
+            raise Bad("the check of a table takes no STRINGS")
 
     def obey_rules_of_variants(self):
         """Options of a listing need one, a jump needs a table and is no listing, and `--among` tries and passes over nothing."""
-        given_for_listing = OF_A_LISTING & self.given.keys()
+        given_for_listing = [name for name in OF_A_LISTING if name in self.given]
         is_jump = "jump" in self.given
         if self.mode not in LISTINGS and (given_for_listing or is_jump):
-            raise Bad
+            raise Bad((given_for_listing + ["--jump"])[0] + " goes with --variants")
         if is_jump and given_for_listing:
-            raise Bad
-        bounded = {"--tries", "--steps"} & self.given.keys()
-        if "--among" in self.given and (bounded or self.given["--among"] == self.given[self.mode]):
-            raise Bad
+            raise Bad(given_for_listing[0] + " doesn't go with --jump")
+        if "--among" in self.given:
+            for name in ("--tries", "--steps"):
+                if name in self.given:
+                    raise Bad(name + " doesn't go with --among")
+            if self.given["--among"] == self.given[self.mode]:
+                raise Bad("--among takes another file than the table")
 
     def files(self):
-        """The names of the files that are read."""
-        return [self.given[name] for name in LISTINGS | CHECKS | {"--among"} if name in self.given]
+        """The names of the files that are read, in their order."""
+        return [self.given[name] for name in (*LISTINGS, *CHECKS, "--among") if name in self.given]
 
     def count(self, name, default, digits=10, least=1, most=COUNT_LIMIT):
         text = self.given.get(name)
         if text is None:
             return default
         if not (1 <= len(text) <= digits and text.isascii() and text.isdigit() and least <= int(text) <= most):
-            raise Bad
+            raise Bad(f"{name} takes a number from {least} to {most}")
         return int(text)
+
+
+class SecondWriting:
+    """Answers by the profile or, with `--standard`, by the standards alone."""
+
+    def __init__(self, by_profile, by_standard=None):
+        self.by_profile, self.by_standard = by_profile, by_standard
+
+    @classmethod
+    def of(cls, classes):
+        whole = classes.whole()
+        by_profile = Run(Registration(classes, ProfileProperties()), classes)
+        return cls(by_profile, Run(Registration(whole, UnicodeProperties()), whole))
+
+    def answer(self, words, given, files):
+        """(output, messages, status); output is None where only its being there is known."""
+        try:
+            options = Options(words)
+        except Bad as fault:
+            return b"", ending(words, 50, str(fault)), 2
+        except Show:
+            return None, b"", 0
+        if options.strings:
+            given = "".join(string + "\n" for string in options.strings).encode()
+        for name in options.files():
+            if name not in files:
+                return b"", ending(words, 60, in_one_line(name) + ": no such file"), 3
+        run = self.by_standard if "standard" in options.given else self.by_profile
+        return run.serve(options, given, files)
 
 
 class Run:
@@ -139,21 +180,7 @@ class Run:
         """Made only where causes are told, since it reads more of Unicode's data."""
         return Causes(self.registration, self.classes)
 
-    def answer(self, words, given, files):
-        """(output, messages, status); output is None where only its being there is known."""
-        try:
-            options = Options(words)
-        except Bad:
-            return b"", message(50), 2
-        except Show:
-            return None, b"", 0
-        if options.strings:
-            given = "".join(string + "\n" for string in options.strings).encode()
-        return self.serve(options, given, files)
-
     def serve(self, options, given, files):
-        if any(name not in files for name in options.files()):
-            return b"", message(60), 3
         if options.mode in CHECKS:
             return self.check(options, files[options.given[options.mode]])
         try:
@@ -322,6 +349,26 @@ def as_ruleset(table):
 
 def message(number):
     return f"idn2: {number} {TEXTS[number]}\n".encode()
+
+
+def ending(words, number, cause):
+    """The message of what ends a run, with its cause if that is asked for among the words."""
+    if "--explain" not in itertools.takewhile(lambda word: word != "--", words):
+        return message(number)
+    return f"idn2: {number} {TEXTS[number]}: {cause}\n".encode()
+
+
+def unknown_option(word):
+    """That there is no option of the name that a word begins with; None if there is."""
+    name = word.partition("=")[0] if word and word.startswith("--") else word
+    if name in (None, "--") or name in FLAGS or name in VALUES:
+        return None
+    return f"unknown option '{in_one_line(name)}'"
+
+
+def in_one_line(text):
+    """Control characters and ends of lines as escapes."""
+    return "".join(f"\\u{{{ord(c):x}}}" if unicodedata.category(c) == "Cc" or c in "\u2028\u2029" else c for c in text)
 
 
 def text_of(body):

@@ -29,6 +29,9 @@ BEFORE_NAMES = (b"as", b",", b"when", b"unless")
 NAME = re.compile(rb"[A-Za-z][A-Za-z0-9_]{0,31}")
 # What completes a beginning of a definition that is no pattern: a keyword, a name, what stands after it.
 DEFINITION_ENDS = ENDS + [[b"%tag", b"a"], [b"a"], [b"a", b"0061"], [b"a", b"_"]]
+# U+FEFF at the head of a text (RFC 3629, section 6).
+BYTE_ORDER_MARK = b"\xEF\xBB\xBF"
+MARK = "a byte order mark at byte 1"
 # How many definitions there may be of a kind, by their keywords.
 PATTERNS = (b"%rule", b"%never", b"%always")
 MOST = {(b"%tag",): 8, (b"%set",): 256, PATTERNS: 256}
@@ -38,6 +41,8 @@ MOST_ATOMS = 4096
 
 def of_fault(text, line_number, number, may_stand):
     """`may_stand` tells of a code point whether a table may hold it."""
+    if is_mark(text, line_number, number):
+        return MARK
     lines = text.split(b"\n")
     line = lines[line_number - 1]
     head = lines[0].removesuffix(b"\r")
@@ -45,10 +50,14 @@ def of_fault(text, line_number, number, may_stand):
     return place_in(line, version, number, may_stand, lines[: line_number - 1])
 
 
+def is_mark(text, line_number, number):
+    return (line_number, number) == (1, SYNTAX) and text.startswith(BYTE_ORDER_MARK)
+
+
 def of_ruleset(text, line_number, number, may_stand):
     """The same of a text that is read as a ruleset."""
     if text.split(b"\n")[0].removesuffix(b"\r") != b"%version 3":
-        return None
+        return MARK if is_mark(text, line_number, number) else None
     return of_fault(text, line_number, number, may_stand)
 
 

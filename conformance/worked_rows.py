@@ -20,9 +20,8 @@ import ruleset_rows
 import run_rows
 from notation import canonical, reading
 from notation.faults import TEXTS as FAULT_TEXTS
-from registration import Registration
-from run_rows import DOUBLED, SHARP_S
-from second_run import TEXTS, Run, Unknown
+from run_rows import ADLAM, DOUBLED, SHARP_S
+from second_run import TEXTS, SecondWriting, Unknown
 from unicode_data import Classes
 
 # The words before the table's file, the table, the label, and what is printed.
@@ -31,6 +30,9 @@ LISTINGS = [
      "ax\tax\tallocatable\nay\tay\tblocked\naz\taz\tallocatable\n#end 3\n"),
     ([], "%version 2\n0061|!0062\n0061-0061|0062-0062\n", "aa",
      "aa\taa\tallocatable\nab\tab\tblocked\nba\tba\tblocked\nbb\tbb\tallocatable\n#end 4\n"),
+    ([], "%version 2\n0061|!0062\n0061-0061|0062-0062\n", "aaa",
+     "aaa\taaa\tallocatable\naab\taab\tblocked\naba\taba\tblocked\nabb\tabb\tallocatable\nbaa\tbaa\tblocked\n"
+     "bab\tbab\tblocked\nbba\tbba\tallocatable\nbbb\tbbb\tblocked\n#end 8\n"),
     ([], "0061|0062\n0061-0061|0062-0062\n", "aa", "aa\taa\nab\tab\nba\tba\nbb\tbb\n#end 4\n"),
     # Two segmentations of sss overlap: both count.
     ([], SHARP_S, "sss", "sss\tsss\nsß\txn--s-qfa\nßs\txn--s-pfa\n#end 3\n"),
@@ -81,6 +83,12 @@ COLLISIONS = [
     (ALIKE, "t0ss\ntoß\n", [], "toss\n", ("t0ss\tt0ss\tblocked\ntoß\txn--to-hia\tallocatable\n#end 2\n", "", 0)),
     (HAN, "中国\n中國\n", [], "中國\n", ("中国\txn--fiqs8s\n中國\txn--fiqz9s\n#end 2\n", "", 0)),
     (GERMAN, "", [], "haus\n", ("#end 0\n", "", 0)),
+    # Registered labels are tested as the options say.
+    (ADLAM, "\U0001E923\U0001E928\n", ["--standard"], "\U0001E922\U0001E928\n",
+     ("\U0001E923\U0001E928\txn--be6hka\n#end 1\n", "", 0)),
+    (GERMAN, "\u05D0\u02C6\u05D1\n", [], "haus\n", refused_at(1, "17 Bidi rule broken")),
+    (GERMAN, "\u05D0\u02C6\u05D1\n", ["--standard"], "haus\n", ("#end 0\n", "", 0)),
+    (GERMAN, "\u05D0\u0CBF\n", ["--standard"], "haus\n", refused_at(1, "17 Bidi rule broken")),
     (GERMAN, "haus\r\nstrasse", [], "straße\n", ("strasse\tstrasse\tallocatable\n#end 1\n", "", 0)),
     (GERMAN, "strasse\nhaus\n", [], "haus\n", refused_at(2, "4 out of order")),
     (GERMAN, "haus\nhaus\n", [], "haus\n", refused_at(2, "4 out of order")),
@@ -134,6 +142,8 @@ JUMPS = [
     ("0061|002D\n", "aaaa\taa", "aa--"),
     ("0061|002D\n", "aaaa\ta-", "a---"),
     ("0061|002D\n", "aaaa", "----"),
+    # Two segmentations begin alike, and one of them has no end.
+    ("0061-0062|0063\n0061|0062\n", "ab\tac", "c"),
     (GAP, "a\tb", "b"),
     (GAP, "b", "b"),
     # A text that is longer than any label is greater than its first 63 code points.
@@ -253,12 +263,12 @@ def program_answer(program, words, given, files):
     return done.stdout.decode(), done.stderr.decode(), done.returncode
 
 
-def answers(run, program, words, given, files):
+def answers(second, program, words, given, files):
     """Who was asked, and the answer: the second writing where it can tell, which has no objects, and the program where it is
     built."""
     try:
         if "--json" not in words:
-            output, messages, status = run.answer(words, given, files)
+            output, messages, status = second.answer(words, given, files)
             yield "the second writing", (output.decode(), messages.decode(), status)
     except Unknown:
         pass
@@ -279,11 +289,11 @@ def main():
     words = argparse.ArgumentParser(description="Asks the second writing, and the program, for worked rows.")
     words.add_argument("--program", default=PROGRAM, type=pathlib.Path, help="our program")
     program, classes = words.parse_args().program, Classes()
-    run, wrong, asked = Run(Registration(classes), classes), 0, collections.Counter()
+    second, wrong, asked = SecondWriting.of(classes), 0, collections.Counter()
     for words, given, files, wanted in rows():
         given, files = in_bytes(given), {name: in_bytes(text) for name, text in files.items()}
         asked["worked rows"] += 1
-        for name, answer in answers(run, program, words, given, files):
+        for name, answer in answers(second, program, words, given, files):
             asked[name] += 1
             if answer != wanted:
                 wrong += 1

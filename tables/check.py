@@ -1,10 +1,10 @@
 #!/usr/bin/env python3
-"""Checks variant tables from outside the program: python3 tables/check.py FILE..
+"""Checks variant tables from outside the program: python3 tables/check.py [--standard] FILE..
 
 Written from docs/NOTATION.md alone, with the classes of Unicode's own data (unicode_data.py), so that the program
 can be compared with it. For each table it prints what `idn2 --check-table` prints, after the file's name, all on the
 output: the gaps and the last line, or the message of the first faulty line. A file whose first line is that of version 3
-is checked as a ruleset, by notation/.
+is checked as a ruleset, by notation/. With --standard a table may have all that RFC 5892 allows, as for the program.
 
 Status: 0 no table has a fault or a gap; 1 one has; 2 a file can't be read, which a message on standard error says, or Unicode's
 data is missing, or no file is named.
@@ -29,6 +29,7 @@ MOST_POINTS = 8
 
 CLEAN, FAULTY, UNUSABLE = 0, 1, 2
 
+STANDARD = "--standard"
 VERSION_LINE = b"%version 2"
 
 POINT = rb"(?:[Uu]\+)?([0-9A-Fa-f]{4,6})"
@@ -143,11 +144,12 @@ def report(variants_of):
     return lines + [f"#table {len(entries)} {len(missing)}"], not missing
 
 
-def main(paths):
+def main(words):
+    paths = [word for word in words if word != STANDARD]
     if not paths:
-        return unusable("usage: check.py FILE..")
+        return unusable("usage: check.py [--standard] FILE..")
     try:
-        classes = Classes()
+        classes = Classes().whole() if STANDARD in words else Classes()
     except SystemExit as reason:
         return unusable(reason)
     status = CLEAN

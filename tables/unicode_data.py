@@ -4,6 +4,7 @@ Nothing of the program comes from here: the program has its own tables, and the 
 """
 
 import bz2
+import copy
 import functools
 import os
 import pathlib
@@ -16,7 +17,7 @@ PVALID, CONTEXTJ, CONTEXTO = "PVALID", "CONTEXTJ", "CONTEXTO"
 DISALLOWED, UNASSIGNED = "DISALLOWED", "UNASSIGNED"
 MAY_STAND_IN_A_TABLE = {PVALID, CONTEXTJ, CONTEXTO}
 
-# Blocks whose Bidi classes this project does not know; none of their code points is registered.
+# Blocks whose Bidi classes the profile does not know; without `--standard` none of their code points is registered.
 LEFT_OUT = ((0xFB1D, 0xFDFF), (0xFE70, 0xFEFF), (0x10800, 0x10FFF), (0x1E800, 0x1EFFF))
 
 # RFC 5892, section 2.6.
@@ -71,7 +72,9 @@ def is_in(ranges, point):
 
 
 class Classes:
-    """The class of each code point by RFC 5892, section 3, with the blocks that this project leaves out."""
+    """The class of each code point by RFC 5892, section 3, with the blocks that the profile leaves out."""
+
+    left_out = LEFT_OUT
 
     def __init__(self):
         self.category = {}
@@ -88,10 +91,16 @@ class Classes:
     def set_of(file, value):
         return {point for first, last, _ in properties(file, value) for point in range(first, last + 1)}
 
+    def whole(self):
+        """The classes of the standard, which leaves out nothing: those of `--standard`."""
+        classes = copy.copy(self)
+        classes.left_out = ()
+        return classes
+
     @functools.cache
     def of(self, point):
-        """The class in this project, which registers nothing of the blocks left out."""
-        return DISALLOWED if is_in(LEFT_OUT, point) else self.by_the_standard(point)
+        """The class, of the blocks left out DISALLOWED."""
+        return DISALLOWED if is_in(self.left_out, point) else self.by_the_standard(point)
 
     def may_stand(self, point):
         """Whether the code point may stand in a table."""

@@ -12,10 +12,10 @@ import pathlib
 import random
 import sys
 
-from converted_rows import (FAULTS, LABELS, LIMITS, NO_PROPERTIES, PROFILE, PROPERTIES, REFUSALS, ROWS, UNICODE_FILES, long_set,
-                            many_entries, refusing)
+from converted_rows import (BY_STANDARD, FAULTS, LABELS, LIMITS, NO_PROPERTIES, PROFILE, PROPERTIES, REFUSALS, ROWS, UNICODE_FILES,
+                            VIRAMAS, long_set, many_entries, refusing, rule)
 from plain_ruleset import PlainRuleset
-from program import PROGRAM, ROOT, run_tests, table_file
+from program import PROGRAM, ROOT, run, run_tests, table_file
 from rich_ruleset import RichRuleset
 from rulesets import comments_of, converted as by_script, entries_of, listings, registrable, ruleset, stored
 from version_3 import BY_PROGRAM
@@ -163,6 +163,27 @@ def leaves_out_what_the_program_does_not_register_only_if_asked(folder):
                 assert told[:20] in text, (data, text)
 
 
+def has_all_of_the_standard_if_asked(folder):
+    """With --standard, each version; the head of the table says so, and the program reads it with that option alone."""
+    for data, lines in BY_STANDARD:
+        for version in ("3", "2"):
+            text, messages, status = by_script(ruleset(folder, data), "--standard", "--version", version)
+            assert status == 0 and "profile" not in messages and "# It is for idn2 --standard.\n" in text, (data, messages)
+            assert entries_of(text) == f"%version {version}\n" + "".join(line + "\n" for line in lines), (data, text)
+            path, check = table_file(folder, text.encode()), "--check-ruleset" if version == "3" else "--check-table"
+            is_read = [run([check, path, *words]).returncode < 2 for words in ([], ["--standard"])]
+            assert is_read == [lines == ["0061"], True], (data, is_read)
+
+
+def drops_no_condition_that_the_program_does_not_ask(folder):
+    """With --standard the program has more viramas, and a table that is made without it may be used with it."""
+    for data, rule_text, is_asked in VIRAMAS:
+        path = ruleset(folder, data, rule(rule_text))
+        for words in ([], ["--standard"]):
+            text, messages, status = by_script(path, "--version", "2", *words)
+            assert (status == 0) == is_asked, (data, words, messages)
+
+
 def keeps_limits(folder):
     for data, rules, messages in LIMITS:
         found = converted(ruleset(folder, data, rules))
@@ -297,6 +318,8 @@ TESTS = [
     refuses_faults,
     tells_what_it_leaves_out,
     leaves_out_what_the_program_does_not_register_only_if_asked,
+    has_all_of_the_standard_if_asked,
+    drops_no_condition_that_the_program_does_not_ask,
     keeps_limits,
     says_large_rulesets,
     joins_in_two_ways,

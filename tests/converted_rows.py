@@ -431,6 +431,23 @@ PROFILE = [
     (char("0061") + char("FB50"), ["0061"], ""),
     (char("FB1E 1E922"), None, "line 2: char FB1E-1E922: " + OUTSIDE),
 ]
+# The same with --standard: the lines.
+BY_STANDARD = [
+    (PROFILE[0][0], ["0061", "1E922..1E943", "1E950..1E959"]),
+    (char("0061", ("10840", "blocked")) + char("10840", ("0061", "blocked")) + char("0061 10840"),
+     ["0061|!10840", "10840|!0061", "0061-10840"]),
+    (char("0061") + char("1E900 1E922"), ["0061"]),
+    (char("FB1E 1E922"), ["FB1E-1E922"]),
+]
+# A joiner after some viramas: the data, the rule, and whether the program asks it anyway, with --standard or without it.
+JOINER = '<char cp="200D" when="r"/>'
+AFTER = '<look-behind><class>{}</class></look-behind><anchor/>'
+VIRAMAS = [
+    (char("0915") + char("094D") + JOINER, AFTER.format("094D"), True),
+    (char("0915") + char("094D") + char("1039") + JOINER, AFTER.format("094D"), False),
+    (char("0915") + char("094D") + char("1039") + JOINER, AFTER.format("094D 1039"), True),
+    (char("0915") + char("094D") + char("1039") + JOINER, AFTER.format("1039"), False),
+]
 # Each limit of the notation.
 TOO_LONG = "it is too long, or has too many parts within each other\n"
 LIMITS = [

@@ -1,8 +1,12 @@
 #!/usr/bin/env python3
 """Tests that each wrong body can be applied, also those that the gate doesn't try: each text that an edit replaces stands
-exactly once in its file; and that each one that a document names is there. Whether the checker refuses the edit is another question, which takes it far longer to answer.
-The last line is 'N passed, M failed', and the exit status is 0 where nothing failed."""
+exactly once in its file. And that each says in its first line what it breaks, 'breaks: FUNCTION, clause NAME', or 'its clause'
+where that has no name, and perhaps ': ' and an input at which it does; that this function and this clause are there; and that it
+changes the body of this function, if it changes bodies alone. Whether the checker refuses the edit, and at which clause, is
+another question, which takes it far longer to answer. The last line is 'N passed, M failed', and the exit status is 0 where nothing failed."""
 
+import collections
+import functools
 import glob
 import os
 import re
@@ -11,7 +15,15 @@ import sys
 from program import ROOT, run_tests
 
 FOLDERS = ("must-fail", "planted", "wrong-bodies")
-NAMED = re.compile(r"`(\w+/(?:%s)/\w+-[\w-]+)`" % "|".join(FOLDERS))
+BREAKS = re.compile(r"breaks: (\w+), (?:clause (\w+)|its clause)(?:: (.+))?")
+# The type of an impl: after `for` if it is one of a trait.
+IMPL = re.compile(r"^impl\b(?:<.*?> )?(?:.* for )?&?\s*(\w+)")
+HEAD = re.compile(r"^( *)(?:pub(?:\(\w+\))? )?(?:final )?(?:const )?(?:unsafe )?fn (\w+)")
+
+# What an edit says that it breaks: a function, its clause, which may have no name, and perhaps an input at which it does.
+Said = collections.namedtuple("Said", "function clause example")
+# The body of a function, with the type of its impl.
+Body = collections.namedtuple("Body", "file owner function first last")
 
 
 def text_of(path):
@@ -34,8 +46,8 @@ def replacements(edit):
         elif word in ("new", "new:"):
             yield file, old, rest
             old = None
-        else:
-            raise ValueError(f"{edit}: a line that is neither file, old nor new: {line}")
+        elif word != "breaks":
+            raise ValueError(f"{edit}: a line that is none of breaks, file, old and new: {line}")
 
 
 def fault_of(crate, edit):
@@ -51,19 +63,85 @@ def fault_of(crate, edit):
     return None if pairs else "it replaces nothing"
 
 
-def apply_to_their_files(folder):
+def bodies_of(file, text):
+    """Each function of a file that has a body, by the layout that rt fmt makes."""
+    lines = text.split("\n")
+    owner = ""
+    for first, line in enumerate(lines):
+        if owns := IMPL.match(line):
+            owner = owns[1]
+        head = HEAD.match(line)
+        if not head:
+            continue
+        end = head[1] + "}"
+        # a goal may be told at an attribute
+        top = next(row for row in range(first, -1, -1) if row == 0 or not lines[row - 1].strip())
+        for last in range(first, len(lines)):
+            if lines[last] == end:
+                yield Body(file, owner if head[1] else "", head[2], top + 1, last + 1)
+                break
+            if lines[last].endswith(";") and not any(row.endswith("{") for row in lines[first:last + 1]):
+                break  # a declaration
+
+
+def bodies_changed(crate, pairs):
+    """The bodies that replacements change; none where they change anything else."""
+    texts, bodies = {}, set()
+    for file, old, new in pairs:
+        text = texts.get(file) or text_of(os.path.join(crate, file))
+        line = text[:text.index(old)].count("\n") + 1
+        around = [body for body in bodies_of(file, text) if body.first < line < body.last]
+        bodies.add(around[-1] if around else None)
+        texts[file] = text.replace(old, new)
+    return frozenset() if None in bodies else frozenset(bodies)
+
+
+def said_of(edit):
+    """What the first line of an edit says, or None."""
+    said = BREAKS.fullmatch(text_of(edit).partition("\n")[0])
+    return Said(*said.groups()) if said else None
+
+
+@functools.cache
+def clauses_of(crate):
+    """The names of the clauses of each function of a crate; of functions of one name, those of all."""
+    found = collections.defaultdict(set)
+    for path in glob.glob(os.path.join(crate, "src", "**", "*.rt"), recursive=True):
+        for function in re.split(r"\bfn (?=\w)", text_of(path))[1:]:
+            found[re.match(r"\w+", function)[0]].update(re.findall(r"\bensures\*? (\w+) \{", function))
+    return found
+
+
+def unsaid(crate, edit):
+    """Why the first line of an edit doesn't say what it breaks, or None."""
+    said = said_of(edit)
+    if not said:
+        return "its first line is not 'breaks: FUNCTION, clause NAME'"
+    if said.function not in clauses_of(crate) or said.clause and said.clause not in clauses_of(crate)[said.function]:
+        return f"the crate has no such clause: {said}"
+    changed = {body.function for body in bodies_changed(crate, replacements(edit))}
+    if changed and said.function not in changed:
+        return f"it changes {', '.join(sorted(changed))}, and says that it breaks {said.function}"
+    return None
+
+
+def faults(fault):
+    """What is wrong with each edit, by its path."""
     edits = [(crate, edit) for crate in glob.glob(os.path.join(ROOT, "crates", "*")) for name in FOLDERS
              for edit in sorted(glob.glob(os.path.join(crate, name, "*.edit")))]
-    faults = {os.path.relpath(edit, ROOT): fault for crate, edit in edits if (fault := fault_of(crate, edit))}
-    assert edits and not faults, faults
+    assert edits
+    return {os.path.relpath(edit, ROOT): found for crate, edit in edits if (found := fault(crate, edit))}
 
 
-def are_where_documents_say(folder):
-    documents = glob.glob(os.path.join(ROOT, "*.md")) + glob.glob(os.path.join(ROOT, "docs", "*.md"))
-    named = {name for document in documents for name in NAMED.findall(text_of(document))}
-    missing = [name for name in sorted(named) if not os.path.isfile(os.path.join(ROOT, "crates", f"{name}.edit"))]
-    assert named and not missing, missing
+def apply_to_their_files(folder):
+    found = faults(fault_of)
+    assert not found, found
+
+
+def say_what_they_break(folder):
+    found = faults(unsaid)
+    assert not found, found
 
 
 if __name__ == "__main__":
-    sys.exit(run_tests("edits", [apply_to_their_files, are_where_documents_say]))
+    sys.exit(run_tests("edits", [apply_to_their_files, say_what_they_break]))

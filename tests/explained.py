@@ -1,5 +1,5 @@
 #!/usr/bin/env python3
-"""Refusals with their causes: `--explain`, in each mode that reads lines, and for a table that has a fault.
+"""Refusals with their causes: `--explain`, in each mode that reads lines, for a table that has a fault, and for words and files.
 
 Each row is a line, the words of a command and the message of the line, made by hand from the RFCs: RFC 5892 for the class and
 the context of a code point, RFC 5893 for the Bidi rule, RFC 5891 for the others, RFC 3492 and RFC 5890 for what begins with
@@ -7,14 +7,16 @@ the context of a code point, RFC 5893 for the Bidi rule, RFC 5891 for the others
 and the exit status is 0 where nothing failed."""
 
 import os
+import subprocess
 import sys
 
-from program import TABLES, expect, run, run_tests, table_file
+from program import LIMIT, PROGRAM, TABLES, expect, run, run_tests, table_file
 
 GERMAN = ["--variants", os.path.join(TABLES, "german.txt")]
 # The table whose sources are an o, and an o before ab. It is written where a test runs.
 SOURCES = ["--variants", "SOURCES"]
 REGISTER, DECODE, LOOKUP = ["-r"], ["-d"], ["-l"]
+REGISTER_BY_STANDARD, DECODE_BY_STANDARD = ["-r", "--standard"], ["-d", "--standard"]
 
 # A line; the words beside --explain; the message, and the cause after it.
 ROWS = [
@@ -54,6 +56,11 @@ ROWS = [
     ("\u05D0\u094D\u200D", REGISTER, "17 Bidi rule broken", "U+200D at place 3 is BN: RFC 5893 2, condition 3"),
     ("\u05D00\u0660", REGISTER, "17 Bidi rule broken", "U+0660 at place 3 is AN: RFC 5893 2, condition 4"),
     ("ab\u05D0", REGISTER, "17 Bidi rule broken", "U+05D0 at place 3 is R: RFC 5893 2, condition 5"),
+    ("\u05D0\u02C6", REGISTER_BY_STANDARD, "17 Bidi rule broken", "U+02C6 at place 2 is ON: RFC 5893 2, condition 3"),
+    ("\U0001E900", REGISTER_BY_STANDARD, "10 disallowed code point", "U+1E900 at place 1: RFC 5892 2.2 Unstable"),
+    ("xn--4db.a-", DECODE_BY_STANDARD, "17 Bidi rule broken", "label 2: U+002D at place 2 is ES: RFC 5893 2, condition 6"),
+    ("xn--a-k7a.xn--4db", DECODE_BY_STANDARD, "17 Bidi rule broken",
+     "label 1, decoded: U+02C6 at place 2 is ON: RFC 5893 2, condition 6"),
     ("a" * 64, REGISTER, "18 label too long", "64 code points"),
     ("a" * 62 + "ü", REGISTER, "18 label too long", "A-label of 70 octets"),
     ("xn--", REGISTER, "19 not an A-label", "nothing behind xn--"),
@@ -166,6 +173,7 @@ REGISTERED_ROWS = [
 
 VERSION_2, VERSION_3 = "%version 2\n", "%version 3\n"
 SYNTAX, TWICE, AGAIN = "30 table syntax", "32 variant given twice", "31 source given twice"
+MARK = "a byte order mark at byte 1"
 CLASS, OVER = "33 code point not allowed in a table", "34 table limit"
 NINE = "-".join(f"{point:04X}" for point in range(0x61, 0x6A))
 SEVENTEEN = ":".join(f"{point:04X}" for point in range(0x62, 0x73))
@@ -192,6 +200,13 @@ FAULTY_TABLES = [
     ("0061|" + "a" * 32 + "\n", 1, SYNTAX, f"'{'a' * 32}' at byte 6"),
     ("0061|" + "a" * 33 + "\n", 1, SYNTAX, "word at byte 6"),
     ("0061|straße\n", 1, SYNTAX, "word at byte 6"),
+    ("\ufeff0061\n", 1, SYNTAX, MARK),
+    ("\ufeff" + VERSION_2 + "0061\n", 1, SYNTAX, MARK),
+    ("\ufeff# a table\n", 1, SYNTAX, MARK),
+    ("\ufeff", 1, SYNTAX, MARK),
+    (b"\xef\xbb0061\n", 1, SYNTAX, "word at byte 1"),
+    ("0061\n\ufeff0062\n", 2, SYNTAX, "word at byte 1"),
+    ("\ufeff0061" + " " * 1021 + "\n", 1, OVER, "the line goes on at byte 1025"),
     (b"0061|0062:\xff\n", 1, SYNTAX, "word at byte 11"),
     (b"0061|0062\x00\n", 1, SYNTAX, "word at byte 6"),
     (VERSION_2 + "!0061|0062\n", 2, SYNTAX, "'!' at byte 1"),
@@ -426,6 +441,9 @@ def tells_where_a_table_has_its_fault(folder):
     for text in RULESETS_WITHOUT_VERSION:
         words = ["--check-ruleset", table_file(folder, text.encode(), "faulty.txt"), "--explain"]
         expect(words, b"", b"", b"idn2: table line 1: 30 table syntax\n", 2)
+    for text in ("", "0061\n", VERSION_3 + "0061\n"):
+        words = ["--check-ruleset", table_file(folder, ("\ufeff" + text).encode(), "faulty.txt"), "--explain"]
+        expect(words, b"", b"", f"idn2: table line 1: 30 table syntax: {MARK}\n".encode(), 2)
 
 
 def tells_a_cause_in_one_line_of_160_bytes(folder):
@@ -441,8 +459,65 @@ def tells_a_cause_in_one_line_of_160_bytes(folder):
             assert len(message) <= 160 and message.isascii() and message.endswith(b"\n"), message
 
 
-def is_refused_twice(folder):
-    expect(["--explain", "--explain", "x"], b"", b"", b"idn2: 50 usage\n", 2)
+def tells_which_words_cannot_be_used(folder):
+    """By the option, which may stand anywhere before `--`; without it as ever."""
+    for words, cause in (
+        (["--foo"], "unknown option '--foo'"),
+        (["--foo=x", "y"], "unknown option '--foo'"),
+        (["--json", "--foo", "--bar"], "unknown option '--foo'"),
+        (["-x"], "unknown option '-x'"),
+        (["-rx", "y"], "unknown option '-x'"),
+        (["--a\nb"], "unknown option '--a\\u{a}b'"),
+        (["--limit"], "--limit takes a value"),
+        (["--variants", "t", "--limit", "--json", "x"], "--limit takes a value"),
+        (["--variants", "t", "--limit", "1", "--limit=2", "x"], "--limit is given twice"),
+        (["-r", "-r", "x"], "--register is given twice"),
+        (["--json=1", "x"], "--json takes no value"),
+        (["--json=' for '--limit", "x"], "--json takes no value"),
+        (["-r", "-d", "x"], "two modes are named"),
+        (["--variants", "t", "--check-table", "t"], "two modes are named"),
+        (["--among", "f", "x"], "--among goes with --variants"),
+        (["--among", "f", "--limit", "1", "x"], "--limit goes with --variants"),
+        (["--after=a", "-r", "x"], "--after goes with --variants"),
+        (["--jump", "x"], "--jump goes with --variants"),
+        (["--variants", "t", "--jump", "--steps", "9", "x"], "--steps doesn't go with --jump"),
+        (["--variants", "t", "--among", "f", "--tries", "9", "x"], "--tries doesn't go with --among"),
+        (["--variants", "t", "--among", "f", "--steps", "9", "x"], "--steps doesn't go with --among"),
+        (["--ruleset", "t", "--among", "t", "x"], "--among takes another file than the table"),
+        (["--variants", "t", "--limit", "0", "x"], "--limit takes a number from 1 to 1000000000"),
+        (["--variants", "t", "--tries", "+5", "x"], "--tries takes a number from 1 to 1000000000"),
+        (["--variants", "t", "--steps", "1", "x"], "--steps takes a number from 2 to 1000000000000000000"),
+        (["--variants", "t", "--after", "a" * 1025, "x"], "--after takes at most 1024 bytes"),
+        (["--check-table", "t", "x"], "the check of a table takes no STRINGS"),
+    ):
+        for explained in (["--explain", *words], [*words, "--explain"]):
+            if words == ["--limit"] and explained[-1] == "--explain":
+                continue
+            expect(explained, b"", b"", f"idn2: 50 usage: {cause}\n".encode(), 2)
+        expect(words, b"", b"", b"idn2: 50 usage\n", 2)
+        expect([*words, "--", "--explain"], b"", b"", b"idn2: 50 usage\n", 2)
+    expect(["--explain", "--explain", "x"], b"", b"", b"idn2: 50 usage: --explain is given twice\n", 2)
+
+
+def tells_which_file_cannot_be_read(folder):
+    table = table_file(folder, b"0061\n")
+    missing = os.path.join(folder, "none.txt")
+    for words, name, cause in (
+        (["--variants", missing, "x"], missing, "no such file"),
+        (["--check-ruleset", folder], folder, "is a directory"),
+        (["--variants", table, "--among", missing, "x"], missing, "no such file"),
+        (["--variants", os.path.join(table, "x"), "x"], os.path.join(table, "x"), "not a directory"),
+        (["--variants", missing + "\n", "x"], missing + "\\u{a}", "no such file"),
+    ):
+        expect(["--explain", *words], b"", b"", f"idn2: 60 read fault: {name}: {cause}\n".encode(), 3)
+        expect(words, b"", b"", b"idn2: 60 read fault\n", 3)
+
+
+def tells_why_the_output_cannot_be_written(folder):
+    for words in (["-r", "--explain", "abc"], ["--help", "--explain"]):
+        with open("/dev/full", "wb") as full:
+            done = subprocess.run([PROGRAM, *words], stdout=full, stderr=subprocess.PIPE, timeout=LIMIT)
+        assert (done.returncode, done.stderr) == (3, b"idn2: 61 write fault: standard output: no space left\n"), words
 
 
 def changes_nothing_else(folder):
@@ -462,7 +537,9 @@ TESTS = [
     tells_the_cause_of_a_wrong_registered_line,
     tells_where_a_table_has_its_fault,
     tells_a_cause_in_one_line_of_160_bytes,
-    is_refused_twice,
+    tells_which_words_cannot_be_used,
+    tells_which_file_cannot_be_read,
+    tells_why_the_output_cannot_be_written,
     changes_nothing_else,
 ]
 

@@ -15,6 +15,8 @@ from typing import NamedTuple
 from program import LIMIT, PROGRAM, expect, run, run_tests, run_within, table_file
 
 MEMORY, READ_FAULT, WRITE_FAULT = b"idn2: 70 out of memory\n", b"idn2: 60 read fault\n", b"idn2: 61 write fault\n"
+# What a message that ends a run goes on with where causes are asked for, after the name of what failed.
+REFUSED = b": input/output error\n"
 DOUBLED = b"0061|0061-0061\n"
 HYPHENS = b"0061|002D\n"
 SHARP_S = b"0061\n0065\n0072\n0073\n0074\n0073-0073|00DF\n00DF|0073-0073\n"
@@ -83,8 +85,9 @@ CASES = [
     Case(["--variants", "table", "--limit", "2", "--tries", "2"], SHARP_S,
          [("sss\n", "sss\tsss\nsß\txn--s-qfa\n#stop 2 sß\n", "")], 0),
     Case(["--variants", "table", "--after", "ßs"], SHARP_S, [("sss\n", "#end 0\n", "")], 0),
-    Case(["--variants", "table"], DOUBLED, [("aa\n", BLOCK, ""), ("ab\n", "", "idn2: line 2: 40 not made of table entries\n"),
-                                            ("aa\n", BLOCK, "")], 1),
+    # Lines that are empty, that end in a carriage return, and that lack a line feed.
+    Case(["--variants", "table"], DOUBLED, [("\r\n", "", "idn2: line 1: 3 empty\n"), ("aa\r\n", BLOCK, ""),
+                                            ("ab\n", "", "idn2: line 3: 40 not made of table entries\n"), ("aa", BLOCK, "")], 1),
     # Each line takes memory: the test of a mark that may compose, and the class of a code point that is left open.
     Case(["-r"], b"", [("q\u0301\n", "xn--q-xbb\n", ""), ("a\u0301\n", "", "idn2: line 2: 12 not in NFC\n"),
                        ("\u1e9e\n", "", "idn2: line 3: 10 disallowed code point\n")], 1),
@@ -99,6 +102,8 @@ CASES = [
          [("ass\n", "ass\tass\tallocatable\nax\tax\tallocatable\naß\txn--a-qfa\tblocked\n#end 3\n", ""),
           ("as\n", "", "idn2: line 2: 40 not made of table entries\n"),
           ("aß\n", "ass\tass\tallocatable\naß\txn--a-qfa\tallocatable\n#end 2\n", "")], 1),
+    Case(["--variants", "table"], b"%version 2\n0061|!0062:00DF\n",
+         [("a\n", "a\ta\tallocatable\nb\tb\tblocked\nß\txn--zca\tallocatable\n#end 3\n", "")], 0),
     Case(["--variants", "table", "--limit", "1"], ALLOCATING, [("ass\n", "ass\tass\tallocatable\n#stop 1 ass\n", "")], 0),
     Case(["--variants", "table"], b"%version 2\n0063..0061\n", [("", "", "idn2: table line 2: 30 table syntax\n")], 2),
     Case(["--ruleset", "table"], OUTSIDE, [("ab\n", "ab\tab\tallocatable\nаb\txn--b-7sb\tblocked\n#end 2\n", ""),
@@ -232,17 +237,22 @@ CASES = [
 ]
 
 
+def refusing_library(folder):
+    """The path of the library that refusing.c is built as."""
+    library = os.path.join(folder, "refusing.so")
+    kit = os.path.dirname(subprocess.run([os.environ.get("RT", "rt"), "doc"], capture_output=True, check=True, text=True).stdout.strip())
+    tools = os.path.join(kit, "toolchain", "bin")
+    source = os.path.join(os.path.dirname(os.path.abspath(__file__)), "refusing.c")
+    subprocess.run([os.path.join(tools, "clang"), "--ld-path=" + os.path.join(tools, "ld.lld"), "-O1", "-shared",
+                    "-fPIC", "-nostdlib", "-o", library, source], check=True)
+    return library
+
+
 class Refusing:
     """Runs the program with calls of the C library refused, by the library of refusing.c."""
 
     def __init__(self, folder):
-        self.folder, self.library = folder, os.path.join(folder, "refusing.so")
-        kit = os.path.dirname(subprocess.run([os.environ.get("RT", "rt"), "doc"], capture_output=True, check=True,
-                                             text=True).stdout.strip())
-        tools = os.path.join(kit, "toolchain", "bin")
-        source = os.path.join(os.path.dirname(os.path.abspath(__file__)), "refusing.c")
-        subprocess.run([os.path.join(tools, "clang"), "--ld-path=" + os.path.join(tools, "ld.lld"), "-O1", "-shared",
-                        "-fPIC", "-nostdlib", "-o", self.library, source], check=True)
+        self.folder, self.library = folder, refusing_library(folder)
 
     def run(self, case, **refused):
         """What is answered, and whether anything was refused."""
@@ -286,20 +296,28 @@ def each_growth_is_refused(folder):
 
 
 def each_read_of_the_input_is_refused(folder):
-    """Byte by byte: the lines that a line feed ended before are served, and no other."""
-    def wanted(case, number):
-        before = case.given()[:number - 1].count(b"\n")
-        output, messages = written(Case(case.words, b"", case.lines[:before], 0).pieces())
-        return [(output, messages + READ_FAULT, 3)]
-    for once in (0, 1):
-        Refusing(folder).each("READ", wanted, FROM=0, PIECE=1, ONCE=once)
+    """Byte by byte, and all at once: the lines that a line feed ended before are served, and no other."""
+    for piece in (1, 4096):
+        def wanted(case, number):
+            before = case.given()[:(number - 1) * piece].count(b"\n")
+            output, messages = written(Case(case.words, b"", case.lines[:before], 0).pieces())
+            return [(output, messages + READ_FAULT, 3)]
+        for once in (0, 1):
+            Refusing(folder).each("READ", wanted, FROM=0, PIECE=piece, ONCE=once)
+
+
+def ending(case, message, name):
+    """The message that ends a run where what has this name fails."""
+    return message[:-1] + b": " + name + REFUSED if "--explain" in case.words else message
 
 
 def each_read_of_a_file_is_refused(folder):
     """Of the table, and then of the registered labels, byte by byte, and where each ends."""
+    def unread(case, _):
+        return [(b"", ending(case, READ_FAULT, name), 3) for name in (b"table", b"registered")]
     reads = sum(len(text) + 1 for case in CASES for text in (case.table, case.registered) if text and "table" in case.words)
     for once in (0, 1):
-        refused = Refusing(folder).each("READ", lambda case, _: [(b"", READ_FAULT, 3)], FROM=3, PIECE=1, ONCE=once)
+        refused = Refusing(folder).each("READ", unread, FROM=3, PIECE=1, ONCE=once)
         assert refused >= reads, f"{refused} reads of files were refused, of at least {reads}"
 
 
@@ -317,9 +335,10 @@ def each_byte_of_the_output_is_refused(folder):
     """The bytes before it stand, with the messages of the lines before its own; and nothing is written after it."""
     def wanted(case, number):
         output, messages = stopped_at(case, True, number)
-        return [(output, messages + WRITE_FAULT, 3)]
+        return [(output, messages + ending(case, WRITE_FAULT, b"standard output"), 3)]
     for once in (0, 1):
         Refusing(folder).each("WRITE", wanted, TO=1, PIECE=1, ONCE=once)
+    Refusing(folder).each("OUTPUT", wanted)
 
 
 def each_byte_of_the_messages_is_refused(folder):
@@ -329,6 +348,23 @@ def each_byte_of_the_messages_is_refused(folder):
         return [(output, messages, 3)]
     for once in (0, 1):
         Refusing(folder).each("WRITE", wanted, TO=2, PIECE=1, ONCE=once)
+    Refusing(folder).each("MESSAGES", wanted)
+
+
+def cuts_the_last_message_and_keeps_its_status(folder):
+    """Where the messages fail, too, at each byte of the last one; the output is cut within a code point."""
+    listing = Case(["--variants", "table"], SHARP_S, [("sss\n", "sss\tsss\ns\u00DF\txn--s-qfa\n#end 2\n", "")], 0)
+    label = Case(["-r"], b"", [("fa\u00DF\n", "xn--fa-hia\n", "")], 0)
+    refusing = Refusing(folder)
+    for case, refused, output, message, status in ((Case(["--bogus"], b"", [], 2), {}, b"", b"idn2: 50 usage\n", 2),
+                                                   (label, {"READ": 1, "FROM": 0}, b"", READ_FAULT, 3),
+                                                   (label, {"OUTPUT": 1}, b"", WRITE_FAULT, 3),
+                                                   (listing, {"OUTPUT": 11}, b"sss\tsss\ns\xC3", WRITE_FAULT, 3),
+                                                   (label, {"GROWTH": 1}, b"", MEMORY, 4)):
+        for piece in (1, 4096):
+            for place in range(len(message) + 1):
+                found, _ = refusing.run(case, PIECE=piece, MESSAGES=place + 1, **refused)
+                assert found == (output, message[:place], status), (case.words, refused, piece, place, found)
 
 
 def within_a_second(words, given=b""):
@@ -350,9 +386,10 @@ def a_label(label):
 def answers_labels_of_every_length(folder):
     """Of 1 to 64 code points: such as are told by look-ups, and such as need memory, for a mark that may compose; each as
     a label, as what an A-label stands for, and as the one label of its listing."""
-    table = table_file(folder, "\n".join(map(points, "aqß中א\u0301")).encode())
+    table = table_file(folder, "\n".join(map(points, "aqß中א\u0301\u0F42\u0F72")).encode())
     makers = (lambda n: "a" * n, lambda n: "ß" * n, lambda n: "a" * (n - 1) + "ß", lambda n: "中" * n, lambda n: "א" * n,
-              lambda n: "q" * (n - 1) + "\u0301", lambda n: "q\u0301" * (n // 2))
+              lambda n: "q" * (n - 1) + "\u0301", lambda n: "q\u0301" * (n // 2), lambda n: "a" * (n - 2) + "q\u0301",
+              lambda n: "a" * (n - 2) + "\u0F42\u0F72")
     labels = [label for make in makers for label in map(make, range(2, 65))] + ["a", "ß", "中", "א"]
     is_short = lambda label: len(label) <= 63 and len(a_label(label)) <= 63
     told = "".join(f"idn2: line {line}: 18 label too long\n" for line, label in enumerate(labels, 1) if not is_short(label))
@@ -397,6 +434,12 @@ def serves_the_largest_tables(folder):
             listed = [line.split("\t")[0] for line in variants]
             assert variants == [f"{each}\t{a_label(each)}" + field(each) * is_version_2 for each in listed], variants
             assert len(listed) == 3 and listed == sorted(set(listed)) and stop == "#stop 3 " + listed[-1], (listed, stop)
+
+
+def checks_tables_of_many_sizes(folder):
+    lines = [b"%X\n" % point for point in range(0x4E00, 0x5E00)]
+    for entries in range(0, 4097, 64):
+        expect(["--check-table", table_file(folder, b"".join(lines[:entries]))], b"", b"#table %d 0\n" % entries, b"", 0)
 
 
 def refuses_tables_over_a_limit(folder):
@@ -700,7 +743,7 @@ def ends_where_the_reader_of_a_listing_left(folder):
     with subprocess.Popen([PROGRAM, *words], stdout=subprocess.PIPE, stderr=subprocess.PIPE) as source:
         assert source.stdout.readline() == b"\t".join([b"a" * 62] * 2) + b"\n"
         source.stdout.close()
-        assert (source.stderr.read(), source.wait(LIMIT)) == (WRITE_FAULT, 3)
+        assert (source.stderr.read(), source.wait(LIMIT)) == (b"", 3)
 
 
 def tells_of_an_input_that_cannot_be_read(folder):
@@ -721,9 +764,11 @@ TESTS = [
     each_read_of_a_file_is_refused,
     each_byte_of_the_output_is_refused,
     each_byte_of_the_messages_is_refused,
+    cuts_the_last_message_and_keeps_its_status,
     answers_labels_of_every_length,
     passes_over_candidates_that_are_too_long,
     serves_the_largest_tables,
+    checks_tables_of_many_sizes,
     serves_hostile_rulesets,
     refuses_tables_over_a_limit,
     serves_a_table_cut_in_its_last_line,

@@ -278,10 +278,11 @@ def lists_registered_labels(folder):
 
 
 def ends_with_messages(folder):
-    """What ends a run is a message, as ever."""
+    """What ends a run is a message, as ever, which has a cause with `--explain` alone."""
     expect(GERMAN[:1] + [os.path.join(folder, "missing.txt"), "--json"], b"a\n", b"", b"idn2: 60 read fault\n", 3)
-    for words in (["--json", "--json", "x"], ["--json", "--explain", "--explain", "x"], ["--json", "-r", "-d"]):
+    for words in (["--json", "--json", "x"], ["--json", "-r", "-d"]):
         expect(words, b"", b"", b"idn2: 50 usage\n", 2)
+    expect(["--json", "--explain", "--limit", "1"], b"", b"", b"idn2: 50 usage: --limit goes with --variants\n", 2)
 
 
 def cause_of(refusal):
@@ -430,8 +431,10 @@ SHAPES = {
     1: [{"byte"}], 2: [set()], 3: [set()], 4: [{"place"}, PLACED], 5: [set()],
     **{number: [shape | more for shape in shapes for more in (set(), {"decoded"}, {"label", "decoded"})]
        for number, shapes in OF_LABELS.items()},
+    # Of a name as a whole: a label that is copied may break the Bidi rule.
+    17: [PLACED | {"rule", "bidi_class"} | more for more in (set(), {"decoded"}, {"label"}, {"label", "decoded"})],
     19: [shape | more for shape in OF_A_LABELS for more in (set(), {"label"})],
-    20: [set()], 21: [{"octets"}, {"label", "octets"}], 30: [set(), {"byte"}], 31: [{"byte"}], 32: [{"byte"}],
+    20: [set()], 21: [{"octets"}, {"label", "octets"}], 30: [set(), {"byte"}, {"code_point", "byte"}], 31: [{"byte"}], 32: [{"byte"}],
     33: [{"code_point", "byte"}], 34: [set(), {"byte"}, {"code_point", "byte"}], 35: [{"byte"}], 36: [{"byte"}], 40: [PLACED],
     41: [PLACED | {"condition", "rule"}, {"demand", "kind"}],
 }
@@ -465,8 +468,8 @@ def tells_which_numbers_have_a_member(folder):
     """The second column of the table of docs/JSON.md, but for two members that go by what is refused."""
     rows = dict(re.findall(r"^\| `(\w+)` \| ([^|]*) \|", text_of_file("docs", "JSON.md").split("## What is refused")[1], re.MULTILINE))
     assert rows.keys() == MEMBERS.keys(), rows
-    rows["place"] = rows["place"].replace("the same, but for 33 and 34", ", ".join(
-        each for each in rows["code_point"].split(", ") if each not in ("33", "34")))
+    rows["place"] = rows["place"].replace("the same, but for 30, 33 and 34", ", ".join(
+        each for each in rows["code_point"].split(", ") if each not in ("30", "33", "34")))
     for member in MEMBERS.keys() - {"label", "decoded"}:
         told = {number for first, last in re.findall(r"(\d+)(?: to (\d+))?", rows[member]) for number in range(int(first), int(last or first) + 1)}
         known = {number for number, shapes in SHAPES.items() if any(member in shape for shape in shapes)}

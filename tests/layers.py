@@ -1,8 +1,8 @@
 #!/usr/bin/env python3
-"""Tests that crates and modules stand in layers, as docs/ARCHITECTURE.md draws them: no `use` goes up, and none goes in a
-circle; that the functions through which it leads a line stand where it says; and that it says of each module what it is for. It
-reads the source alone, in less than a second. The last line is 'N passed, M failed', and the exit status is 0 where nothing failed. `--draw` draws the layers in that
-document as the source has them now."""
+"""Tests that crates and modules stand in layers: no `use` goes up, and none goes in a circle; that docs/ARCHITECTURE.md has a
+line for each crate, and leads a label through functions that are there; and that each file says at its head what it is for. It
+reads the source alone, in a second. The last line is 'N passed, M failed', and the exit status is 0 where nothing failed.
+`--draw` shows the layers of the crates, and `--draw CRATE` those of a crate's modules, the lowest first."""
 
 import collections
 import functools
@@ -14,15 +14,14 @@ import sys
 
 from program import ROOT, run_tests, text_of
 
-# The drawing of the crates themselves, and the crate of which nothing is drawn: each file of it is a test.
-OF_CRATES = "the crates"
-UNDRAWN = "idn2_rows"
-
 # What a file names of its own crate: in code by `crate::`, in contracts by the types that it declares.
 IN_CODE = re.compile(r"\bcrate::((?:\w+::)*\w+)")
 IN_A_CONTRACT = r"\bRattle\.{}\.specs\.declared\.((?:\w+\.)*\w+)"
 PASSED_ON = re.compile(r"^ *(?:pub(?:\(crate\))? )?use (\w+)::", re.MULTILINE)
 ANY_CRATE = re.compile(r"\bRattle\.(\w+)\.")
+
+# Files of a proof, whose path says for which function they are.
+OF_A_FUNCTION = ("Answers.antt", "Invariants.antt", "Proof.antt")
 
 
 @functools.cache
@@ -70,45 +69,27 @@ def uses(crate):
     return {module: used for module, used in found.items() if used or module not in parents}
 
 
-def drawn_block():
-    """The part of the document that is the drawing."""
-    section = text_of("docs", "ARCHITECTURE.md").partition("\n## The layers\n")[2]
-    return re.search(r"\n\n((?:    .*\n)+)", section).group(1)
+def graph_of_crates():
+    return {crate: set(below) & set(crates()) for crate, below in crates().items()}
 
 
-@functools.cache
-def drawing():
-    """The layers that the document draws, lowest first, each a list of names: of the crates, and of each crate's modules."""
-    block, drawn = drawn_block(), {}
-    for line in block.splitlines():
-        if line.startswith("      "):
-            layers.append(line.split())
-        else:
-            layers = drawn.setdefault(line.strip(), [])
-    return drawn
+def layers_of(graph):
+    """The layers of crates or modules, each as low as what it uses allows; none where some use each other."""
+    order = list(graphlib.TopologicalSorter(graph).static_order())
+    layer, layers = {}, collections.defaultdict(list)
+    for module in order:
+        layer[module] = 1 + max((layer[used] for used in graph.get(module, ())), default=-1)
+        layers[layer[module]].append(module)
+    return [sorted(layers[number]) for number in sorted(layers)]
 
 
-def graphs():
-    """What is drawn, in its order: the crates, and the modules of each crate, each with what it uses."""
-    yield OF_CRATES, {crate: set(below) & set(crates()) for crate, below in crates().items()}
-    yield from ((crate, uses(crate)) for crate in crates() if crate != UNDRAWN)
-
-
-def draws_each_module_once(folder):
-    for name, graph in graphs():
-        drawn = [module for layer in drawing().get(name, []) for module in layer]
-        assert sorted(drawn) == sorted(graph), (name, set(drawn) ^ set(graph), "python3 tests/layers.py --draw")
-    assert list(drawing()) == [name for name, _ in graphs()], "the drawing has other crates than crates.txt, or another order"
-
-
-def goes_up_nowhere(folder):
-    """Each crate and each module uses those of lower layers alone."""
-    up = set()
-    for name, graph in graphs():
-        layer_of = {module: number for number, layer in enumerate(drawing()[name]) for module in layer}
-        up |= {(name, module, other) for module, others in graph.items() for other in others
-               if {module, other} <= set(layer_of) and layer_of[other] >= layer_of[module]}
-    assert not up, ("move what both need into a module below them", up)
+def goes_in_no_circle(folder):
+    """No two modules of a crate use each other, by way of others either."""
+    for crate in crates():
+        try:
+            layers_of(uses(crate))
+        except graphlib.CycleError as circle:
+            raise AssertionError(("move what these need of each other into a module below them", crate, circle.args[1])) from circle
 
 
 def has_no_circle_of_folders(folder):
@@ -147,14 +128,11 @@ def reach(names):
     return found
 
 
-def says_what_each_crate_stands_on(folder):
-    """The table of crates says the same as crates.txt."""
-    rows = re.findall(r"^\| `(\w+)` \| .* \| (.*?) ?\|$", text_of("docs", "ARCHITECTURE.md"), re.MULTILINE)
-    said = {crate: set(re.findall(r"`(\w+)`", below)) for crate, below in rows}
-    assert list(said) == list(crates()), (list(said), list(crates()))
-    for crate, below in crates().items():
-        if crate != UNDRAWN:
-            assert said[crate] == set(below), (crate, said[crate] ^ set(below))
+def says_what_each_crate_is_for(folder):
+    """The table of crates has a line for each crate of crates.txt, in that order."""
+    table = text_of("docs", "ARCHITECTURE.md").partition("\n## Crates\n")[2].partition("\n## ")[0]
+    named = [name for name in re.findall(r"^\| `(\w+)` \| .+ \|$", table, re.MULTILINE)]
+    assert named == list(crates()), (named, list(crates()))
 
 
 def names_no_module_as_a_library(folder):
@@ -165,79 +143,53 @@ def names_no_module_as_a_library(folder):
         assert not words & libraries, (crate, words & libraries)
 
 
-def leads_a_line_through_functions_that_are_there(folder):
-    """Each function of the tables that follow a line stands in the file beside it."""
+def leads_a_label_through_functions_that_are_there(folder):
+    """Each function of the tables that follow a label stands in the file beside it."""
     rows = re.findall(r"^\| \d+ \| (.*?) \| `(\w+)/([\w/]+\.rt)` \|", text_of("docs", "ARCHITECTURE.md"), re.MULTILINE)
     named = [(name, text_of("crates", crate, "src", file), file) for names, crate, file in rows
              for name in re.findall(r"`(?:\w+::)?(\w+)`", names)]
     absent = [(name, file) for name, text, file in named if not re.search(rf"\bfn {name}\b", text)]
-    assert len(named) > 90 and not absent, (len(named), absent)
+    assert len(named) > 30 and not absent, (len(named), absent)
 
 
-def names_what_is_in_other_files(folder):
-    """What a row of these tables says of another file stands there: `name` in `file.rt`, beside the file of the row or below
-    crates/."""
-    rows = re.findall(r"^\| \d+ \| .*? \| `(\w+)/([\w/]+\.rt)` \| (.*) \|$", text_of("docs", "ARCHITECTURE.md"), re.MULTILINE)
-    named = [(name, other if other.split("/")[0] in crates() else os.path.join(crate, os.path.dirname(file), other))
-             for crate, file, said in rows for name, other in re.findall(r"`(?:\w+::)?(\w+)` in `([\w/]+\.rt)`", said)]
-    absent = []
-    for name, path in named:
-        crate, _, file = path.partition("/")
-        path = os.path.join(ROOT, "crates", crate, "src", file)
-        if not os.path.exists(path) or not re.search(rf"\b(?:fn|struct|enum|trait) {name}\b", text_of(path)):
-            absent.append((name, path))
-    assert len(named) > 10 and not absent, (len(named), absent)
+def says_at_its_head_what_it_is_for(folder):
+    """Each file of code begins with a comment, and so does each of definitions and of lemmas."""
+    paths = [path for ending in ("src/**/*.rt", "specs/**/*.antt", "proofs/**/*.antt")
+             for path in glob.glob(os.path.join(ROOT, "crates", "*", ending), recursive=True)
+             if os.path.basename(path) not in OF_A_FUNCTION]
+    lacking = [os.path.relpath(path, ROOT) for path in paths
+               if not re.match(r"//! ." if path.endswith(".rt") else "-- .", text_of(path))]
+    assert len(paths) > 700 and not lacking, (len(paths), lacking)
 
 
-def has_a_row_for_each_module(folder):
-    """The tables of modules have each module of their crate once."""
-    section = text_of("docs", "ARCHITECTURE.md").partition("\n## The modules of each crate\n")[2].partition("\n## ")[0]
-    parts = re.findall(r"^`crates/(\w+)/src`:\n\n((?:\|.*\n)+)", section, re.MULTILINE)
-    assert [crate for crate, _ in parts] == [crate for crate in crates() if crate != UNDRAWN], parts
-    for crate, table in parts:
-        rows, modules = re.findall(r"^\| `([\w/]+)\.rt` \|", table, re.MULTILINE), set(sources(crate)) - {"laws"}
-        assert sorted(rows) == sorted(modules), (crate, set(rows) ^ modules)
+def has_the_tables_that_are_printed(_):
+    """What the program idn_class_table prints, which the gate compares with its file stdout, is the module of idn_class."""
+    printed = text_of("crates", "idn_class_table", "stdout")
+    assert printed == text_of("crates", "idn_class", "src", "class_table.rt"), "make class-table prints them anew"
 
 
-def drawn_again(graph):
-    """The layers of what is drawn, each module as low as what it uses allows."""
-    @functools.cache
-    def layer(module):
-        return 1 + max(map(layer, graph[module]), default=-1)
-
-    layers = collections.defaultdict(list)
-    for module in graph:
-        layers[layer(module)].append(module)
-    return [sorted(layers[number]) for number in sorted(layers)]
-
-
-def draw():
-    """Puts the drawing of the source as it stands into the document. Where modules use each other there is none."""
-    lines = []
-    for name, graph in graphs():
-        try:
-            graphlib.TopologicalSorter(graph).prepare()
-        except graphlib.CycleError as circle:
-            sys.exit(f"{name}: no layers, since these use each other: {', '.join(circle.args[1])}")
-        lines += [f"    {name}", *(f"      {' '.join(layer)}" for layer in drawn_again(graph))]
-    text = text_of("docs", "ARCHITECTURE.md").replace(drawn_block(), "".join(line + "\n" for line in lines))
-    with open(os.path.join(ROOT, "docs", "ARCHITECTURE.md"), "w", encoding="utf-8") as document:
-        document.write(text)
+def draw(names):
+    """Shows the layers of the crates, or of the modules of a crate."""
+    for name in names:
+        if name not in crates():
+            sys.exit(f"{name}: crates.txt has no such crate")
+    for graph in map(uses, names) if names else [graph_of_crates()]:
+        for layer in layers_of(graph):
+            print(*layer)
 
 
 TESTS = [
-    draws_each_module_once,
-    goes_up_nowhere,
+    goes_in_no_circle,
     has_no_circle_of_folders,
     names_no_laws,
     lists_the_lowest_crate_first,
-    says_what_each_crate_stands_on,
+    says_what_each_crate_is_for,
     names_no_module_as_a_library,
-    leads_a_line_through_functions_that_are_there,
-    names_what_is_in_other_files,
-    has_a_row_for_each_module,
+    leads_a_label_through_functions_that_are_there,
+    says_at_its_head_what_it_is_for,
+    has_the_tables_that_are_printed,
 ]
 
 
 if __name__ == "__main__":
-    sys.exit(draw() if sys.argv[1:] == ["--draw"] else run_tests("layers", TESTS))
+    sys.exit(draw(sys.argv[2:]) if sys.argv[1:2] == ["--draw"] else run_tests("layers", TESTS))

@@ -24,12 +24,12 @@ from kit_data import Kit
 from profile_figures import Figures
 from registration import a_label
 
-OTHER_NAME = "idn2-registry"
+OTHER_NAME = "idn2-proved"
 MANUAL_PAGE = os.path.join(ROOT, "docs", "idn2.1")
 
 # What of docs/PROFILE.md has a figure that isn't counted: what stands in standards, in the program, and in code.
 DECIDED = (r"`[^`]*`", r"RFC \d+(, section \d+)?", "UTS #46", r"docs/idn2\.1", r"U\+200C, ZERO WIDTH NON-JOINER",
-           r"the Arabic block \(U\+0600 to 06FF\)", "refuses that name with 20", "more than 63 code points")
+           r"the Arabic block \(U\+0600 to 06FF\)", r"refuses (that name|it) with (17|20)", "more than 63 code points")
 
 # Bounds that documents state, each with the clause of a contract or a definition that has it.
 EDGES = ("crates/variant_list/src/net.rt", "result ≤ 68544")
@@ -39,7 +39,6 @@ BOUNDS = {
     ("docs/DECISIONS.md", "at most 4,294,967,295 bytes"): FILE,
     ("docs/idn2.1", "that ends after byte 4,294,967,295"): FILE,
     ("docs/PROOFS.md", "how many edges its net has, at most 68,544"): EDGES,
-    ("docs/ARCHITECTURE.md", "at most 68,544 edges"): EDGES,
     ("docs/LISTING.md", "at most 68,544 edges"): EDGES,
     ("docs/PROOFS.md", "tests at most 256 times as many edges"):
         ("crates/variant_list/src/cursor.rt", "≤ 256 * self.old.net.edges"),
@@ -103,7 +102,7 @@ def registers_the_code_points_that_are_counted(folder):
 
 
 def shown_rows(text):
-    """(label, here, by the standard) of each row of the tables."""
+    """(label, here, with --standard) of each row of the tables."""
     for line in text.splitlines():
         if line.startswith("| U+"):
             label, here, there = (cell.strip() for cell in line.strip("|").split("|"))
@@ -113,21 +112,22 @@ def shown_rows(text):
 
 @runs_the_program
 def answers_as_the_profile_shows(folder):
-    """Here by the program, and by the standards over Unicode's own properties."""
+    """By the program, without --standard and with it; by the standards over Unicode's own properties as with it."""
     unicode = figures().unicode
     rows = list(shown_rows(text_of("docs", "PROFILE.md")))
     assert len(rows) >= 9, len(rows)
     for label, here, there in rows:
-        done = run(["--register", label])
-        refused = re.sub(r"^idn2: line 1: (\d+) ", r"\1, ", done.stderr.decode().strip())
-        assert here == (f"`{done.stdout.decode().strip()}`" if done.stdout else refused), (label, here, done)
+        for words, shown in ([], here), (["--standard"], here if there == "the same" else there):
+            done = run(["--register", *words, label])
+            refused = re.sub(r"^idn2: line 1: (\d+) ", r"\1, ", done.stderr.decode().strip())
+            assert shown == (f"`{done.stdout.decode().strip()}`" if done.stdout else refused), (words, shown, done)
         points = [ord(letter) for letter in label]
         is_allowed = all(map(figures().is_allowed, points)) and rules.passes_context_j(points, unicode)
         passes_bidi = not rules.is_right_to_left(points, unicode) or rules.passes_bidi_rule(points, unicode)
         is_registrable = is_allowed and passes_bidi
-        expected = f"`{a_label(label)}`" if is_registrable else "refused"
-        assert there == ("the same" if expected == here else expected), (label, there, expected)
+        assert is_registrable == (there in ("the same", f"`{a_label(label)}`")), (label, there)
     expect(["--decode", "0a.xn--4db"], b"", "0a.א\n".encode(), b"", 0)
+    expect(["--decode", "--standard", "0a.xn--4db"], b"", b"", b"idn2: line 1: 17 Bidi rule broken\n", 1)
     expect(["--lookup", "0a.xn--4db"], b"", b"", b"idn2: line 1: 20 not a valid name\n", 1)
 
 
@@ -345,7 +345,8 @@ def installs_under_another_name(folder):
              f"share/zsh/site-functions/_{OTHER_NAME}": f"#compdef {OTHER_NAME}\n",
              f"share/fish/vendor_completions.d/{OTHER_NAME}.fish": f"complete -c {OTHER_NAME} -f\n"}
     tables = {os.path.join(share, os.path.relpath(path, ROOT)) for path in glob.glob(f"{TABLES}/**/*.txt", recursive=True)}
-    assert files == {f"bin/{OTHER_NAME}", page, *heads, *tables}, files
+    registry = {"bin/idn2-registry", *(file.replace(OTHER_NAME, "idn2-registry") for file in (page, *heads))}
+    assert files == {f"bin/{OTHER_NAME}", page, *heads, *tables, *registry}, files
     expect_well_formed(os.path.join(prefix, page))
     for path, head in heads.items():
         with open(os.path.join(prefix, path), encoding="utf-8") as file:
@@ -370,6 +371,12 @@ def run_examples(prefix, folder, page):
         done = subprocess.run(command, shell=True, cwd=folder, env={"PATH": path}, stdin=subprocess.DEVNULL,
                               stdout=subprocess.PIPE, stderr=subprocess.STDOUT, timeout=LIMIT)
         assert done.stdout.decode() == "".join(line + "\n" for line in lines), (command, done.stdout)
+
+
+def installs_under_no_name_of_another_program(folder):
+    done = make(folder, "install", f"PREFIX={folder}", "PROGRAM_NAME=idn2-registry")
+    assert done.returncode != 0 and "PROGRAM_NAME is the name of another program" in done.stderr, done
+    assert os.listdir(folder) == [], os.listdir(folder)
 
 
 def installs_under_no_name_of_a_path(folder):
@@ -644,7 +651,7 @@ def names_what_it_skipped_in_its_last_lines(folder):
 
     for path in (("Makefile",), ("tests", "gate"), ("tests", "packages.txt"), (".ci", "run")):
         write(text_of(*path), *path)
-    tests = set(re.findall(r"tests/(\w+)\.py", text_of("tests", "gate")))
+    tests = set(re.findall(r"\bstep .*tests/(\w+)\.py", text_of("tests", "gate")))
     for name in tests:
         text = SKIPPING.format(os.path.join(ROOT, "tests")) if name == "guide" else "print('1 passed, 0 failed')"
         write(text, "tests", f"{name}.py")
@@ -703,48 +710,6 @@ def quotes_definitions_as_they_stand(folder):
     assert len(first) == 12 and set(first) <= {quoted.name_of(part) for _, part in quotes}, first
 
 
-def has_an_example_by_each_definition(folder):
-    """Each part of the tour tells something in plain words, quotes it, and has one worked example of it."""
-    tour = text_of("docs", "DEFINITIONS.md").partition("\n## Text and lines\n")[2].partition("\n# ")[0]
-    parts = re.split(r"^(?=\*\*)", tour, flags=re.MULTILINE)[1:]
-    lacking = [part.splitlines()[0] for part in parts if not quoted.BLOCK.search(part) or part.count("*Example.*") != 1]
-    assert len(parts) > 35 and not lacking, lacking
-
-
-def lists_definitions_where_they_stand(folder):
-    """Each name of the tables after the tour is defined in the file above its table. Twice named are only those that are said to
-    be two definitions."""
-    tables = text_of("docs", "DEFINITIONS.md").partition("\n# All definitions\n")[2]
-    rows, absent = collections.Counter(), []
-    for file, table in re.findall(r"^In (\S+\.antt):\n\n((?:\|.*\n)+)", tables, re.MULTILINE):
-        defined = names_in(r"^(?:abbrev |unfoldable )?pub (?:record |data )?(\S+)", text_of("crates", file))
-        named = re.findall(r"^\| `(\S+)` \|", table, re.MULTILINE)
-        rows.update(named)
-        absent += [(file, name) for name in named if name not in defined]
-    said = tables.partition("\n## ")[0]
-    twice = {name for cell in re.findall(r"^\| (`.*?) \|", said, re.MULTILINE) for name in re.findall(r"`(\S+?)`", cell)}
-    assert sum(rows.values()) > 400 and not absent, (sum(rows.values()), absent)
-    repeated = {name for name, count in rows.items() if count > 1}
-    assert repeated == twice, repeated ^ twice
-
-
-def prose_lines(document):
-    """The lines of a document with their numbers: no table, no session, no script."""
-    fenced = False
-    for number, line in enumerate(text_of(document).splitlines(), 1):
-        if line.startswith("```"):
-            fenced = not fenced
-        elif not fenced and not line.startswith(("|", "    ")):
-            yield number, line
-
-
-def keeps_the_lines_of_its_prose_short(folder):
-    """So that an edit shows in few lines, and a page can be read in a terminal."""
-    documents = sorted(glob.glob("*.md", root_dir=ROOT) + glob.glob("docs/*.md", root_dir=ROOT))
-    wide = [(document, number) for document in documents for number, line in prose_lines(document) if len(line) > 130]
-    assert len(documents) > 10 and not wide, wide
-
-
 def needs_no_newer_python_than_is_said(folder):
     """The scripts have no syntax newer than that of the version that the README names."""
     version = re.search(r"Python (3)\.(\d+) or later", text_of("README.md")).groups()
@@ -769,6 +734,7 @@ TESTS = [
     answers_alike_in_each_locale,
     completes_words_in_each_shell,
     installs_under_another_name,
+    installs_under_no_name_of_another_program,
     installs_under_no_name_of_a_path,
     packs_each_path_that_its_documents_name,
     states_the_bounds_that_are_proved,
@@ -780,9 +746,6 @@ TESTS = [
     names_what_it_skipped_in_its_last_lines,
     tells_which_answers_changed,
     quotes_definitions_as_they_stand,
-    has_an_example_by_each_definition,
-    lists_definitions_where_they_stand,
-    keeps_the_lines_of_its_prose_short,
     needs_no_newer_python_than_is_said,
 ]
 

@@ -1,5 +1,6 @@
 #!/usr/bin/env python3
-"""Tries wrong bodies, many in one check: python3 tests/planted.py FOLDER [CRATE..], with FOLDER must-fail, planted or wrong-bodies.
+"""Tries wrong bodies, many in one check: python3 tests/planted.py FOLDER [CRATE..], with FOLDER must-fail, planted or wrong-bodies;
+--all for the crates are all of them, as is none, and --changed those that aren't as in the last green run of the gate.
 
 Each edit below crates/*/FOLDER must be refused at a goal of a function that it edits. To read a crate costs more than to
 prove a function again, so edits of different functions are planted in one copy of the crate and checked at once. All that
@@ -9,9 +10,10 @@ isn't proved. If none of them has one, fewer are tried, and at last one. What ed
 tried by itself.
 
 What refuses an edit is told after it: a goal in the code; or a proof that was written for the right code and no longer
-serves, which says less of the contract. An edit that is refused only since a proof names what it takes away says little: of
-wrong-bodies it counts as a failure; the gate tells it and goes on, as rt does for must-fail, and so where something else
-refuses the crate. One that is proved and one that doesn't compile are failures everywhere.
+serves, which says less of the contract. An edit has failed, too, where this names clauses of a function and
+none is that of its first line. An edit that is refused only since a proof names what it takes away says little: of wrong-bodies
+it counts as a failure; the gate tells it and goes on, as rt does for must-fail, and so where something else refuses the crate.
+One that is proved and one that doesn't compile are failures everywhere.
 
 A crate has to be proved as it stands: by rt check, unless IS_PROVED says that it was. Each check is made over the libraries
 that this left in out/, and begins with what rt check kept there, if it did, and then with what the check before it left. LANES
@@ -29,7 +31,8 @@ import subprocess
 import sys
 import tempfile
 
-from edits import replacements, text_of
+import green
+from edits import bodies_changed, replacements, said_of, text_of
 from layers import crates, reach
 from program import ROOT
 
@@ -43,51 +46,23 @@ KIT = os.path.dirname(subprocess.run([os.environ.get("RT", "rt"), "doc"], stdout
 # Whether a refusal by a name alone is a failure: before a release, but not in the gate.
 STRICT = sys.argv[1:2] == ["wrong-bodies"]
 
-# The type of an impl: after `for` if it is one of a trait.
-IMPL = re.compile(r"^impl\b(?:<.*?> )?(?:.* for )?&?\s*(\w+)")
-HEAD = re.compile(r"^( *)(?:pub(?:\(\w+\))? )?(?:final )?(?:const )?(?:unsafe )?fn (\w+)")
 GOAL = re.compile(r"^(?:note: )?(?:\./)?(src/\S+?):(\d+):\d+: (?:error: )?(.*)")
 PROOF = re.compile(r"^(?:\./)?(proofs/\S+?)(?:/\w+)?\.antt:\d+:\d+: error: (.*)")
 # of a field that is gone the line names the record alone, and of a loop that goes by another name the module
 NAMED = re.compile(r"record `[^`]*`(?:$| \(nearest: )|`goal\.[^`]*`: module|has no field|is not in scope|has no `|was not admitted|were not checked")
+# The goal that a clause holds when a function returns, and the clause's name, if it has one.
+RETURNS = re.compile(r"`returns(?:[^`]*-clause-(\w+))?[^`]*`")
+# A function whose goals aren't all told, since it calls one that isn't proved.
+UNTRIED = re.compile(r"has not tried the goals of `(?:\w+::)*(\w+)`")
 UNREADABLE = re.compile(r"\berror\[[\w-]+\]")
 
-# Its replacements, and the bodies that it edits; none where it edits anything else.
-Edit = collections.namedtuple("Edit", "name pairs bodies")
-Body = collections.namedtuple("Body", "file owner function first last")
-
-
-def bodies_of(file, text):
-    """Each function of a file that has a body, by the layout that rt fmt makes."""
-    lines = text.split("\n")
-    owner = ""
-    for first, line in enumerate(lines):
-        if owns := IMPL.match(line):
-            owner = owns[1]
-        head = HEAD.match(line)
-        if not head:
-            continue
-        end = head[1] + "}"
-        # a goal may be told at an attribute
-        top = next(row for row in range(first, -1, -1) if row == 0 or not lines[row - 1].strip())
-        for last in range(first, len(lines)):
-            if lines[last] == end:
-                yield Body(file, owner if head[1] else "", head[2], top + 1, last + 1)
-                break
-            if lines[last].endswith(";") and not any(row.endswith("{") for row in lines[first:last + 1]):
-                break  # a declaration
+# Its replacements, the bodies that it edits, none where it edits anything else, and what it says that it breaks.
+Edit = collections.namedtuple("Edit", "name pairs bodies said")
 
 
 def read_edit(crate, path):
-    texts, bodies = {}, set()
     pairs = list(replacements(path))
-    for file, old, new in pairs:
-        text = texts.get(file) or text_of(os.path.join(CRATES, crate, file))
-        line = text[:text.index(old)].count("\n") + 1
-        around = [body for body in bodies_of(file, text) if body.first < line < body.last]
-        bodies.add(around[-1] if around else None)
-        texts[file] = text.replace(old, new)
-    return Edit(os.path.basename(path), pairs, frozenset() if None in bodies else frozenset(bodies))
+    return Edit(os.path.basename(path), pairs, bodies_changed(os.path.join(CRATES, crate), pairs), said_of(path))
 
 
 def batch_of(edits, most):
@@ -188,12 +163,18 @@ def is_of(body, folder):
     return function.removeprefix("+") == body.function and (folder.startswith(f"proofs/{module}/") or (body.owner != "" and path[-1].startswith(body.owner)))
 
 
-def refusal_of(edit, lines):
-    """What refuses an edit: a goal of a body that it changes, or a proof of one. None if there is neither."""
+def goals_of(edit, lines):
+    """What is said of goals of a body that an edit changes; of all goals, where it edits anything else."""
     for line in lines:
         goal = GOAL.match(line)
         if goal and (not edit.bodies or any(goal[1] == body.file and body.first <= int(goal[2]) <= body.last for body in edit.bodies)):
-            return f"{goal[1]}:{goal[2]}: {goal[3][:120]}"
+            yield goal.groups()
+
+
+def refusal_of(edit, lines):
+    """What refuses an edit: a goal of a body that it changes, or a proof of one. None if there is neither."""
+    for file, row, said in goals_of(edit, lines):
+        return f"{file}:{row}: {said[:120]}"
     for folder, said in proofs_of(edit, lines):
         if not NAMED.search(said):
             return f"by the shape of a proof: {folder}: {said[:120]}"
@@ -208,6 +189,26 @@ def proofs_of(edit, lines):
             yield proof.groups()
 
 
+def unlike_its_line(edit, lines):
+    """Why the first line of an edit isn't what the checker tells, or None. Where another goal is refused, too, as of a loop or of
+    a call, the clauses told need not be those that break; and a refused proof alone says less than an input that the edit gives."""
+    here = edit._replace(bodies=frozenset(body for body in edit.bodies if body.function == edit.said.function))
+    if not here.bodies:
+        return None
+    goals = [said for _, _, said in goals_of(here, lines)]
+    proofs = [said for _, said in proofs_of(here, lines) if not NAMED.search(said)]
+    if not goals and not proofs:
+        return f"breaks {edit.said.function}, it says, but it is refused elsewhere"
+    told = {*RETURNS.findall("\n".join(goals + proofs))}
+    are_all_told = edit.said.function not in UNTRIED.findall("\n".join(lines))
+    are_of_clauses = all(RETURNS.search(said) for said in goals + proofs)
+    # a goal without a name may be that of all clauses together
+    if not are_all_told or not are_of_clauses or "" in told or edit.said.clause in told or not goals and edit.said.example:
+        return None
+    name = lambda clause: f"clause {clause}" if clause else "its clause"
+    return f"breaks {edit.said.function}, {name(edit.said.clause)}, it says, but it is refused at {', '.join(map(name, sorted(told)))}"
+
+
 def verdicts(copy, batch):
     """{the name of an edit: whether it is refused, what is said of it} for the edits of a batch that have a refusal of their own
     there; for one that is alone in any case."""
@@ -218,7 +219,8 @@ def verdicts(copy, batch):
         refusal = None if status == 0 or unread else refusal_of(edit, lines)
         named = None if unread else next(proofs_of(edit, lines), None)
         if refusal:
-            found[edit.name] = True, refusal
+            wrong = unlike_its_line(edit, lines)
+            found[edit.name] = not wrong, wrong or refusal
         elif len(batch) > 1 and not named:
             continue
         elif status == 0:
@@ -258,13 +260,19 @@ def try_crate(crate, folder):
 
 def main():
     folder, names = sys.argv[1], sys.argv[2:]
-    counts = {crate: len(glob.glob(os.path.join(CRATES, crate, folder, "*.edit"))) for crate in names or crates()}
+    only_changed = names == ["--changed"]
+    if only_changed:
+        names = green.changed(green.digests(), green.recorded())
+        print(f"planted: {len(names)} of {len(crates())} crates aren't as in the last green run: {', '.join(names)}", flush=True)
+    elif names in ([], ["--all"]):
+        names = [*crates()]
+    counts = {crate: len(glob.glob(os.path.join(CRATES, crate, folder, "*.edit"))) for crate in names}
     chosen = sorted((crate for crate in counts if counts[crate]), key=lambda crate: -counts[crate])
     with concurrent.futures.ThreadPoolExecutor(int(os.environ.get("LANES", "1"))) as lanes:
         results = list(lanes.map(lambda crate: try_crate(crate, folder), chosen))
     passed, failed = (sum(column) for column in zip(*results)) if results else (0, 0)
     print(f"{passed} passed, {failed} failed")
-    return 0 if passed and not failed else 1
+    return 0 if not failed and (passed or only_changed) else 1
 
 
 if __name__ == "__main__":

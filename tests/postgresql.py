@@ -1,4 +1,4 @@
-"""A PostgreSQL server for a test, where Debian's packages postgresql and python3-psycopg2 are installed."""
+"""A PostgreSQL server for a test, where Debian's packages postgresql and python3-psycopg are installed."""
 
 import contextlib
 import glob
@@ -16,9 +16,9 @@ INITDB = "/usr/lib/postgresql/*/bin/initdb"
 @contextlib.contextmanager
 def server():
     """The environment in which clients find an empty database 'registry', and a Python for them; or None twice."""
-    programs, python = sorted(glob.glob(INITDB)), python_with("psycopg2")
+    programs, python = sorted(glob.glob(INITDB)), python_with("psycopg")
     is_whole = is_there("postgresql", programs and shutil.which("psql"))
-    if not (is_there("python3-psycopg2", python) and is_whole):
+    if not (is_there("python3-psycopg", python) and is_whole):
         yield None, None
         return
     # The server refuses to run as root.

@@ -78,7 +78,7 @@ REFUSED_WORDS = [
     "-l|-d|x", "-l|--variants|t", "--variants|t|--check-table|t", "--variants|t|--ruleset|t|x",
     "--ruleset|t|--check-ruleset|t", "--ruleset|t|--ruleset|t|x", "--check-ruleset|t|x", "--check-ruleset|t|--limit|1",
     "--check-ruleset|t|--jump", "--ruleset|t|--among|t|x", "--ruleset|t|--tries|0|x", "-r|--register|x",
-    "--quiet|--quiet", "--explain|--explain|x", "--explain=yes|x", "--json|--json|x", "--json=yes|x",
+    "--quiet|--quiet", "--standard|--standard|x", "--standard=yes|x", "--explain=yes|x", "--json|--json|x", "--json=yes|x",
     "--variants|t|--variants|u", "--variants", "--check-table|t|x", "--check-table|t|", "--after|a|x", "--after||x",
     "--limit|1|x", "-r|--tries|1|x", "--variants|t|--limit|0|x", "--variants|t|--limit|+5|x", "--variants|t|--limit| 5|x",
     "--variants|t|--limit||x", "--variants|t|--limit|00000000001|x", "--variants|t|--limit|1000000001|x",
@@ -93,6 +93,12 @@ REFUSED_WORDS = [
 def refuses_words(folder):
     for words in REFUSED_WORDS:
         expect(words.split("|"), b"", b"", b"idn2: 50 usage\n", 2)
+
+
+def takes_a_start_of_1024_bytes(folder):
+    words = ["--variants", table_file(folder, b"0061\n"), "a", "--after"]
+    expect([*words, "a" * 1024], b"", b"#end 0\n", b"", 0)
+    expect([*words, "a" * 1025], b"", b"", b"idn2: 50 usage\n", 2)
 
 
 def refuses_words_that_are_not_utf8(folder):
@@ -119,6 +125,7 @@ Options:
       --jump                  With --variants: answer LABEL TAB TEXT by a label
   -N, --tr46nt                Non-transitional lookup, which lookup does anyway
       --usestd3asciirules     Lookup refuses ASCII but letters, digits, hyphens
+      --standard              Test labels by Unicode's own data, not by lists
       --explain               Messages of refused lines go on with the cause
       --json                  Answer by objects of JSON, with causes of refusals
       --quiet                 Accepted; there is no banner
@@ -155,16 +162,16 @@ def shows_help_and_version(folder):
     """Whatever else is asked for."""
     for words in (["-h"], ["--help", "x"], ["-r", "-d", "-h"], ["--limit", "0", "-h"], ["--variants", "t", "--limit", "0", "-h"]):
         expect(words, b"", HELP.encode(), b"", 0)
-    for words in (["-V"], ["--version", "--bogus"]):
-        done = run(words)
-        assert (done.returncode, done.stderr) == (0, b"") and b"Unicode" in done.stdout, words
+    done = run(["-V"])
+    assert (done.returncode, done.stderr) == (0, b"") and b"Unicode" in done.stdout
 
 
 def has_the_version_that_the_changes_name(folder):
     """The version at the top of the changes, with its version of Unicode, is that of the program and its documents."""
     with open(os.path.join(ROOT, "CHANGELOG.md"), encoding="utf-8") as file:
         version, unicode = re.search(r"^## (\S+)\n\nUnicode (\S+)\. ", file.read(), re.MULTILINE).groups()
-    expect(["--version"], b"", f"idn2 {version} (Unicode {unicode})\n".encode(), b"", 0)
+    for words in (["--version"], ["--version", "--bogus"]):
+        expect(words, b"", f"idn2 {version} (Unicode {unicode})\n".encode(), b"", 0)
     with open(os.path.join(ROOT, "docs", "idn2.1"), encoding="utf-8") as file:
         assert f'"idn2 {version}"' in file.read(), version
     with open(os.path.join(ROOT, "docs", "GUIDE.md"), encoding="utf-8") as file:
@@ -401,7 +408,7 @@ def ends_where_its_reader_left(folder):
         with subprocess.Popen([PROGRAM, "-r"], stdin=given, stdout=subprocess.PIPE, stderr=subprocess.PIPE) as source:
             assert source.stdout.readline() == b"abc\n"
             source.stdout.close()
-            assert source.stderr.read() == b"idn2: 61 write fault\n"
+            assert source.stderr.read() == b""
             assert source.wait(LIMIT) == 3
 
 
@@ -541,7 +548,7 @@ def sessions_of(lines):
 def is_run(sessions):
     """Whether all programs are there that some sessions need. Those with a database are run by guide.py."""
     commands = " ".join(command for command, _ in sessions)
-    needed = {program for program, word in (("parallel", "parallel "), ("jq", "jq "), ("jq", "ask.sh")) if word in commands}
+    needed = {program for program, word in (("parallel", "parallel "), ("jq", "jq "),) if word in commands}
     return "psql " not in commands and all(map(is_installed, needed))
 
 
@@ -572,6 +579,12 @@ def manual_blocks(text):
         yield block.splitlines()
 
 
+def pack_registry(folder):
+    """The one file idn2-registry, in a folder beside the program."""
+    pack = os.path.join(ROOT, "registry", "pack.py")
+    subprocess.run([sys.executable, pack, "idn2", os.path.join(folder, "idn2-registry")], check=True, timeout=LIMIT)
+
+
 def prints_what_the_documents_show(folder):
     for locale in ("C", "C.UTF-8"):
         inner = os.path.join(folder, locale)
@@ -582,10 +595,12 @@ def prints_what_the_documents_show(folder):
 def prints_in_a_locale_what_the_documents_show(folder, locale):
     os.symlink(PROGRAM, os.path.join(folder, "idn2"))
     os.symlink(TABLES, os.path.join(folder, "tables"))
+    pack_registry(folder)
     environment = {**os.environ, "LC_ALL": locale, "PATH": folder + os.pathsep + os.environ["PATH"]}
-    documents = {"README.md": markdown_blocks, "docs/GUIDE.md": markdown_blocks, "docs/NOTATION.md": markdown_blocks,
-                 "docs/DEFINITIONS.md": markdown_blocks, "docs/JSON.md": markdown_blocks, "docs/idn2.1": manual_blocks}
-    for (name, blocks), least in zip(documents.items(), (8, 80, 7, 14, 2, 6)):
+    documents = {"README.md": markdown_blocks, "docs/GUIDE.md": markdown_blocks, "docs/CONVERSION.md": markdown_blocks,
+                 "docs/NOTATION.md": markdown_blocks, "docs/DEFINITIONS.md": markdown_blocks, "docs/JSON.md": markdown_blocks,
+                 "docs/idn2.1": manual_blocks}
+    for (name, blocks), least in zip(documents.items(), (8, 60, 15, 7, 14, 2, 6)):
         with open(os.path.join(ROOT, name), encoding="utf-8") as file:
             text = file.read()
         sessions = [session for block in map(sessions_of, blocks(text)) if is_run(block) for session in block]
@@ -602,6 +617,7 @@ TESTS = [
     answers_words,
     refuses_a_line_and_serves_the_next,
     refuses_words,
+    takes_a_start_of_1024_bytes,
     refuses_words_that_are_not_utf8,
     shows_help_and_version,
     has_the_version_that_the_changes_name,

@@ -3,6 +3,8 @@
  *   READ=n     the nth read from the file descriptor FROM
  *   WRITE=n    the nth write to the file descriptor TO
  *   ONCE=1     that call alone, and not the later ones of its kind
+ *   OUTPUT=n   the nth byte of the output, from 1, and all after it
+ *   MESSAGES=n the same of the messages
  *   PIECE=n    all but n bytes of each read and write
  *   TOLD=fd    where a byte is written once something was refused
  * It needs no header, so that any compiler for Linux on x86-64 builds it. */
@@ -16,7 +18,7 @@ extern void *__libc_realloc(void *, size_t);
 
 enum { READ = 0, WRITE = 1, NO_MEMORY = 12, NO_DEVICE = 5 };
 
-static long growth, reads, writes, from, to, once, piece, told;
+static long growth, reads, writes, from, to, once, piece, told, output, messages;
 
 static long number(const char *name) {
     const char *text = getenv(name);
@@ -32,6 +34,14 @@ __attribute__((constructor)) static void begin(void) {
     once = number("ONCE");
     piece = number("PIECE");
     told = number("TOLD");
+    output = number("OUTPUT");
+    messages = number("MESSAGES");
+}
+
+/* Tells that something was refused, with the number of the error. */
+static void tell(int error) {
+    syscall(WRITE, told, "!", 1L);
+    *__errno_location() = error;
 }
 
 /* Counts one call. At 1 it is refused; 0 is for calls that never are. */
@@ -44,8 +54,7 @@ static int refuses(long *left, int error) {
     }
     if (once)
         *left = 0;
-    syscall(WRITE, told, "!", 1L);
-    *__errno_location() = error;
+    tell(error);
     return 1;
 }
 
@@ -70,5 +79,16 @@ long read(int file, void *bytes, size_t count) {
 long write(int file, const void *bytes, size_t count) {
     if (file == to && refuses(&writes, NO_DEVICE))
         return -1;
-    return syscall(WRITE, (long)file, bytes, part(count));
+    count = part(count);
+    long *place = file == 1 ? &output : file == 2 ? &messages : 0;
+    if (!place || *place == 0)
+        return syscall(WRITE, (long)file, bytes, count);
+    if (*place == 1 && count) {
+        tell(NO_DEVICE);
+        return -1;
+    }
+    long taken = syscall(WRITE, (long)file, bytes, count < (size_t)*place ? count : (size_t)*place - 1);
+    if (taken > 0)
+        *place -= taken;
+    return taken;
 }

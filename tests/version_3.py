@@ -22,7 +22,7 @@ import unicode_data
 from notation import canonical, reading
 from notation.gaps import gaps
 from ruleset_labels import RulesetLabels
-from second_run import Run, Unknown
+from second_run import Run, SecondWriting, Unknown
 
 DISALLOWED, UNASSIGNED = 10, 11
 
@@ -65,7 +65,7 @@ def told(answer):
 
 def second_writing_answers(folder):
     """All but one row, whose label spells a million labels."""
-    second, unknown = Run(BY_PROGRAM, BY_PROGRAM), []
+    second, unknown = SecondWriting(Run(BY_PROGRAM, BY_PROGRAM)), []
     for words, given, files, wanted in ruleset_rows.rows():
         try:
             output, messages, status = second.answer(words, given.encode(), {"table": files["table"].encode()})
@@ -207,10 +207,13 @@ def check_script_tells_what_it_cannot_read(folder):
     """And goes on with the next file; its statuses are those of other commands."""
     path, absent = os.path.join(ROOT, "tables", "german.txt"), os.path.join(folder, "absent.txt")
     gap = table_file(folder, b"0061|0062\n", "gap.txt")
-    usage, told = "usage: check.py FILE..\n", f"{absent}: No such file or directory\n"
+    adlam = table_file(folder, b"1E922\n", "adlam.txt")
+    usage, told = "usage: check.py [--standard] FILE..\n", f"{absent}: No such file or directory\n"
     rows = [([], "", usage, 2), ([absent], "", told, 2), ([folder], "", f"{folder}: Is a directory\n", 2),
             ([absent, path], f"{path}: #table 42 0\n", told, 2), ([path], f"{path}: #table 42 0\n", "", 0),
-            ([gap, absent], f"{gap}: missing 0062|0061\n#table 1 1\n", told, 2)]
+            ([gap, absent], f"{gap}: missing 0062|0061\n#table 1 1\n", told, 2), (["--standard"], "", usage, 2),
+            ([adlam], f"{adlam}: idn2: table line 1: 33 code point not allowed in a table\n", "", 1),
+            (["--standard", adlam, path], f"{adlam}: #table 1 0\n{path}: #table 42 0\n", "", 0)]
     for words, output, message, status in rows if is_there("unicode-data", unicode_data.FOLDER.is_dir()) else rows[:1]:
         command = [sys.executable, os.path.join(ROOT, "tables", "check.py"), *words]
         done = subprocess.run(command, capture_output=True, encoding="utf-8", timeout=LIMIT)

@@ -1,5 +1,5 @@
 #!/usr/bin/env python3
-"""Tests that documents, comments and names use the words of docs/GLOSSARY.md: none of those that its column 'Not' has, but
+"""Tests that documents and comments use the words of docs/GLOSSARY.md: none of those that its column 'Not' has, but
 for its exceptions. It reads text alone, in a second or two. The last line is 'N passed, M failed', and the exit status is
 0 where nothing failed."""
 
@@ -13,12 +13,10 @@ from program import ROOT, run_tests, text_of
 
 DOCUMENTS = ("*.md", "docs/*")
 SOURCES = ("crates/*/src/**/*.rt", "crates/*/specs/**/*.antt", "crates/*/proofs/**/*.antt", "bench/*.py", "conformance/*.py",
-           "tables/*.py", "tests/*.py", "Makefile")
+           "registry/**/*.py", "tables/*.py", "tests/*.py", "Makefile")
 GLOSSARY = os.path.join(ROOT, "docs", "GLOSSARY.md")
 # What begins a comment, by the ending of a file.
 COMMENT = {".rt": r"//[/!]?(.*)$", ".antt": r"--(.*)$", ".py": r"(?:^|\s)#(.*)$", "": r"(?:^|\s)#(.*)$"}
-# What defines a name in any of the languages here.
-DEFINED = re.compile(r"\b(?:fn|struct|enum|trait|const|mod|def|class|record|data|abbrev|unfoldable|pub) (\w+)")
 
 
 def paths(patterns):
@@ -48,12 +46,11 @@ def pattern(*words):
     return re.compile(rf"\b(?:{'|'.join(forms)})(?:e?s)?(?!\w)")
 
 
-def unused_in(text, where):
-    """The words in a text that aren't used, each with what is said in its place, after the exceptions are taken away. Where
-    it stands is everywhere, and has a narrower name or two."""
+def unused_in(text, kind):
+    """The words in a text that aren't used, each with what is said in its place, after the exceptions are taken away."""
     unused, exceptions = glossary()
     for words, places in exceptions:
-        if set(places) & {"everywhere", *where}:
+        if {"everywhere", kind} & set(places):
             text = pattern(*words).sub("", text)
     if not pattern(*unused).search(text):
         return []
@@ -83,24 +80,9 @@ def comments_of(path):
     return re.sub(r"`[^`]*`|[\w.]*/[\w./-]+", "", "\n".join(found))
 
 
-def names_of(path):
-    """The words of the names that a source defines, and of its own name."""
-    code = re.sub(r'"""(.*?)"""', "", text_of(path), flags=re.DOTALL)
-    names = [*DEFINED.findall(code), os.path.splitext(os.path.basename(path))[0]]
-    return " ".join(word for name in names for word in re.sub(r"([a-z])([A-Z])", r"\1 \2", name).lower().split("_"))
-
-
-def folders_of(kind, path):
-    """The kind in the folder at the top, and the name of the crate, as exceptions name them."""
-    first, second, *_ = path.split("/") + [""]
-    return [f"{kind} of {first}", *([second] if first == "crates" else [])]
-
-
 def expect_none(kind, texts):
-    """None in these texts, by their paths; an exception may be for the kind of text, for the kind in one folder at the top, or
-    for one crate."""
-    named = [(os.path.relpath(path, ROOT), text) for path, text in texts]
-    found = {path: words for path, text in named if (words := unused_in(text, (kind, *folders_of(kind, path))))}
+    """None in these texts, by their paths; an exception may be for the kind of text."""
+    found = {os.path.relpath(path, ROOT): words for path, text in texts if (words := unused_in(text, kind))}
     assert not found, found
 
 
@@ -114,10 +96,6 @@ def stand_in_comments(folder):
     expect_none("comments", ((path, comments_of(path)) for path in paths(SOURCES)))
 
 
-def stand_in_names(folder):
-    expect_none("names", ((path, names_of(path)) for path in paths(SOURCES) if not path.endswith("Makefile")))
-
-
 def are_listed_once(folder):
     """No word is on the list of two ideas, or used for one and not for another."""
     words = [row[0] for row in rows(text_of(GLOSSARY).partition("\n## Exceptions\n")[0])]
@@ -128,4 +106,4 @@ def are_listed_once(folder):
 
 
 if __name__ == "__main__":
-    sys.exit(run_tests("words", [are_listed_once, stand_in_documents, stand_in_comments, stand_in_names]))
+    sys.exit(run_tests("words", [are_listed_once, stand_in_documents, stand_in_comments]))

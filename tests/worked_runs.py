@@ -1,10 +1,11 @@
 #!/usr/bin/env python3
-"""Runs the program on the worked rows of conformance/. The last line is 'N passed, M failed', and the exit status is 0 where
-nothing failed."""
+"""Runs the program on the worked rows of conformance/, and on those of whole runs once more with one byte a read and a write.
+The last line is 'N passed, M failed', and the exit status is 0 where nothing failed."""
 
 import os
 import sys
 
+from hostile import refusing_library
 from program import ROOT, run, run_tests, table_file
 
 sys.path += [os.path.join(ROOT, "conformance"), os.path.join(ROOT, "tables")]
@@ -21,10 +22,10 @@ def shown(answer):
     return tuple(part[:400] if isinstance(part, str) else part for part in answer)
 
 
-def expect_rows(folder, rows):
+def expect_rows(folder, rows, **more):
     for words, given, files, wanted in rows:
         paths = [table_file(folder, in_bytes(text), name) for name, text in files.items()]
-        done = run(words, in_bytes(given), cwd=folder)
+        done = run(words, in_bytes(given), cwd=folder, **more)
         found = done.stdout.decode(), done.stderr.decode(), done.returncode
         assert found == wanted, (words, given[:400], {name: text[:400] for name, text in files.items()}, shown(found), shown(wanted))
         for path in paths:
@@ -39,6 +40,10 @@ def answers_rows_of_runs(folder):
     expect_rows(folder, run_rows.rows())
 
 
+def answers_rows_of_runs_byte_by_byte(folder):
+    expect_rows(folder, run_rows.rows(), env={"LD_PRELOAD": refusing_library(folder), "PIECE": "1"})
+
+
 def answers_rows_of_tables_collisions_and_jumps(folder):
     expect_rows(folder, worked_rows.rows_of_tables())
 
@@ -50,6 +55,7 @@ def answers_rows_of_rulesets(folder):
 TESTS = [
     answers_rows_of_labels_and_names,
     answers_rows_of_runs,
+    answers_rows_of_runs_byte_by_byte,
     answers_rows_of_tables_collisions_and_jumps,
     answers_rows_of_rulesets,
 ]

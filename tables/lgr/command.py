@@ -38,6 +38,8 @@ def options_of(words):
     parser.add_argument("--accept-more", action="store_true",
                         help="with --version 1 or 2: drop conditions and rules that a table can't say: LABELS THAT FILE "
                              "REFUSES ARE ACCEPTED")
+    parser.add_argument("--standard", action="store_true",
+                        help="for idn2 --standard, which registers all that RFC 5892 allows: the table says so at its head")
     parser.add_argument("--leave-out", action="store_true",
                         help="leave out the code points that RFC 5892 allows and the profile of idn2 doesn't have "
                              "(docs/PROFILE.md): labels that FILE accepts are refused")
@@ -65,8 +67,8 @@ def read(path):
 
 def table_of(ruleset, program, options, losses):
     """The text of the table, as good as it can be said."""
-    refusals = program.refusals(ruleset.points())
-    entries = Converter(ruleset, refusals, options.untyped or BLOCKED, losses).table_entries()
+    refusals, viramas = program.refusals(ruleset.points()), program.viramas(ruleset.points())
+    entries = Converter(ruleset, refusals, viramas, options.untyped or BLOCKED, losses).table_entries()
     if not entries:
         raise Fault(None, "\n".join(["no entry of it can stand in a table", *losses.lines(*TOLD)]))
     added = gaps.close(entries, losses) if options.close_gaps else 0
@@ -83,6 +85,7 @@ def table_of(ruleset, program, options, losses):
 
 def head_of(ruleset, options):
     head = [f"Made by tables/from_lgr.py from {os.path.basename(options.file)} ({ruleset.format})."]
+    head += ["It is for idn2 --standard."] if options.standard else []
     return head + (["It says of itself: " + "; ".join(ruleset.facts) + "."] if ruleset.facts else [])
 
 
@@ -112,14 +115,15 @@ def refusal_of(losses, options):
     elif any(map(losses.count, widening)):
         lines.append("refused: without what a table can't say, labels would be accepted that the ruleset refuses")
     elif lines:
-        lines.append("refused: labels with these code points would be refused that the ruleset accepts; --leave-out does so")
+        lines.append("refused: labels with these code points would be refused that the ruleset accepts; --leave-out does so, "
+                     "and --standard has these code points")
     return lines
 
 
 def made(options, tell):
     """The text of the table; None if there is no such table, which is told."""
     ruleset = read(options.file)
-    program, losses, added = Program(options.idn2), Losses(), 0
+    program, losses, added = Program(options.idn2, ["--standard"] if options.standard else []), Losses(), 0
     if options.version == RULESET:
         text = ruleset_of(ruleset, program, options, losses)
     else:
@@ -135,7 +139,7 @@ def made(options, tell):
     for line in losses.lines(*TOLD, Loss.CONDITION, Loss.RULE):
         tell(line)
     if open_gaps:
-        tell(f"the table has {counted(open_gaps, 'gap')}: idn2 {check} prints them")
+        tell(f"the table has {counted(open_gaps, 'gap')}: idn2 {' '.join([*program.words, check])} prints them")
     if options.close_gaps:
         tell(f"{counted(added, 'pair')} added, each blocked")
     if losses.warning():

@@ -17,13 +17,14 @@ ALLOCATABLE = "allocatable"
 
 
 class Converter:
-    """`refusals` has for each code point of the ruleset the number by which the program refuses it, or None."""
+    """`refusals` has for each code point of the ruleset the number by which the program refuses it, or None; `viramas` are
+    those after which it lets a joiner stand."""
 
-    def __init__(self, ruleset, refusals, untyped, losses):
+    def __init__(self, ruleset, refusals, viramas, untyped, losses):
         self.ruleset, self.refusals, self.untyped, self.losses = ruleset, refusals, untyped, losses
         self.possible = {point for point in refusals if refusals[point] not in IMPOSSIBLE}
         self.patterns = Patterns(ruleset, self.possible)
-        self.standard = Standard(refusals)
+        self.standard = Standard(refusals, viramas)
 
     def table_entries(self):
         possible = self.possible_entries()

@@ -14,16 +14,17 @@ ARABIC_DIGITS, EXTENDED_DIGITS = frozenset(range(0x660, 0x66A)), frozenset(range
 # By these the program refuses each label that begins with a code point which by itself is refused so.
 NEVER_FIRST = {NOT_NFC, HYPHEN, LEADING_MARK}
 
-# RFC 5892, appendix A: what has to stand before and after these code points, as the program enforces it; None where it
-# asks nothing. The viramas are those of docs/PROFILE.md.
-VIRAMAS = frozenset({0x94D, 0x9CD, 0xA4D, 0xACD, 0xB4D, 0xBCD, 0xC4D, 0xCCD, 0xD4D, 0xDCA})
-CONTEXTS = {0x00B7: (frozenset({0x6C}), frozenset({0x6C})), 0x200D: (VIRAMAS, None)}
+EL = frozenset({0x6C})
 
 
 class Standard:
-    """`refusals` has for each code point the number by which the program refuses it as a whole label, or None."""
+    """`refusals` has for each code point the number by which the program refuses it as a whole label, or None; `viramas`
+    are those after which it lets a joiner stand."""
 
-    def __init__(self, refusals):
+    def __init__(self, refusals, viramas):
+        # RFC 5892, appendix A: what has to stand before and after these code points, as the program enforces it; None
+        # where it asks nothing.
+        self.contexts = {0x00B7: (EL, EL), 0x200D: (viramas, None)}
         self.points = frozenset(point for point in refusals if refusals[point] not in IMPOSSIBLE)
         self.never_first = frozenset(point for point in refusals if refusals[point] in NEVER_FIRST)
 
@@ -61,7 +62,7 @@ class Standard:
         if sequence.count(ANCHOR) != 1:
             return False
         at = sequence.index(ANCHOR)
-        wanted = CONTEXTS.get(source[0], (None, None)) if len(source) == 1 else (None, None)
+        wanted = self.contexts.get(source[0], (None, None)) if len(source) == 1 else (None, None)
         return all(self.asks_no_more(side, points) for side, points in zip((sequence[:at], sequence[at + 1:]), wanted))
 
     def asks_no_more(self, items, points):

@@ -1,3 +1,4 @@
+-- The definitions that contracts cite.
 pub mod Answers
 pub mod Objects
 pub mod Inputs

@@ -1,6 +1,7 @@
 //! Pipes. What they hold is gone once it is read, so whoever reads a pipe second finds nothing, and registered labels that
 //! are not found would seem free.
 
+use crate::fault::Fault;
 use idn2_cli::{Mode, Options};
 use std::fs;
 use std::os::unix::fs::{FileTypeExt, MetadataExt};
@@ -15,9 +16,26 @@ struct Pipe {
     inode: u64,
 }
 
+/// Refuses a pipe that would be read twice.
+pub fn check_read_once(
+    rt: &HostRuntime,
+    options: &Options,
+    has_strings: bool,
+) -> Result<(), Fault> {
+    if !is_read_twice(rt, options, has_strings) {
+        return Ok(());
+    }
+    let cause = if options.explain {
+        String::from_str(rt.alloc(), "a pipe can't be read for two inputs").ok()
+    } else {
+        None
+    };
+    Err(Fault::Usage(cause))
+}
+
 /// Whether two of these are the same pipe: the table, the registered labels, and the lines, where these are read from the
 /// standard input. Words that name no file read nothing but lines.
-pub fn is_read_twice(rt: &HostRuntime, options: &Options, has_strings: bool) -> bool {
+fn is_read_twice(rt: &HostRuntime, options: &Options, has_strings: bool) -> bool {
     if options.file.is_empty() {
         return false;
     }

@@ -12,7 +12,7 @@ use std::io::{BufWriter, Error, ErrorKind, Read, Result, Write};
 #[derive(Drop)]
 pub struct Output<W> {
     writer: RefCell<W>,
-    has_failed: Cell<bool>,
+    fault: Cell<Option<ErrorKind>>,
 }
 
 impl<W> Output<W> {
@@ -20,7 +20,7 @@ impl<W> Output<W> {
     pub fn new(writer: W) -> Self {
         Output {
             writer: RefCell::new(writer),
-            has_failed: Cell::new(false),
+            fault: Cell::new(None),
         }
     }
 }
@@ -31,8 +31,8 @@ impl<W: Write> Output<W> {
         ensures { WritesAtMost result text.now }
     {
         let written = self.lend()?.write(text);
-        if written.is_err() {
-            self.has_failed.set(true);
+        if let Err(error) = &written {
+            self.fault.set(Some(error.kind()));
         }
         written
     }
@@ -40,15 +40,20 @@ impl<W: Write> Output<W> {
     /// Writes what is still in the buffer. An error means that some answer was lost, now or earlier.
     fn flush(&self) -> Result<()> {
         let flushed = self.lend()?.flush();
-        self.has_failed.set(flushed.is_err());
+        if let Err(error) = &flushed {
+            self.fault.set(Some(error.kind()));
+        }
         flushed
     }
 
-    /// The writer, if it has not failed. It is lent for one call at a time, so nobody else has it then.
+    /// The writer, if it has not failed, and else its fault. It is lent for one call at a time, so nobody else has it then.
     fn lend(&self) -> Result<RefMut<'_, W>> {
+        if let Some(kind) = self.fault.get() {
+            return Err(Error::from(kind));
+        }
         match self.writer.try_borrow_mut() {
-            Ok(writer) if !self.has_failed.get() => Ok(writer),
-            _ => Err(Error::from(ErrorKind::Other)),
+            Ok(writer) => Ok(writer),
+            Err(_) => Err(Error::from(ErrorKind::Other)),
         }
     }
 }

@@ -1,8 +1,6 @@
 //! What the program takes from the system: its words, its files, its output.
-ghost use Rattle.std.specs.Prelude.{IfErr};
-ghost use Rattle.idn2_cli.specs.Ends.{IsFault};
 
-use idn_text::Refusal;
+use crate::fault::Fault;
 use idn2_cli::{Mode, Notation, Options};
 use std::env;
 use std::fs::File;
@@ -22,9 +20,7 @@ const REGISTERED_BYTES: u64 = 4_294_968_321;
 const OUTPUT_BUFFER_LEN: usize = 65_536;
 
 /// The words of the command line. A word that is not UTF-8 can't be an option or a line.
-pub fn words(rt: &HostRuntime) -> Result<Vec<String>, Refusal>
-    ensures { IfErr result IsFault }
-{
+pub fn words(rt: &HostRuntime) -> Result<Vec<String>, Fault> {
     let mut words = Vec::new(rt.alloc());
     match env::args(rt) {
         Ok(args) => {
@@ -33,15 +29,13 @@ pub fn words(rt: &HostRuntime) -> Result<Vec<String>, Refusal>
             }
             Ok(words)
         }
-        Err(error) if error.kind() == ErrorKind::OutOfMemory => Err(Refusal::Memory),
-        Err(_) => Err(Refusal::Usage),
+        Err(error) if error.kind() == ErrorKind::OutOfMemory => Err(Fault::Memory),
+        Err(_) => Err(Fault::Usage(None)),
     }
 }
 
 /// The bytes of the file of the table or ruleset, as many as can matter; none in a mode without one.
-pub fn read_table(rt: &HostRuntime, options: &Options) -> Result<Vec<u8>, Refusal>
-    ensures { IfErr result IsFault }
-{
+pub fn read_table(rt: &HostRuntime, options: &Options) -> Result<Vec<u8>, Fault> {
     match options.mode {
         Mode::Lookup | Mode::Register | Mode::Decode => Ok(Vec::new(rt.alloc())),
         Mode::Variants | Mode::Jump | Mode::CheckTable => {
@@ -49,29 +43,24 @@ pub fn read_table(rt: &HostRuntime, options: &Options) -> Result<Vec<u8>, Refusa
                 Notation::Table => TABLE_BYTES,
                 Notation::Ruleset => RULESET_BYTES,
             };
-            read_file(rt, &options.file, most)
+            read_file(rt, &options.file, most, options.explain)
         }
     }
 }
 
 /// The bytes of the file of registered labels, as many as can matter; nothing where the options name none.
-pub fn read_registered(rt: &HostRuntime, options: &Options) -> Result<Option<Vec<u8>>, Refusal>
-    ensures { IfErr result IsFault }
-{
+pub fn read_registered(rt: &HostRuntime, options: &Options) -> Result<Option<Vec<u8>>, Fault> {
     match &options.among {
-        Some(name) => Ok(Some(read_file(rt, name, REGISTERED_BYTES)?)),
+        Some(name) => Ok(Some(read_file(rt, name, REGISTERED_BYTES, options.explain)?)),
         None => Ok(None),
     }
 }
 
 /// The bytes of a file, up to so many.
-fn read_file(rt: &HostRuntime, name: &str, most: u64) -> Result<Vec<u8>, Refusal>
-    ensures { IfErr result IsFault }
-{
+fn read_file(rt: &HostRuntime, name: &str, most: u64, explains: bool) -> Result<Vec<u8>, Fault> {
     match read_start(rt, name, most) {
         Ok(bytes) => Ok(bytes),
-        Err(error) if error.kind() == ErrorKind::OutOfMemory => Err(Refusal::Memory),
-        Err(_) => Err(Refusal::ReadFault),
+        Err(error) => Err(Fault::of_read(rt.alloc(), name, error.kind(), explains)),
     }
 }
 
@@ -83,11 +72,9 @@ fn read_start(rt: &HostRuntime, name: &str, most: u64) -> io::Result<Vec<u8>> {
 }
 
 /// The standard output, through a buffer.
-pub fn standard_output(rt: &HostRuntime) -> Result<BufWriter<Stdout>, Refusal>
-    ensures { IfErr result IsFault }
-{
+pub fn standard_output(rt: &HostRuntime) -> Result<BufWriter<Stdout>, Fault> {
     match BufWriter::with_capacity(rt.alloc(), OUTPUT_BUFFER_LEN, rt.stdout()) {
         Ok(output) => Ok(output),
-        Err(_) => Err(Refusal::Memory),
+        Err(_) => Err(Fault::Memory),
     }
 }

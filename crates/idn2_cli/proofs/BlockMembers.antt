@@ -41,12 +41,12 @@ spelled-valid table label v sound spells free =
     nothing-is-asked.valid table v sound ((tests-agree.nothing table).0 free) (spelled-replacements Whole table label v spells)
 
 same_listed : (o : Settings) (table : TableValue) (label v : List ℕ) → IsSound table
-    → (IsVariant (filter_of table).accepts table label o.after v × IsKept o.registered v) ↔ IsListed o table label v
+    → (IsVariant (filter_of o.properties table).accepts table label o.after v × IsKept o.registered v) ↔ IsListed o table label v
 same_listed o table label v sound = (
   λ i.
-      let both = (accepted-is table v sound (spelled-valid table label v sound i.0.spelled)).0 i.0.accepted in
+      let both = (accepted-is o.properties table v sound (spelled-valid table label v sound i.0.spelled)).0 i.0.accepted in
       record { registrable = both.0; valid = both.1; greater = i.0.greater; spelled = i.0.spelled; kept = i.1 },
-  λ l. (record { accepted = (accepted-is table v sound (λ free. l.valid)).1 (l.registrable, l.valid); spelled = l.spelled; greater = l.greater }, l.kept),
+  λ l. (record { accepted = (accepted-is o.properties table v sound (λ free. l.valid)).1 (l.registrable, l.valid); spelled = l.spelled; greater = l.greater }, l.kept),
 )
 
 -- of a list those that are kept
@@ -61,12 +61,12 @@ kept_to-IsListOf P (Some labels) vs list = record {
 }
 
 same_tried : (o : Settings) (table : TableValue) (label v : List ℕ) → IsSound table
-    → (IsTested (filter_of table).hopeless table label o.after v × (o.registered ≡ None)) ↔ IsTried o table label v
+    → (IsTested (filter_of o.properties table).hopeless table label o.after v × (o.registered ≡ None)) ↔ IsTried o table label v
 same_tried o table label v sound = (
   λ t.
-      let both = (hope-is table v sound (spelled-valid table label v sound t.0.spelled)).0 t.0.hope in
+      let both = (hope-is o.properties table v sound (spelled-valid table label v sound t.0.spelled)).0 t.0.hope in
       record { short = t.0.short; hope = both.0; found = both.1; greater = t.0.greater; spelled = t.0.spelled; whole = t.1 },
-  λ t. (record { spelled = t.spelled; short = t.short; greater = t.greater; hope = (hope-is table v sound (spelled-valid table label v sound t.spelled)).1 (t.hope, t.found) }, t.whole),
+  λ t. (record { spelled = t.spelled; short = t.short; greater = t.greater; hope = (hope-is o.properties table v sound (spelled-valid table label v sound t.spelled)).1 (t.hope, t.found) }, t.whole),
 )
 
 same_ahead : (o : Settings) (table : TableValue) (label v : List ℕ) → (IsVariant fits_label table label o.after v × (o.registered ≡ None) → IsAhead o table label v) × (IsAhead o table label v → IsVariant fits_label table label o.after v × (o.registered ≡ None))
@@ -99,7 +99,7 @@ block-IsBlock o table label sound = record {
 }
   where
     f : Filter
-    f = filter_of table
+    f = filter_of o.properties table
 
     formed : IsWellFormed table.entries
     formed = sound.entries
@@ -112,7 +112,7 @@ listing o table label sound = elim (admitted_or_refused table label sound) [
 ]
 
 -- the answer to a label that may be registered
-pub variants_answer-IsListing : (o : Settings) (table : TableValue) (label : List ℕ) → IsSound table → IsRegistrable label → IsListing o table label (variants_answer o table label)
+pub variants_answer-IsListing : (o : Settings) (table : TableValue) (label : List ℕ) → IsSound table → IsRegistrable o.properties label → IsListing o table label (variants_answer o table label)
 variants_answer-IsListing o table label sound registrable =
     subst (IsListing o table label) (sym (ap (λ (f : Option Refusal). unless_fault f (listing_answer o table label)) registrable)) (listing o table label sound)
 

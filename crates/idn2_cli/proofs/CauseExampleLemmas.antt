@@ -28,6 +28,7 @@ examples_of_causes = record {
   decoded = refl;
   in_a_name = refl;
   decoded_in_a_name = refl;
+  copied_in_a_name = refl;
   length_of_a_label = refl;
   length_of_a_name = refl;
   outside = refl;
@@ -35,4 +36,5 @@ examples_of_causes = record {
   broken = refl;
   byte = refl;
   long_line = refl;
+  byte_order_mark = refl;
 }

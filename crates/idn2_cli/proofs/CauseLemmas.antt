@@ -1,11 +1,12 @@
 -- What messages of refused lines go on with.
-use Rattle.std.proofs.Common.{◌≡◌, ℕ, ◌≤◌, ◌<◌, ◌^◌, nat_le, decimal, Bool, true, false, List, [], length, cond, chars, Option, Some, None, slice_index, refl, sym, ap, ◌∙◌, arith}
+use Rattle.std.proofs.Common.{subst, ◌≡◌, ℕ, ◌≤◌, ◌<◌, ◌^◌, nat_le, decimal, Bool, true, false, List, [], length, cond, chars, Option, Some, None, slice_index, refl, sym, ap, ◌∙◌, arith}
 use Rattle.std.specs.Prelude.{codes}
 use Rattle.std.specs.Option.{option_map}
 use Rattle.std.specs.Str.{is_utf8, IsValidUpTo}
 use Rattle.std.proofs.lemmas.Bool.Decides.{nat_tests}
 use Rattle.std.proofs.lemmas.Fmt.{length-decimal-le, length-decimal-le_wide}
 use Rattle.std.proofs.lemmas.Str.{utf8_valid_len-IsValidUpTo, is_utf8-from_IsUtf8}
+use Rattle.idn_class.specs.declared.properties.Properties.{Properties}
 use Rattle.idn_text.specs.Points.{IsUtf8Of}
 use Rattle.idn_text.specs.declared.refusal.Refusal.{Refusal}
 use Rattle.idn_text.specs.declared.refusal.Refusal.TheVariants as refusals
@@ -18,7 +19,7 @@ use Rattle.variant_table.specs.WellFormed.{IsWellFormed}
 use Rattle.valid_labels.specs.Causes as validity_causes
 use Rattle.valid_labels.specs.Furthest.{IsFurthest, furthest}
 use Rattle.valid_labels.proofs.SourceLemmas.{furthest-told}
-use Rattle.idn2_cli.specs.Explained.{Explained, Unexplained, bad_byte, body_cause, invalid_cause, not_in_table_cause, points_cause, unless_unexplained, table_cause, text_cause, validity_cause}
+use Rattle.idn2_cli.specs.Explained.{Explained, PointsCauseNeedsNone, TextCauseNeedsNone, Unexplained, bad_byte, body_cause, invalid_cause, not_in_table_cause, points_cause, unless_unexplained, table_cause, text_cause, validity_cause}
 use Rattle.idn2_cli.specs.CauseTexts.{tail_text}
 use Rattle.idn2_cli.proofs.TextAnswers.{is_not_utf8}
 use Rattle.idn2_cli.specs.inner.Explaining.{explained_by}
@@ -53,8 +54,9 @@ not_in_table_cause-told table label place formed short is =
     ap (λ b. cond b (Some (Point (furthest table label) (slice_index label (furthest table label)))) None) within
     ∙ ap (λ n. Some (Point n (slice_index label n))) at
 
-pub outside-told : (table : TableValue) (label : List ℕ) (place : ℕ) → IsWellFormed table.entries → length label ≤ 63 → IsFurthest table label place → table_cause table label NotInTable ≡ Some (OfLabel (Point place (slice_index label place)))
-outside-told table label place formed short is = ap (option_map OfLabel) (not_in_table_cause-told table label place formed short is)
+module _ (properties : Properties) where
+  pub outside-told : (table : TableValue) (label : List ℕ) (place : ℕ) → IsWellFormed table.entries → length label ≤ 63 → IsFurthest table label place → table_cause properties table label NotInTable ≡ Some (OfLabel (Point place (slice_index label place)))
+  outside-told table label place formed short is = ap (option_map OfLabel) (not_in_table_cause-told table label place formed short is)
 
 -- of a short label that is made of sources and isn't valid
 pub invalid_cause-told : (table : TableValue) (label : List ℕ) → length label ≤ 63 → invalid_cause table label ≡ option_map (validity_cause table label) (validity_causes.cause_of table label)
@@ -76,6 +78,13 @@ text_cause-not_utf8 explained bytes refusal other =
 
 pub text_cause-none : (explained : Explained) (bytes : List ℕ) (refusal : Refusal) → ((points : List ℕ) → IsUtf8Of bytes points → ⊥) → text_cause explained bytes refusal ≡ unless_unexplained explained (bad_byte bytes)
 text_cause-none explained bytes refusal none = text_cause-not_utf8 explained bytes refusal (is_not_utf8 bytes none (is_utf8 bytes) refl)
+
+-- what takes no memory for bytes takes none for their code points
+pub text_needs-points : (explained : Explained) (bytes points : List ℕ) (refusal : Refusal) → IsUtf8Of bytes points
+    → TextCauseNeedsNone explained bytes refusal → PointsCauseNeedsNone explained points refusal
+text_needs-points explained bytes points refusal is needs =
+    subst (λ (ps : List ℕ). PointsCauseNeedsNone explained ps refusal) (points_from_utf8 bytes points is)
+    (needs (is_utf8-from_IsUtf8 bytes (IsUtf8-from_points bytes points is)))
 
 pub body_cause-nothing : (explaining : Explaining) (body : Option (List ℕ)) (refusal : Refusal) → explaining ≡ by.Nothing → body_cause (explained_by explaining) body refusal ≡ None
 body_cause-nothing explaining body refusal is = ap (λ (e : Explaining). body_cause (explained_by e) body refusal) is ∙ unexplained-none body refusal

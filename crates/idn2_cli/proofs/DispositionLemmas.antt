@@ -93,9 +93,9 @@ kept-listed (Some registered) vs v at = ((Contains-filter (is_among registered) 
 
 -- the block by the fields that are told is the block
 told-block : (o : Settings) (table : TableValue) (label : List ℕ) (told : Dispositions Allowed) → IsWellFormed table.entries → AreOfLabel table label told
-    → block_by (filter_of table) (field_by told) o (spelled table label) ≡ block_by (filter_of table) (disposition table label) o (spelled table label)
+    → block_by (filter_of o.properties table) (field_by told) o (spelled table label) ≡ block_by (filter_of o.properties table) (disposition table label) o (spelled table label)
 told-block o table label told well is =
-    let f : Filter = filter_of table in
+    let f : Filter = filter_of o.properties table in
     let vs = variants_after f o (spelled table label) in
     let stop = stop_of f o (spelled table label) in
     let same : AllByRecursion (λ v. Listed (field_by told v) v ≡ Listed (disposition table label v) v) vs =
@@ -118,9 +118,9 @@ block-same f field o labels others same =
 
 -- what is written of a net is the block
 pub written_block : (text : Said → List ℕ) (o : Settings) (table : TableValue) (label : List ℕ) (net : Built) (told : Dispositions Allowed) → IsWellFormed table.entries → in_order net.spelled ≡ in_order (spelled table label) → AreOfLabel table label told
-    → outputs text (block_by (filter_of table) (field_by told) o net.spelled) ≡ outputs text (block o table label)
+    → outputs text (block_by (filter_of o.properties table) (field_by told) o net.spelled) ≡ outputs text (block o table label)
 written_block text o table label net told well same is =
-    ap (outputs text) (block-same (filter_of table) (field_by told) o net.spelled (spelled table label) same ∙ told-block o table label told well is)
+    ap (outputs text) (block-same (filter_of o.properties table) (field_by told) o net.spelled (spelled table label) same ∙ told-block o table label told well is)
 
 -- ---- the field that computes is the field
 

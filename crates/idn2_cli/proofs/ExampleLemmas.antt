@@ -4,6 +4,8 @@ use Rattle.std.specs.Fmt.{digits}
 use Rattle.std.specs.List.{AllByRecursion, list_all}
 use Rattle.std.specs.Option.{is_none}
 use Rattle.std.specs.Ordering.{is_gt}
+use Rattle.idn_class.specs.declared.properties.Properties.{Properties}
+use Rattle.idn_class.specs.declared.properties.Properties.TheVariants.{Profile}
 use Rattle.idna.proofs.Computing.{idna}
 use Rattle.idna.specs.Validity.{has_ace_prefix}
 use Rattle.idn_text.specs.declared.refusal.Refusal.{Refusal}
@@ -43,14 +45,14 @@ AllLdh = AllByRecursion (λ v. list_all is_ldh_point v ≡ true)
 abbrev passes : List ℕ → Bool
 passes label = is_none (first_of (fault_if (length label == 0) Empty ∷ None ∷ fault_if (has_hyphen_out_of_place label) Hyphen ∷ fault_if (nat_lt 63 (length label)) LabelTooLong ∷ []))
 
-registrable-passes : (label : List ℕ) → list_all is_ldh_point label ≡ true → is_registrable label ≡ passes label
-registrable-passes label ldh = ap is_none (first_fault-ldh label ldh)
+registrable-passes : (label : List ℕ) → list_all is_ldh_point label ≡ true → is_registrable Profile label ≡ passes label
+registrable-passes label ldh = ap is_none (first_fault-ldh Profile label ldh)
 
 filter-passes : (after : List ℕ) (vs : List (List ℕ)) → AllLdh vs
-    → filter (λ v. is_registrable v && is_gt (label_cmp v after)) vs ≡ filter (λ v. passes v && is_gt (label_cmp v after)) vs
+    → filter (λ v. is_registrable Profile v && is_gt (label_cmp v after)) vs ≡ filter (λ v. passes v && is_gt (label_cmp v after)) vs
 filter-passes after [] ldh = refl
 filter-passes after (v ∷ vs) ldh =
-    ap (λ (b : Bool). if b && is_gt (label_cmp v after) then v ∷ filter (λ v. is_registrable v && is_gt (label_cmp v after)) vs else filter (λ v. is_registrable v && is_gt (label_cmp v after)) vs) (registrable-passes v ldh.0)
+    ap (λ (b : Bool). if b && is_gt (label_cmp v after) then v ∷ filter (λ v. is_registrable Profile v && is_gt (label_cmp v after)) vs else filter (λ v. is_registrable Profile v && is_gt (label_cmp v after)) vs) (registrable-passes v ldh.0)
     ∙ ap (λ (rest : List (List ℕ)). if passes v && is_gt (label_cmp v after) then v ∷ rest else rest) (filter-passes after vs ldh.1)
 
 -- the block of a label by what is asked of labels
@@ -61,56 +63,57 @@ block_with f o table label = block_to (disposition table label) (stop_of f o (sp
 abbrev ldh_block : Settings → TableValue → List ℕ → List Said
 ldh_block o table label =
     let vs = kept_to o.registered (variants passes table label o.after) in
-    let f : Filter = registrable_labels in
+    let f : Filter = registrable_labels Profile in
     block_to (disposition table label) (lesser_label (nth_if_given vs o.limit) (lesser_label (nth (tested_after f o (spelled table label)) o.tries) (nth_if_given (visited_in f o (spelled table label)) o.steps))) vs
 
 -- under a table that asks nothing of its labels
-block-ldh : (o : Settings) (table : TableValue) (label : List ℕ) → asks_nothing table ≡ true → AllLdh (in_order (spelled table label)) → block o table label ≡ ldh_block o table label
-block-ldh o table label nothing ldh =
-    let f : Filter = registrable_labels in
-    ap (λ (b : Bool). block_with (filter_if b table) o table label) nothing
+block-ldh : (o : Settings) (table : TableValue) (label : List ℕ) → o.properties ≡ Profile → asks_nothing table ≡ true → AllLdh (in_order (spelled table label)) → block o table label ≡ ldh_block o table label
+block-ldh o table label profile nothing ldh =
+    let f : Filter = registrable_labels Profile in
+    ap (λ (p : Properties). block_with (filter_if p (asks_nothing table) table) o table label) profile
+    ∙ ap (λ (b : Bool). block_with (filter_if Profile b table) o table label) nothing
     ∙ ap (λ (all : List (List ℕ)). let vs = kept_to o.registered all in block_to (disposition table label) (lesser_label (nth_if_given vs o.limit) (lesser_label (nth (tested_after f o (spelled table label)) o.tries) (nth_if_given (visited_in f o (spelled table label)) o.steps))) vs)
     (filter-passes o.after (in_order (spelled table label)) ldh)
 
 pub blocks : ExamplesOfBlocks
 unfolding digits a_label_of idna hopeless rules
 blocks = record {
-  doubled = ap (map said_line) (block-ldh (listing None 1000000) a_or_two (codes "aa") refl (refl, (refl, (refl, tt)))) ∙ refl;
-  limited = ap (map said_line) (block-ldh (listing (Some 2) 1000000) a_or_two (codes "aa") refl (refl, (refl, (refl, tt)))) ∙ refl;
-  spent = ap (map said_line) (block-ldh (listing None 4) letter_or_hyphen (codes "aaa") refl (refl, (refl, (refl, (refl, (refl, (refl, (refl, (refl, tt))))))))) ∙ refl;
-  stepped = ap (map said_line) (block-ldh (record (listing None 1000000) { steps = Some 3 }) letter_or_hyphen (codes "aaa") refl (refl, (refl, (refl, (refl, (refl, (refl, (refl, (refl, tt))))))))) ∙ refl;
-  y_blocked = ap (map said_line) (block-ldh (listing None 1000000) y_or_z (codes "ax") refl (refl, (refl, (refl, tt)))) ∙ refl;
-  allocatable_by_one_cutting = ap (map said_line) (block-ldh (listing None 1000000) one_or_both (codes "aa") refl (refl, (refl, (refl, (refl, tt))))) ∙ refl;
+  doubled = ap (map said_line) (block-ldh (listing None 1000000) a_or_two (codes "aa") refl refl (refl, (refl, (refl, tt)))) ∙ refl;
+  limited = ap (map said_line) (block-ldh (listing (Some 2) 1000000) a_or_two (codes "aa") refl refl (refl, (refl, (refl, tt)))) ∙ refl;
+  spent = ap (map said_line) (block-ldh (listing None 4) letter_or_hyphen (codes "aaa") refl refl (refl, (refl, (refl, (refl, (refl, (refl, (refl, (refl, tt))))))))) ∙ refl;
+  stepped = ap (map said_line) (block-ldh (record (listing None 1000000) { steps = Some 3 }) letter_or_hyphen (codes "aaa") refl refl (refl, (refl, (refl, (refl, (refl, (refl, (refl, (refl, tt))))))))) ∙ refl;
+  y_blocked = ap (map said_line) (block-ldh (listing None 1000000) y_or_z (codes "ax") refl refl (refl, (refl, (refl, tt)))) ∙ refl;
+  allocatable_by_one_cutting = ap (map said_line) (block-ldh (listing None 1000000) one_or_both (codes "aa") refl refl (refl, (refl, (refl, (refl, tt))))) ∙ refl;
 }
 
 -- ---- a run
 
-good : (label : List ℕ) → has_ace_prefix label ≡ false → first_fault label ≡ None → register_answer label ≡ Ok (a_label_of label)
-good label ldh none = register_answer-other label ldh ∙ tested_answer-ok label none
+good : (label : List ℕ) → has_ace_prefix label ≡ false → first_fault Profile label ≡ None → register_answer Profile label ≡ Ok (a_label_of label)
+good label ldh none = register_answer-other Profile label ldh ∙ tested_answer-ok Profile label none
 
-refused : (label : List ℕ) (refusal : Refusal) → has_ace_prefix label ≡ false → first_fault label ≡ Some refusal → register_answer label ≡ Err refusal
-refused label refusal ldh fault = register_answer-other label ldh ∙ tested_answer-fault label refusal fault
+refused : (label : List ℕ) (refusal : Refusal) → has_ace_prefix label ≡ false → first_fault Profile label ≡ Some refusal → register_answer Profile label ≡ Err refusal
+refused label refusal ldh fault = register_answer-other Profile label ldh ∙ tested_answer-fault Profile label refusal fault
 
 -- a good label, one with a hyphen at its end, and a good one
 Answered : (List ℕ → Result (List ℕ) Refusal) → Type 0
 Answered r = (r (codes "abc") ≡ Ok (codes "abc")) × (r (codes "a-") ≡ Err Hyphen) × (r (codes "b") ≡ Ok (codes "b"))
 
-answered : Answered register_answer
+answered : Answered (register_answer Profile)
 unfolding Answered a_label_of idna
 answered = (
-  good (codes "abc") refl (first_fault-ldh (codes "abc") refl),
-  refused (codes "a-") Hyphen refl (first_fault-ldh (codes "a-") refl),
-  good (codes "b") refl (first_fault-ldh (codes "b") refl),
+  good (codes "abc") refl (first_fault-ldh Profile (codes "abc") refl),
+  refused (codes "a-") Hyphen refl (first_fault-ldh Profile (codes "a-") refl),
+  good (codes "b") refl (first_fault-ldh Profile (codes "b") refl),
 )
 
 written : (r : List ℕ → Result (List ℕ) Refusal) → Answered r
-    → lines_pieces Plain Unexplained (λ label. one_answer (Registered (u_label_of label)) (r label)) (lines_of three_lines) ≡ Output (codes "abc\n") ∷ Message (codes "idn2: line 2: 13 hyphen out of place\n") ∷ Output (codes "b\n") ∷ []
+    → lines_pieces Plain Unexplained (λ label. one_answer (Registered (u_label_of Profile label)) (r label)) (lines_of three_lines) ≡ Output (codes "abc\n") ∷ Message (codes "idn2: line 2: 13 hyphen out of place\n") ∷ Output (codes "b\n") ∷ []
 unfolding Answered is_utf8 chars encode_utf8 digits points_cause
 written r are = rw are.0 (rw are.1 (rw are.2 refl))
 
-status : (r : List ℕ → Result (List ℕ) Refusal) → Answered r → status_if (has_refused (λ label. one_answer (Registered (u_label_of label)) (r label)) (lines_of three_lines)) ≡ Refused
+status : (r : List ℕ → Result (List ℕ) Refusal) → Answered r → status_if (has_refused (λ label. one_answer (Registered (u_label_of Profile label)) (r label)) (lines_of three_lines)) ≡ Refused
 unfolding Answered is_utf8 chars encode_utf8
 status r are = rw are.0 (rw are.1 refl)
 
 pub transcripts : ExamplesOfTranscripts
-transcripts = record { between = written register_answer answered; status = status register_answer answered }
+transcripts = record { between = written (register_answer Profile) answered; status = status (register_answer Profile) answered }

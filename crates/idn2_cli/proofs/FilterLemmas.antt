@@ -5,6 +5,7 @@ use Rattle.std.specs.Option.{is_none, option_map}
 use Rattle.std.proofs.lemmas.Bool.Decides.{nat_tests}
 use Rattle.std.proofs.lemmas.List.{take-append-drop, take_all}
 use Rattle.std.proofs.lemmas.Bool.{and_from, or_from, false_from_ne_true}
+use Rattle.idn_class.specs.declared.properties.Properties.{Properties}
 use Rattle.idn_class.specs.Hopeless as class
 use Rattle.idn_class.specs.Hopeless.{hopeless, IsHopeless}
 use Rattle.idn_class.proofs.HopelessSteps.{hopeless-nil}
@@ -27,24 +28,25 @@ use Rattle.valid_labels.specs.declared.validity.Validity.{Validity}
 use Rattle.valid_labels.specs.declared.validity.Validity.TheVariants.{Lost, Valid, NotValid}
 use Rattle.idn2_cli.specs.Answers.{Filter, filter_if, filter_of, is_registrable, registrable_labels, ruled_labels}
 
--- each label that is accepted may be registered, and none of them begins with a hopeless list
-pub record IsSound (f : Filter) : Type 0 where
-  pub registrable : (v : List ℕ) → f.accepts v ≡ true → IsRegistrable v
-  pub for_good : (w z : List ℕ) → f.hopeless w ≡ true → f.accepts (w ++ z) ≡ false
+module _ (properties : Properties) where
+  -- each label that is accepted may be registered, and none of them begins with a hopeless list
+  pub record IsSound (f : Filter) : Type 0 where
+    pub registrable : (v : List ℕ) → f.accepts v ≡ true → IsRegistrable properties v
+    pub for_good : (w z : List ℕ) → f.hopeless w ≡ true → f.accepts (w ++ z) ≡ false
 
--- it has at most 63 code points
-pub accepted-short : (f : Filter) → IsSound f → (v : List ℕ) → f.accepts v ≡ true → length v ≤ 63
-accepted-short f sound v accepted = (MeetsRequirements-registrable v (sound.registrable v accepted)).points
+  -- it has at most 63 code points
+  pub accepted-short : (f : Filter) → IsSound f → (v : List ℕ) → f.accepts v ≡ true → length v ≤ 63
+  accepted-short f sound v accepted = (MeetsRequirements-registrable properties v (sound.registrable v accepted)).points
 
-pub is_registrable-from : (v : List ℕ) → is_registrable v ≡ true → IsRegistrable v
-is_registrable-from v h = none (first_fault v) h
-  where
-    none : {X : Type 0} (r : Option X) → is_none r ≡ true → r ≡ None
-    none None h = refl
-    none (Some x) h = cc
+  pub is_registrable-from : (v : List ℕ) → is_registrable properties v ≡ true → IsRegistrable properties v
+  is_registrable-from v h = none (first_fault properties v) h
+    where
+      none : {X : Type 0} (r : Option X) → is_none r ≡ true → r ≡ None
+      none None h = refl
+      none (Some x) h = cc
 
-pub registrable_labels-IsSound : IsSound registrable_labels
-registrable_labels-IsSound = record { registrable = is_registrable-from; for_good = none_hopeless }
+  pub registrable_labels-IsSound : IsSound (registrable_labels properties)
+  registrable_labels-IsSound = record { registrable = is_registrable-from; for_good = none_hopeless properties }
 
 -- ---- both halves of a test
 
@@ -78,113 +80,117 @@ one-of false b h = inr h
 
 -- ---- labels that are valid under a table, too
 
-pub ruled_labels-IsSound : (table : TableValue) → IsSound (ruled_labels table)
-ruled_labels-IsSound table = record {
-  registrable = λ v h. is_registrable-from v (both-left (is_registrable v) (is_valid table v && has_hope (is_lost table) v) h);
-  for_good = none_accepted (Some table);
-}
+module _ (properties : Properties) where
+  pub ruled_labels-IsSound : (table : TableValue) → IsSound properties (ruled_labels properties table)
+  ruled_labels-IsSound table = record {
+    registrable = λ v h. is_registrable-from properties v (both-left (is_registrable properties v) (is_valid table v && has_hope (is_lost table) v) h);
+    for_good = none_accepted properties (Some table);
+  }
 
-pub filter_of-IsSound : (table : TableValue) → IsSound (filter_of table)
-filter_of-IsSound table = by_test (asks_nothing table)
-  where
-    by_test : (b : Bool) → IsSound (filter_if b table)
-    by_test true = registrable_labels-IsSound
-    by_test false = ruled_labels-IsSound table
+  pub filter_of-IsSound : (table : TableValue) → IsSound properties (filter_of properties table)
+  filter_of-IsSound table = by_test (asks_nothing table)
+    where
+      by_test : (b : Bool) → IsSound properties (filter_if properties b table)
+      by_test true = registrable_labels-IsSound properties
+      by_test false = ruled_labels-IsSound table
 
 -- ---- no beginning of a valid label is lost, and none of a label with hope is hopeless
 
 not_lost : (table : TableValue) (v : List ℕ) → validity.IsSound table → IsValid table v → (k : ℕ) → IsLost table (take k v) → ⊥
 not_lost table v sound valid k is = lost-invalid table (take k v) (drop k v) sound is (subst (IsValid table) (sym (take-append-drop k v)) valid)
 
-empty_has_hope : IsHopeless [] → ⊥
-empty_has_hope h = let clash : false ≡ true = sym hopeless-nil ∙ hopeless-from [] h in cc
+module _ (properties : Properties) where
+  empty_has_hope : IsHopeless properties [] → ⊥
+  empty_has_hope h = let clash : false ≡ true = sym (hopeless-nil properties) ∙ hopeless-from properties [] h in cc
 
-hope-rule : (v : List ℕ) → HasHope hopeless v → class.HasHope v
-hope-rule v h zero bad = empty_has_hope bad
-hope-rule [] h (suc k) bad = empty_has_hope bad
-hope-rule (c ∷ v) h (suc k) bad = by_length (nat_le (suc k) (length (c ∷ v))) refl
-  where
-    clash : (n : ℕ) → 1 ≤ n → n ≤ length (c ∷ v) → IsHopeless (take n (c ∷ v)) → ⊥
-    clash n low high at = let both : false ≡ true = sym (h n low high) ∙ hopeless-from (take n (c ∷ v)) at in cc
+  hope-rule : (v : List ℕ) → HasHope (hopeless properties) v → class.HasHope properties v
+  hope-rule v h zero bad = empty_has_hope bad
+  hope-rule [] h (suc k) bad = empty_has_hope bad
+  hope-rule (c ∷ v) h (suc k) bad = by_length (nat_le (suc k) (length (c ∷ v))) refl
+    where
+      clash : (n : ℕ) → 1 ≤ n → n ≤ length (c ∷ v) → IsHopeless properties (take n (c ∷ v)) → ⊥
+      clash n low high at = let both : false ≡ true = sym (h n low high) ∙ hopeless-from properties (take n (c ∷ v)) at in cc
 
-    all : (n : ℕ) → length (c ∷ v) ≤ n → take n (c ∷ v) ≡ take (length (c ∷ v)) (c ∷ v)
-    all n long = take_all n (c ∷ v) long ∙ sym (take_all (length (c ∷ v)) (c ∷ v) (omega arith))
+      all : (n : ℕ) → length (c ∷ v) ≤ n → take n (c ∷ v) ≡ take (length (c ∷ v)) (c ∷ v)
+      all n long = take_all n (c ∷ v) long ∙ sym (take_all (length (c ∷ v)) (c ∷ v) (omega arith))
 
-    by_length : (b : Bool) → nat_le (suc k) (length (c ∷ v)) ≡ b → ⊥
-    by_length true is = clash (suc k) (omega arith) (grind (arith, nat_tests)) bad
-    by_length false is =
-        let long : length (c ∷ v) ≤ suc k = grind (arith, nat_tests) in
-        clash (length (c ∷ v)) (omega arith) (omega arith) (subst IsHopeless (all (suc k) long) bad)
+      by_length : (b : Bool) → nat_le (suc k) (length (c ∷ v)) ≡ b → ⊥
+      by_length true is = clash (suc k) (omega arith) (grind (arith, nat_tests)) bad
+      by_length false is =
+          let long : length (c ∷ v) ≤ suc k = grind (arith, nat_tests) in
+          clash (length (c ∷ v)) (omega arith) (omega arith) (subst (IsHopeless properties) (all (suc k) long) bad)
 
 -- ---- what the filter of a table asks of a label that is valid where the table asks nothing
 
--- it accepts exactly the registrable labels that are valid
-pub accepted-is : (table : TableValue) (v : List ℕ) → validity.IsSound table → (asks_nothing table ≡ true → IsValid table v)
-    → ((filter_of table).accepts v ≡ true) ↔ (IsRegistrable v × IsValid table v)
-accepted-is table v sound free = by_test (asks_nothing table) free
-  where
-    valid_test : IsTrue (is_valid table v) ↔ IsValid table v
-    valid_test = tests-agree.valid table v sound
+module _ (properties : Properties) where
+  -- it accepts exactly the registrable labels that are valid
+  pub accepted-is : (table : TableValue) (v : List ℕ) → validity.IsSound table → (asks_nothing table ≡ true → IsValid table v)
+      → ((filter_of properties table).accepts v ≡ true) ↔ (IsRegistrable properties v × IsValid table v)
+  accepted-is table v sound free = by_test (asks_nothing table) free
+    where
+      valid_test : IsTrue (is_valid table v) ↔ IsValid table v
+      valid_test = tests-agree.valid table v sound
 
-    no_lost : IsValid table v → has_hope (is_lost table) v ≡ true
-    no_lost valid = ap is_none (shortest_hopeless-none (is_lost table) v (λ k low high. false_from_ne_true (is_lost table (take k v)) (λ is. not_lost table v sound valid k ((tests-agree.lost table (take k v) sound).0 is))))
+      no_lost : IsValid table v → has_hope (is_lost table) v ≡ true
+      no_lost valid = ap is_none (shortest_hopeless-none (is_lost table) v (λ k low high. false_from_ne_true (is_lost table (take k v)) (λ is. not_lost table v sound valid k ((tests-agree.lost table (take k v) sound).0 is))))
 
-    by_test : (b : Bool) → (b ≡ true → IsValid table v) → ((filter_if b table).accepts v ≡ true) ↔ (IsRegistrable v × IsValid table v)
-    by_test true valid = (λ h. (is_registrable-from v h, valid refl), λ both. ap is_none both.0)
-    by_test false valid = (
-      λ h. (
-        is_registrable-from v (both-left (is_registrable v) (is_valid table v && has_hope (is_lost table) v) h),
-        valid_test.0 (both-left (is_valid table v) (has_hope (is_lost table) v) (both-right (is_registrable v) (is_valid table v && has_hope (is_lost table) v) h)),
-      ),
-      λ both. and_from (is_registrable v) _ (ap is_none both.0) (and_from (is_valid table v) _ (valid_test.1 both.1) (no_lost both.1)),
-    )
+      by_test : (b : Bool) → (b ≡ true → IsValid table v) → ((filter_if properties b table).accepts v ≡ true) ↔ (IsRegistrable properties v × IsValid table v)
+      by_test true valid = (λ h. (is_registrable-from properties v h, valid refl), λ both. ap is_none both.0)
+      by_test false valid = (
+        λ h. (
+          is_registrable-from properties v (both-left (is_registrable properties v) (is_valid table v && has_hope (is_lost table) v) h),
+          valid_test.0 (both-left (is_valid table v) (has_hope (is_lost table) v) (both-right (is_registrable properties v) (is_valid table v && has_hope (is_lost table) v) h)),
+        ),
+        λ both. and_from (is_registrable properties v) _ (ap is_none both.0) (and_from (is_valid table v) _ (valid_test.1 both.1) (no_lost both.1)),
+      )
 
--- no beginning is hopeless to it exactly where none is hopeless and none is lost
-pub hope-is : (table : TableValue) (v : List ℕ) → validity.IsSound table → (asks_nothing table ≡ true → IsValid table v)
-    → HasHope (filter_of table).hopeless v ↔ (class.HasHope v × HasNoLostBeginning table v)
-hope-is table v sound free = by_test (asks_nothing table) free
-  where
-    none_lost : HasHope (is_lost table) v → HasNoLostBeginning table v
-    none_lost h zero high is = absurd (let bad : 0 < 0 = is.some in omega (arith, bad))
-    none_lost h (suc k) high is =
-        let clash : false ≡ true = sym (h (suc k) (omega arith) high) ∙ (tests-agree.lost table (take (suc k) v) sound).1 is in cc
+  -- no beginning is hopeless to it exactly where none is hopeless and none is lost
+  pub hope-is : (table : TableValue) (v : List ℕ) → validity.IsSound table → (asks_nothing table ≡ true → IsValid table v)
+      → HasHope (filter_of properties table).hopeless v ↔ (class.HasHope properties v × HasNoLostBeginning table v)
+  hope-is table v sound free = by_test (asks_nothing table) free
+    where
+      none_lost : HasHope (is_lost table) v → HasNoLostBeginning table v
+      none_lost h zero high is = absurd (let bad : 0 < 0 = is.some in omega (arith, bad))
+      none_lost h (suc k) high is =
+          let clash : false ≡ true = sym (h (suc k) (omega arith) high) ∙ (tests-agree.lost table (take (suc k) v) sound).1 is in cc
 
-    by_test : (b : Bool) → (b ≡ true → IsValid table v) → HasHope (filter_if b table).hopeless v ↔ (class.HasHope v × HasNoLostBeginning table v)
-    by_test true valid = (λ h. (hope-rule v h, λ k high. not_lost table v sound (valid refl) k), λ both k low high. clear (take k v) (both.0 k))
-    by_test false valid = (
-      λ h. (
-        hope-rule v (λ k low high. neither-left (hopeless (take k v)) (is_lost table (take k v)) (h k low high)),
-        none_lost (λ k low high. neither-right (hopeless (take k v)) (is_lost table (take k v)) (h k low high)),
-      ),
-      λ both k low high. or_from (hopeless (take k v)) (is_lost table (take k v)) (clear (take k v) (both.0 k))
-          (false_from_ne_true (is_lost table (take k v)) (λ is. both.1 k high ((tests-agree.lost table (take k v) sound).0 is))),
-    )
+      by_test : (b : Bool) → (b ≡ true → IsValid table v) → HasHope (filter_if properties b table).hopeless v ↔ (class.HasHope properties v × HasNoLostBeginning table v)
+      by_test true valid = (λ h. (hope-rule properties v h, λ k high. not_lost table v sound (valid refl) k), λ both k low high. clear properties (take k v) (both.0 k))
+      by_test false valid = (
+        λ h. (
+          hope-rule properties v (λ k low high. neither-left (hopeless properties (take k v)) (is_lost table (take k v)) (h k low high)),
+          none_lost (λ k low high. neither-right (hopeless properties (take k v)) (is_lost table (take k v)) (h k low high)),
+        ),
+        λ both k low high. or_from (hopeless properties (take k v)) (is_lost table (take k v)) (clear properties (take k v) (both.0 k))
+            (false_from_ne_true (is_lost table (take k v)) (λ is. both.1 k high ((tests-agree.lost table (take k v) sound).0 is))),
+      )
 
 -- ---- the filter by the table that labels are tested by
 
-pub filter_by-IsSound : (ruling : Option TableValue) → IsSound (filter_by ruling)
-filter_by-IsSound None = registrable_labels-IsSound
-filter_by-IsSound (Some table) = ruled_labels-IsSound table
+module _ (properties : Properties) where
+  pub filter_by-IsSound : (ruling : Option TableValue) → IsSound properties (filter_by properties ruling)
+  filter_by-IsSound None = registrable_labels-IsSound properties
+  filter_by-IsSound (Some table) = ruled_labels-IsSound properties table
 
--- it is the filter of the table
-pub filter_by-ruling : (table : TableValue) → filter_by (ruling_of table) ≡ filter_of table
-filter_by-ruling table = by_test (asks_nothing table)
-  where
-    by_test : (b : Bool) → filter_by (if b then None else Some table) ≡ filter_if b table
-    by_test true = refl
-    by_test false = refl
+  -- it is the filter of the table
+  pub filter_by-ruling : (table : TableValue) → filter_by properties (ruling_of table) ≡ filter_of properties table
+  filter_by-ruling table = by_test (asks_nothing table)
+    where
+      by_test : (b : Bool) → filter_by properties (if b then None else Some table) ≡ filter_if properties b table
+      by_test true = refl
+      by_test false = refl
 
-pub accepts-passed : (ruling : Option TableValue) (v : List ℕ) → IsRegistrable v → passes ruling v ≡ true → (filter_by ruling).accepts v ≡ true
-accepts-passed None v registrable is = ap is_none registrable
-accepts-passed (Some table) v registrable is = and_from (is_registrable v) _ (ap is_none registrable) is
+  pub accepts-passed : (ruling : Option TableValue) (v : List ℕ) → IsRegistrable properties v → passes ruling v ≡ true → (filter_by properties ruling).accepts v ≡ true
+  accepts-passed None v registrable is = ap is_none registrable
+  accepts-passed (Some table) v registrable is = and_from (is_registrable properties v) _ (ap is_none registrable) is
 
-pub accepts-failed : (ruling : Option TableValue) (v : List ℕ) → passes ruling v ≡ false → (filter_by ruling).accepts v ≡ false
-accepts-failed None v is = cc
-accepts-failed (Some table) v is = not-right (is_registrable v) _ is
+  pub accepts-failed : (ruling : Option TableValue) (v : List ℕ) → passes ruling v ≡ false → (filter_by properties ruling).accepts v ≡ false
+  accepts-failed None v is = cc
+  accepts-failed (Some table) v is = not-right (is_registrable properties v) _ is
 
-pub accepts-unregistrable : (ruling : Option TableValue) (v : List ℕ) → is_registrable v ≡ false → (filter_by ruling).accepts v ≡ false
-accepts-unregistrable None v is = is
-accepts-unregistrable (Some table) v is = not-left (is_registrable v) _ is
+  pub accepts-unregistrable : (ruling : Option TableValue) (v : List ℕ) → is_registrable properties v ≡ false → (filter_by properties ruling).accepts v ≡ false
+  accepts-unregistrable None v is = is
+  accepts-unregistrable (Some table) v is = not-left (is_registrable properties v) _ is
 
 -- ---- the verdict on a label
 
@@ -230,11 +236,12 @@ lesser-none : (n : Option ℕ) → lesser_count n None ≡ n
 lesser-none None = refl
 lesser-none (Some n) = refl
 
-pub verdict-count : (ruling : Option TableValue) (v : List ℕ) (validity : Validity) → IsValidityBy ruling v validity
-    → lesser_count (shortest_hopeless hopeless v) (lost_in validity) ≡ shortest_hopeless (filter_by ruling).hopeless v
-verdict-count None v validity is = ap (λ (x : Validity). lesser_count (shortest_hopeless hopeless v) (lost_in x)) is ∙ lesser-none (shortest_hopeless hopeless v)
-verdict-count (Some table) v validity is =
-    ap (lesser_count (shortest_hopeless hopeless v)) (sym is.0) ∙ sym (shortest-of_two hopeless (is_lost table) v)
+module _ (properties : Properties) where
+  pub verdict-count : (ruling : Option TableValue) (v : List ℕ) (validity : Validity) → IsValidityBy ruling v validity
+      → lesser_count (shortest_hopeless (hopeless properties) v) (lost_in validity) ≡ shortest_hopeless (filter_by properties ruling).hopeless v
+  verdict-count None v validity is = ap (λ (x : Validity). lesser_count (shortest_hopeless (hopeless properties) v) (lost_in x)) is ∙ lesser-none (shortest_hopeless (hopeless properties) v)
+  verdict-count (Some table) v validity is =
+      ap (lesser_count (shortest_hopeless (hopeless properties) v)) (sym is.0) ∙ sym (shortest-of_two (hopeless properties) (is_lost table) v)
 
 pub passes-valid : (ruling : Option TableValue) (v : List ℕ) → IsValidityBy ruling v Valid → passes ruling v ≡ true
 passes-valid None v is = refl

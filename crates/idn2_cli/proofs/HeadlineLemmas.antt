@@ -7,6 +7,7 @@ use Rattle.std.proofs.lemmas.Bool.{cases_Bool}
 use Rattle.std.proofs.lemmas.Bool.Decides.{nat_tests}
 use Rattle.std.proofs.lemmas.Grind.{flat_map-append}
 use Rattle.std.proofs.lemmas.List.{append-nil, take-append-drop}
+use Rattle.idn_class.specs.declared.properties.Properties.{Properties}
 use Rattle.idn_text.specs.Points.{IsUtf8Of, utf8_of}
 use Rattle.idn_text.specs.Lines.{Numbered}
 use Rattle.idn_text.specs.Reading.{Reading}
@@ -56,35 +57,36 @@ pieces_for-printed : (form : Form) (how : Explained) (line : Numbered) (answer :
 pieces_for-printed form how line (Ok said) = outputs-printed form line said
 pieces_for-printed form how line (Err refusal) = refusal-printed form line refusal (body_cause how line.body refusal)
 
-empty_is_faulty : IsRegistrable [] → ⊥
-unfolding first_fault
-empty_is_faulty none = let clash : Some Empty ≡ None = none in cc
+module _ (properties : Properties) where
+  empty_is_faulty : IsRegistrable properties [] → ⊥
+  unfolding first_fault
+  empty_is_faulty none = let clash : Some Empty ≡ None = none in cc
 
--- the UTF-8 of a label that may be registered
-utf8-given : (label : List ℕ) → IsRegistrable label → IsUtf8Of (utf8_of label) label
-utf8-given label registrable = record { scalar_values = registrable_scalars label registrable; encoded = refl }
+  -- the UTF-8 of a label that may be registered
+  utf8-given : (label : List ℕ) → IsRegistrable properties label → IsUtf8Of (utf8_of label) label
+  utf8-given label registrable = record { scalar_values = registrable_scalars properties label registrable; encoded = refl }
 
-utf8-some : (label : List ℕ) → IsRegistrable label → (length (utf8_of label) == 0) ≡ false
-unfolding chars
-utf8-some label registrable = by (utf8_of label) refl
-  where
-    by : (bytes : List ℕ) → utf8_of label ≡ bytes → (length bytes == 0) ≡ false
-    by [] none =
-        let same : [] ≡ label = ap chars (sym none) ∙ points_from_utf8 (utf8_of label) label (utf8-given label registrable) in
-        absurd (empty_is_faulty (subst IsRegistrable (sym same) registrable))
-    by (byte ∷ bytes) some = grind (arith, nat_tests)
+  utf8-some : (label : List ℕ) → IsRegistrable properties label → (length (utf8_of label) == 0) ≡ false
+  unfolding chars
+  utf8-some label registrable = by (utf8_of label) refl
+    where
+      by : (bytes : List ℕ) → utf8_of label ≡ bytes → (length bytes == 0) ≡ false
+      by [] none =
+          let same : [] ≡ label = ap chars (sym none) ∙ points_from_utf8 (utf8_of label) label (utf8-given label registrable) in
+          absurd (empty_is_faulty (subst (IsRegistrable properties) (sym same) registrable))
+      by (byte ∷ bytes) some = grind (arith, nat_tests)
 
 module _ (o : Settings) (table : TableValue) where
   -- what is printed for a line, by the pieces that a run writes for it
   abbrev printed_line : Numbered → List ℕ
   printed_line line = output_of (line_pieces o.form (explained_in Variants o table) (variants_answer o table) line)
 
-  listing-printed : IsSound table → (line : Numbered) (label : List ℕ) → IsLineOf label line
+  listing-printed : IsSound table → (line : Numbered) (label : List ℕ) → IsLineOf o.properties label line
       → (answer : LineAnswer) × IsListing o table label answer × (printed_line line ≡ printed_of o.form (explained_in Variants o table) line answer)
   listing-printed formed line label is =
       let answers : line_answer (variants_answer o table) line.body ≡ variants_answer o table label =
       ap (line_answer (variants_answer o table)) is.utf8
-      ∙ text_answer-points (variants_answer o table) (utf8_of label) label (utf8-given label is.registrable) (utf8-some label is.registrable) in (
+      ∙ text_answer-points (variants_answer o table) (utf8_of label) label (utf8-given o.properties label is.registrable) (utf8-some o.properties label is.registrable) in (
         variants_answer o table label,
         variants_answer-IsListing o table label formed is.registrable,
         pieces_for-printed o.form (explained_in Variants o table) line (line_answer (variants_answer o table) line.body) ∙ ap (printed_of o.form (explained_in Variants o table) line) answers,
@@ -95,12 +97,12 @@ module _ (o : Settings) (table : TableValue) where
   refused-printed line fault refused =
       pieces_for-printed o.form (explained_in Variants o table) line (line_answer (variants_answer o table) line.body) ∙ ap (printed_of o.form (explained_in Variants o table) line) refused
 
-  other-refused : (body : Option (List ℕ)) → ((label : List ℕ) → IsRegistrable label → body ≡ Some (utf8_of label) → ⊥)
+  other-refused : (body : Option (List ℕ)) → ((label : List ℕ) → IsRegistrable o.properties label → body ≡ Some (utf8_of label) → ⊥)
       → (fault : Refusal) × (line_answer (variants_answer o table) body ≡ Err fault)
   other-refused None none = (LineTooLong, refl)
   other-refused (Some bytes) none = by_utf8 (cases_Bool (is_utf8 bytes))
     where
-      by_fault : (fault : Option Refusal) → first_fault (chars bytes) ≡ fault → is_utf8 bytes ≡ true → (length bytes == 0) ≡ false
+      by_fault : (fault : Option Refusal) → first_fault o.properties (chars bytes) ≡ fault → is_utf8 bytes ≡ true → (length bytes == 0) ≡ false
           → (fault : Refusal) × (line_answer (variants_answer o table) (Some bytes) ≡ Err fault)
       by_fault None registrable utf8 some = absurd (none (chars bytes) registrable (ap Some (sym (chars-encoded bytes utf8))))
       by_fault (Some refusal) refused utf8 some = (
@@ -112,7 +114,7 @@ module _ (o : Settings) (table : TableValue) where
       by_length : (length bytes == 0) ≡ true ⊎ (length bytes == 0) ≡ false → is_utf8 bytes ≡ true
           → (fault : Refusal) × (line_answer (variants_answer o table) (Some bytes) ≡ Err fault)
       by_length (inl empty) utf8 = (Empty, text_answer-none (variants_answer o table) bytes empty)
-      by_length (inr some) utf8 = by_fault (first_fault (chars bytes)) refl utf8 some
+      by_length (inr some) utf8 = by_fault (first_fault o.properties (chars bytes)) refl utf8 some
 
       by_utf8 : is_utf8 bytes ≡ true ⊎ is_utf8 bytes ≡ false → (fault : Refusal) × (line_answer (variants_answer o table) (Some bytes) ≡ Err fault)
       by_utf8 (inl utf8) = by_length (cases_Bool (length bytes == 0)) utf8
@@ -267,16 +269,17 @@ module _ (o : Settings) (table : TableValue) (formed : IsSound table) (is : o.mo
   ends-prints start now old new status ends =
       elim ends [ inl does ↦ done-prints start now old new status does | inr stops ↦ stopped-prints start now old new status stops ]
 
--- the table that a run is given is the one that its text spells
-same_table : (n : Notation) (text : List ℕ) (given : TableGiven) (table : TableValue) → IsReadAs n text given → IsReadAs n text (Ok table) → given ≡ Ok table
-same_table n text (Ok other) table read spelled = ap Ok (one_table n text other table read spelled)
-same_table n text (Err fault) table read spelled = absurd (not_both n text table fault.0 read.0 spelled read.2)
+module _ (properties : Properties) where
+  -- the table that a run is given is the one that its text spells
+  same_table : (n : Notation) (text : List ℕ) (given : TableGiven) (table : TableValue) → IsReadAs properties n text given → IsReadAs properties n text (Ok table) → given ≡ Ok table
+  same_table n text (Ok other) table read spelled = ap Ok (one_table properties n text other table read spelled)
+  same_table n text (Err fault) table read spelled = absurd (not_both properties n text table fault.0 read.0 spelled read.2)
 
 -- the law: what a run ends with is the theorem of a listing
 pub headline : (o : Settings) (text : List ℕ) (table : TableValue) (given : TableGiven) (start now : Reading) (old new : Held) (status : Status)
-    → o.mode ≡ Variants → IsReadAs o.notation text (Ok table) → IsTableOf o.mode o.notation text given → Ends (mode_job o given) start now old new status
+    → o.mode ≡ Variants → IsReadAs o.properties o.notation text (Ok table) → IsTableOf o.properties o.mode o.notation text given → Ends (mode_job o given) start now old new status
     → PrintsListings o table start now old.output.contents new.output.contents status
 headline o text table given start now old new status is spelled read ends =
-    let same = same_table o.notation text given table (subst (λ (m : Mode). IsTableOf m o.notation text given) is read) spelled in
+    let same = same_table o.properties o.notation text given table (subst (λ (m : Mode). IsTableOf o.properties m o.notation text given) is read) spelled in
     ends-prints o table (sound_table table spelled.lines.well_formed) is start now old new status
     (subst (λ (g : TableGiven). Ends (mode_job o g) start now old new status) same ends)

@@ -1,6 +1,7 @@
 -- The answer to a request is the least label from its text on.
 use Rattle.std.proofs.Common.{◌≡◌, inl, inr, ℕ, List, [], ◌∷◌, Option, Some, Err, refl, sym, ap, subst}
 use Rattle.std.specs.Prelude.{slice_get, Contains}
+use Rattle.idn_class.specs.declared.properties.Properties.{Properties}
 use Rattle.idn_text.specs.declared.refusal.Refusal.{Refusal}
 use Rattle.idn_label.specs.Answers.{unless_fault}
 use Rattle.idn_label.specs.FirstFault.{first_fault, IsRegistrable}
@@ -33,30 +34,31 @@ least-IsJump : (table : TableValue) (label text : List ℕ) → IsWellFormed tab
 least-IsJump table label text formed =
     least_is_first (Spells table label) text (candidates_from table label text) (candidates_from-IsListOf table label text formed)
 
--- the answer to a request whose label may be registered
-pub jump_answer-IsJumpAnswer : (table : TableValue) (request : List ℕ) → IsSound table → IsRegistrable (requested_label request) → IsJumpAnswer table request (jump_answer table request)
-jump_answer-IsJumpAnswer table request sound registrable =
-    subst (IsJumpAnswer table request) (sym (ap (λ (f : Option Refusal). unless_fault f (least_answer table label text)) registrable))
-    (elim (admitted_or_refused table label sound) [
-      | inl is ↦
-          subst (IsJumpAnswer table request) (sym (admitted_answer table label (Least least ∷ []) sound is))
-          (is, (least, refl, least-IsJump table label text sound.entries))
-      | inr refused ↦
-          subst (IsJumpAnswer table request) (sym (refused_answer table label refused.0 (Least least ∷ []) sound refused.1 (admitted-made table label))) refused.1
-    ])
-  where
-    label : List ℕ
-    label = requested_label request
+module _ (properties : Properties) where
+  -- the answer to a request whose label may be registered
+  pub jump_answer-IsJumpAnswer : (table : TableValue) (request : List ℕ) → IsSound table → IsRegistrable properties (requested_label request) → IsJumpAnswer table request (jump_answer properties table request)
+  jump_answer-IsJumpAnswer table request sound registrable =
+      subst (IsJumpAnswer table request) (sym (ap (λ (f : Option Refusal). unless_fault f (least_answer table label text)) registrable))
+      (elim (admitted_or_refused table label sound) [
+        | inl is ↦
+            subst (IsJumpAnswer table request) (sym (admitted_answer table label (Least least ∷ []) sound is))
+            (is, (least, refl, least-IsJump table label text sound.entries))
+        | inr refused ↦
+            subst (IsJumpAnswer table request) (sym (refused_answer table label refused.0 (Least least ∷ []) sound refused.1 (admitted-made table label))) refused.1
+      ])
+    where
+      label : List ℕ
+      label = requested_label request
 
-    text : List ℕ
-    text = requested_text request
+      text : List ℕ
+      text = requested_text request
 
-    least : Option (List ℕ)
-    least = slice_get (candidates_from table label text) 0
+      least : Option (List ℕ)
+      least = slice_get (candidates_from table label text) 0
 
--- the first fault of the label is told before that
-pub jump-refused : (table : TableValue) (request : List ℕ) (refusal : Refusal) → first_fault (requested_label request) ≡ Some refusal → jump_answer table request ≡ Err refusal
-jump-refused table request refusal fault = ap (λ (f : Option Refusal). unless_fault f (least_answer table (requested_label request) (requested_text request))) fault
+  -- the first fault of the label is told before that
+  pub jump-refused : (table : TableValue) (request : List ℕ) (refusal : Refusal) → first_fault properties (requested_label request) ≡ Some refusal → jump_answer properties table request ≡ Err refusal
+  jump-refused table request refusal fault = ap (λ (f : Option Refusal). unless_fault f (least_answer table (requested_label request) (requested_text request))) fault
 
 -- the label to which a new cursor of a net jumped
 pub jumped_to : (net : Built) (after : List ℕ) (old new : Position) (text last : List ℕ) → old ≡ record { net = net; last = after; edge_tests = 0 }

@@ -5,6 +5,7 @@ use Rattle.std.specs.Str.{is_utf8, IsUtf8, IsValidUpTo}
 use Rattle.std.specs.Str.Lossy.{utf8_valid_len, valid_len_up_to}
 use Rattle.std.proofs.lemmas.Bool.{cases_lt}
 use Rattle.std.proofs.lemmas.Str.{IsUtf8-from_is_utf8, is_utf8-from_IsUtf8}
+use Rattle.idn_class.specs.declared.properties.Properties.{Properties}
 use Rattle.idna.specs.declared.options.Hyphens.TheVariants.{Allow}
 use Rattle.idna.specs.declared.options.DnsLength.TheVariants.{Ignore}
 use Rattle.idna.specs.Uts46.{to_ascii, verify_dns_length}
@@ -66,16 +67,17 @@ of-part {X} of (Some x) Is cause is = (
       ap Some (ap of same ∙ sym has.2),
 )
 
-registered-is : (label : List ℕ) (refusal : Refusal) (cause : LineCause) → (registration_cause label refusal ≡ Some cause) ↔ IsRegistrationCause label refusal cause
-registered-is label refusal cause = by_prefix (has_ace_prefix label) refl
-  where
-    by_prefix : (coded : Bool) → has_ace_prefix label ≡ coded → (cond coded (option_map OfALabel (a_label_cause label refusal)) (option_map OfLabel (cause_of label refusal)) ≡ Some cause) ↔ IsRegistrationCause label refusal cause
-    by_prefix true e =
-        let is = of-part OfALabel (a_label_cause label refusal) (IsALabelCause label refusal) cause (a_label_cause-is label refusal) in
-        (λ h. inl (e, is.0 h), λ has. elim has [ inl coded ↦ is.1 coded.1 | inr plain ↦ absurd (let clash : true ≡ false = sym e ∙ plain.0 in cc) ])
-    by_prefix false e =
-        let is = of-part OfLabel (cause_of label refusal) (IsCause label refusal) cause (cause-is label refusal) in
-        (λ h. inr (e, is.0 h), λ has. elim has [ inl coded ↦ absurd (let clash : true ≡ false = sym coded.0 ∙ e in cc) | inr plain ↦ is.1 plain.1 ])
+module _ (properties : Properties) where
+  registered-is : (label : List ℕ) (refusal : Refusal) (cause : LineCause) → (registration_cause properties label refusal ≡ Some cause) ↔ IsRegistrationCause properties label refusal cause
+  registered-is label refusal cause = by_prefix (has_ace_prefix label) refl
+    where
+      by_prefix : (coded : Bool) → has_ace_prefix label ≡ coded → (cond coded (option_map OfALabel (a_label_cause properties label refusal)) (option_map OfLabel (cause_of properties label refusal)) ≡ Some cause) ↔ IsRegistrationCause properties label refusal cause
+      by_prefix true e =
+          let is = of-part OfALabel (a_label_cause properties label refusal) (IsALabelCause properties label refusal) cause (a_label_cause-is properties label refusal) in
+          (λ h. inl (e, is.0 h), λ has. elim has [ inl coded ↦ is.1 coded.1 | inr plain ↦ absurd (let clash : true ≡ false = sym e ∙ plain.0 in cc) ])
+      by_prefix false e =
+          let is = of-part OfLabel (cause_of properties label refusal) (IsCause properties label refusal) cause (cause-is properties label refusal) in
+          (λ h. inr (e, is.0 h), λ has. elim has [ inl coded ↦ absurd (let clash : true ≡ false = sym coded.0 ∙ e in cc) | inr plain ↦ is.1 plain.1 ])
 
 -- a label that is refused with 40 is short enough to be registered, and isn't made of sources
 abbrev IsOutside : TableValue → List ℕ → Type 0
@@ -108,28 +110,29 @@ pub record IsRefusedUnder (table : TableValue) (label : List ℕ) (refusal : Ref
   pub outside : refusal ≡ NotInTable → IsOutside table label
   pub invalid : refusal ≡ refusals.NotValid → IsInvalid table label
 
-table-is : (table : TableValue) (label : List ℕ) (refusal : Refusal) (cause : LineCause) → IsRefusedUnder table label refusal → (table_cause table label refusal ≡ Some cause) ↔ IsTableCause table label refusal cause
-table-is table label NotInTable cause under =
-    of-part OfLabel (not_in_table_cause table label) (IsNotInTableCause table label) cause (λ c. outside-is table label c under.sound.entries (under.outside refl))
-table-is table label refusals.NotValid cause under = invalid-is table label cause under.sound (under.invalid refl)
-table-is table label refusal cause under = of-part OfLabel (cause_of label refusal) (IsCause label refusal) cause (cause-is label refusal)
+module _ (properties : Properties) where
+  table-is : (table : TableValue) (label : List ℕ) (refusal : Refusal) (cause : LineCause) → IsRefusedUnder table label refusal → (table_cause properties table label refusal ≡ Some cause) ↔ IsTableCause properties table label refusal cause
+  table-is table label NotInTable cause under =
+      of-part OfLabel (not_in_table_cause table label) (IsNotInTableCause table label) cause (λ c. outside-is table label c under.sound.entries (under.outside refl))
+  table-is table label refusals.NotValid cause under = invalid-is table label cause under.sound (under.invalid refl)
+  table-is table label refusal cause under = of-part OfLabel (cause_of properties label refusal) (IsCause properties label refusal) cause (cause-is properties label refusal)
 
 -- what is known of code points that are refused under a table
 abbrev IsRefusedBy : Explained → List ℕ → Refusal → Type 0
-IsRefusedBy (ByTable table) points refusal = IsRefusedUnder table points refusal
-IsRefusedBy (ByRequest table) points refusal = IsRefusedUnder table (requested_label points) refusal
+IsRefusedBy (ByTable properties table) points refusal = IsRefusedUnder table points refusal
+IsRefusedBy (ByRequest properties table) points refusal = IsRefusedUnder table (requested_label points) refusal
 IsRefusedBy how points refusal = Unit {0}
 
 points-is : (how : Explained) (points : List ℕ) (refusal : Refusal) (cause : LineCause) → IsRefusedBy how points refusal → (points_cause how points refusal ≡ Some cause) ↔ IsPointsCause how points refusal cause
 unfolding points_cause
 points-is Unexplained points refusal cause by = (λ h. let clash : None ≡ Some cause = h in cc, λ has. absurd has)
-points-is ByLabel points refusal cause by = registered-is points refusal cause
-points-is ByName points refusal cause by = of-part OfName (name_cause points refusal) (IsNameCause points refusal) cause (name_cause-is points refusal)
+points-is (ByLabel properties) points refusal cause by = registered-is properties points refusal cause
+points-is (ByName properties) points refusal cause by = of-part OfName (name_cause properties points refusal) (IsNameCause properties points refusal) cause (name_cause-is properties points refusal)
 points-is (ByQuery std3) points refusal cause by =
     of-part OfQuery (query_cause (utf8_of points) std3 refusal) (IsQueryCause (utf8_of points) std3 refusal) cause (query_cause-is (utf8_of points) std3 refusal)
-points-is (ByTable table) points refusal cause by = table-is table points refusal cause by
-points-is (ByRequest table) points refusal cause by = table-is table (requested_label points) refusal cause by
-points-is ByRegisteredLine points refusal cause by = of-part OfLabel (cause_of points refusal) (IsCause points refusal) cause (cause-is points refusal)
+points-is (ByTable properties table) points refusal cause by = table-is properties table points refusal cause by
+points-is (ByRequest properties table) points refusal cause by = table-is properties table (requested_label points) refusal cause by
+points-is (ByRegisteredLine properties) points refusal cause by = of-part OfLabel (cause_of properties points refusal) (IsCause properties points refusal) cause (cause-is properties points refusal)
 
 -- ---- and each refusal of code points but for two has one
 
@@ -149,18 +152,19 @@ then-refused : (answer : Answer) (f : List ℕ → List ℕ) (refusal : Refusal)
 then-refused (Ok value) f refusal h = let clash : Ok (f value) ≡ Err refusal = h in cc
 then-refused (Err other) f refusal h = let same : other ≡ refusal = cc in ap Err same
 
--- registration
-registered-told : (label : List ℕ) (refusal : Refusal) → register_answer label ≡ Err refusal → refusal ≢ refusals.Empty → registration_cause label refusal ≢ None
-unfolding register_answer tested_answer
-registered-told label refusal refused some none = by_prefix (has_ace_prefix label) refused none
-  where
-    plain : (fault : Option Refusal) (a_label : List ℕ) → unless_fault fault (Ok a_label) ≡ Err refusal → fault ≡ Some refusal
-    plain fault a_label h = elim (fault_or_result fault (Ok a_label) refusal h) [ inl is ↦ is | inr ok ↦ absurd (let clash : Ok a_label ≡ Err refusal = ok.1 in cc) ]
+module _ (properties : Properties) where
+  -- registration
+  registered-told : (label : List ℕ) (refusal : Refusal) → register_answer properties label ≡ Err refusal → refusal ≢ refusals.Empty → registration_cause properties label refusal ≢ None
+  unfolding register_answer tested_answer
+  registered-told label refusal refused some none = by_prefix (has_ace_prefix label) refused none
+    where
+      plain : (fault : Option Refusal) (a_label : List ℕ) → unless_fault fault (Ok a_label) ≡ Err refusal → fault ≡ Some refusal
+      plain fault a_label h = elim (fault_or_result fault (Ok a_label) refusal h) [ inl is ↦ is | inr ok ↦ absurd (let clash : Ok a_label ≡ Err refusal = ok.1 in cc) ]
 
-    by_prefix : (coded : Bool) → cond coded (and_then (u_label_answer label) (λ decoded. Ok (a_label_of decoded))) (unless_fault (first_fault label) (Ok (a_label_of label))) ≡ Err refusal
-        → cond coded (option_map OfALabel (a_label_cause label refusal)) (option_map OfLabel (cause_of label refusal)) ≡ None → ⊥
-    by_prefix true h n = a_label_fault-has_cause label refusal (then-refused (u_label_answer label) a_label_of refusal h) some (untold OfALabel (a_label_cause label refusal) n)
-    by_prefix false h n = fault-has_cause label refusal (plain (first_fault label) (a_label_of label) h) some (untold OfLabel (cause_of label refusal) n)
+      by_prefix : (coded : Bool) → cond coded (and_then (u_label_answer properties label) (λ decoded. Ok (a_label_of decoded))) (unless_fault (first_fault properties label) (Ok (a_label_of label))) ≡ Err refusal
+          → cond coded (option_map OfALabel (a_label_cause properties label refusal)) (option_map OfLabel (cause_of properties label refusal)) ≡ None → ⊥
+      by_prefix true h n = a_label_fault-has_cause properties label refusal (then-refused (u_label_answer properties label) a_label_of refusal h) some (untold OfALabel (a_label_cause properties label refusal) n)
+      by_prefix false h n = fault-has_cause properties label refusal (plain (first_fault properties label) (a_label_of label) h) some (untold OfLabel (cause_of properties label refusal) n)
 
 -- lookup: two refusals, of which one has a cause
 query-refused : (utf8 : List ℕ) (std3 : Bool) (refusal : Refusal) → query_name utf8 std3 ≡ Err refusal → refusal ≢ refusals.LookupInvalid → refusal ≡ refusals.LookupLength
@@ -180,14 +184,15 @@ query-told utf8 std3 refusal refused other none =
     let same = query-refused utf8 std3 refusal refused other in
     query_fault-has_cause utf8 std3 (refused ∙ ap Err same) (ap (query_cause utf8 std3) (sym same) ∙ none)
 
--- by sources of a table
-fault-not_outside : (label : List ℕ) → first_fault label ≡ Some NotInTable → ⊥
-unfolding cause_of
-fault-not_outside label fault = fault-has_cause label NotInTable fault (λ same. cc) refl
+module _ (properties : Properties) where
+  -- by sources of a table
+  fault-not_outside : (label : List ℕ) → first_fault properties label ≡ Some NotInTable → ⊥
+  unfolding cause_of
+  fault-not_outside label fault = fault-has_cause properties label NotInTable fault (λ same. cc) refl
 
-fault-not_invalid : (label : List ℕ) → first_fault label ≡ Some refusals.NotValid → ⊥
-unfolding cause_of
-fault-not_invalid label fault = fault-has_cause label refusals.NotValid fault (λ same. cc) refl
+  fault-not_invalid : (label : List ℕ) → first_fault properties label ≡ Some refusals.NotValid → ⊥
+  unfolding cause_of
+  fault-not_invalid label fault = fault-has_cause properties label refusals.NotValid fault (λ same. cc) refl
 
 refused-as : (table : TableValue) (label : List ℕ) (said : List Said) (refusal : Refusal) → IsSound table → if_admitted table label said ≡ Err refusal → IsRefusedAs table label refusal
 refused-as table label said refusal sound refused = elim (admitted_or_refused table label sound) [
@@ -197,46 +202,47 @@ refused-as table label said refusal sound refused = elim (admitted_or_refused ta
       let same : other.0 ≡ refusal = cc in subst (IsRefusedAs table label) same other.1
 ]
 
--- what is asked of a label under a table
-abbrev IsTested : TableValue → List ℕ → Refusal → Type 0
-IsTested table label refusal = (said : List Said) × (unless_fault (first_fault label) (if_admitted table label said) ≡ Err refusal)
+module _ (properties : Properties) where
+  -- what is asked of a label under a table
+  abbrev IsTested : TableValue → List ℕ → Refusal → Type 0
+  IsTested table label refusal = (said : List Said) × (unless_fault (first_fault properties label) (if_admitted table label said) ≡ Err refusal)
 
-table-refused : (table : TableValue) (label : List ℕ) (refusal : Refusal) → IsSound table → IsTested table label refusal
-    → (first_fault label ≡ Some refusal) ⊎ (((refusal ≡ NotInTable) × IsOutside table label) ⊎ ((refusal ≡ refusals.NotValid) × IsInvalid table label))
-table-refused table label refusal sound tested = elim (fault_or_result (first_fault label) (if_admitted table label tested.0) refusal tested.1) [
-  | inl fault ↦ inl fault
-  | inr result ↦ elim (refused-as table label tested.0 refusal sound result.1) [
-    | inl outside ↦ inr (inl (outside.1, ((MeetsRequirements-registrable label result.0).points, outside.0)))
-    | inr other ↦ inr (inr (other.2, ((MeetsRequirements-registrable label result.0).points, other.0, other.1)))
+  table-refused : (table : TableValue) (label : List ℕ) (refusal : Refusal) → IsSound table → IsTested table label refusal
+      → (first_fault properties label ≡ Some refusal) ⊎ (((refusal ≡ NotInTable) × IsOutside table label) ⊎ ((refusal ≡ refusals.NotValid) × IsInvalid table label))
+  table-refused table label refusal sound tested = elim (fault_or_result (first_fault properties label) (if_admitted table label tested.0) refusal tested.1) [
+    | inl fault ↦ inl fault
+    | inr result ↦ elim (refused-as table label tested.0 refusal sound result.1) [
+      | inl outside ↦ inr (inl (outside.1, ((MeetsRequirements-registrable properties label result.0).points, outside.0)))
+      | inr other ↦ inr (inr (other.2, ((MeetsRequirements-registrable properties label result.0).points, other.0, other.1)))
+    ]
   ]
-]
 
-table-outside : (table : TableValue) (label : List ℕ) (refusal : Refusal) → IsSound table → IsTested table label refusal → refusal ≡ NotInTable → IsOutside table label
-table-outside table label refusal sound tested same = elim (table-refused table label refusal sound tested) [
-  | inl fault ↦ absurd (fault-not_outside label (fault ∙ ap Some same))
-  | inr others ↦ elim others [
-    | inl outside ↦ outside.1
-    | inr other ↦ absurd (let clash : refusals.NotValid ≡ NotInTable = sym other.0 ∙ same in cc)
+  table-outside : (table : TableValue) (label : List ℕ) (refusal : Refusal) → IsSound table → IsTested table label refusal → refusal ≡ NotInTable → IsOutside table label
+  table-outside table label refusal sound tested same = elim (table-refused table label refusal sound tested) [
+    | inl fault ↦ absurd (fault-not_outside properties label (fault ∙ ap Some same))
+    | inr others ↦ elim others [
+      | inl outside ↦ outside.1
+      | inr other ↦ absurd (let clash : refusals.NotValid ≡ NotInTable = sym other.0 ∙ same in cc)
+    ]
   ]
-]
 
-table-invalid : (table : TableValue) (label : List ℕ) (refusal : Refusal) → IsSound table → IsTested table label refusal → refusal ≡ refusals.NotValid → IsInvalid table label
-table-invalid table label refusal sound tested same = elim (table-refused table label refusal sound tested) [
-  | inl fault ↦ absurd (fault-not_invalid label (fault ∙ ap Some same))
-  | inr others ↦ elim others [
-    | inl outside ↦ absurd (let clash : NotInTable ≡ refusals.NotValid = sym outside.0 ∙ same in cc)
-    | inr other ↦ other.1
+  table-invalid : (table : TableValue) (label : List ℕ) (refusal : Refusal) → IsSound table → IsTested table label refusal → refusal ≡ refusals.NotValid → IsInvalid table label
+  table-invalid table label refusal sound tested same = elim (table-refused table label refusal sound tested) [
+    | inl fault ↦ absurd (fault-not_invalid properties label (fault ∙ ap Some same))
+    | inr others ↦ elim others [
+      | inl outside ↦ absurd (let clash : NotInTable ≡ refusals.NotValid = sym outside.0 ∙ same in cc)
+      | inr other ↦ other.1
+    ]
   ]
-]
 
-refused-under : (table : TableValue) (label : List ℕ) (refusal : Refusal) → IsSound table → IsTested table label refusal → IsRefusedUnder table label refusal
-refused-under table label refusal sound tested =
-    record { sound = sound; outside = table-outside table label refusal sound tested; invalid = table-invalid table label refusal sound tested }
+  refused-under : (table : TableValue) (label : List ℕ) (refusal : Refusal) → IsSound table → IsTested table label refusal → IsRefusedUnder table label refusal
+  refused-under table label refusal sound tested =
+      record { sound = sound; outside = table-outside table label refusal sound tested; invalid = table-invalid table label refusal sound tested }
 
-table_cause-other : (table : TableValue) (label : List ℕ) (refusal : Refusal) → refusal ≢ NotInTable → refusal ≢ refusals.NotValid → table_cause table label refusal ≡ option_map OfLabel (cause_of label refusal)
-table_cause-other table label NotInTable other valid = absurd (other refl)
-table_cause-other table label refusals.NotValid other valid = absurd (valid refl)
-table_cause-other table label refusal other valid = refl
+  table_cause-other : (table : TableValue) (label : List ℕ) (refusal : Refusal) → refusal ≢ NotInTable → refusal ≢ refusals.NotValid → table_cause properties table label refusal ≡ option_map OfLabel (cause_of properties label refusal)
+  table_cause-other table label NotInTable other valid = absurd (other refl)
+  table_cause-other table label refusals.NotValid other valid = absurd (valid refl)
+  table_cause-other table label refusal other valid = refl
 
 -- a label that is made of sources and may not be asked about has a cause
 invalid-told : (table : TableValue) (label : List ℕ) → IsSound table → IsInvalid table label → invalid_cause table label ≢ None
@@ -244,27 +250,28 @@ invalid-told table label sound invalid none =
     let no_cause = untold (validity_cause table label) (validity_causes.cause_of table label) (sym (invalid_cause-told table label invalid.0) ∙ none) in
     let clash : true ≡ false = sym (cause-is-exact.told table label sound invalid.1 invalid.2) ∙ ap is_some no_cause in cc
 
-table-told : (table : TableValue) (label : List ℕ) (refusal : Refusal) → IsSound table → IsTested table label refusal → refusal ≢ refusals.Empty → table_cause table label refusal ≢ None
-table-told table label refusal sound tested some none = elim (table-refused table label refusal sound tested) [
-  | inl fault ↦
-      let other : refusal ≢ NotInTable = λ same. fault-not_outside label (fault ∙ ap Some same) in
-      let valid : refusal ≢ refusals.NotValid = λ same. fault-not_invalid label (fault ∙ ap Some same) in
-      fault-has_cause label refusal fault some (untold OfLabel (cause_of label refusal) (sym (table_cause-other table label refusal other valid) ∙ none))
-  | inr others ↦ elim others [
-    | inl outside ↦
-        let told = outside-told table label (furthest table label) sound.entries outside.1.0 ((furthest-told.exactly table label (furthest table label) sound.entries).1 refl) in
-        let clash : Some (OfLabel (Point (furthest table label) (slice_index label (furthest table label)))) ≡ None = sym told ∙ ap (table_cause table label) (sym outside.0) ∙ none in cc
-    | inr other ↦ invalid-told table label sound other.1 (ap (table_cause table label) (sym other.0) ∙ none)
+module _ (properties : Properties) where
+  table-told : (table : TableValue) (label : List ℕ) (refusal : Refusal) → IsSound table → IsTested properties table label refusal → refusal ≢ refusals.Empty → table_cause properties table label refusal ≢ None
+  table-told table label refusal sound tested some none = elim (table-refused properties table label refusal sound tested) [
+    | inl fault ↦
+        let other : refusal ≢ NotInTable = λ same. fault-not_outside properties label (fault ∙ ap Some same) in
+        let valid : refusal ≢ refusals.NotValid = λ same. fault-not_invalid properties label (fault ∙ ap Some same) in
+        fault-has_cause properties label refusal fault some (untold OfLabel (cause_of properties label refusal) (sym (table_cause-other properties table label refusal other valid) ∙ none))
+    | inr others ↦ elim others [
+      | inl outside ↦
+          let told = outside-told properties table label (furthest table label) sound.entries outside.1.0 ((furthest-told.exactly table label (furthest table label) sound.entries).1 refl) in
+          let clash : Some (OfLabel (Point (furthest table label) (slice_index label (furthest table label)))) ≡ None = sym told ∙ ap (table_cause properties table label) (sym outside.0) ∙ none in cc
+      | inr other ↦ invalid-told table label sound other.1 (ap (table_cause properties table label) (sym other.0) ∙ none)
+    ]
   ]
-]
 
 -- of each mode
 points-refused : (mode : Mode) (o : Settings) (table : TableValue) (points : List ℕ) (refusal : Refusal) → IsSound table → mode_answer mode o table points ≡ Err refusal → IsRefusedBy (explained_by_mode mode o table) points refusal
 points-refused modes.Lookup o table points refusal formed refused = tt
 points-refused modes.Register o table points refusal formed refused = tt
 points-refused modes.Decode o table points refusal formed refused = tt
-points-refused modes.Variants o table points refusal formed refused = refused-under table points refusal formed (_, refused)
-points-refused modes.Jump o table points refusal formed refused = refused-under table (requested_label points) refusal formed (_, refused)
+points-refused modes.Variants o table points refusal formed refused = refused-under o.properties table points refusal formed (_, refused)
+points-refused modes.Jump o table points refusal formed refused = refused-under o.properties table (requested_label points) refusal formed (_, refused)
 points-refused modes.CheckTable o table points refusal formed refused = tt
 
 points-told : (mode : Mode) (o : Settings) (table : TableValue) (points : List ℕ) (refusal : Refusal) → IsSound table → mode_answer mode o table points ≡ Err refusal → refusal ≢ refusals.Empty → refusal ≢ refusals.LookupInvalid → points_cause (explained_by_mode mode o table) points refusal ≢ None
@@ -272,14 +279,14 @@ unfolding points_cause
 points-told modes.Lookup o table points refusal formed refused some other none =
     query-told (utf8_of points) o.std3 refusal (of_text-refused _ (query_name (utf8_of points) o.std3) refusal refused) other (untold OfQuery (query_cause (utf8_of points) o.std3 refusal) none)
 points-told modes.Register o table points refusal formed refused some other none =
-    registered-told points refusal (of_text-refused _ (register_answer points) refusal refused) some none
+    registered-told o.properties points refusal (of_text-refused _ (register_answer o.properties points) refusal refused) some none
 points-told modes.Decode o table points refusal formed refused some other none =
-    name_fault-has_cause points refusal (then-refused (decode_answer points) utf8_of refusal (of_text-refused _ (in_utf8 (decode_answer points)) refusal refused)) some
-    (untold OfName (name_cause points refusal) none)
+    name_fault-has_cause o.properties points refusal (then-refused (decode_answer o.properties points) utf8_of refusal (of_text-refused _ (in_utf8 (decode_answer o.properties points)) refusal refused)) some
+    (untold OfName (name_cause o.properties points refusal) none)
 points-told modes.Variants o table points refusal formed refused some other none =
-    table-told table points refusal formed (_, refused) some none
+    table-told o.properties table points refusal formed (_, refused) some none
 points-told modes.Jump o table points refusal formed refused some other none =
-    table-told table (requested_label points) refusal formed (_, refused) some none
+    table-told o.properties table (requested_label points) refusal formed (_, refused) some none
 points-told modes.CheckTable o table points refusal formed refused some other none = let clash : Ok [] ≡ Err refusal = refused in cc
 
 -- ---- bytes that are no UTF-8
@@ -380,10 +387,10 @@ empty-refused modes.CheckTable o table points formed = tt
 
 explains : (mode : Mode) (o : Settings) (table : TableValue) → mode ≢ modes.CheckTable → explained_by_mode mode o table ≢ Unexplained
 explains modes.Lookup o table other = λ same. let clash : ByQuery o.std3 ≡ Unexplained = same in cc
-explains modes.Register o table other = λ same. let clash : ByLabel ≡ Unexplained = same in cc
-explains modes.Decode o table other = λ same. let clash : ByName ≡ Unexplained = same in cc
-explains modes.Variants o table other = λ same. let clash : ByTable table ≡ Unexplained = same in cc
-explains modes.Jump o table other = λ same. let clash : ByRequest table ≡ Unexplained = same in cc
+explains modes.Register o table other = λ same. let clash : ByLabel o.properties ≡ Unexplained = same in cc
+explains modes.Decode o table other = λ same. let clash : ByName o.properties ≡ Unexplained = same in cc
+explains modes.Variants o table other = λ same. let clash : ByTable o.properties table ≡ Unexplained = same in cc
+explains modes.Jump o table other = λ same. let clash : ByRequest o.properties table ≡ Unexplained = same in cc
 explains modes.CheckTable o table other = absurd (other refl)
 
 line-exactly : (mode : Mode) (o : Settings) (table : TableValue) (body : Option (List ℕ)) (refusal : Refusal) (cause : LineCause) → mode ≢ modes.CheckTable → IsSound table

@@ -1,5 +1,6 @@
 -- Laws of the labels that are listed.
 use Rattle.std.proofs.Common.{◌≡◌, inl, inr, ℕ, ◌↔◌, List, [], ◌∷◌, Some, None, refl, sym, subst}
+use Rattle.idn_class.specs.declared.properties.Properties.{Properties}
 use Rattle.idn_text.specs.declared.refusal.Refusal.TheVariants.{Empty, NotInTable, NotValid}
 use Rattle.idn_label.specs.FirstFault.{IsRegistrable, first_fault}
 use Rattle.variant_table.specs.Entries.{TableValue}
@@ -16,16 +17,17 @@ use Rattle.idn2_cli.specs.ListingLaws.{AdmittedAreListed, IsAsked, ListedAreMutu
 
 -- ---- a label among its own variants
 
-no-fault : first_fault [] ≡ None → ⊥
-unfolding first_fault
-no-fault is = absurd (let clash : Some Empty ≡ None = is in cc)
+module _ (properties : Properties) where
+  no-fault : first_fault properties [] ≡ None → ⊥
+  unfolding first_fault
+  no-fault is = absurd (let clash : Some Empty ≡ None = is in cc)
 
-above-empty : (label : List ℕ) → IsRegistrable label → IsBelow [] label
-above-empty [] is = absurd (no-fault is)
-above-empty (c ∷ label) is = tt
+  above-empty : (label : List ℕ) → IsRegistrable properties label → IsBelow [] label
+  above-empty [] is = absurd (no-fault is)
+  above-empty (c ∷ label) is = tt
 
-after-text : (o : Settings) (label : List ℕ) → o.after ≡ [] → IsRegistrable label → IsBelow o.after label
-after-text o label whole is = subst (λ text. IsBelow text label) (sym whole) (above-empty label is)
+after-text : (o : Settings) (label : List ℕ) → o.after ≡ [] → IsRegistrable o.properties label → IsBelow o.after label
+after-text o label whole is = subst (λ text. IsBelow text label) (sym whole) (above-empty o.properties label is)
 
 pub listed-itself : (o : Settings) (table : TableValue) (label : List ℕ) → IsAsked o table label → IsListed o table label label
 listed-itself o table label asked = record {
@@ -43,7 +45,7 @@ admitted-listed = record { listed = listed-itself; allocatable = λ table label.
 
 -- what is asked of a label that is listed, whatever label it is a variant of
 record IsTaken (o : Settings) (table : TableValue) (v : List ℕ) : Type 0 where
-  registrable : IsRegistrable v
+  registrable : IsRegistrable o.properties v
   valid : IsValid table v
   greater : IsBelow o.after v
   kept : IsKept o.registered v

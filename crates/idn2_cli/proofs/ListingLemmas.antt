@@ -2,6 +2,7 @@
 use Rattle.std.proofs.Common.{◌≡◌, ◌≤◌, ◌+◌, ◌-◌, ℕ, zero, suc, List, [], ◌∷◌, ◌++◌, ◌&&◌, ◌||◌, cond, Bool, true, false, Option, Some, None, IfSome, All, Contains, map, length, take, drop, refl, sym, ap, ◌∙◌, arith, take-append-drop, length-take}
 use Rattle.std.specs.List.{AllByRecursion, filter, slice_get}
 use Rattle.std.proofs.lemmas.List.Elements.{All-contains, All-from_recursion, recursion_from_All}
+use Rattle.idn_class.specs.declared.properties.Properties.{Properties}
 use Rattle.idn_text.specs.Points.{IsScalarValue, AreScalarValues}
 use Rattle.variant_list.specs.Labels.{IsBelow}
 use Rattle.variant_list.specs.Beginnings.{has_hope, is_new, shortest_hopeless}
@@ -60,14 +61,14 @@ pub record IsStart (f : Filter) (field : List ℕ → Option Disposition) (o : S
   pub limit : o.limit ≡ limit_from 0 place
   pub block : block_by f field (keeping None o) p.net.spelled ≡ lines_to (line_by field) 0 (stop_from f place p o.tries o.steps) (variants_ahead f p)
 
-pub block-start : (f : Filter) → IsSound f → (field : List ℕ → Option Disposition) (o : Settings) (net : Built) → IsWithinLimits o → IsStart f field o (record { net = net; last = take 63 o.after; edge_tests = 0 })
-block-start f sound field o net limits =
+pub block-start : (properties : Properties) (f : Filter) → IsSound properties f → (field : List ℕ → Option Disposition) (o : Settings) (net : Built) → IsWithinLimits o → IsStart f field o (record { net = net; last = take 63 o.after; edge_tests = 0 })
+block-start properties f sound field o net limits =
     let last : List ℕ = take 63 o.after in
     let cs : List (List ℕ) = tested_among f.hopeless net.spelled last in
     let us : List (List ℕ) = visited f.hopeless None (candidates_among net.spelled last) in
     let place = at_place (filter f.accepts cs) o.limit limits.limit in
     let vs : variants_among f.accepts net.spelled o.after ≡ filter f.accepts cs =
-    accepted-tested f.accepts f.hopeless (accepted-short f sound) sound.for_good net.spelled o.after ∙ ap (filter f.accepts) (tested-cut f.hopeless net.spelled o.after) in
+    accepted-tested f.accepts f.hopeless (accepted-short properties f sound) sound.for_good net.spelled o.after ∙ ap (filter f.accepts) (tested-cut f.hopeless net.spelled o.after) in
     let tries : nth (tested_among f.hopeless net.spelled o.after) o.tries ≡ from_here last cs o.tries =
     ap (λ (ds : List (List ℕ)). nth ds o.tries) (tested-cut f.hopeless net.spelled o.after) ∙ nth-here last cs o.tries limits.tries.0 in
     let steps : nth_if_given (visited f.hopeless None (candidates_among net.spelled o.after)) o.steps ≡ from_here_if last us o.steps =

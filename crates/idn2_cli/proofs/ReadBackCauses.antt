@@ -1,8 +1,8 @@
 -- The causes of refused lines tell small numbers, and texts of UTF-8.
-use Rattle.std.proofs.Common.{◌≡◌, inl, inr, ℕ, zero, suc, ◌+◌, ◌-◌, ◌*◌, ◌/◌, ◌%◌, ◌<◌, ◌≤◌, ◌^◌, ◌==◌, Bool, true, false, ◌&&◌, List, [], ◌∷◌, ◌++◌, map, drop, take, insert, length, length-append, length-drop, length-take, chars, cond, Option, Some, None, refl, sym, ap, subst, arith}
-use Rattle.std.specs.Prelude.{IsUtf8, nat_le, slice_index_or, option_and_then}
+use Rattle.std.proofs.Common.{◌≡◌, inl, inr, ℕ, zero, suc, ◌+◌, ◌-◌, ◌*◌, ◌/◌, ◌%◌, ◌<◌, ◌≤◌, ◌^◌, ◌==◌, Bool, true, false, ◌&&◌, List, [], ◌∷◌, ◌++◌, map, drop, take, insert, length, length-append, length-drop, length-take, chars, cond, Option, Some, None, Result, Ok, Err, append_assoc, refl, sym, ap, subst, ◌∙◌, arith}
+use Rattle.std.specs.Prelude.{IsUtf8, nat_le, slice_index, slice_index_or, option_and_then}
 use Rattle.std.specs.Char.{encode_utf8, is_ascii, to_ascii_lowercase}
-use Rattle.std.specs.List.{list_all}
+use Rattle.std.specs.List.{AllByRecursion, list_all}
 use Rattle.std.proofs.lemmas.Bool.{and_parts, and_from}
 use Rattle.std.proofs.lemmas.Bool.Decides.{nat_tests}
 use Rattle.std.proofs.lemmas.List.{length-map}
@@ -10,25 +10,32 @@ use Rattle.std.proofs.lemmas.List.Splits.{length-slice_split}
 use Rattle.std.proofs.lemmas.List.Sums.{count_by-le-length}
 use Rattle.std.proofs.lemmas.Option.{slice_get_within}
 use Rattle.std.proofs.lemmas.Str.{length-encode, len_utf8_bounds}
-use Rattle.idna.specs.Labels.{is_full_stop, full_stop, join_labels}
+use Rattle.idn_class.specs.declared.properties.Properties.{Properties}
+use Rattle.idna.specs.Labels.{is_full_stop, full_stop, labels_of, join_labels}
 use Rattle.idna.specs.Punycode.{adapt, basic_part, decode, extended_part, insert_all, is_scalar, read_integer}
-use Rattle.idna.specs.Validity.{is_all_ascii}
+use Rattle.idna.specs.Validity.{has_ace_prefix, is_all_ascii}
 use Rattle.idna.proofs.LabelsLemmas.{join_labels-labels_of}
 use Rattle.idn_text.specs.Points.{utf8_of}
 use Rattle.idn_text.specs.declared.refusal.Refusal.{Refusal}
 use Rattle.idn_text.specs.declared.refusal.Refusal.TheVariants as refusals
+use Rattle.idn_class.specs.BidiClass.{bidi_class}
 use Rattle.idn_class.specs.Causes.{Breaks}
 use Rattle.idn_class.specs.declared.broken.BidiCondition.{BidiCondition}
 use Rattle.idn_class.specs.declared.broken.BidiCondition.TheVariants as conditions
-use Rattle.idn_label.proofs.AnswerLemmas.{decoded_code-from}
+use Rattle.idn_label.specs.Answers.{Answer as LabelAnswer}
+use Rattle.idn_label.specs.Decode.{decoded_label, decoded_labels, with_others}
+use Rattle.idn_label.specs.Register.{u_label_answer}
+use Rattle.idn_label.specs.Steps.{begins_with_prefix}
+use Rattle.idn_label.proofs.AnswerLemmas.{decoded_code-from, u_label_answer-from}
 use Rattle.idn_cause.specs.declared.cause.Cause.{Cause}
+use Rattle.idn_cause.specs.declared.cause.Cause.TheVariants.{Condition}
 use Rattle.idn_cause.specs.declared.a_label.ALabelCause.{ALabelCause}
 use Rattle.idn_cause.specs.declared.name.NameCause.{NameCause}
 use Rattle.idn_cause.specs.declared.query.LengthCause.{LengthCause}
 use Rattle.idn_cause.specs.declared.query.LengthCause.TheVariants.{LabelOctets, NameOctets}
 use Rattle.idn_cause.specs.Causes.{IsCause, IsFirstPoint}
 use Rattle.idn_cause.specs.ALabelCauses.{IsALabelCause}
-use Rattle.idn_cause.specs.NameCauses.{IsNameCause}
+use Rattle.idn_cause.specs.NameCauses.{label_of_number, of_decoded, IsLabelCause, IsWholeNameCause, IsNameCause}
 use Rattle.ruleset_text.specs.Definitions.{rule_name}
 use Rattle.ruleset_text.specs.Names.{AreNames, is_letter, is_name, is_name_byte}
 use Rattle.variant_table.specs.Entries.{TableValue}
@@ -54,28 +61,31 @@ use Rattle.idn2_cli.proofs.TextAnswers.{utf8-of_chars}
 
 -- ---- of a label
 
-breaks_within : (label : List ℕ) (condition : BidiCondition) (place : ℕ) → Breaks label condition place → length label < 2 ^ 62 → place < 2 ^ 63
-breaks_within label conditions.First place h short = omega (arith, h.0)
-breaks_within label conditions.RtlHolds place h short = omega (arith, h.1.within, short)
-breaks_within label conditions.RtlEnds place h short = omega (arith, h.1.within, short)
-breaks_within label conditions.RtlNumbers place h short = omega (arith, h.1.within, short)
-breaks_within label conditions.LtrHolds place h short = omega (arith, h.1.within, short)
+module _ (properties : Properties) where
+  breaks_within : (label : List ℕ) (condition : BidiCondition) (place : ℕ) → Breaks properties label condition place → length label < 2 ^ 62 → place < 2 ^ 63
+  breaks_within label conditions.First place h short = omega (arith, h.0)
+  breaks_within label conditions.RtlHolds place h short = omega (arith, h.1.within, short)
+  breaks_within label conditions.RtlEnds place h short = omega (arith, h.1.within, short)
+  breaks_within label conditions.RtlNumbers place h short = omega (arith, h.1.within, short)
+  breaks_within label conditions.LtrHolds place h short = omega (arith, h.1.within, short)
+  breaks_within label conditions.LtrEnds place h short = omega (arith, h.1.within, short)
 
 point_fits : (label : List ℕ) (Passes : ℕ → Type 0) (cause : Cause) → IsFirstPoint label Passes cause → length label < 2 ^ 62 → IsFittingCause cause
 point_fits label Passes cause is short = subst IsFittingCause (sym is.1) (omega (arith, is.2.within, short))
 
-pub cause_fits : (label : List ℕ) (refusal : Refusal) (cause : Cause) → IsCause label refusal cause → length label < 2 ^ 62 → HasFewOctets cause → IsFittingCause cause
-cause_fits label refusals.Disallowed cause is short few = subst IsFittingCause (sym is.2) (omega (arith, is.3.within, short))
-cause_fits label refusals.Unassigned cause is short few = subst IsFittingCause (sym is.2) (omega (arith, is.3.within, short))
-cause_fits label refusals.NotNfc cause is short few = subst IsFittingCause (sym is.1) (omega (arith, is.3.within_label, short))
-cause_fits label refusals.Hyphen cause is short few = subst IsFittingCause (sym is.1) (omega (arith, is.2.within, short))
-cause_fits label refusals.LeadingMark cause is short few = subst IsFittingCause (sym is.0) (omega arith)
-cause_fits label refusals.ContextJ cause is short few = point_fits label _ cause is short
-cause_fits label refusals.ContextO cause is short few = point_fits label _ cause is short
-cause_fits label refusals.Bidi cause is short few = subst IsFittingCause (sym is.2) (breaks_within label is.0 is.1 is.3.breaks short)
-cause_fits label refusals.LabelTooLong cause (inl is) short few = subst IsFittingCause (sym is.1) (omega (arith, short))
-cause_fits label refusals.LabelTooLong cause (inr is) short few = subst IsFittingCause (sym is.2) (subst HasFewOctets is.2 few)
-cause_fits label _ cause is short few = absurd is
+module _ (properties : Properties) where
+  pub cause_fits : (label : List ℕ) (refusal : Refusal) (cause : Cause) → IsCause properties label refusal cause → length label < 2 ^ 62 → HasFewOctets cause → IsFittingCause cause
+  cause_fits label refusals.Disallowed cause is short few = subst IsFittingCause (sym is.2) (omega (arith, is.3.within, short))
+  cause_fits label refusals.Unassigned cause is short few = subst IsFittingCause (sym is.2) (omega (arith, is.3.within, short))
+  cause_fits label refusals.NotNfc cause is short few = subst IsFittingCause (sym is.1) (omega (arith, is.3.within_label, short))
+  cause_fits label refusals.Hyphen cause is short few = subst IsFittingCause (sym is.1) (omega (arith, is.2.within, short))
+  cause_fits label refusals.LeadingMark cause is short few = subst IsFittingCause (sym is.0) (omega arith)
+  cause_fits label refusals.ContextJ cause is short few = point_fits label _ cause is short
+  cause_fits label refusals.ContextO cause is short few = point_fits label _ cause is short
+  cause_fits label refusals.Bidi cause is short few = subst IsFittingCause (sym is.2) (breaks_within properties label is.0 is.1 is.3.breaks short)
+  cause_fits label refusals.LabelTooLong cause (inl is) short few = subst IsFittingCause (sym is.1) (omega (arith, short))
+  cause_fits label refusals.LabelTooLong cause (inr is) short few = subst IsFittingCause (sym is.2) (subst HasFewOctets is.2 few)
+  cause_fits label _ cause is short few = absurd is
 
 -- ---- of what begins with "xn--"
 
@@ -118,15 +128,16 @@ decode-length code label is = by_test (list_all is_ascii (basic_part code)) is
     by_test true e = omega (arith, inserted-length (length code) 128 0 72 (basic_part code) (extended_part code) label e, few)
     by_test false e = absurd (let clash : None ≡ Some label = e in cc)
 
-a_label_fits : (given : List ℕ) (refusal : Refusal) (cause : ALabelCause) → IsALabelCause given refusal cause → length given < 2 ^ 60 → ALabelHasFewOctets cause → IsFittingALabel cause
-a_label_fits given refusals.BadALabel cause (inl (inl is)) short few = subst IsFittingALabel (sym is.1) tt
-a_label_fits given refusals.BadALabel cause (inl (inr (inl is))) short few =
-    subst IsFittingALabel (sym is.1.2) (omega (arith, is.1.1.within, length-drop 4 given, short))
-a_label_fits given refusals.BadALabel cause (inl (inr (inr is))) short few = subst IsFittingALabel (sym is.3) tt
-a_label_fits given refusals.BadALabel cause (inr is) short few = subst IsFittingALabel (sym is.4) (a_label-utf8 is.0)
-a_label_fits given refusal cause is short few =
-    subst IsFittingALabel (sym is.4)
-    (cause_fits is.0 refusal is.1 is.3 (omega (arith, decode-length (drop 4 given) is.0 (decoded_code-from (drop 4 given) is.0 is.2), length-drop 4 given, short)) (subst ALabelHasFewOctets is.4 few))
+module _ (properties : Properties) where
+  a_label_fits : (given : List ℕ) (refusal : Refusal) (cause : ALabelCause) → IsALabelCause properties given refusal cause → length given < 2 ^ 60 → ALabelHasFewOctets cause → IsFittingALabel cause
+  a_label_fits given refusals.BadALabel cause (inl (inl is)) short few = subst IsFittingALabel (sym is.1) tt
+  a_label_fits given refusals.BadALabel cause (inl (inr (inl is))) short few =
+      subst IsFittingALabel (sym is.1.2) (omega (arith, is.1.1.within, length-drop 4 given, short))
+  a_label_fits given refusals.BadALabel cause (inl (inr (inr is))) short few = subst IsFittingALabel (sym is.3) tt
+  a_label_fits given refusals.BadALabel cause (inr is) short few = subst IsFittingALabel (sym is.4) (a_label-utf8 is.0)
+  a_label_fits given refusal cause is short few =
+      subst IsFittingALabel (sym is.4)
+      (cause_fits properties is.0 refusal is.1 is.3 (omega (arith, decode-length (drop 4 given) is.0 (decoded_code-from (drop 4 given) is.0 is.2), length-drop 4 given, short)) (subst ALabelHasFewOctets is.4 few))
 
 -- ---- of a name
 
@@ -137,16 +148,90 @@ label_in (first ∷ []) after label = omega (arith, label_in [] after label, len
 label_in (first ∷ second ∷ before) after label =
     omega (arith, label_in (second ∷ before) after label, length-append first (full_stop ∷ join_labels ((second ∷ before) ++ label ∷ after)))
 
-name_fits : (name : List ℕ) (refusal : Refusal) (cause : NameCause) → IsNameCause name refusal cause → length name < 2 ^ 60 → ALabelHasFewOctets cause.cause → (cause.label < 2 ^ 63) × IsFittingALabel cause.cause
-name_fits name refusal cause is short few =
-    let label = is.0 in
-    let at = is.1 in
+-- the labels of a name, each in its length and all of them in their number
+few_of_name : (name : List ℕ) (before after : List (List ℕ)) (label : List ℕ) → labels_of name ≡ before ++ label ∷ after → (length label ≤ length name) × (length before ≤ length name)
+few_of_name name before after label split =
     let count = length-slice_split is_full_stop name in
-    let few_labels = count_by-le-length is_full_stop name in
-    let within : length label ≤ length name = omega (arith, label_in at.before at.after label, ap (λ ls. length (join_labels ls)) (sym at.split), ap length (join_labels-labels_of name)) in (
-      omega (arith, at.counted, ap length at.split, length-append at.before (label ∷ at.after), count, few_labels, short),
-      a_label_fits (map to_ascii_lowercase label) refusal cause.cause is.2 (omega (arith, length-map label to_ascii_lowercase, within, short)) few,
+    let few = count_by-le-length is_full_stop name in (
+      omega (arith, label_in before after label, ap (λ ls. length (join_labels ls)) (sym split), ap length (join_labels-labels_of name)),
+      omega (arith, ap length split, length-append before (label ∷ after), count, few),
     )
+
+module _ (properties : Properties) where
+  label_fits : (name : List ℕ) (refusal : Refusal) (cause : NameCause) → IsLabelCause properties name refusal cause → length name < 2 ^ 60 → ALabelHasFewOctets cause.cause → (cause.label < 2 ^ 63) × IsFittingALabel cause.cause
+  label_fits name refusal cause is short few =
+      let label = is.0 in
+      let bounds = few_of_name name is.1.before is.1.after label is.1.split in (
+        omega (arith, is.1.counted, bounds.1, short),
+        a_label_fits properties (map to_ascii_lowercase label) refusal cause.cause is.2 (omega (arith, length-map label to_ascii_lowercase, bounds.0, short)) few,
+      )
+
+  -- ---- of a whole name
+
+  decoded_short : (label decoded : List ℕ) → decoded_label properties label ≡ Ok decoded → length decoded ≤ 2 * length label
+  unfolding decoded_label
+  decoded_short label decoded is = by_prefix (has_ace_prefix (map to_ascii_lowercase label)) is
+    where
+      by_prefix : (b : Bool) → cond b (u_label_answer properties (map to_ascii_lowercase label)) (Ok label) ≡ Ok decoded → length decoded ≤ 2 * length label
+      by_prefix true h =
+          let given = map to_ascii_lowercase label in
+          let code = decode-length (drop 4 given) decoded (decoded_code-from (drop 4 given) decoded (u_label_answer-from properties given decoded h).2) in
+          omega (arith, code, length-drop 4 given, length-map label to_ascii_lowercase)
+      by_prefix false h = let same : label ≡ decoded = cc in omega (arith, ap length same)
+
+  -- the decoded labels are as many, and each is short
+  record AreShort (labels decoded : List (List ℕ)) : Type 0 where
+    count : length decoded ≡ length labels
+    short : (n : ℕ) → AllByRecursion (λ l. length l ≤ n) labels → AllByRecursion (λ l. length l ≤ 2 * n) decoded
+
+  decoded_labels-short : (labels decoded : List (List ℕ)) → decoded_labels properties labels ≡ Ok decoded → AreShort labels decoded
+  unfolding decoded_labels
+  decoded_labels-short [] decoded is = let same : [] ≡ decoded = cc in subst (AreShort []) same (record { count = refl; short = λ n all. tt })
+  decoded_labels-short (label ∷ labels) decoded is = step (decoded_labels-short labels) (decoded_label properties label) refl (decoded_labels properties labels) refl is
+    where
+      step : ((others : List (List ℕ)) → decoded_labels properties labels ≡ Ok others → AreShort labels others) → (first : LabelAnswer) → decoded_label properties label ≡ first → (others : Result (List (List ℕ)) Refusal) → decoded_labels properties labels ≡ others → with_others first others ≡ Ok decoded → AreShort (label ∷ labels) decoded
+      step rest (Err refusal) one others more e = absurd (let clash : Err refusal ≡ Ok decoded = e in cc)
+      step rest (Ok l) one (Err refusal) more e = absurd (let clash : Err refusal ≡ Ok decoded = e in cc)
+      step rest (Ok l) one (Ok ls) more e =
+          let same : l ∷ ls ≡ decoded = cc in
+          let later = rest ls more in
+          subst (AreShort (label ∷ labels)) same (record {
+            count = ap suc later.count;
+            short = λ n all. (let first : length label ≤ n = all.0 in omega (arith, decoded_short label l one, first), later.short n all.1);
+          })
+
+  in_list : (n : ℕ) (before after : List (List ℕ)) (label : List ℕ) → AllByRecursion (λ l. length l ≤ n) (before ++ label ∷ after) → length label ≤ n
+  in_list n [] after label all = all.0
+  in_list n (first ∷ before) after label all = in_list n before after label all.1
+
+  labels_within : (name : List ℕ) (whole before rest : List (List ℕ)) → whole ≡ labels_of name → whole ≡ before ++ rest → AllByRecursion (λ l. length l ≤ length name) rest
+  labels_within name whole before [] is split = tt
+  labels_within name whole before (label ∷ rest) is split =
+      ((few_of_name name before rest label (sym is ∙ split)).0, labels_within name whole (before ++ label ∷ []) rest is (split ∙ sym (append_assoc before (label ∷ []) rest)))
+
+  whole_fits : (name : List ℕ) (cause : NameCause) → IsWholeNameCause properties name cause → length name < 2 ^ 60 → (cause.label < 2 ^ 63) × IsFittingALabel cause.cause
+  whole_fits name cause is small =
+      let decoded = decoded_labels-short (labels_of name) is.0 is.4 in
+      let at = is.6 in
+      let label = is.1 in
+      let each = subst (AllByRecursion (λ l. length l ≤ 2 * length name)) at.split (decoded.short (length name) (labels_within name (labels_of name) [] (labels_of name) refl refl)) in
+      let within = in_list (2 * length name) at.before at.after label each in
+      let count = length-slice_split is_full_stop name in
+      let few = count_by-le-length is_full_stop name in (
+        omega (arith, at.counted, ap length at.split, length-append at.before (label ∷ at.after), decoded.count, count, few, small),
+        subst IsFittingALabel (sym is.8)
+            (in_label (begins_with_prefix (label_of_number cause.label (labels_of name))) (Condition (record { condition = is.2; place = is.3 }) (slice_index label is.3) (bidi_class properties (slice_index label is.3)))
+            (breaks_within properties label is.2 is.3 is.7.breaks (omega (arith, within, small)))),
+      )
+    where
+      in_label : (coded : Bool) (of_label : Cause) → IsFittingCause of_label → IsFittingALabel (of_decoded coded of_label)
+      in_label true of_label fits = fits
+      in_label false of_label fits = fits
+
+  name_fits : (name : List ℕ) (refusal : Refusal) (cause : NameCause) → IsNameCause properties name refusal cause → length name < 2 ^ 60 → ALabelHasFewOctets cause.cause → (cause.label < 2 ^ 63) × IsFittingALabel cause.cause
+  name_fits name refusals.Bidi cause (inl is) short few = label_fits name refusals.Bidi cause is short few
+  name_fits name refusals.Bidi cause (inr is) short few = whole_fits name cause is short
+  name_fits name refusal cause is short few = label_fits name refusal cause is short few
 
 -- ---- under a table
 
@@ -189,18 +274,19 @@ validity_fits table label (validity.Misplaced place condition) sound is short =
 validity_fits table label (validity.Broken n kind) sound is short =
     omega (arith, slice_get_within table.definitions.demands n is.1.0 is.1.1.at, sound.definitions.few_patterns)
 
-table_fits : (table : TableValue) (label : List ℕ) (refusal : Refusal) (cause : LineCause) → IsSound table → IsTableCause table label refusal cause → length label < 2 ^ 60 → TellsFewOctets cause → IsFitting cause
-table_fits table label refusals.NotInTable cause sound is short few =
-    subst IsFitting (sym is.2) (subst IsFittingCause (sym is.1.3) (omega (arith, is.1.2, short)))
-table_fits table label refusals.NotValid cause sound is short few = subst IsFitting (sym is.2) (validity_fits table label is.0 sound is.1 short)
-table_fits table label refusal cause sound is short few =
-    subst IsFitting (sym is.2) (cause_fits label refusal is.0 is.1 (omega (arith, short)) (subst TellsFewOctets is.2 few))
+module _ (properties : Properties) where
+  table_fits : (table : TableValue) (label : List ℕ) (refusal : Refusal) (cause : LineCause) → IsSound table → IsTableCause properties table label refusal cause → length label < 2 ^ 60 → TellsFewOctets cause → IsFitting cause
+  table_fits table label refusals.NotInTable cause sound is short few =
+      subst IsFitting (sym is.2) (subst IsFittingCause (sym is.1.3) (omega (arith, is.1.2, short)))
+  table_fits table label refusals.NotValid cause sound is short few = subst IsFitting (sym is.2) (validity_fits table label is.0 sound is.1 short)
+  table_fits table label refusal cause sound is short few =
+      subst IsFitting (sym is.2) (cause_fits properties label refusal is.0 is.1 (omega (arith, short)) (subst TellsFewOctets is.2 few))
 
 -- ---- of a line
 
 abbrev IsSoundIn : Explained → Type 0
-IsSoundIn (ByTable table) = IsSound table
-IsSoundIn (ByRequest table) = IsSound table
+IsSoundIn (ByTable properties table) = IsSound table
+IsSoundIn (ByRequest properties table) = IsSound table
 IsSoundIn _ = Unit {0}
 
 sound_by : (mode : Mode) (o : Settings) (table : TableValue) → IsSound table → IsSoundIn (explained_by_mode mode o table)
@@ -227,16 +313,16 @@ before_first-length points = taken _ points
 
 points_fit : (how : Explained) (points : List ℕ) (refusal : Refusal) (cause : LineCause) → IsPointsCause how points refusal cause → IsSoundIn how → length points < 2 ^ 60 → TellsFewOctets cause → IsFitting cause
 points_fit Unexplained points refusal cause is sound short few = absurd is
-points_fit ByLabel points refusal cause (inl (prefix, is)) sound short few =
-    subst IsFitting (sym is.2) (a_label_fits points refusal is.0 is.1 short (subst TellsFewOctets is.2 few))
-points_fit ByLabel points refusal cause (inr (prefix, is)) sound short few =
-    subst IsFitting (sym is.2) (cause_fits points refusal is.0 is.1 (omega (arith, short)) (subst TellsFewOctets is.2 few))
-points_fit ByName points refusal cause is sound short few = subst IsFitting (sym is.2) (name_fits points refusal is.0 is.1 short (subst TellsFewOctets is.2 few))
+points_fit (ByLabel properties) points refusal cause (inl (prefix, is)) sound short few =
+    subst IsFitting (sym is.2) (a_label_fits properties points refusal is.0 is.1 short (subst TellsFewOctets is.2 few))
+points_fit (ByLabel properties) points refusal cause (inr (prefix, is)) sound short few =
+    subst IsFitting (sym is.2) (cause_fits properties points refusal is.0 is.1 (omega (arith, short)) (subst TellsFewOctets is.2 few))
+points_fit (ByName properties) points refusal cause is sound short few = subst IsFitting (sym is.2) (name_fits properties points refusal is.0 is.1 short (subst TellsFewOctets is.2 few))
 points_fit (ByQuery std3) points refusal cause is sound short few = subst IsFitting (sym is.2) (query_fits is.0 (subst TellsFewOctets is.2 few))
-points_fit (ByTable table) points refusal cause is sound short few = table_fits table points refusal cause sound is short few
-points_fit (ByRequest table) points refusal cause is sound short few = table_fits table (requested_label points) refusal cause sound is (omega (arith, before_first-length points, short)) few
-points_fit ByRegisteredLine points refusal cause is sound short few =
-    subst IsFitting (sym is.2) (cause_fits points refusal is.0 is.1 (omega (arith, short)) (subst TellsFewOctets is.2 few))
+points_fit (ByTable properties table) points refusal cause is sound short few = table_fits properties table points refusal cause sound is short few
+points_fit (ByRequest properties table) points refusal cause is sound short few = table_fits properties table (requested_label points) refusal cause sound is (omega (arith, before_first-length points, short)) few
+points_fit (ByRegisteredLine properties) points refusal cause is sound short few =
+    subst IsFitting (sym is.2) (cause_fits properties points refusal is.0 is.1 (omega (arith, short)) (subst TellsFewOctets is.2 few))
 
 pub points-length : (points : List ℕ) → length points ≤ length (utf8_of points)
 points-length [] = omega arith

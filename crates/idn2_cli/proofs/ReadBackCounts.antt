@@ -126,11 +126,11 @@ up_to-nth (v ∷ vs) (suc i) rising = omega (arith, ap length (up_to-later v vs 
 -- ---- of a listing
 
 pub within_tries : (o : Settings) (table : TableValue) (label : List ℕ) → 1 ≤ o.tries → o.registered ≡ None
-    → (let f : Filter = filter_of table in let vs = variants_after f o (spelled table label) in length (up_to (stop_of f o (spelled table label)) vs) ≤ o.tries)
+    → (let f : Filter = filter_of o.properties table in let vs = variants_after f o (spelled table label) in length (up_to (stop_of f o (spelled table label)) vs) ≤ o.tries)
 within_tries o table label some whole = by_kept o.registered whole
   where
     f : Filter
-    f = filter_of table
+    f = filter_of o.properties table
 
     labels : List (List ℕ)
     labels = spelled table label
@@ -152,7 +152,7 @@ within_tries o table label some whole = by_kept o.registered whole
         )
 
     same : variants_among f.accepts labels o.after ≡ filter f.accepts tested
-    same = accepted-tested f.accepts f.hopeless (accepted-short f (filter_of-IsSound table)) (filter_of-IsSound table).for_good labels o.after
+    same = accepted-tested f.accepts f.hopeless (accepted-short o.properties f (filter_of-IsSound o.properties table)) (filter_of-IsSound o.properties table).for_good labels o.after
 
     by_kept : (r : Option (List (List ℕ))) → r ≡ None
         → length (up_to (lesser_label (nth_if_given (kept_to r (variants_among f.accepts labels o.after)) o.limit)
@@ -164,12 +164,12 @@ within_tries o table label some whole = by_kept o.registered whole
     by_kept (Some registered) e = absurd (let clash : Some registered ≡ None = e in cc)
 
 -- one that is kept to registered labels counts no more than these
-pub within_registered : (o : Settings) (table : TableValue) (label : List ℕ) (kept : List (List ℕ)) → AreRegistered kept → o.registered ≡ Some kept
-    → (let f : Filter = filter_of table in length (up_to (stop_of f o (spelled table label)) (variants_after f o (spelled table label))) ≤ length kept)
+pub within_registered : (o : Settings) (table : TableValue) (label : List ℕ) (kept : List (List ℕ)) → AreRegistered o.properties kept → o.registered ≡ Some kept
+    → (let f : Filter = filter_of o.properties table in length (up_to (stop_of f o (spelled table label)) (variants_after f o (spelled table label))) ≤ length kept)
 within_registered o table label kept are is =
-    let f : Filter = filter_of table in
+    let f : Filter = filter_of o.properties table in
     let labels = spelled table label in
     let found = collisions labels kept o.after in
     let same : variants_after f o labels ≡ filter f.accepts found =
-    ap (λ (r : Option (List (List ℕ))). kept_to r (variants_among f.accepts labels o.after)) is ∙ kept-collisions f o labels kept are in
+    ap (λ (r : Option (List (List ℕ))). kept_to r (variants_among f.accepts labels o.after)) is ∙ kept-collisions o.properties f o labels kept are in
     omega (arith, up_to_few (stop_of f o labels) (variants_after f o labels), ap length same, filter_few f.accepts found, filter_few (λ v. is_gt (label_cmp v o.after) && is_spelled labels v) kept)

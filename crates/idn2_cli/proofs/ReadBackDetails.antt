@@ -19,7 +19,7 @@ use Rattle.idn_class.specs.declared.broken.BidiCondition.TheVariants as conditio
 use Rattle.idn_cause.specs.declared.cause.Cause.{Cause}
 use Rattle.idn_cause.specs.declared.cause.Cause.TheVariants.{Barred, Changed, Hyphen, Point, Condition as Broken, Points, Octets}
 use Rattle.idn_cause.specs.declared.a_label.ALabelCause.{ALabelCause}
-use Rattle.idn_cause.specs.declared.a_label.ALabelCause.TheVariants.{NoCode, NotAscii, NoPunycode, Other, Decoded}
+use Rattle.idn_cause.specs.declared.a_label.ALabelCause.TheVariants.{NoCode, NotAscii, NoPunycode, Other, Decoded, Copied}
 use Rattle.idn_cause.specs.declared.query.LengthCause.{LengthCause}
 use Rattle.idn_cause.specs.declared.query.LengthCause.TheVariants.{LabelOctets, NameOctets}
 use Rattle.label_patterns.specs.declared.condition.ConditionKind.{ConditionKind}
@@ -38,7 +38,7 @@ use Rattle.idn2_cli.specs.CauseDetails.{a_label_details, at_byte, barring_rule, 
 use Rattle.idn2_cli.specs.CauseTexts.{appendix_text, bidi_text, condition_text, demand_text}
 use Rattle.idn2_cli.specs.ReadBack.{IsReadBack, byte_of}
 use Rattle.idn2_cli.specs.declared.refusals.cause.LineCause.{LineCause}
-use Rattle.idn2_cli.specs.declared.refusals.cause.LineCause.TheVariants.{Byte, LongLine, OfLabel, OfALabel, OfName, OfQuery, Misplaced, Broken as BrokenDemand, Ends, OfTable}
+use Rattle.idn2_cli.specs.declared.refusals.cause.LineCause.TheVariants.{Byte, LongLine, OfLabel, OfALabel, OfName, OfQuery, Misplaced, Broken as BrokenDemand, Ends, OfTable, ByteOrderMark}
 use Rattle.idn2_cli.proofs.ReadBackLemmas.{ascii_utf8, input_small, input_unicode, object_read_back}
 
 -- ---- the code point of a refusal is ASCII
@@ -230,6 +230,7 @@ IsFittingALabel (NotAscii place c) = place < 2 ^ 63
 IsFittingALabel NoPunycode = Unit {0}
 IsFittingALabel (Other octets) = IsUtf8 octets.items
 IsFittingALabel (Decoded cause) = IsFittingCause cause
+IsFittingALabel (Copied cause) = IsFittingCause cause
 
 abbrev pub IsFittingLength : LengthCause → Type 0
 IsFittingLength (LabelOctets number octets) = (number < 2 ^ 63) × (octets < 2 ^ 64)
@@ -246,6 +247,7 @@ IsFitting (Misplaced place c kind rule) = (place < 2 ^ 63) × IsUtf8 rule.items
 IsFitting (BrokenDemand number kind) = number < 2 ^ 63
 IsFitting (Ends place) = place < 2 ^ 63
 IsFitting (OfTable place quoted) = byte_of place < 2 ^ 63
+IsFitting ByteOrderMark = Unit {0}
 
 abbrev pub IsFittingIfTold : Option LineCause → Type 0
 IsFittingIfTold None = Unit {0}
@@ -274,6 +276,7 @@ condition_ascii conditions.RtlHolds = ascii_utf8 (codes "RFC 5893 2 condition 2"
 condition_ascii conditions.RtlEnds = ascii_utf8 (codes "RFC 5893 2 condition 3") refl
 condition_ascii conditions.RtlNumbers = ascii_utf8 (codes "RFC 5893 2 condition 4") refl
 condition_ascii conditions.LtrHolds = ascii_utf8 (codes "RFC 5893 2 condition 5") refl
+condition_ascii conditions.LtrEnds = ascii_utf8 (codes "RFC 5893 2 condition 6") refl
 
 bidi_ascii : (class : BidiClass) → IsUtf8 (bidi_text class)
 bidi_ascii bidi.L = ascii_utf8 (codes "L") refl
@@ -287,6 +290,7 @@ bidi_ascii bidi.ET = ascii_utf8 (codes "ET") refl
 bidi_ascii bidi.ON = ascii_utf8 (codes "ON") refl
 bidi_ascii bidi.BN = ascii_utf8 (codes "BN") refl
 bidi_ascii bidi.NSM = ascii_utf8 (codes "NSM") refl
+bidi_ascii bidi.Other = ascii_utf8 (codes "-") refl
 
 choice_ascii : (b : Bool) (first other : List ℕ) → is_all_ascii first ≡ true → is_all_ascii other ≡ true → is_all_ascii (if b then first else other) ≡ true
 choice_ascii true first other h k = h
@@ -363,6 +367,7 @@ good_a_label refusal (NotAscii place c) h = record { label = tt; place = next_sm
 good_a_label refusal NoPunycode h = record { label = tt; place = tt; condition = tt; rule = ascii_utf8 (codes "RFC 3492 6.2") refl; bidi_class = tt; demand = tt; kind = tt; code_points = tt; octets = tt; alabel = tt; byte = tt }
 good_a_label refusal (Other octets) h = record { label = tt; place = tt; condition = tt; rule = tt; bidi_class = tt; demand = tt; kind = tt; code_points = tt; octets = tt; alabel = h; byte = tt }
 good_a_label refusal (Decoded cause) h = good_decoded_details (cause_details refusal cause) (good_cause refusal cause h)
+good_a_label refusal (Copied cause) h = good_cause refusal cause h
 
 good_length : (cause : LengthCause) → IsFittingLength cause → AreGoodDetails (length_details cause)
 good_length (LabelOctets number octets) h = record { label = next_small number h.0; place = tt; condition = tt; rule = tt; bidi_class = tt; demand = tt; kind = tt; code_points = tt; octets = h.1; alabel = tt; byte = tt }
@@ -404,6 +409,7 @@ good_line refusal (Misplaced place c kind rule) h = record { label = tt; place =
 good_line refusal (BrokenDemand number kind) h = record { label = tt; place = tt; condition = tt; rule = tt; bidi_class = tt; demand = next_small number h; kind = demand_utf8 kind; code_points = tt; octets = tt; alabel = tt; byte = tt }
 good_line refusal (Ends place) h = record { label = tt; place = next_small place h; condition = tt; rule = tt; bidi_class = tt; demand = tt; kind = tt; code_points = tt; octets = tt; alabel = tt; byte = tt }
 good_line refusal (OfTable place quoted) h = good_fault_place place h
+good_line refusal ByteOrderMark h = good_point_byte 0 0xFEFF (omega arith)
 
 good_told : (refusal : Refusal) (cause : Option LineCause) → IsFittingIfTold cause → AreGoodDetails (told_details refusal cause)
 good_told refusal None h = good_none

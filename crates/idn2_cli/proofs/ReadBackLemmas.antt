@@ -1,36 +1,36 @@
 -- What is said of a line has small numbers and texts of UTF-8, so that its object is read back.
 use Rattle.std.proofs.Common.{◌≡◌, ℕ, zero, suc, ◌<◌, ◌-◌, ◌/◌, ◌%◌, ◌^◌, ◌==◌, Bool, true, false, ◌&&◌, ◌||◌, List, [], ◌∷◌, ◌++◌, map, codes, length, chars, cond, All, Option, Some, None, Result, Ok, Err, refl, sym, ap, subst, ◌∙◌, if◌then◌else◌, arith}
 use Rattle.std.specs.Prelude.{slice_get, Contains, IsUtf8}
-use Rattle.std.specs.Char.{is_ascii, to_ascii_lowercase}
+use Rattle.std.specs.Char.{is_ascii}
 use Rattle.std.specs.List.{AllByRecursion, filter}
 use Rattle.std.specs.Ordering.{is_le}
 use Rattle.std.specs.Str.{is_utf8}
 use Rattle.std.proofs.lemmas.Bool.{and_from}
 use Rattle.std.proofs.lemmas.Bool.Decides.{nat_tests}
-use Rattle.std.proofs.lemmas.List.Elements.{All-from_recursion, recursion_from_All}
+use Rattle.std.proofs.lemmas.List.Elements.{All-from_recursion}
 use Rattle.std.proofs.lemmas.List.Sums.{list_all-from_AllPass}
 use Rattle.std.proofs.lemmas.Str.{IsUtf8-from_is_utf8, is_utf8-from_IsUtf8, IsUtf8-from_ascii}
+use Rattle.idn_class.specs.declared.properties.Properties.{Properties}
 use Rattle.json.proofs.Printed.Trees.{document-print}
 use Rattle.json.specs.Tree.{json_tokens}
-use Rattle.idna.specs.Labels.{labels_of, join_labels}
 use Rattle.idna.specs.Punycode.{encode}
 use Rattle.idna.specs.Validity.{has_ace_prefix, is_all_ascii}
-use Rattle.idna.proofs.LabelsLemmas.{All-labels_of, All-join_labels}
 use Rattle.idna.proofs.PunycodeLemmas.{IsDigitChar, All-encode}
 use Rattle.idn_text.specs.Lines.{Numbered}
-use Rattle.idn_text.specs.Points.{AreScalarValues, IsScalarValue, hex_digit, utf8_of}
+use Rattle.idn_text.specs.Points.{AreScalarValues, hex_digit, utf8_of}
 use Rattle.idn_text.specs.declared.refusal.Refusal.{Refusal}
 use Rattle.idn_text.specs.declared.refusal.Refusal.TheVariants.{Empty, LineTooLong, NotUtf8, NotInTable, NotValid}
 use Rattle.idn_text.proofs.Utf8Lemmas.{IsUtf8-from_points}
 use Rattle.idn_label.specs.ALabel.{a_label_of}
 use Rattle.idn_label.specs.Answers.{Answer as LabelAnswer, unless_fault, and_then}
-use Rattle.idn_label.specs.Decode.{decode_answer, decoded_label, decoded_labels, with_others}
+use Rattle.idn_label.specs.Decode.{decode_answer}
 use Rattle.idn_label.specs.FirstFault.{first_fault, IsRegistrable}
 use Rattle.idn_label.specs.Lookup.{lookup_answer, query_name, utf8_answer}
 use Rattle.idn_label.specs.Register.{register_answer, tested_answer, u_label_answer}
 use Rattle.idn_label.specs.Steps.{in_utf8, is_ldh_point}
 use Rattle.idn_label.proofs.ALabels.{registrable_scalars}
 use Rattle.idn_label.proofs.AnswerLemmas.{u_label_answer-from}
+use Rattle.idn_label.proofs.BidiNames.{decode_answer-scalars}
 use Rattle.idn_label.proofs.LdhLemmas.{is_all_ascii-octets, is_ldh_point-ascii}
 use Rattle.idn_label.proofs.LookupLemmas.{utf8_answer-ascii}
 use Rattle.variant_table.specs.Entries.{TableValue}
@@ -201,69 +201,46 @@ looked_up-texts name std3 said is scalar = by_answer (query_name (utf8_of name) 
         subst (AllByRecursion HasTexts) one (IsUtf8-from_ascii query (utf8_answer-ascii (utf8_of name) query std3 (whole ∙ e)), tt)
     by_answer (Err refusal) e same = absurd (let clash : Err refusal ≡ Ok said = same in cc)
 
-registered-parts : (label a_label : List ℕ) → register_answer label ≡ Ok a_label → AreScalarValues (u_label_of label) × IsUtf8 a_label
-unfolding register_answer tested_answer
-registered-parts label a_label is = by_prefix (has_ace_prefix label) refl is
-  where
-    from : (u : List ℕ) → IsRegistrable u → u_label_of label ≡ u → a_label_of u ≡ a_label → AreScalarValues (u_label_of label) × IsUtf8 a_label
-    from u registrable e same = (subst AreScalarValues (sym e) (registrable_scalars u registrable), subst IsUtf8 same (a_label-utf8 u))
+module _ (properties : Properties) where
+  registered-parts : (label a_label : List ℕ) → register_answer properties label ≡ Ok a_label → AreScalarValues (u_label_of properties label) × IsUtf8 a_label
+  unfolding register_answer tested_answer
+  registered-parts label a_label is = by_prefix (has_ace_prefix label) refl is
+    where
+      from : (u : List ℕ) → IsRegistrable properties u → u_label_of properties label ≡ u → a_label_of u ≡ a_label → AreScalarValues (u_label_of properties label) × IsUtf8 a_label
+      from u registrable e same = (subst AreScalarValues (sym e) (registrable_scalars properties u registrable), subst IsUtf8 same (a_label-utf8 u))
 
-    plain : has_ace_prefix label ≡ false → (fault : Option Refusal) → first_fault label ≡ fault → unless_fault fault (Ok (a_label_of label)) ≡ Ok a_label → AreScalarValues (u_label_of label) × IsUtf8 a_label
-    plain other None e same = from label e (stands_for-itself label other) (let one : Ok (a_label_of label) ≡ Ok a_label = same in cc)
-    plain other (Some refusal) e same = absurd (let clash : Err refusal ≡ Ok a_label = same in cc)
+      plain : has_ace_prefix label ≡ false → (fault : Option Refusal) → first_fault properties label ≡ fault → unless_fault fault (Ok (a_label_of label)) ≡ Ok a_label → AreScalarValues (u_label_of properties label) × IsUtf8 a_label
+      plain other None e same = from label e (stands_for-itself properties label other) (let one : Ok (a_label_of label) ≡ Ok a_label = same in cc)
+      plain other (Some refusal) e same = absurd (let clash : Err refusal ≡ Ok a_label = same in cc)
 
-    coded : has_ace_prefix label ≡ true → (answer : LabelAnswer) → u_label_answer label ≡ answer → and_then answer (λ decoded. Ok (a_label_of decoded)) ≡ Ok a_label → AreScalarValues (u_label_of label) × IsUtf8 a_label
-    coded prefix (Ok u) e same = from u (u_label_answer-from label u e).0 (stands_for-decoded label u prefix e) (let one : Ok (a_label_of u) ≡ Ok a_label = same in cc)
-    coded prefix (Err refusal) e same = absurd (let clash : Err refusal ≡ Ok a_label = same in cc)
+      coded : has_ace_prefix label ≡ true → (answer : LabelAnswer) → u_label_answer properties label ≡ answer → and_then answer (λ decoded. Ok (a_label_of decoded)) ≡ Ok a_label → AreScalarValues (u_label_of properties label) × IsUtf8 a_label
+      coded prefix (Ok u) e same = from u (u_label_answer-from properties label u e).0 (stands_for-decoded properties label u prefix e) (let one : Ok (a_label_of u) ≡ Ok a_label = same in cc)
+      coded prefix (Err refusal) e same = absurd (let clash : Err refusal ≡ Ok a_label = same in cc)
 
-    by_prefix : (b : Bool) → has_ace_prefix label ≡ b → cond b (and_then (u_label_answer label) (λ decoded. Ok (a_label_of decoded))) (unless_fault (first_fault label) (Ok (a_label_of label))) ≡ Ok a_label
-        → AreScalarValues (u_label_of label) × IsUtf8 a_label
-    by_prefix true prefix same = coded prefix (u_label_answer label) refl same
-    by_prefix false other same = plain other (first_fault label) refl same
+      by_prefix : (b : Bool) → has_ace_prefix label ≡ b → cond b (and_then (u_label_answer properties label) (λ decoded. Ok (a_label_of decoded))) (unless_fault (first_fault properties label) (Ok (a_label_of label))) ≡ Ok a_label
+          → AreScalarValues (u_label_of properties label) × IsUtf8 a_label
+      by_prefix true prefix same = coded prefix (u_label_answer properties label) refl same
+      by_prefix false other same = plain other (first_fault properties label) refl same
 
-registered-texts : (label : List ℕ) (said : List Said) → one_answer (Registered (u_label_of label)) (register_answer label) ≡ Ok said → AllByRecursion HasTexts said
-registered-texts label said is = by_answer (register_answer label) refl is
-  where
-    by_answer : (answer : LabelAnswer) → register_answer label ≡ answer → one_answer (Registered (u_label_of label)) answer ≡ Ok said → AllByRecursion HasTexts said
-    by_answer (Ok a_label) e same =
-        let one : Registered (u_label_of label) a_label ∷ [] ≡ said = cc in
-        subst (AllByRecursion HasTexts) one (registered-parts label a_label e, tt)
-    by_answer (Err refusal) e same = absurd (let clash : Err refusal ≡ Ok said = same in cc)
+  registered-texts : (label : List ℕ) (said : List Said) → one_answer (Registered (u_label_of properties label)) (register_answer properties label) ≡ Ok said → AllByRecursion HasTexts said
+  registered-texts label said is = by_answer (register_answer properties label) refl is
+    where
+      by_answer : (answer : LabelAnswer) → register_answer properties label ≡ answer → one_answer (Registered (u_label_of properties label)) answer ≡ Ok said → AllByRecursion HasTexts said
+      by_answer (Ok a_label) e same =
+          let one : Registered (u_label_of properties label) a_label ∷ [] ≡ said = cc in
+          subst (AllByRecursion HasTexts) one (registered-parts label a_label e, tt)
+      by_answer (Err refusal) e same = absurd (let clash : Err refusal ≡ Ok said = same in cc)
 
 -- ---- names that are decoded
 
-decoded_label-scalar : (label u : List ℕ) → AreScalarValues label → decoded_label label ≡ Ok u → AreScalarValues u
-unfolding decoded_label
-decoded_label-scalar label u scalar is = by_prefix (has_ace_prefix (map to_ascii_lowercase label)) is
-  where
-    by_prefix : (b : Bool) → cond b (u_label_answer (map to_ascii_lowercase label)) (Ok label) ≡ Ok u → AreScalarValues u
-    by_prefix true is = registrable_scalars u (u_label_answer-from (map to_ascii_lowercase label) u is).0
-    by_prefix false is = subst AreScalarValues (let same : label ≡ u = cc in same) scalar
-
-decoded_labels-scalar : (labels us : List (List ℕ)) → AllByRecursion AreScalarValues labels → decoded_labels labels ≡ Ok us → AllByRecursion AreScalarValues us
-unfolding decoded_labels
-decoded_labels-scalar [] us scalar is = subst (AllByRecursion AreScalarValues) (let same : [] ≡ us = cc in same) tt
-decoded_labels-scalar (label ∷ labels) us scalar is = by_answers (decoded_labels-scalar labels) (decoded_label label) refl (decoded_labels labels) refl is
-  where
-    by_answers : ((others : List (List ℕ)) → AllByRecursion AreScalarValues labels → decoded_labels labels ≡ Ok others → AllByRecursion AreScalarValues others) → (answer : LabelAnswer) → decoded_label label ≡ answer → (others : Result (List (List ℕ)) Refusal) → decoded_labels labels ≡ others → with_others answer others ≡ Ok us → AllByRecursion AreScalarValues us
-    by_answers rest (Ok u) e (Ok others) f same =
-        subst (AllByRecursion AreScalarValues) (let one : u ∷ others ≡ us = cc in one) (decoded_label-scalar label u scalar.0 e, rest others scalar.1 f)
-    by_answers rest (Ok u) e (Err refusal) f same = absurd (let clash : Err refusal ≡ Ok us = same in cc)
-    by_answers rest (Err refusal) e others f same = absurd (let clash : Err refusal ≡ Ok us = same in cc)
-
-decoded-texts : (name : List ℕ) (said : List Said) → AreScalarValues name → one_answer Decoded (in_utf8 (decode_answer name)) ≡ Ok said → AllByRecursion HasTexts said
-unfolding decode_answer
-decoded-texts name said scalar is = by_answer (decoded_labels (labels_of name)) refl is
-  where
-    each : All AreScalarValues (labels_of name)
-    each = All-labels_of IsScalarValue name (λ k d lt other. scalar k d lt)
-
-    by_answer : (answer : Result (List (List ℕ)) Refusal) → decoded_labels (labels_of name) ≡ answer → one_answer Decoded (in_utf8 (and_then answer (λ labels. Ok (join_labels labels)))) ≡ Ok said → AllByRecursion HasTexts said
-    by_answer (Ok us) e same =
-        let all = All-from_recursion AreScalarValues us (decoded_labels-scalar (labels_of name) us (recursion_from_All AreScalarValues (labels_of name) each) e) in
-        subst (AllByRecursion HasTexts) (let one : Decoded (utf8_of (join_labels us)) ∷ [] ≡ said = cc in one)
-        (scalars_utf8 (join_labels us) (All-join_labels IsScalarValue us refl all), tt)
-    by_answer (Err refusal) e same = absurd (let clash : Err refusal ≡ Ok said = same in cc)
+module _ (properties : Properties) where
+  decoded-texts : (name : List ℕ) (said : List Said) → AreScalarValues name → one_answer Decoded (in_utf8 (decode_answer properties name)) ≡ Ok said → AllByRecursion HasTexts said
+  decoded-texts name said scalar is = by_answer (decode_answer properties name) refl is
+    where
+      by_answer : (answer : LabelAnswer) → decode_answer properties name ≡ answer → one_answer Decoded (in_utf8 answer) ≡ Ok said → AllByRecursion HasTexts said
+      by_answer (Ok text) e same =
+          subst (AllByRecursion HasTexts) (let one : Decoded (utf8_of text) ∷ [] ≡ said = cc in one) (scalars_utf8 text (decode_answer-scalars properties name text scalar e), tt)
+      by_answer (Err refusal) e same = absurd (let clash : Err refusal ≡ Ok said = same in cc)
 
 -- ---- listings
 
@@ -328,7 +305,7 @@ listed-texts field (v ∷ vs) n stop all h = (all.0, listed-texts field vs n sto
 
 block-texts : (o : Settings) (table : TableValue) (label : List ℕ) → IsWellFormed table.entries → AllByRecursion HasTexts (block o table label)
 block-texts o table label well =
-    let f : Filter = filter_of table in
+    let f : Filter = filter_of o.properties table in
     let labels = spelled table label in
     let vs = kept_to-all AreScalarValues o.registered (variants_among f.accepts labels o.after) (among-scalar table label well f.accepts o.after) in
     let tests = unless_kept-all AreScalarValues o.registered (tested_among f.hopeless labels o.after) (among-scalar table label well (λ v. fits_label v && has_hope f.hopeless v) o.after) in
@@ -361,15 +338,15 @@ least-text table label text well =
 
 mode-texts : (mode : Mode) (o : Settings) (table : TableValue) (points : List ℕ) (said : List Said) → IsSound table → AreScalarValues points → mode_answer mode o table points ≡ Ok said → AllByRecursion HasTexts said
 mode-texts Lookup o table points said sound scalar is = looked_up-texts points o.std3 said is scalar
-mode-texts Register o table points said sound scalar is = registered-texts points said is
-mode-texts Decode o table points said sound scalar is = decoded-texts points said scalar is
+mode-texts Register o table points said sound scalar is = registered-texts o.properties points said is
+mode-texts Decode o table points said sound scalar is = decoded-texts o.properties points said scalar is
 mode-texts Variants o table points said sound scalar is =
-    admitted-texts table points (block o table points) said (block-texts o table points sound.entries) (unless-texts (first_fault points) (listing_answer o table points) said is)
+    admitted-texts table points (block o table points) said (block-texts o table points sound.entries) (unless-texts (first_fault o.properties points) (listing_answer o table points) said is)
 mode-texts Jump o table points said sound scalar is =
     let label = requested_label points in
     let request = requested_text points in
     admitted-texts table label (Least (slice_get (candidates_from table label request) 0) ∷ []) said (least-text table label request sound.entries, tt)
-    (unless-texts (first_fault label) (least_answer table label request) said is)
+    (unless-texts (first_fault o.properties label) (least_answer table label request) said is)
 mode-texts CheckTable o table points said sound scalar is = subst (AllByRecursion HasTexts) (let one : [] ≡ said = cc in one) tt
 
 body-texts : (mode : Mode) (o : Settings) (table : TableValue) (body : Option (List ℕ)) (said : List Said) → IsSound table → line_answer (mode_answer mode o table) body ≡ Ok said → AllByRecursion HasTexts said
@@ -391,15 +368,15 @@ listed-few : (o : Settings) (field : List ℕ → Option Disposition) (vs : List
 listed-few o field [] n stop few = (few, tt)
 listed-few o field (v ∷ vs) n stop few = (tt, listed-few o field vs n stop few)
 
-block-few : (o : Settings) (table : TableValue) (label : List ℕ) → IsCount o.tries → IsKeptToFew o.registered → AllByRecursion CountsFew (block o table label)
+block-few : (o : Settings) (table : TableValue) (label : List ℕ) → IsCount o.tries → IsKeptToFew o.properties o.registered → AllByRecursion CountsFew (block o table label)
 block-few o table label tries kept =
-    let f : Filter = filter_of table in
+    let f : Filter = filter_of o.properties table in
     let labels = spelled table label in
     let stop = stop_of f o labels in
     listed-few o (disposition table label) (up_to stop (variants_after f o labels)) (length (up_to stop (variants_after f o labels))) stop
     (by_kept o.registered refl kept)
   where
-    by_kept : (r : Option (List (List ℕ))) → o.registered ≡ r → IsKeptToFew r → length (up_to (stop_of (filter_of table) o (spelled table label)) (variants_after (filter_of table) o (spelled table label))) < 2 ^ 64
+    by_kept : (r : Option (List (List ℕ))) → o.registered ≡ r → IsKeptToFew o.properties r → length (up_to (stop_of (filter_of o.properties table) o (spelled table label)) (variants_after (filter_of o.properties table) o (spelled table label))) < 2 ^ 64
     by_kept None e k = omega (arith, within_tries o table label tries.0 e, tries.1)
     by_kept (Some registered) e k = omega (arith, within_registered o table label registered k.0 e, k.1)
 
@@ -411,20 +388,20 @@ admitted-few o table label told said few is = by_tests (is_admitted table label)
     by_tests false true same = absurd (let clash : Err NotValid ≡ Ok said = same in cc)
     by_tests false false same = absurd (let clash : Err NotInTable ≡ Ok said = same in cc)
 
-mode-few : (mode : Mode) (o : Settings) (table : TableValue) (points : List ℕ) (said : List Said) → IsCount o.tries → IsKeptToFew o.registered → mode_answer mode o table points ≡ Ok said → AllByRecursion CountsFew said
+mode-few : (mode : Mode) (o : Settings) (table : TableValue) (points : List ℕ) (said : List Said) → IsCount o.tries → IsKeptToFew o.properties o.registered → mode_answer mode o table points ≡ Ok said → AllByRecursion CountsFew said
 mode-few Lookup o table points said tries kept is = one-few o LookedUp (λ t. tt) (lookup_answer points o.std3) said is
-mode-few Register o table points said tries kept is = one-few o (Registered (u_label_of points)) (λ t. tt) (register_answer points) said is
-mode-few Decode o table points said tries kept is = one-few o Decoded (λ t. tt) (in_utf8 (decode_answer points)) said is
+mode-few Register o table points said tries kept is = one-few o (Registered (u_label_of o.properties points)) (λ t. tt) (register_answer o.properties points) said is
+mode-few Decode o table points said tries kept is = one-few o Decoded (λ t. tt) (in_utf8 (decode_answer o.properties points)) said is
 mode-few Variants o table points said tries kept is =
-    admitted-few o table points (block o table points) said (block-few o table points tries kept) (unless-texts (first_fault points) (listing_answer o table points) said is)
+    admitted-few o table points (block o table points) said (block-few o table points tries kept) (unless-texts (first_fault o.properties points) (listing_answer o table points) said is)
 mode-few Jump o table points said tries kept is =
     let label = requested_label points in
     let request = requested_text points in
     admitted-few o table label (Least (slice_get (candidates_from table label request) 0) ∷ []) said (tt, tt)
-    (unless-texts (first_fault label) (least_answer table label request) said is)
+    (unless-texts (first_fault o.properties label) (least_answer table label request) said is)
 mode-few CheckTable o table points said tries kept is = subst (AllByRecursion CountsFew) (let one : [] ≡ said = cc in one) tt
 
-body-few : (mode : Mode) (o : Settings) (table : TableValue) (body : Option (List ℕ)) (said : List Said) → IsCount o.tries → IsKeptToFew o.registered → line_answer (mode_answer mode o table) body ≡ Ok said → AllByRecursion CountsFew said
+body-few : (mode : Mode) (o : Settings) (table : TableValue) (body : Option (List ℕ)) (said : List Said) → IsCount o.tries → IsKeptToFew o.properties o.registered → line_answer (mode_answer mode o table) body ≡ Ok said → AllByRecursion CountsFew said
 body-few mode o table None said tries kept is = absurd (let clash : Err LineTooLong ≡ Ok said = is in cc)
 body-few mode o table (Some bytes) said tries kept is = by_tests (is_utf8 bytes) (length bytes == 0) is
   where

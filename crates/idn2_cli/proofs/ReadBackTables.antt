@@ -1,5 +1,5 @@
 -- The objects of tables and of registered labels are read back.
-use Rattle.std.proofs.Common.{◌≡◌, ℕ, suc, ◌-◌, ◌/◌, ◌%◌, ◌<◌, ◌≤◌, ◌^◌, ◌==◌, nat_lt, Bool, true, false, List, [], ◌∷◌, ◌++◌, map, codes, length, take, chars, cond, slice_index, Option, Some, None, refl, ap, arith}
+use Rattle.std.proofs.Common.{◌≡◌, ℕ, suc, ◌-◌, ◌/◌, ◌%◌, ◌<◌, ◌≤◌, ◌^◌, ◌==◌, nat_lt, Bool, true, false, ◌&&◌, List, [], ◌∷◌, ◌++◌, map, codes, length, take, chars, cond, slice_index, Option, Some, None, refl, ap, arith}
 use Rattle.std.specs.Prelude.{slice_get}
 use Rattle.std.specs.List.{AllByRecursion}
 use Rattle.std.specs.Option.{option_map}
@@ -8,6 +8,7 @@ use Rattle.std.specs.Str.Lines.{strip_carriage_return}
 use Rattle.std.proofs.lemmas.Bool.Decides.{nat_tests}
 use Rattle.std.proofs.lemmas.List.Elements.{All-from_recursion}
 use Rattle.std.proofs.lemmas.Str.{utf8_valid_len_le}
+use Rattle.idn_class.specs.declared.properties.Properties.{Properties}
 use Rattle.idna.specs.Validity.{is_all_ascii}
 use Rattle.idn_text.specs.Lines.{body_of, raw_lines}
 use Rattle.idn_text.specs.Points.{four_digits, hex_digit}
@@ -24,9 +25,9 @@ use Rattle.table_cause.specs.declared.place.FaultPlace.{FaultPlace}
 use Rattle.idn2_cli.specs.Explained.{ByRegisteredLine, bad_byte, body_cause, points_cause}
 use Rattle.idn2_cli.specs.ReadBack.{FindingsAreReadBack, IsReadBack, IsShortBody, RegisteredFaultsAreReadBack, TableFaultsAreReadBack, TellsFewOctetsIfAny}
 use Rattle.idn2_cli.specs.Said.{Counted, Gap, finding_object}
-use Rattle.idn2_cli.specs.TableCauses.{cause_at, fault_cause, told_if}
+use Rattle.idn2_cli.specs.TableCauses.{begins_with_mark, cause_at, fault_cause, is_syntax_of_first, told_if}
 use Rattle.idn2_cli.specs.WrongLines.{body_at, body_if_any, differs_at, points_at, points_in, told_of_wrong_line, wrong_line_cause}
-use Rattle.idn2_cli.specs.declared.refusals.cause.LineCause.TheVariants.{OfLabel}
+use Rattle.idn2_cli.specs.declared.refusals.cause.LineCause.TheVariants.{OfLabel, ByteOrderMark}
 use Rattle.idn2_cli.proofs.ReadBackCauses.{cause_fits, points-length, taken}
 use Rattle.idn2_cli.proofs.ReadBackDetails.{IsFitting, IsFittingIfTold, ascii_append, ascii_cons, four_ascii, registered_fault_good, table_fault_good}
 use Rattle.idn2_cli.proofs.ReadBackLemmas.{ascii_utf8, digit_ascii, object_read_back}
@@ -77,14 +78,18 @@ findings_read_back table sound few =
 -- ---- the fault of a table
 
 pub table_faults_read_back : TableFaultsAreReadBack
-table_faults_read_back wanted notation bytes fault line refusal small within =
-    table_fault_good line small refusal (told_if wanted (fault_cause notation bytes fault)) (by_wanted wanted (by_place (fault_place notation bytes fault) refl))
+table_faults_read_back properties wanted notation bytes fault line refusal small within =
+    table_fault_good line small refusal (told_if wanted (fault_cause properties notation bytes fault)) (by_wanted wanted (by_mark (begins_with_mark bytes && is_syntax_of_first fault)))
   where
-    by_place : (place : Option FaultPlace) → fault_place notation bytes fault ≡ place → IsFittingIfTold (option_map (cause_at (faulty_line bytes fault)) place)
+    by_place : (place : Option FaultPlace) → fault_place properties notation bytes fault ≡ place → IsFittingIfTold (option_map (cause_at (faulty_line bytes fault)) place)
     by_place None e = tt
     by_place (Some place) e = within place e
 
-    by_wanted : (b : Bool) → IsFittingIfTold (fault_cause notation bytes fault) → IsFittingIfTold (told_if b (fault_cause notation bytes fault))
+    by_mark : (b : Bool) → IsFittingIfTold (cond b (Some ByteOrderMark) (option_map (cause_at (faulty_line bytes fault)) (fault_place properties notation bytes fault)))
+    by_mark true = tt
+    by_mark false = by_place (fault_place properties notation bytes fault) refl
+
+    by_wanted : (b : Bool) → IsFittingIfTold (fault_cause properties notation bytes fault) → IsFittingIfTold (told_if b (fault_cause properties notation bytes fault))
     by_wanted true h = h
     by_wanted false h = tt
 
@@ -135,35 +140,36 @@ order_fits : (place : ℕ) (c : Option ℕ) → place ≤ 1024 → IsFitting (di
 order_fits place None h = omega (arith, h)
 order_fits place (Some c) h = omega (arith, h)
 
-label_fits : (points : List ℕ) (refusal : Refusal) → length points ≤ 1024 → TellsFewOctetsIfAny (option_map OfLabel (cause_of points refusal)) → IsFittingIfTold (option_map OfLabel (cause_of points refusal))
-label_fits points refusal short = by_cause (cause_of points refusal) refl
-  where
-    by_cause : (told : Option Cause) → cause_of points refusal ≡ told → TellsFewOctetsIfAny (option_map OfLabel told) → IsFittingIfTold (option_map OfLabel told)
-    by_cause None e few = tt
-    by_cause (Some cause) e few = cause_fits points refusal cause ((cause-is points refusal cause).0 e) (omega (arith, short)) few
+module _ (properties : Properties) where
+  label_fits : (points : List ℕ) (refusal : Refusal) → length points ≤ 1024 → TellsFewOctetsIfAny (option_map OfLabel (cause_of properties points refusal)) → IsFittingIfTold (option_map OfLabel (cause_of properties points refusal))
+  label_fits points refusal short = by_cause (cause_of properties points refusal) refl
+    where
+      by_cause : (told : Option Cause) → cause_of properties points refusal ≡ told → TellsFewOctetsIfAny (option_map OfLabel told) → IsFittingIfTold (option_map OfLabel told)
+      by_cause None e few = tt
+      by_cause (Some cause) e few = cause_fits properties points refusal cause ((cause-is properties points refusal cause).0 e) (omega (arith, short)) few
 
-body_fits : (body : Option (List ℕ)) (refusal : Refusal) → IsShortBody body → TellsFewOctetsIfAny (body_cause ByRegisteredLine body refusal) → IsFittingIfTold (body_cause ByRegisteredLine body refusal)
-unfolding points_cause
-body_fits None refusal short few = tt
-body_fits (Some bytes) refusal short few = by_test (is_utf8 bytes) refl few
-  where
-    by_test : (b : Bool) → is_utf8 bytes ≡ b → TellsFewOctetsIfAny (cond b (option_map OfLabel (cause_of (chars bytes) refusal)) (Some (bad_byte bytes)))
-        → IsFittingIfTold (cond b (option_map OfLabel (cause_of (chars bytes) refusal)) (Some (bad_byte bytes)))
-    by_test true e few = label_fits (chars bytes) refusal (short_points bytes short e) few
-    by_test false e few = omega (arith, utf8_valid_len_le bytes, short)
+  body_fits : (body : Option (List ℕ)) (refusal : Refusal) → IsShortBody body → TellsFewOctetsIfAny (body_cause (ByRegisteredLine properties) body refusal) → IsFittingIfTold (body_cause (ByRegisteredLine properties) body refusal)
+  unfolding points_cause
+  body_fits None refusal short few = tt
+  body_fits (Some bytes) refusal short few = by_test (is_utf8 bytes) refl few
+    where
+      by_test : (b : Bool) → is_utf8 bytes ≡ b → TellsFewOctetsIfAny (cond b (option_map OfLabel (cause_of properties (chars bytes) refusal)) (Some (bad_byte bytes)))
+          → IsFittingIfTold (cond b (option_map OfLabel (cause_of properties (chars bytes) refusal)) (Some (bad_byte bytes)))
+      by_test true e few = label_fits (chars bytes) refusal (short_points bytes short e) few
+      by_test false e few = omega (arith, utf8_valid_len_le bytes, short)
 
-wrong_line_fits : (bytes : List ℕ) (number : ℕ) (refusal : Refusal) → TellsFewOctetsIfAny (wrong_line_cause bytes number refusal) → IsFittingIfTold (wrong_line_cause bytes number refusal)
-wrong_line_fits bytes number refusals.OutOfOrder few =
-    let label = points_at bytes number in
-    let before = points_at bytes (number - 1) in
-    order_fits (shared label before) (slice_get label (shared label before)) (omega (arith, shared_within label before, points_short (body_at bytes number) (short_at bytes number)))
-wrong_line_fits bytes number refusals.FileTooLong few = tt
-wrong_line_fits bytes number refusal few = body_fits (body_at bytes number) refusal (short_at bytes number) few
+  wrong_line_fits : (bytes : List ℕ) (number : ℕ) (refusal : Refusal) → TellsFewOctetsIfAny (wrong_line_cause properties bytes number refusal) → IsFittingIfTold (wrong_line_cause properties bytes number refusal)
+  wrong_line_fits bytes number refusals.OutOfOrder few =
+      let label = points_at bytes number in
+      let before = points_at bytes (number - 1) in
+      order_fits (shared label before) (slice_get label (shared label before)) (omega (arith, shared_within label before, points_short (body_at bytes number) (short_at bytes number)))
+  wrong_line_fits bytes number refusals.FileTooLong few = tt
+  wrong_line_fits bytes number refusal few = body_fits (body_at bytes number) refusal (short_at bytes number) few
 
 pub registered_faults_read_back : RegisteredFaultsAreReadBack
-registered_faults_read_back wanted bytes number refusal small few =
-    registered_fault_good number small refusal (told_of_wrong_line wanted bytes number refusal) (by_wanted wanted few)
+registered_faults_read_back properties wanted bytes number refusal small few =
+    registered_fault_good number small refusal (told_of_wrong_line properties wanted bytes number refusal) (by_wanted wanted few)
   where
-    by_wanted : (b : Bool) → TellsFewOctetsIfAny (told_of_wrong_line b bytes number refusal) → IsFittingIfTold (told_of_wrong_line b bytes number refusal)
-    by_wanted true few = wrong_line_fits bytes number refusal few
+    by_wanted : (b : Bool) → TellsFewOctetsIfAny (told_of_wrong_line properties b bytes number refusal) → IsFittingIfTold (told_of_wrong_line properties b bytes number refusal)
+    by_wanted true few = wrong_line_fits properties bytes number refusal few
     by_wanted false few = tt

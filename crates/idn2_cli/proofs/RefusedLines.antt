@@ -1,5 +1,5 @@
 -- The answer to a line that a call refused.
-use Rattle.std.proofs.Common.{◌≡◌, ◌≢◌, ◌⊎◌, inl, inr, List, [], ◌∷◌, Result, Ok, Err, Option, None, IfOk, refl, sym, ap, subst, ◌∙◌}
+use Rattle.std.proofs.Common.{◌≡◌, ◌≢◌, ◌⊎◌, inl, inr, ℕ, List, [], ◌∷◌, Result, Ok, Err, Option, None, Some, IfOk, refl, sym, ap, subst, ◌∙◌}
 use Rattle.idn_text.specs.declared.refusal.Refusal.{Refusal}
 use Rattle.idn_text.specs.declared.refusal.Refusal.TheVariants.{Memory}
 use Rattle.idn_text.specs.Lines.{Numbered}
@@ -7,8 +7,9 @@ use Rattle.idn2_options.specs.declared.command_line.form.Form.{Form}
 use Rattle.idn2_cli.specs.Transcript.{Piece, Refuses, piece_in, pieces_for}
 use Rattle.idn2_cli.specs.declared.refusals.cause.LineCause.{LineCause}
 use Rattle.idn2_cli.specs.Ends.{Held}
-use Rattle.idn2_cli.specs.Answers.{LineAnswer}
-use Rattle.idn2_cli.specs.Explained.{Explained}
+use Rattle.idn2_cli.specs.Answers.{LineAnswer, line_answer, text_answer}
+use Rattle.idn2_cli.specs.Explained.{BodyCauseNeedsNone, Explained, TellsWithoutMemory, TextCauseNeedsNone}
+use Rattle.idn2_cli.specs.Memory.{BodyNeedsNone, NeedsNone}
 use Rattle.idn2_cli.specs.inner.Emitting.{Emits, StopsWithin}
 use Rattle.idn2_cli.specs.inner.LineAnswers.{KeepsIfRefused, refusal_in, reply_pieces}
 use Rattle.idn2_cli.specs.inner.ServedLines.{answered_as, result_of}
@@ -84,3 +85,18 @@ pub emits_cause : {A : Type 0} (old new : Held) (form : Form) (line : Numbered) 
     → Emits old new (piece_in form (Refuses line refusal first) ∷ []) r → Emits old new (piece_in form (Refuses line refusal second) ∷ []) r
 emits_cause old new form line refusal first second r same emits =
     subst (λ (cause : Option LineCause). Emits old new (piece_in form (Refuses line refusal cause) ∷ []) r) same emits
+
+-- ---- what a line needs that is refused
+
+told_in : (how : Explained) (line : List ℕ) (refusal : Refusal) (answer : LineAnswer) → TellsWithoutMemory how line answer
+    → Some refusal ≡ refusal_in answer → TextCauseNeedsNone how line refusal
+told_in how line refusal (Ok lines) told is = absurd (let bad : Some refusal ≡ None = is in cc)
+told_in how line refusal (Err other) told is =
+    let same : other ≡ refusal = let both : Some refusal ≡ Some other = is in cc in subst (TextCauseNeedsNone how line) same told
+
+-- where a line needs no memory, the cause of its refusal is told without
+pub cause_needs_none : (how : Explained) (answer : List ℕ → LineAnswer) (needs_none : List ℕ → Type 0) (body : Option (List ℕ)) (refusal : Refusal)
+    → BodyNeedsNone (NeedsNone how answer needs_none) body → Some refusal ≡ refusal_in (line_answer answer body)
+    → BodyCauseNeedsNone how body refusal
+cause_needs_none how answer needs_none None refusal needs is = tt
+cause_needs_none how answer needs_none (Some line) refusal needs is = told_in how line refusal (text_answer answer line) needs.told is

@@ -2,6 +2,7 @@
 use Rattle.std.proofs.Common.{◌≡◌, inl, inr, ℕ, ◌==◌, ◌||◌, List, [], ◌∷◌, ◌++◌, length, Bool, true, false, Option, Some, None, Ok, Err, refl, sym, ap, subst, ◌∙◌, if◌then◌else◌}
 use Rattle.std.specs.Prelude.{chars, is_err}
 use Rattle.std.specs.Str.{is_utf8}
+use Rattle.idn_class.specs.declared.properties.Properties.{Properties}
 use Rattle.idn_text.specs.Lines.{Numbered, raw_lines}
 use Rattle.idn_text.specs.declared.refusal.Refusal.{Refusal}
 use Rattle.idn_text.specs.declared.refusal.Refusal.TheVariants.{Empty, NotUtf8}
@@ -34,17 +35,18 @@ use Rattle.idn2_cli.proofs.ListingLaws.{never-invalid}
 
 -- ---- the text
 
-none-defined : (v : Version) (d : Definitions) → v ≡ Two → AreOfVersion v d → d ≡ nothing_defined
+none-defined : (v : Version) (d : Definitions) → v ≡ Two → AreOfVersion v d → d ≡ nothing_defined d.properties
 none-defined One d two none = none
 none-defined Two d two none = none
 none-defined Three d two none = absurd (let clash : Three ≡ Two = two in cc)
 
-text-as_ruleset : (text other first second : List ℕ) (lines : List (List ℕ)) (table : TableValue) → table.version ≡ Two → raw_lines text ≡ first ∷ lines → raw_lines other ≡ second ∷ lines
-    → is_version_line Table first ≡ true → is_version_line Ruleset second ≡ true → IsTextOf Table text table → IsTextOf Ruleset other (as_ruleset table)
-text-as_ruleset text other first second lines table two cut cut_other begins begins_other is =
-    let none : table.definitions ≡ nothing_defined = none-defined table.version table.definitions two is.lines.well_formed.defined in
-    let same : table ≡ table_of Two nothing_defined table.entries = ap (λ (v : Version). table_of v table.definitions table.entries) two ∙ ap (λ (d : Definitions). table_of Two d table.entries) none in
-    subst (λ (d : Definitions). IsTextOf Ruleset other (table_of Three d table.entries)) (sym none) (as_three text other first second lines table.entries cut cut_other begins begins_other (subst (IsTextOf Table text) same is))
+module _ (properties : Properties) where
+  text-as_ruleset : (text other first second : List ℕ) (lines : List (List ℕ)) (table : TableValue) → table.version ≡ Two → raw_lines text ≡ first ∷ lines → raw_lines other ≡ second ∷ lines
+      → is_version_line Table first ≡ true → is_version_line Ruleset second ≡ true → IsTextOf properties Table text table → IsTextOf properties Ruleset other (as_ruleset table)
+  text-as_ruleset text other first second lines table two cut cut_other begins begins_other is =
+      let none : table.definitions ≡ nothing_defined properties = none-defined table.version table.definitions two is.lines.well_formed.defined ∙ ap nothing_defined is.by_these in
+      let same : table ≡ table_of Two (nothing_defined properties) table.entries = ap (λ (v : Version). table_of v table.definitions table.entries) two ∙ ap (λ (d : Definitions). table_of Two d table.entries) none in
+      subst (λ (d : Definitions). IsTextOf properties Ruleset other (table_of Three d table.entries)) (sym none) (as_three properties text other first second lines table.entries cut cut_other begins begins_other (subst (IsTextOf properties Table text) same is))
 
 -- ---- what may be allocated, and what is refused
 
@@ -113,18 +115,18 @@ module _ (o : Settings) (definitions : Definitions) (entries : List Entry) where
   variants-answer-same : (label : List ℕ) → variants_answer o two label ≡ variants_answer o three label
   variants-answer-same label = refl
 
-  jump-answer-same : (request : List ℕ) → jump_answer two request ≡ jump_answer three request
+  jump-answer-same : (request : List ℕ) → jump_answer o.properties two request ≡ jump_answer o.properties three request
   jump-answer-same request = refl
 
-  table-cause-same : (label : List ℕ) (refusal : Refusal) → table_cause two label refusal ≡ table_cause three label refusal
+  table-cause-same : (label : List ℕ) (refusal : Refusal) → table_cause o.properties two label refusal ≡ table_cause o.properties three label refusal
   unfolding furthest
   table-cause-same label refusal = refl
 
-  listing-points-same : (points : List ℕ) (refusal : Refusal) → points_cause (ByTable two) points refusal ≡ points_cause (ByTable three) points refusal
+  listing-points-same : (points : List ℕ) (refusal : Refusal) → points_cause (ByTable o.properties two) points refusal ≡ points_cause (ByTable o.properties three) points refusal
   unfolding points_cause
   listing-points-same points refusal = table-cause-same points refusal
 
-  request-points-same : (points : List ℕ) (refusal : Refusal) → points_cause (ByRequest two) points refusal ≡ points_cause (ByRequest three) points refusal
+  request-points-same : (points : List ℕ) (refusal : Refusal) → points_cause (ByRequest o.properties two) points refusal ≡ points_cause (ByRequest o.properties three) points refusal
   unfolding points_cause
   request-points-same points refusal = table-cause-same (requested_label points) refusal
 
@@ -132,15 +134,15 @@ module _ (o : Settings) (definitions : Definitions) (entries : List Entry) where
   bytes-cause-same true bad cause other same = same
   bytes-cause-same false bad cause other same = refl
 
-  listing-cause-same : (b : Bool) (body : Option (List ℕ)) (refusal : Refusal) → body_cause (if_wanted b (ByTable two)) body refusal ≡ body_cause (if_wanted b (ByTable three)) body refusal
+  listing-cause-same : (b : Bool) (body : Option (List ℕ)) (refusal : Refusal) → body_cause (if_wanted b (ByTable o.properties two)) body refusal ≡ body_cause (if_wanted b (ByTable o.properties three)) body refusal
   listing-cause-same false body refusal = refl
   listing-cause-same true None refusal = refl
-  listing-cause-same true (Some bytes) refusal = bytes-cause-same (is_utf8 bytes) (bad_byte bytes) (points_cause (ByTable two) (chars bytes) refusal) (points_cause (ByTable three) (chars bytes) refusal) (listing-points-same (chars bytes) refusal)
+  listing-cause-same true (Some bytes) refusal = bytes-cause-same (is_utf8 bytes) (bad_byte bytes) (points_cause (ByTable o.properties two) (chars bytes) refusal) (points_cause (ByTable o.properties three) (chars bytes) refusal) (listing-points-same (chars bytes) refusal)
 
-  request-cause-same : (b : Bool) (body : Option (List ℕ)) (refusal : Refusal) → body_cause (if_wanted b (ByRequest two)) body refusal ≡ body_cause (if_wanted b (ByRequest three)) body refusal
+  request-cause-same : (b : Bool) (body : Option (List ℕ)) (refusal : Refusal) → body_cause (if_wanted b (ByRequest o.properties two)) body refusal ≡ body_cause (if_wanted b (ByRequest o.properties three)) body refusal
   request-cause-same false body refusal = refl
   request-cause-same true None refusal = refl
-  request-cause-same true (Some bytes) refusal = bytes-cause-same (is_utf8 bytes) (bad_byte bytes) (points_cause (ByRequest two) (chars bytes) refusal) (points_cause (ByRequest three) (chars bytes) refusal) (request-points-same (chars bytes) refusal)
+  request-cause-same true (Some bytes) refusal = bytes-cause-same (is_utf8 bytes) (bad_byte bytes) (points_cause (ByRequest o.properties two) (chars bytes) refusal) (points_cause (ByRequest o.properties three) (chars bytes) refusal) (request-points-same (chars bytes) refusal)
 
   mode-statements-same : (mode : Mode) (lines : List Numbered) → mode_statements mode o two lines ≡ mode_statements mode o three lines
   mode-statements-same Lookup lines = refl
@@ -149,7 +151,7 @@ module _ (o : Settings) (definitions : Definitions) (entries : List Entry) where
   mode-statements-same Variants lines =
       lines-same (explained_in Variants o two) (explained_in Variants o three) (variants_answer o two) (variants_answer o three) (listing-cause-same (tells_causes o)) variants-answer-same lines
   mode-statements-same Jump lines =
-      lines-same (explained_in Jump o two) (explained_in Jump o three) (jump_answer two) (jump_answer three) (request-cause-same (tells_causes o)) jump-answer-same lines
+      lines-same (explained_in Jump o two) (explained_in Jump o three) (jump_answer o.properties two) (jump_answer o.properties three) (request-cause-same (tells_causes o)) jump-answer-same lines
   mode-statements-same CheckTable lines = refl
 
   mode-status-same : (mode : Mode) (lines : List Numbered) → mode_status mode o two lines ≡ mode_status mode o three lines
@@ -159,7 +161,7 @@ module _ (o : Settings) (definitions : Definitions) (entries : List Entry) where
   mode-status-same Variants lines =
       ap status_if (refused-same (explained_in Variants o two) (explained_in Variants o three) (variants_answer o two) (variants_answer o three) (listing-cause-same (tells_causes o)) variants-answer-same lines)
   mode-status-same Jump lines =
-      ap status_if (refused-same (explained_in Jump o two) (explained_in Jump o three) (jump_answer two) (jump_answer three) (request-cause-same (tells_causes o)) jump-answer-same lines)
+      ap status_if (refused-same (explained_in Jump o two) (explained_in Jump o three) (jump_answer o.properties two) (jump_answer o.properties three) (request-cause-same (tells_causes o)) jump-answer-same lines)
   mode-status-same CheckTable lines = refl
 
 pub rulesets-say-the-same : RulesetsSayTheSame

@@ -1,5 +1,6 @@
 -- From the lines of the input, or none, to the end of a run.
 use Rattle.std.proofs.Common.{Option, Bool, inl, inr, ◌⊎◌, ◌≡◌, ◌≢◌, ℕ, List, [], true, false, Result, Ok, Err, IfOk, refl, sym, ap, subst, ◌∙◌}
+use Rattle.idn_class.specs.declared.properties.Properties.{Properties}
 use Rattle.idn_text.specs.Reading.{Reading, IsUnread}
 use Rattle.idn_text.specs.declared.refusal.Refusal.{Refusal}
 use Rattle.idn_text.proofs.ReadingLemmas.{has_read_nothing}
@@ -29,11 +30,11 @@ use Rattle.idn2_cli.specs.declared.output.status.Status.TheVariants.{Unusable}
 
 -- the table, and the job that its mode makes of it
 pub as_mode : (o : Settings) (mode : Mode) (text : List ℕ) (given : TableGiven) (job : Job) (start now : Reading) (old new : Held) (r : Result Status Stop)
-    → o.mode ≡ mode → IsTableOf mode o.notation text given → job ≡ mode_job (record o { mode = mode }) given → Does job start now old new r
-    → (table : TableGiven) × IsTableOf o.mode o.notation text table × Does (mode_job o table) start now old new r
+    → o.mode ≡ mode → IsTableOf o.properties mode o.notation text given → job ≡ mode_job (record o { mode = mode }) given → Does job start now old new r
+    → (table : TableGiven) × IsTableOf o.properties o.mode o.notation text table × Does (mode_job o table) start now old new r
 as_mode o mode text given job start now old new r e table same done = (
   given,
-  subst (λ (m : Mode). IsTableOf m o.notation text given) (sym e) table,
+  subst (λ (m : Mode). IsTableOf o.properties m o.notation text given) (sym e) table,
   subst (λ (j : Job). Does j start now old new r) (same ∙ ap (λ (m : Mode). mode_job (record o { mode = m }) given) (sym e)) done,
 )
 
@@ -63,8 +64,8 @@ with_false (Err why) status e = tt
 
 -- the check of a table, whatever its text is
 pub checked : (o : Settings) (text : List ℕ) (given : TableGiven) (start : Reading) (old new : Held) (r : Result Status Stop)
-    → o.mode ≡ CheckTable → IsReadAs o.notation text given → IsUnread start → Emits old new (check_pieces o.form (tells_causes o) given) r → IfOk r (λ status. status ≡ check_status given)
-    → (table : TableGiven) × IsTableOf o.mode o.notation text table × Does (mode_job o table) start start old new r
+    → o.mode ≡ CheckTable → IsReadAs o.properties o.notation text given → IsUnread start → Emits old new (check_pieces o.form (tells_causes o) given) r → IfOk r (λ status. status ≡ check_status given)
+    → (table : TableGiven) × IsTableOf o.properties o.mode o.notation text table × Does (mode_job o table) start start old new r
 checked o text (Ok table) start old new r e read unread writes answered =
     let job = mode_job (record o { mode = CheckTable }) (Ok table) in
     as_mode o CheckTable text (Ok table) job start start old new r e read refl (does_unread job start old new r unread writes (with_false r _ answered) refl)
@@ -82,7 +83,7 @@ emits_memory {A} old pieces r why e memory =
 -- its table is the one that the text spells
 pub record WorksByTable (o : Settings) (mode : Mode) : Type 0 where
   pub named : o.mode ≡ mode
-  pub reads : (text : List ℕ) (given : TableGiven) → IsReadAs o.notation text given → IsTableOf mode o.notation text given
+  pub reads : (text : List ℕ) (given : TableGiven) → IsReadAs o.properties o.notation text given → IsTableOf o.properties mode o.notation text given
   pub by_table : reads_table mode ≡ true
 
 pub lists_by_table : (o : Settings) → o.mode ≡ Variants → WorksByTable o Variants
@@ -94,9 +95,9 @@ jumps_by_table o is = record { named = is; reads = λ text given read. read; by_
 module _ (o : Settings) (mode : Mode) (works : WorksByTable o mode) (text : List ℕ) (start : Reading) where
   -- memory was refused while the table was read
   pub unread_stopped : (old : Held) (r : Result Status Stop) (why : Stop) → IsUnread start → r ≡ Err why → why ≡ stop.Memory
-      → (table : TableGiven) × IsTableOf o.mode o.notation text table × Does (mode_job o table) start start old old r
+      → (table : TableGiven) × IsTableOf o.properties o.mode o.notation text table × Does (mode_job o table) start start old old r
   unread_stopped old r why unread is memory =
-      let t = some_table o.notation text in
+      let t = some_table o.properties o.notation text in
       let job = mode_job (record o { mode = mode }) t.0 in
       as_mode o mode text t.0 job start start old old r works.named (works.reads text t.0 t.1) refl
       (does_unread job start old old r unread (emits_memory old (job.pieces []) r why is memory)
@@ -104,24 +105,24 @@ module _ (o : Settings) (mode : Mode) (works : WorksByTable o mode) (text : List
 
   -- the fault of the table is told
   faulty : (told : ℕ × Refusal × Option LineCause) (old new : Held) (r : Result Status Stop)
-      → IsReadAs o.notation text (Err told) → IsUnread start → Emits old new (check_pieces o.form (tells_causes o) (Err told)) r → IfOk r (λ status. status ≡ check_status (Err told))
-      → (table : TableGiven) × IsTableOf o.mode o.notation text table × Does (mode_job o table) start start old new r
+      → IsReadAs o.properties o.notation text (Err told) → IsUnread start → Emits old new (check_pieces o.form (tells_causes o) (Err told)) r → IfOk r (λ status. status ≡ check_status (Err told))
+      → (table : TableGiven) × IsTableOf o.properties o.mode o.notation text table × Does (mode_job o table) start start old new r
   faulty told old new r read unread writes answered =
       let job = mode_job (record o { mode = mode }) (Err told) in
       as_mode o mode text (Err told) job start start old new r works.named (works.reads text (Err told) read) refl
       (does_unread job start old new r unread writes (with_false r _ answered) works.by_table)
 
   -- the table is not read
-  pub refused_lines : (fault : TableFault) (old new : Held) (r : Result Status Stop) → IsUnread start → IsToldOf o.notation text fault
-      → IsTold o.form (tells_causes o) o.notation text fault old new r (told_of fault)
+  pub refused_lines : (fault : TableFault) (old new : Held) (r : Result Status Stop) → IsUnread start → IsToldOf o.properties o.notation text fault
+      → IsTold o.properties o.form (tells_causes o) o.notation text fault old new r (told_of fault)
       → IfOk r (λ status. status ≡ Unusable)
-      → (table : TableGiven) × IsTableOf o.mode o.notation text table × Does (mode_job o table) start start old new r
-  refused_lines fault old new r unread is told answered = by (refused_table o.form (tells_causes o) o.notation text fault old new r is told)
+      → (table : TableGiven) × IsTableOf o.properties o.mode o.notation text table × Does (mode_job o table) start start old new r
+  refused_lines fault old new r unread is told answered = by (refused_table o.properties o.form (tells_causes o) o.notation text fault old new r is told)
     where
-      by : ((r ≡ Err stop.Memory) × (new ≡ old)) ⊎ ((told : ℕ × Refusal × Option LineCause) × IsReadAs o.notation text (Err told) × Emits old new (check_pieces o.form (tells_causes o) (Err told)) r)
-          → (table : TableGiven) × IsTableOf o.mode o.notation text table × Does (mode_job o table) start start old new r
+      by : ((r ≡ Err stop.Memory) × (new ≡ old)) ⊎ ((told : ℕ × Refusal × Option LineCause) × IsReadAs o.properties o.notation text (Err told) × Emits old new (check_pieces o.form (tells_causes o) (Err told)) r)
+          → (table : TableGiven) × IsTableOf o.properties o.mode o.notation text table × Does (mode_job o table) start start old new r
       by (inl memory) =
-          subst (λ (h : Held). (table : TableGiven) × IsTableOf o.mode o.notation text table × Does (mode_job o table) start start old h r) (sym memory.1)
+          subst (λ (h : Held). (table : TableGiven) × IsTableOf o.properties o.mode o.notation text table × Does (mode_job o table) start start old h r) (sym memory.1)
           (unread_stopped old r stop.Memory unread memory.0 refl)
       by (inr t) = faulty t.0 old new r t.1 unread t.2 answered
 
@@ -142,31 +143,33 @@ jump_job-kept o labels given is =
     kept (Err fault) = refl
     kept (Ok table) = refl
 
--- a table that is not read, in the check of a table
-pub refused_check : (form : Form) (wanted : Bool) (n : Notation) (text : List ℕ) (fault : TableFault) (old new : Held) (r : Result Status Stop) → IsToldOf n text fault
-    → IsTold form wanted n text fault old new r (told_of fault)
-    → IfOk r (λ status. status ≡ Unusable)
-    → (given : TableGiven) × IsReadAs n text given × Emits old new (check_pieces form wanted given) r × IfOk r (λ status. status ≡ check_status given)
-refused_check form wanted n text fault old new r is told answered = by (refused_table form wanted n text fault old new r is told)
-  where
-    by : ((r ≡ Err stop.Memory) × (new ≡ old)) ⊎ ((told : ℕ × Refusal × Option LineCause) × IsReadAs n text (Err told) × Emits old new (check_pieces form wanted (Err told)) r)
-        → (given : TableGiven) × IsReadAs n text given × Emits old new (check_pieces form wanted given) r × IfOk r (λ status. status ≡ check_status given)
-    by (inl memory) =
-        let t = some_table n text in (
-          t.0,
-          t.1,
-          subst (λ (h : Held). Emits old h (check_pieces form wanted t.0) r) (sym memory.1) (emits_memory old (check_pieces form wanted t.0) r stop.Memory memory.0 refl),
-          subst (λ (s : Result Status Stop). IfOk s (λ status. status ≡ check_status t.0)) (sym memory.0) tt,
-        )
-    by (inr t) = (Err t.0, t.1, t.2, answered)
+module _ (properties : Properties) where
+  -- a table that is not read, in the check of a table
+  pub refused_check : (form : Form) (wanted : Bool) (n : Notation) (text : List ℕ) (fault : TableFault) (old new : Held) (r : Result Status Stop) → IsToldOf properties n text fault
+      → IsTold properties form wanted n text fault old new r (told_of fault)
+      → IfOk r (λ status. status ≡ Unusable)
+      → (given : TableGiven) × IsReadAs properties n text given × Emits old new (check_pieces form wanted given) r × IfOk r (λ status. status ≡ check_status given)
+  refused_check form wanted n text fault old new r is told answered = by (refused_table properties form wanted n text fault old new r is told)
+    where
+      by : ((r ≡ Err stop.Memory) × (new ≡ old)) ⊎ ((told : ℕ × Refusal × Option LineCause) × IsReadAs properties n text (Err told) × Emits old new (check_pieces form wanted (Err told)) r)
+          → (given : TableGiven) × IsReadAs properties n text given × Emits old new (check_pieces form wanted given) r × IfOk r (λ status. status ≡ check_status given)
+      by (inl memory) =
+          let t = some_table properties n text in (
+            t.0,
+            t.1,
+            subst (λ (h : Held). Emits old h (check_pieces form wanted t.0) r) (sym memory.1) (emits_memory old (check_pieces form wanted t.0) r stop.Memory memory.0 refl),
+            subst (λ (s : Result Status Stop). IfOk s (λ status. status ≡ check_status t.0)) (sym memory.0) tt,
+          )
+      by (inr t) = (Err t.0, t.1, t.2, answered)
 
--- the form, whether causes are wanted and the notation, read from the options
-pub in_form : (text : List ℕ) (fault : TableFault) (f g : Form) (a b : Bool) (m n : Notation) (old new : Held) (r : Result Status Stop) → f ≡ g → a ≡ b → m ≡ n
-    → IsTold f a m text fault old new r (told_of fault) → IsTold g b n text fault old new r (told_of fault)
-in_form text fault f g a b m n old new r form wanted notation told =
-    subst (λ (x : Notation). IsTold g b x text fault old new r (told_of fault)) notation
-    (subst (λ (x : Bool). IsTold g x m text fault old new r (told_of fault)) wanted
-    (subst (λ (x : Form). IsTold x a m text fault old new r (told_of fault)) form told))
+  -- the form, whether causes are wanted and the notation, read from the options
+  pub in_form : (text : List ℕ) (fault : TableFault) (f g : Form) (a b : Bool) (m n : Notation) (others : Properties) (old new : Held) (r : Result Status Stop) → f ≡ g → a ≡ b → m ≡ n → others ≡ properties
+      → IsTold others f a m text fault old new r (told_of fault) → IsTold properties g b n text fault old new r (told_of fault)
+  in_form text fault f g a b m n others old new r form wanted notation same told =
+      subst (λ (x : Notation). IsTold properties g b x text fault old new r (told_of fault)) notation
+      (subst (λ (x : Bool). IsTold properties g x m text fault old new r (told_of fault)) wanted
+      (subst (λ (x : Form). IsTold properties x a m text fault old new r (told_of fault)) form
+      (subst (λ (x : Properties). IsTold x f a m text fault old new r (told_of fault)) same told)))
 
 -- ---- the last message
 

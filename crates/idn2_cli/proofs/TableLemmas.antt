@@ -1,5 +1,6 @@
 -- The table of a run.
 use Rattle.std.proofs.Common.{◌≡◌, ◌⊎◌, inl, inr, ℕ, Bool, List, Result, Option, Some, None, Ok, Err, refl, sym, ap, subst, ◌∙◌}
+use Rattle.idn_class.specs.declared.properties.Properties.{Properties}
 use Rattle.idn_text.specs.declared.refusal.Refusal.{Refusal}
 use Rattle.variant_table.specs.declared.version.Notation.{Notation}
 use Rattle.variant_table.specs.Entries.{TableValue}
@@ -21,13 +22,14 @@ use Rattle.idn2_cli.specs.declared.output.status.Status.{Status}
 use Rattle.idn2_cli.specs.declared.output.stop.Stop.{Stop}
 use Rattle.idn2_cli.specs.declared.output.stop.Stop.TheVariants as stop
 
--- each text is read as some table or some fault
-pub some_table : (n : Notation) (text : List ℕ) → (given : TableGiven) × IsReadAs n text given
-some_table n text = decided (text_decided n text)
-  where
-    decided : ((table : TableValue) × IsTextOf n text table) ⊎ ((line : ℕ) × (kind : LineFault) × IsFaultOf n text line kind) → (given : TableGiven) × IsReadAs n text given
-    decided (inl t) = (Ok t.0, t.1)
-    decided (inr f) = (Err (f.0, table_refusal f.1, fault_cause n text (table_fault f.0 f.1)), (f.1, refl, f.2, refl))
+module _ (properties : Properties) where
+  -- each text is read as some table or some fault
+  pub some_table : (n : Notation) (text : List ℕ) → (given : TableGiven) × IsReadAs properties n text given
+  some_table n text = decided (text_decided properties n text)
+    where
+      decided : ((table : TableValue) × IsTextOf properties n text table) ⊎ ((line : ℕ) × (kind : LineFault) × IsFaultOf properties n text line kind) → (given : TableGiven) × IsReadAs properties n text given
+      decided (inl t) = (Ok t.0, t.1)
+      decided (inr f) = (Err (f.0, table_refusal f.1, fault_cause properties n text (table_fault f.0 f.1)), (f.1, refl, f.2, refl))
 
 told_of-fault : (line : ℕ) (kind : LineFault) → told_of (table_fault line kind) ≡ Some (line, table_refusal kind)
 told_of-fault line kinds.Limit = refl
@@ -41,35 +43,36 @@ told_of-fault line kinds.SameName = refl
 from_some : (a b : ℕ × Refusal) → (let o : Option (ℕ × Refusal) = Some a in o) ≡ Some b → a ≡ b
 from_some a b e = cc
 
--- what is told of a text that is no table
-pub told_read : (n : Notation) (text : List ℕ) (fault : TableFault) (told : ℕ × Refusal) → IsToldOf n text fault → told_of fault ≡ Some told → IsReadAs n text (Err (told.0, told.1, fault_cause n text fault))
-told_read n text fault told (inl e) is = absurd (none (sym (ap told_of e) ∙ is))
-  where
-    none : (let o : Option (ℕ × Refusal) = None in o) ≡ Some told → ⊥
-    none e = cc
-told_read n text fault told (inr f) is =
-    let same : (f.0, table_refusal f.1) ≡ told = from_some (f.0, table_refusal f.1) told (sym (told_of-fault f.0 f.1) ∙ sym (ap told_of f.2) ∙ is) in
-    subst (λ (t : ℕ × Refusal). IsReadAs n text (Err (t.0, t.1, fault_cause n text fault))) same (f.1, refl, f.3, ap (fault_cause n text) f.2)
+module _ (properties : Properties) where
+  -- what is told of a text that is no table
+  pub told_read : (n : Notation) (text : List ℕ) (fault : TableFault) (told : ℕ × Refusal) → IsToldOf properties n text fault → told_of fault ≡ Some told → IsReadAs properties n text (Err (told.0, told.1, fault_cause properties n text fault))
+  told_read n text fault told (inl e) is = absurd (none (sym (ap told_of e) ∙ is))
+    where
+      none : (let o : Option (ℕ × Refusal) = None in o) ≡ Some told → ⊥
+      none e = cc
+  told_read n text fault told (inr f) is =
+      let same : (f.0, table_refusal f.1) ≡ told = from_some (f.0, table_refusal f.1) told (sym (told_of-fault f.0 f.1) ∙ sym (ap told_of f.2) ∙ is) in
+      subst (λ (t : ℕ × Refusal). IsReadAs properties n text (Err (t.0, t.1, fault_cause properties n text fault))) same (f.1, refl, f.3, ap (fault_cause properties n text) f.2)
 
--- a table that is not read: of lack of memory nothing is told, and of a fault of its text it is, with its cause, if causes are wanted
-abbrev pub IsTold : Form → Bool → Notation → List ℕ → TableFault → Held → Held → Result Status Stop → Option (ℕ × Refusal) → Type 0
-IsTold form wanted n text fault old new r told =
-    MatchOption told ((r ≡ Err stop.Memory) × (new ≡ old)) (λ told. Emits old new (check_pieces form wanted (Err (told.0, told.1, fault_cause n text fault))) r)
+  -- a table that is not read: of lack of memory nothing is told, and of a fault of its text it is, with its cause, if causes are wanted
+  abbrev pub IsTold : Form → Bool → Notation → List ℕ → TableFault → Held → Held → Result Status Stop → Option (ℕ × Refusal) → Type 0
+  IsTold form wanted n text fault old new r told =
+      MatchOption told ((r ≡ Err stop.Memory) × (new ≡ old)) (λ told. Emits old new (check_pieces form wanted (Err (told.0, told.1, fault_cause properties n text fault))) r)
 
-pub refused_table : (form : Form) (wanted : Bool) (n : Notation) (text : List ℕ) (fault : TableFault) (old new : Held) (r : Result Status Stop) → IsToldOf n text fault
-    → IsTold form wanted n text fault old new r (told_of fault)
-    → ((r ≡ Err stop.Memory) × (new ≡ old)) ⊎ ((told : ℕ × Refusal × Option LineCause) × IsReadAs n text (Err told) × Emits old new (check_pieces form wanted (Err told)) r)
-refused_table form wanted n text fault old new r is = by (told_of fault) refl
-  where
-    by : (o : Option (ℕ × Refusal)) → told_of fault ≡ o → IsTold form wanted n text fault old new r o
-        → ((r ≡ Err stop.Memory) × (new ≡ old)) ⊎ ((told : ℕ × Refusal × Option LineCause) × IsReadAs n text (Err told) × Emits old new (check_pieces form wanted (Err told)) r)
-    by None e memory = inl memory
-    by (Some told) e written = inr ((told.0, told.1, fault_cause n text fault), told_read n text fault told is e, written)
+  pub refused_table : (form : Form) (wanted : Bool) (n : Notation) (text : List ℕ) (fault : TableFault) (old new : Held) (r : Result Status Stop) → IsToldOf properties n text fault
+      → IsTold form wanted n text fault old new r (told_of fault)
+      → ((r ≡ Err stop.Memory) × (new ≡ old)) ⊎ ((told : ℕ × Refusal × Option LineCause) × IsReadAs properties n text (Err told) × Emits old new (check_pieces form wanted (Err told)) r)
+  refused_table form wanted n text fault old new r is = by (told_of fault) refl
+    where
+      by : (o : Option (ℕ × Refusal)) → told_of fault ≡ o → IsTold form wanted n text fault old new r o
+          → ((r ≡ Err stop.Memory) × (new ≡ old)) ⊎ ((told : ℕ × Refusal × Option LineCause) × IsReadAs properties n text (Err told) × Emits old new (check_pieces form wanted (Err told)) r)
+      by None e memory = inl memory
+      by (Some told) e written = inr ((told.0, told.1, fault_cause properties n text fault), told_read n text fault told is e, written)
 
--- memory was refused where a cause was looked for, and nothing is told
-pub told_memory : (form : Form) (wanted : Bool) (n : Notation) (text : List ℕ) (fault : TableFault) (old : Held) (r : Result Status Stop) (told : ℕ × Refusal) → told_of fault ≡ Some told → r ≡ Err stop.Memory
-    → IsTold form wanted n text fault old old r (told_of fault)
-told_memory form wanted n text fault old r told e is =
-    let pieces = check_pieces form wanted (Err (told.0, told.1, fault_cause n text fault)) in
-    subst (λ (o : Option (ℕ × Refusal)). IsTold form wanted n text fault old old r o) (sym e)
-    (subst (λ (s : Result Status Stop). Emits old old pieces s) (sym is) (stops_first old pieces))
+  -- memory was refused where a cause was looked for, and nothing is told
+  pub told_memory : (form : Form) (wanted : Bool) (n : Notation) (text : List ℕ) (fault : TableFault) (old : Held) (r : Result Status Stop) (told : ℕ × Refusal) → told_of fault ≡ Some told → r ≡ Err stop.Memory
+      → IsTold form wanted n text fault old old r (told_of fault)
+  told_memory form wanted n text fault old r told e is =
+      let pieces = check_pieces form wanted (Err (told.0, told.1, fault_cause properties n text fault)) in
+      subst (λ (o : Option (ℕ × Refusal)). IsTold form wanted n text fault old old r o) (sym e)
+      (subst (λ (s : Result Status Stop). Emits old old pieces s) (sym is) (stops_first old pieces))

@@ -3,6 +3,7 @@ use Rattle.std.proofs.Common.{◌≡◌, ◌≤◌, ◌++◌, ◌∷◌, ◌==�
 use Rattle.std.specs.Str.{is_utf8}
 use Rattle.std.proofs.lemmas.Bool.Decides.{nat_tests}
 use Rattle.std.proofs.lemmas.Str.{is_utf8-from_IsUtf8}
+use Rattle.idn_class.specs.declared.properties.Properties.{Properties}
 use Rattle.idn_text.specs.Points.{IsUtf8Of}
 use Rattle.idn_text.proofs.Utf8Lemmas.{IsUtf8-from_points, points_from_utf8}
 use Rattle.idn_class.specs.Shared.{IsLongestShared}
@@ -63,19 +64,20 @@ order_told before label b l again place found is_before is_label is_again at got
     let where_ : place ≡ shared label before = at ∙ ap (λ (x : List ℕ). shared x b) is_label ∙ ap (shared label) is_before in
     ap (differs_at place) (got ∙ ap (λ (x : List ℕ). slice_get x place) is_again) ∙ ap (λ (n : ℕ). differs_at n (slice_get label n)) where_
 
--- the cause of a label that is tested as it stands leaves room for the words before it
-pub test_cause-short : (body : Option (List ℕ)) (refusal : Refusal) → IfSome (body_cause ByRegisteredLine body refusal) (λ cause. cause_room cause ≤ 72)
-unfolding points_cause
-test_cause-short None refusal = omega arith
-test_cause-short (Some bytes) refusal = by_utf8 (is_utf8 bytes)
-  where
-    of_label : (told : Option Cause) → IfSome (option_map OfLabel told) (λ cause. cause_room cause ≤ 72)
-    of_label None = tt
-    of_label (Some cause) = omega arith
+module _ (properties : Properties) where
+  -- the cause of a label that is tested as it stands leaves room for the words before it
+  pub test_cause-short : (body : Option (List ℕ)) (refusal : Refusal) → IfSome (body_cause (ByRegisteredLine properties) body refusal) (λ cause. cause_room cause ≤ 72)
+  unfolding points_cause
+  test_cause-short None refusal = omega arith
+  test_cause-short (Some bytes) refusal = by_utf8 (is_utf8 bytes)
+    where
+      of_label : (told : Option Cause) → IfSome (option_map OfLabel told) (λ cause. cause_room cause ≤ 72)
+      of_label None = tt
+      of_label (Some cause) = omega arith
 
-    by_utf8 : (utf8 : Bool) → IfSome (cond utf8 (option_map OfLabel (cause_of (chars bytes) refusal)) (Some (bad_byte bytes))) (λ cause. cause_room cause ≤ 72)
-    by_utf8 true = of_label (cause_of (chars bytes) refusal)
-    by_utf8 false = omega arith
+      by_utf8 : (utf8 : Bool) → IfSome (cond utf8 (option_map OfLabel (cause_of properties (chars bytes) refusal)) (Some (bad_byte bytes))) (λ cause. cause_room cause ≤ 72)
+      by_utf8 true = of_label (cause_of properties (chars bytes) refusal)
+      by_utf8 false = omega arith
 
 -- so does a cause that is this one
 pub told_short : {E : Type 0} (result : Result (Option LineCause) E) (told : Option LineCause) → IfOk result (λ cause. cause ≡ told) → IfSome told (λ cause. cause_room cause ≤ 72) → IfOk result (λ cause. IfSome cause (λ c. cause_room c ≤ 72))

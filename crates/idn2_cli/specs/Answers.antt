@@ -4,6 +4,7 @@ use Rattle.std.specs.Str.{is_utf8}
 use Rattle.std.specs.List.{list_any, slice_get, before_first, after_first}
 use Rattle.std.specs.Option.{is_none}
 use Rattle.std.specs.Ordering.{is_le}
+use Rattle.idn_class.specs.declared.properties.Properties.{Properties}
 use Rattle.idna.specs.Validity.{has_ace_prefix}
 use Rattle.idn_text.specs.declared.refusal.Refusal.{Refusal}
 use Rattle.idn_text.specs.declared.refusal.Refusal.TheVariants.{LineTooLong, NotUtf8, Empty, NotInTable, NotValid}
@@ -40,8 +41,8 @@ use Rattle.variant_list.specs.Jumps.{IsCandidate, IsLeastFrom, HasNoneFrom, cand
 -- ---- the block of a label: a line for each of its variants, and a trailer that says where the listing ends
 
 -- a label that may be registered has no fault (RFC 5891, section 4.2)
-abbrev pub is_registrable : List ℕ → Bool
-is_registrable label = is_none (first_fault label)
+abbrev pub is_registrable : Properties → List ℕ → Bool
+is_registrable properties label = is_none (first_fault properties label)
 
 -- what a listing asks of labels: which it accepts, and which lists are hopeless, so that no label that it accepts begins with one
 pub record Filter : Type 0 where
@@ -49,23 +50,23 @@ pub record Filter : Type 0 where
   pub hopeless : List ℕ → Bool
 
 -- that they may be registered
-abbrev pub registrable_labels : Filter
-registrable_labels = record { accepts = is_registrable; hopeless = hopeless }
+abbrev pub registrable_labels : Properties → Filter
+registrable_labels properties = record { accepts = is_registrable properties; hopeless = hopeless properties }
 
 -- that they are valid under the table, too, and no beginning of them is lost: none of a valid label is
-abbrev pub ruled_labels : TableValue → Filter
-ruled_labels table =
+abbrev pub ruled_labels : Properties → TableValue → Filter
+ruled_labels properties table =
     record {
-      accepts = λ v. is_registrable v && (is_valid table v && has_hope (is_lost table) v);
-      hopeless = λ w. hopeless w || is_lost table w;
+      accepts = λ v. is_registrable properties v && (is_valid table v && has_hope (is_lost table) v);
+      hopeless = λ w. hopeless properties w || is_lost table w;
     }
 
 -- what is asked under a table, by whether it asks nothing of its labels: then each label that is spelled is valid
-abbrev pub filter_if : Bool → TableValue → Filter
-filter_if asks_nothing table = if asks_nothing then registrable_labels else ruled_labels table
+abbrev pub filter_if : Properties → Bool → TableValue → Filter
+filter_if properties asks_nothing table = if asks_nothing then registrable_labels properties else ruled_labels properties table
 
-abbrev pub filter_of : TableValue → Filter
-filter_of table = filter_if (asks_nothing table) table
+abbrev pub filter_of : Properties → TableValue → Filter
+filter_of properties table = filter_if properties (asks_nothing table) table
 
 -- whether a label is one of these
 abbrev pub is_among : List (List ℕ) → List ℕ → Bool
@@ -159,8 +160,8 @@ block_to field stop labels =
 -- the block of a label
 abbrev pub block : Settings → TableValue → List ℕ → List Said
 block o table label =
-    block_to (disposition table label) (stop_of (filter_of table) o (spelled table label))
-    (variants_after (filter_of table) o (spelled table label))
+    block_to (disposition table label) (stop_of (filter_of o.properties table) o (spelled table label))
+    (variants_after (filter_of o.properties table) o (spelled table label))
 
 -- ---- the least label from a text on
 
@@ -188,8 +189,8 @@ label_or (Ok label) given = label
 label_or (Err refusal) given = given
 
 -- what a label that is registered stands for: itself, or what it is decoded to if it begins with "xn--" (RFC 5890, section 2.3.2.1)
-abbrev pub u_label_of : List ℕ → List ℕ
-u_label_of label = if has_ace_prefix label then label_or (u_label_answer label) label else label
+abbrev pub u_label_of : Properties → List ℕ → List ℕ
+u_label_of properties label = if has_ace_prefix label then label_or (u_label_answer properties label) label else label
 
 -- this for a label that the table admits. Any other is refused: it isn't made of sources of the table, or it is, and isn't valid
 abbrev pub if_admitted : TableValue → List ℕ → List Said → LineAnswer
@@ -202,7 +203,7 @@ listing_answer o table label = if_admitted table label (block o table label)
 
 -- the same, where the label may be registered; its first fault is reported before that
 abbrev pub variants_answer : Settings → TableValue → List ℕ → LineAnswer
-variants_answer o table label = unless_fault (first_fault label) (listing_answer o table label)
+variants_answer o table label = unless_fault (first_fault o.properties label) (listing_answer o table label)
 
 -- the least label from a text on that such a label spells
 abbrev pub least_answer : TableValue → List ℕ → List ℕ → LineAnswer
@@ -210,17 +211,17 @@ least_answer table label text =
     if_admitted table label (Least (slice_get (candidates_from table label text) 0) ∷ [])
 
 -- the same of a request, whose label may be registered; its first fault is reported before that
-abbrev pub jump_answer : TableValue → List ℕ → LineAnswer
-jump_answer table line =
-    unless_fault (first_fault (requested_label line)) (least_answer table (requested_label line) (requested_text line))
+abbrev pub jump_answer : Properties → TableValue → List ℕ → LineAnswer
+jump_answer properties table line =
+    unless_fault (first_fault properties (requested_label line)) (least_answer table (requested_label line) (requested_text line))
 
 -- the answer of a mode to the code points of a line. The check of a table reads no line
 abbrev pub mode_answer : Mode → Settings → TableValue → List ℕ → LineAnswer
 mode_answer Lookup o table name = one_answer LookedUp (lookup_answer name o.std3)
-mode_answer Register o table label = one_answer (Registered (u_label_of label)) (register_answer label)
-mode_answer Decode o table name = one_answer Decoded (in_utf8 (decode_answer name))
+mode_answer Register o table label = one_answer (Registered (u_label_of o.properties label)) (register_answer o.properties label)
+mode_answer Decode o table name = one_answer Decoded (in_utf8 (decode_answer o.properties name))
 mode_answer Variants o table label = variants_answer o table label
-mode_answer Jump o table line = jump_answer table line
+mode_answer Jump o table line = jump_answer o.properties table line
 mode_answer CheckTable o table label = Ok []
 
 -- the answer to the bytes of a line, of a mode that answers code points: they are UTF-8, and not empty
@@ -244,7 +245,7 @@ IsKept (Some registered) v = Contains registered v
 -- of the table and replacing each by itself or one of its variants, as far as their conditions hold in the label; and which is
 -- registered, if the listing is kept to registered labels
 pub record IsListed (o : Settings) (table : TableValue) (label v : List ℕ) : Type 0 where
-  pub registrable : IsRegistrable v
+  pub registrable : IsRegistrable o.properties v
   pub valid : IsValid table v
   pub greater : IsBelow o.after v
   pub spelled : Spells table label v
@@ -254,7 +255,7 @@ pub record IsListed (o : Settings) (table : TableValue) (label v : List ℕ) : T
 -- listing is whole: one that is kept to registered labels tries none
 pub record IsTried (o : Settings) (table : TableValue) (label v : List ℕ) : Type 0 where
   pub short : length v ≤ 63
-  pub hope : HasHope v
+  pub hope : HasHope o.properties v
   pub found : HasNoLostBeginning table v
   pub greater : IsBelow o.after v
   pub spelled : Spells table label v
@@ -301,7 +302,7 @@ pub record IsBlock (o : Settings) (table : TableValue) (label : List ℕ) (said 
   pub ahead : List (List ℕ)
   pub exactly_ahead : IsListOf (IsAhead o table label) ahead
   pub stop : Option (List ℕ)
-  pub stops : stop ≡ lesser_label (nth_if_given listed o.limit) (lesser_label (nth tried o.tries) (nth_if_given (visited (filter_of table).hopeless None ahead) o.steps))
+  pub stops : stop ≡ lesser_label (nth_if_given listed o.limit) (lesser_label (nth tried o.tries) (nth_if_given (visited (filter_of o.properties table).hopeless None ahead) o.steps))
   pub field : List ℕ → Option Disposition
   pub disposed : (v : List ℕ) → IsDisposition table label v (field v)
   pub exact : said ≡ map (λ v. Listed (field v) v) (up_to stop listed) ++ BlockEnd (length (up_to stop listed)) stop ∷ []

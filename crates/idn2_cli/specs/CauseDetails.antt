@@ -9,7 +9,7 @@ use Rattle.idn_class.specs.declared.broken.BidiCondition.TheVariants as conditio
 use Rattle.idn_cause.specs.declared.cause.Cause.{Cause}
 use Rattle.idn_cause.specs.declared.cause.Cause.TheVariants.{Barred, Changed, Hyphen, Point, Condition as Broken, Points, Octets}
 use Rattle.idn_cause.specs.declared.a_label.ALabelCause.{ALabelCause}
-use Rattle.idn_cause.specs.declared.a_label.ALabelCause.TheVariants.{NoCode, NotAscii, NoPunycode, Other, Decoded}
+use Rattle.idn_cause.specs.declared.a_label.ALabelCause.TheVariants.{NoCode, NotAscii, NoPunycode, Other, Decoded, Copied}
 use Rattle.idn_cause.specs.declared.query.LengthCause.{LengthCause}
 use Rattle.idn_cause.specs.declared.query.LengthCause.TheVariants.{LabelOctets, NameOctets}
 use Rattle.answer_json.specs.Details.{Details, no_details}
@@ -17,7 +17,7 @@ use Rattle.table_cause.specs.declared.place.FaultPlace.{FaultPlace}
 use Rattle.table_cause.specs.declared.place.FaultPlace.TheVariants as places
 use Rattle.idn2_cli.specs.CauseTexts.{appendix_text, bidi_text, condition_text, demand_text}
 use Rattle.idn2_cli.specs.declared.refusals.cause.LineCause.{LineCause}
-use Rattle.idn2_cli.specs.declared.refusals.cause.LineCause.TheVariants.{Byte, LongLine, OfLabel, OfALabel, OfName, OfQuery, Misplaced, Broken as BrokenDemand, Ends, OfTable}
+use Rattle.idn2_cli.specs.declared.refusals.cause.LineCause.TheVariants.{Byte, LongLine, OfLabel, OfALabel, OfName, OfQuery, Misplaced, Broken as BrokenDemand, Ends, OfTable, ByteOrderMark}
 
 -- a code point and its place
 abbrev pub placed : ℕ → ℕ → Details
@@ -52,6 +52,7 @@ condition_rule conditions.RtlHolds = codes "RFC 5893 2 condition 2"
 condition_rule conditions.RtlEnds = codes "RFC 5893 2 condition 3"
 condition_rule conditions.RtlNumbers = codes "RFC 5893 2 condition 4"
 condition_rule conditions.LtrHolds = codes "RFC 5893 2 condition 5"
+condition_rule conditions.LtrEnds = codes "RFC 5893 2 condition 6"
 
 -- of the cause of a label's fault
 unfoldable pub cause_details : Refusal → Cause → Details
@@ -71,6 +72,7 @@ a_label_details refusal (NotAscii place c) = placed place c
 a_label_details refusal NoPunycode = record no_details { rule = Some (codes "RFC 3492 6.2") }
 a_label_details refusal (Other octets) = record no_details { alabel = Some octets.items }
 a_label_details refusal (Decoded cause) = record (cause_details refusal cause) { decoded = true }
+a_label_details refusal (Copied cause) = cause_details refusal cause
 
 -- of a length that the DNS does not allow
 abbrev pub length_details : LengthCause → Details
@@ -108,6 +110,7 @@ line_details refusal (Misplaced place c kind rule) = record (placed_by place c r
 line_details refusal (BrokenDemand number kind) = record no_details { demand = Some (number + 1); kind = Some (demand_text kind) }
 line_details refusal (Ends place) = record no_details { place = Some (place + 1) }
 line_details refusal (OfTable place quoted) = fault_place_details place
+line_details refusal ByteOrderMark = point_at_byte 0 0xFEFF
 
 -- what an object says of the cause, if there is one
 abbrev pub told_details : Refusal → Option LineCause → Details

@@ -2,15 +2,15 @@
 use Rattle.std.specs.Prelude.{◌≡◌, Some, codes}
 use Rattle.idn_text.specs.declared.refusal.Refusal.TheVariants as refusals
 use Rattle.idn_class.specs.declared.barring.BarringLine.TheVariants as lines
-use Rattle.idn_class.specs.declared.bidi_class.BidiClass.TheVariants.{L}
-use Rattle.idn_class.specs.declared.broken.BidiCondition.TheVariants.{RtlHolds}
+use Rattle.idn_class.specs.declared.bidi_class.BidiClass.TheVariants.{L, ES}
+use Rattle.idn_class.specs.declared.broken.BidiCondition.TheVariants.{RtlHolds, LtrEnds}
 use Rattle.idn_cause.specs.declared.cause.Cause.TheVariants as causes
 use Rattle.idn_cause.specs.declared.a_label.ALabelCause.TheVariants as a_labels
 use Rattle.idn_cause.specs.declared.query.LengthCause.TheVariants.{LabelOctets, NameOctets}
 use Rattle.label_patterns.specs.declared.condition.ConditionKind.TheVariants.{Unless}
 use Rattle.ruleset_text.specs.declared.definition.DemandKind.TheVariants.{Never}
 use Rattle.idn2_cli.specs.CauseTexts.{tail_text}
-use Rattle.idn2_cli.specs.declared.refusals.cause.LineCause.TheVariants.{Byte, LongLine, OfLabel, OfALabel, OfName, OfQuery, Misplaced, Broken}
+use Rattle.idn2_cli.specs.declared.refusals.cause.LineCause.TheVariants.{Byte, LongLine, OfLabel, OfALabel, OfName, OfQuery, Misplaced, Broken, ByteOrderMark}
 
 -- each form of a cause
 pub record ExamplesOfCauses : Type 0 where
@@ -34,6 +34,7 @@ pub record ExamplesOfCauses : Type 0 where
   pub decoded : tail_text refusals.Disallowed (Some (OfALabel (a_labels.Decoded (causes.Barred 0 0x46 lines.Unstable)))) ≡ codes ": decoded: U+0046 at place 1: RFC 5892 2.2 Unstable"
   pub in_a_name : tail_text refusals.BadALabel (Some (OfName (record { label = 1; cause = a_labels.Other (record { items = codes "a" }) }))) ≡ codes ": label 2: the A-label is a"
   pub decoded_in_a_name : tail_text refusals.Disallowed (Some (OfName (record { label = 1; cause = a_labels.Decoded (causes.Barred 0 0x1F4A9 lines.NoLetterDigit) }))) ≡ codes ": label 2, decoded: U+1F4A9 at place 1: not RFC 5892 2.1 LetterDigits"
+  pub copied_in_a_name : tail_text refusals.Bidi (Some (OfName (record { label = 1; cause = a_labels.Copied (causes.Condition (record { condition = LtrEnds; place = 1 }) 0x2D ES) }))) ≡ codes ": label 2: U+002D at place 2 is ES: RFC 5893 2, condition 6"
   pub length_of_a_label : tail_text refusals.LookupLength (Some (OfQuery (LabelOctets 1 64))) ≡ codes ": label 2: 64 octets"
   pub length_of_a_name : tail_text refusals.LookupLength (Some (OfQuery (NameOctets 254))) ≡ codes ": name of 254 octets"
   pub outside : tail_text refusals.NotInTable (Some (OfLabel (causes.Point 2 0xF1))) ≡ codes ": U+00F1 at place 3"
@@ -41,3 +42,4 @@ pub record ExamplesOfCauses : Type 0 where
   pub broken : tail_text refusals.NotValid (Some (Broken 0 Never)) ≡ codes ": demand 1, never"
   pub byte : tail_text refusals.NotUtf8 (Some (Byte 2 0xFF)) ≡ codes ": byte 0xFF at byte 3"
   pub long_line : tail_text refusals.LineTooLong (Some LongLine) ≡ codes ": more than 1024 bytes"
+  pub byte_order_mark : tail_text refusals.Syntax (Some ByteOrderMark) ≡ codes ": a byte order mark at byte 1"

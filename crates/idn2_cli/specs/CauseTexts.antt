@@ -11,7 +11,7 @@ use Rattle.idn_class.specs.Causes.{condition_number}
 use Rattle.idn_cause.specs.declared.cause.Cause.{Cause}
 use Rattle.idn_cause.specs.declared.cause.Cause.TheVariants.{Barred, Changed, Hyphen, Point, Condition, Points, Octets}
 use Rattle.idn_cause.specs.declared.a_label.ALabelCause.{ALabelCause}
-use Rattle.idn_cause.specs.declared.a_label.ALabelCause.TheVariants.{NoCode, NotAscii, NoPunycode, Other, Decoded}
+use Rattle.idn_cause.specs.declared.a_label.ALabelCause.TheVariants.{NoCode, NotAscii, NoPunycode, Other, Decoded, Copied}
 use Rattle.idn_cause.specs.declared.name.NameCause.{NameCause}
 use Rattle.idn_cause.specs.declared.query.LengthCause.{LengthCause}
 use Rattle.idn_cause.specs.declared.query.LengthCause.TheVariants.{LabelOctets, NameOctets}
@@ -24,7 +24,7 @@ use Rattle.idn_text.specs.Points.{hex_digit}
 use Rattle.table_cause.specs.declared.place.FaultPlace.{FaultPlace}
 use Rattle.table_cause.specs.declared.place.FaultPlace.TheVariants as places
 use Rattle.idn2_cli.specs.declared.refusals.cause.LineCause.{LineCause}
-use Rattle.idn2_cli.specs.declared.refusals.cause.LineCause.TheVariants.{Byte, LongLine, OfLabel, OfALabel, OfName, OfQuery, Misplaced, Broken, Ends, OfTable}
+use Rattle.idn2_cli.specs.declared.refusals.cause.LineCause.TheVariants.{Byte, LongLine, OfLabel, OfALabel, OfName, OfQuery, Misplaced, Broken, Ends, OfTable, ByteOrderMark}
 
 -- a code point, as Unicode writes it
 abbrev pub code_point_text : ℕ → List ℕ
@@ -87,6 +87,7 @@ bidi_text bidi.ET = codes "ET"
 bidi_text bidi.ON = codes "ON"
 bidi_text bidi.BN = codes "BN"
 bidi_text bidi.NSM = codes "NSM"
+bidi_text bidi.Other = codes "-"
 
 -- the cause of a label's fault
 unfoldable pub cause_text : Refusal → Cause → List ℕ
@@ -107,6 +108,7 @@ a_label_text refusal (NotAscii place c) = place_text place c ++ codes ": not ASC
 a_label_text refusal NoPunycode = codes "not RFC 3492 6.2 Punycode"
 a_label_text refusal (Other octets) = codes "the A-label is " ++ octets.items
 a_label_text refusal (Decoded cause) = codes "decoded: " ++ cause_text refusal cause
+a_label_text refusal (Copied cause) = cause_text refusal cause
 
 -- what stands between the number of a label and its cause
 abbrev pub separator_text : ALabelCause → List ℕ
@@ -170,6 +172,7 @@ line_cause_text refusal (Misplaced place c kind rule) = place_text place c ++ (c
 line_cause_text refusal (Broken number kind) = codes "demand " ++ (decimal (number + 1) ++ (codes ", " ++ demand_text kind))
 line_cause_text refusal (Ends place) = codes "ends at place " ++ decimal (place + 1)
 line_cause_text refusal (OfTable place quoted) = fault_place_text place quoted.items
+line_cause_text refusal ByteOrderMark = codes "a byte order mark" ++ at_byte_text 0
 
 -- what a message goes on with: a colon, a blank and the cause, if there is one
 abbrev pub tail_text : Refusal → Option LineCause → List ℕ

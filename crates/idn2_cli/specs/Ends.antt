@@ -221,7 +221,7 @@ TellsMemory old new status =
 -- memory runs out for a cause that may take some
 abbrev pub TellsUnread : Settings → List ℕ → RegisteredFileFault → (old new : Held) → Status → Type 0
 TellsUnread o text (registers.Refused line refusal) old new status =
-    TellsWrongLine o.form line refusal (told_of_wrong_line (tells_causes o) text line refusal) old new status
+    TellsWrongLine o.form line refusal (told_of_wrong_line o.properties (tells_causes o) text line refusal) old new status
     ⊎ ((tells_causes o ≡ true) × MayTakeMemory text line refusal × TellsMemory old new status)
 TellsUnread o text registers.Memory old new status = TellsMemory old new status
 

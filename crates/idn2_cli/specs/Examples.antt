@@ -16,6 +16,7 @@ use Rattle.idn2_cli.specs.Answers.{block, if_admitted, is_allocatable, nth, nth_
 use Rattle.idn2_cli.specs.Said.{said_line, table_line, trailer_line}
 use Rattle.idn2_options.specs.declared.command_line.mode.Mode.TheVariants.{Register, Variants}
 use Rattle.idn2_cli.specs.declared.output.status.Status.TheVariants.{Refused}
+use Rattle.idn_class.specs.declared.properties.Properties.TheVariants.{Profile}
 
 -- sss, sß and ßs
 abbrev pub three : List (List ℕ)
@@ -48,11 +49,11 @@ listing limit tries = record (plain_run Variants []) { file = codes "t"; limit =
 
 -- the table 0061..0063, 0078|!0079:007A of version 2
 abbrev pub y_or_z : TableValue
-y_or_z = record (empty_table Two) { entries = range_entries false 0x61 0x63 ++ entry (codes "x") (blocked (codes "y") ∷ allocatable (codes "z") ∷ []) ∷ [] }
+y_or_z = record (empty_table Profile Two) { entries = range_entries false 0x61 0x63 ++ entry (codes "x") (blocked (codes "y") ∷ allocatable (codes "z") ∷ []) ∷ [] }
 
 -- the table 0061|!0062, 0061-0061|0062-0062 of version 2
 abbrev pub one_or_both : TableValue
-one_or_both = record (empty_table Two) { entries = entry (codes "a") (blocked (codes "b") ∷ []) ∷ entry (codes "aa") (allocatable (codes "bb") ∷ []) ∷ [] }
+one_or_both = record (empty_table Profile Two) { entries = entry (codes "a") (blocked (codes "b") ∷ []) ∷ entry (codes "aa") (allocatable (codes "bb") ∷ []) ∷ [] }
 
 -- aa spells aa, aaa and aaaa; of the labels that aaa spells, the four that have a hyphen first are not tested, and one step
 -- goes over them; ay is blocked; and

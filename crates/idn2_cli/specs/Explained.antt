@@ -1,15 +1,16 @@
 -- The cause that is told of a refused line, where causes are wanted: with `--explain` or `--json`. Places and labels are counted from 0.
-use Rattle.std.specs.Prelude.{ℕ, nat_le, Bool, List, length, chars, Option, Some, None, slice_index, Ok, Err, if◌then◌else◌}
+use Rattle.std.specs.Prelude.{◌≡◌, ◌≢◌, ℕ, nat_le, Bool, true, false, List, length, chars, Option, Some, None, slice_index, Ok, Err, if◌then◌else◌}
 use Rattle.std.specs.Option.{option_map}
 use Rattle.std.specs.Str.{is_utf8}
 use Rattle.std.specs.Str.Lossy.{utf8_valid_len}
+use Rattle.idn_class.specs.declared.properties.Properties.{Properties}
 use Rattle.idna.specs.Validity.{has_ace_prefix}
 use Rattle.idn_text.specs.Points.{utf8_of}
 use Rattle.idn_text.specs.declared.refusal.Refusal.{Refusal}
-use Rattle.idn_text.specs.declared.refusal.Refusal.TheVariants.{NotInTable, NotValid}
+use Rattle.idn_text.specs.declared.refusal.Refusal.TheVariants.{Empty, LookupLength, NotInTable, NotValid}
 use Rattle.idn_cause.specs.declared.cause.Cause.{Cause}
 use Rattle.idn_cause.specs.declared.cause.Cause.TheVariants.{Point}
-use Rattle.idn_cause.specs.Causes.{cause_of}
+use Rattle.idn_cause.specs.Causes.{IsFoundWithoutMemory, cause_of}
 use Rattle.idn_cause.specs.ALabelCauses.{a_label_cause}
 use Rattle.idn_cause.specs.NameCauses.{name_cause, query_cause}
 use Rattle.ruleset_text.specs.Definitions.{rule_name}
@@ -29,20 +30,20 @@ use Rattle.idn2_cli.specs.declared.refusals.cause.LineCause.TheVariants.{Byte, L
 -- of a table, of the label of a request by them, or of a label that is tested as it stands
 pub data Explained : Type 0 where
   Unexplained : Explained
-  ByLabel : Explained
-  ByName : Explained
+  ByLabel : (properties : Properties) → Explained
+  ByName : (properties : Properties) → Explained
   ByQuery : (std3 : Bool) → Explained
-  ByTable : (table : TableValue) → Explained
-  ByRequest : (table : TableValue) → Explained
-  ByRegisteredLine : Explained
+  ByTable : (properties : Properties) (table : TableValue) → Explained
+  ByRequest : (properties : Properties) (table : TableValue) → Explained
+  ByRegisteredLine : (properties : Properties) → Explained
 
 -- how a mode explains
 abbrev pub explained_by_mode : Mode → Settings → TableValue → Explained
 explained_by_mode Lookup o table = ByQuery o.std3
-explained_by_mode Register o table = ByLabel
-explained_by_mode Decode o table = ByName
-explained_by_mode Variants o table = ByTable table
-explained_by_mode Jump o table = ByRequest table
+explained_by_mode Register o table = ByLabel o.properties
+explained_by_mode Decode o table = ByName o.properties
+explained_by_mode Variants o table = ByTable o.properties table
+explained_by_mode Jump o table = ByRequest o.properties table
 explained_by_mode CheckTable o table = Unexplained
 
 -- how a mode explains, if causes are wanted
@@ -55,9 +56,9 @@ explained_in mode o table = if_wanted (tells_causes o) (explained_by_mode mode o
 -- ---- the cause of a refusal
 
 -- of a label, or of what it stands for if it begins with "xn--"
-abbrev pub registration_cause : List ℕ → Refusal → Option LineCause
-registration_cause label refusal =
-    if has_ace_prefix label then option_map OfALabel (a_label_cause label refusal) else option_map OfLabel (cause_of label refusal)
+abbrev pub registration_cause : Properties → List ℕ → Refusal → Option LineCause
+registration_cause properties label refusal =
+    if has_ace_prefix label then option_map OfALabel (a_label_cause properties label refusal) else option_map OfLabel (cause_of properties label refusal)
 
 -- the code point after those that sources of the table reach, of a label that is short enough to be registered (RFC 7940, section 8.1)
 abbrev pub not_in_table_cause : TableValue → List ℕ → Option Cause
@@ -78,20 +79,20 @@ invalid_cause table label =
     if nat_le (length label) 63 then option_map (validity_cause table label) (validity_causes.cause_of table label) else None
 
 -- of a label by the sources of a table, and by what the table asks of its labels
-abbrev pub table_cause : TableValue → List ℕ → Refusal → Option LineCause
-table_cause table label NotInTable = option_map OfLabel (not_in_table_cause table label)
-table_cause table label NotValid = invalid_cause table label
-table_cause table label refusal = option_map OfLabel (cause_of label refusal)
+abbrev pub table_cause : Properties → TableValue → List ℕ → Refusal → Option LineCause
+table_cause properties table label NotInTable = option_map OfLabel (not_in_table_cause table label)
+table_cause properties table label NotValid = invalid_cause table label
+table_cause properties table label refusal = option_map OfLabel (cause_of properties label refusal)
 
 -- of the code points of a line
 unfoldable pub points_cause : Explained → List ℕ → Refusal → Option LineCause
 points_cause Unexplained points refusal = None
-points_cause ByLabel points refusal = registration_cause points refusal
-points_cause ByName points refusal = option_map OfName (name_cause points refusal)
+points_cause (ByLabel properties) points refusal = registration_cause properties points refusal
+points_cause (ByName properties) points refusal = option_map OfName (name_cause properties points refusal)
 points_cause (ByQuery std3) points refusal = option_map OfQuery (query_cause (utf8_of points) std3 refusal)
-points_cause (ByTable table) points refusal = table_cause table points refusal
-points_cause (ByRequest table) points refusal = table_cause table (requested_label points) refusal
-points_cause ByRegisteredLine points refusal = option_map OfLabel (cause_of points refusal)
+points_cause (ByTable properties table) points refusal = table_cause properties table points refusal
+points_cause (ByRequest properties table) points refusal = table_cause properties table (requested_label points) refusal
+points_cause (ByRegisteredLine properties) points refusal = option_map OfLabel (cause_of properties points refusal)
 
 -- the first byte that no UTF-8 goes on with (RFC 3629, section 3)
 abbrev pub bad_byte : List ℕ → LineCause
@@ -112,10 +113,33 @@ abbrev pub body_cause : Explained → Option (List ℕ) → Refusal → Option L
 body_cause explained None refusal = unless_unexplained explained LongLine
 body_cause explained (Some bytes) refusal = text_cause explained bytes refusal
 
--- ---- lines of which no cause is looked for
+-- ---- causes that are told without memory
 
--- the line is answered, or causes are not told
-abbrev pub SeeksNoCause : Explained → LineAnswer → Type 0
-SeeksNoCause Unexplained answer = Unit {0}
-SeeksNoCause _ (Ok lines) = Unit {0}
-SeeksNoCause _ (Err refusal) = ⊥
+-- of a label by the sources of a table; of what a ruleset asks of it the cause may take some
+abbrev pub TableCauseNeedsNone : Refusal → Type 0
+TableCauseNeedsNone NotValid = ⊥
+TableCauseNeedsNone refusal = IsFoundWithoutMemory refusal
+
+-- of the code points of a line; what begins with "xn--" may take some to be decoded
+abbrev pub PointsCauseNeedsNone : Explained → List ℕ → Refusal → Type 0
+PointsCauseNeedsNone Unexplained points refusal = Unit {0}
+PointsCauseNeedsNone (ByLabel properties) points refusal = (has_ace_prefix points ≡ false) × IsFoundWithoutMemory refusal
+PointsCauseNeedsNone (ByName properties) points refusal = refusal ≡ Empty
+PointsCauseNeedsNone (ByQuery std3) points refusal = refusal ≢ LookupLength
+PointsCauseNeedsNone (ByTable properties table) points refusal = TableCauseNeedsNone refusal
+PointsCauseNeedsNone (ByRequest properties table) points refusal = TableCauseNeedsNone refusal
+PointsCauseNeedsNone (ByRegisteredLine properties) points refusal = IsFoundWithoutMemory refusal
+
+-- of the bytes of a line, which may be no UTF-8
+abbrev pub TextCauseNeedsNone : Explained → List ℕ → Refusal → Type 0
+TextCauseNeedsNone explained bytes refusal = is_utf8 bytes ≡ true → PointsCauseNeedsNone explained (chars bytes) refusal
+
+-- of the body of a line, which may be too long
+abbrev pub BodyCauseNeedsNone : Explained → Option (List ℕ) → Refusal → Type 0
+BodyCauseNeedsNone how None refusal = Unit {0}
+BodyCauseNeedsNone how (Some bytes) refusal = TextCauseNeedsNone how bytes refusal
+
+-- the line is answered, or the cause of its refusal is told so
+abbrev pub TellsWithoutMemory : Explained → List ℕ → LineAnswer → Type 0
+TellsWithoutMemory how bytes (Ok lines) = Unit {0}
+TellsWithoutMemory how bytes (Err refusal) = TextCauseNeedsNone how bytes refusal

@@ -2,6 +2,7 @@
 use Rattle.std.specs.Prelude.{◌≡◌, ◌⊎◌, ℕ, List, [], ◌∷◌, ◌++◌, Option, Some, Ok, Err}
 use Rattle.std.specs.List.{concat, flat_map}
 use Rattle.std.specs.Io.KnownBytes.{Appends}
+use Rattle.idn_class.specs.declared.properties.Properties.{Properties}
 use Rattle.idn_text.specs.Points.{utf8_of}
 use Rattle.idn_text.specs.Lines.{Numbered}
 use Rattle.idn_text.specs.Reading.{Reading, HasRead}
@@ -32,16 +33,16 @@ printed_of form how line (Ok said) = flat_map (said_text form line) said
 printed_of form how line (Err refusal) = printed_refusal form line refusal (body_cause how line.body refusal)
 
 -- the line is this label in UTF-8, and the label may be registered
-pub record IsLineOf (label : List ℕ) (line : Numbered) : Type 0 where
-  pub registrable : IsRegistrable label
+pub record IsLineOf (properties : Properties) (label : List ℕ) (line : Numbered) : Type 0 where
+  pub registrable : IsRegistrable properties label
   pub utf8 : line.body ≡ Some (utf8_of label)
 
 -- these bytes stand on the output for a line: those of the listing of its label, or, where it is no label that may be registered,
 -- those of a refusal
 pub record IsPrintedFor (o : Settings) (table : TableValue) (line : Numbered) (printed : List ℕ) : Type 0 where
-  pub listing : (label : List ℕ) → IsLineOf label line
+  pub listing : (label : List ℕ) → IsLineOf o.properties label line
       → (answer : LineAnswer) × IsListing o table label answer × (printed ≡ printed_of o.form (explained_in Variants o table) line answer)
-  pub refused : ((label : List ℕ) → IsLineOf label line → ⊥)
+  pub refused : ((label : List ℕ) → IsLineOf o.properties label line → ⊥)
       → (refusal : Refusal) × (printed ≡ printed_of o.form (explained_in Variants o table) line (Err refusal))
 
 -- the same for each of these lines, in their order

@@ -1,6 +1,7 @@
 -- Laws of the definitions.
 use Rattle.std.specs.Prelude.{◌≡◌, ◌≢◌, ◌↔◌, ℕ, ◌≤◌, false, true, List, [], length, map, Option, Some, None, slice_index}
 use Rattle.std.specs.Str.{IsValidUpTo}
+use Rattle.idn_class.specs.declared.properties.Properties.{Properties}
 use Rattle.idn_text.specs.declared.refusal.Refusal.{Refusal}
 use Rattle.idn_text.specs.declared.refusal.Refusal.TheVariants.{NotInTable}
 use Rattle.idn_cause.specs.declared.cause.Cause.TheVariants.{Point}
@@ -39,8 +40,8 @@ pub record CausesAreTold : Type 0 where
   pub unexplained : (body : Option (List ℕ)) (refusal : Refusal) → tail_text refusal (body_cause Unexplained body refusal) ≡ []
   pub plain : (number : ℕ) (refusal : Refusal) → refused_message number refusal [] ≡ line_message number refusal
   pub byte : (bytes : List ℕ) (place : ℕ) → IsValidUpTo bytes place → bad_byte bytes ≡ Byte place (slice_index bytes place)
-  pub outside : (table : TableValue) (label : List ℕ) (place : ℕ) → IsWellFormed table.entries → length label ≤ 63 → IsFurthest table label place →
-      table_cause table label NotInTable ≡ Some (OfLabel (Point place (slice_index label place)))
+  pub outside : (properties : Properties) (table : TableValue) (label : List ℕ) (place : ℕ) → IsWellFormed table.entries → length label ≤ 63 → IsFurthest table label place →
+      table_cause properties table label NotInTable ≡ Some (OfLabel (Point place (slice_index label place)))
 
 -- a run writes what it says piece by piece, each statement in the form that is asked for. What it says is the same in both forms:
 -- with objects, what it says with `--explain`. So is its status, and with objects nothing goes to the messages

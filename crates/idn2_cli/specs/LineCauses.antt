@@ -1,6 +1,7 @@
 -- What the cause of a refused line is, by what it has to be. Places and labels are counted from 0.
 use Rattle.std.specs.Prelude.{◌≡◌, ◌≢◌, ◌⊎◌, ◌↔◌, ℕ, ◌<◌, true, false, List, [], ◌∷◌, length, chars, Option, Some, None, Err, slice_index}
 use Rattle.std.specs.Str.{is_utf8, IsValidUpTo}
+use Rattle.idn_class.specs.declared.properties.Properties.{Properties}
 use Rattle.idna.specs.Validity.{has_ace_prefix}
 use Rattle.idn_text.specs.Lines.{Numbered}
 use Rattle.idn_text.specs.Points.{utf8_of}
@@ -29,10 +30,10 @@ abbrev pub IsOf : {X : Type 0} → (X → LineCause) → (X → Type 0) → Line
 IsOf {X} of Is cause = (x : X) × Is x × (cause ≡ of x)
 
 -- of a label that is registered, or of what it stands for if it begins with "xn--"
-abbrev pub IsRegistrationCause : List ℕ → Refusal → LineCause → Type 0
-IsRegistrationCause label refusal cause =
-    ((has_ace_prefix label ≡ true) × IsOf OfALabel (IsALabelCause label refusal) cause)
-    ⊎ ((has_ace_prefix label ≡ false) × IsOf OfLabel (IsCause label refusal) cause)
+abbrev pub IsRegistrationCause : Properties → List ℕ → Refusal → LineCause → Type 0
+IsRegistrationCause properties label refusal cause =
+    ((has_ace_prefix label ≡ true) × IsOf OfALabel (IsALabelCause properties label refusal) cause)
+    ⊎ ((has_ace_prefix label ≡ false) × IsOf OfLabel (IsCause properties label refusal) cause)
 
 -- of a label that isn't made of sources of a table: the code point after the furthest place that they reach (RFC 7940, section 8.1)
 abbrev pub IsNotInTableCause : TableValue → List ℕ → Cause → Type 0
@@ -45,20 +46,20 @@ abbrev pub IsInvalidCause : TableValue → List ℕ → LineCause → Type 0
 IsInvalidCause table label cause = IsOf (validity_cause table label) (validity_causes.IsCause table label) cause
 
 -- of a label under a table
-abbrev pub IsTableCause : TableValue → List ℕ → Refusal → LineCause → Type 0
-IsTableCause table label NotInTable cause = IsOf OfLabel (IsNotInTableCause table label) cause
-IsTableCause table label NotValid cause = IsInvalidCause table label cause
-IsTableCause table label refusal cause = IsOf OfLabel (IsCause label refusal) cause
+abbrev pub IsTableCause : Properties → TableValue → List ℕ → Refusal → LineCause → Type 0
+IsTableCause properties table label NotInTable cause = IsOf OfLabel (IsNotInTableCause table label) cause
+IsTableCause properties table label NotValid cause = IsInvalidCause table label cause
+IsTableCause properties table label refusal cause = IsOf OfLabel (IsCause properties label refusal) cause
 
 -- of the code points of a line
 abbrev pub IsPointsCause : Explained → List ℕ → Refusal → LineCause → Type 0
 IsPointsCause Unexplained points refusal cause = ⊥
-IsPointsCause ByLabel points refusal cause = IsRegistrationCause points refusal cause
-IsPointsCause ByName points refusal cause = IsOf OfName (IsNameCause points refusal) cause
+IsPointsCause (ByLabel properties) points refusal cause = IsRegistrationCause properties points refusal cause
+IsPointsCause (ByName properties) points refusal cause = IsOf OfName (IsNameCause properties points refusal) cause
 IsPointsCause (ByQuery std3) points refusal cause = IsOf OfQuery (IsQueryCause (utf8_of points) std3 refusal) cause
-IsPointsCause (ByTable table) points refusal cause = IsTableCause table points refusal cause
-IsPointsCause (ByRequest table) points refusal cause = IsTableCause table (requested_label points) refusal cause
-IsPointsCause ByRegisteredLine points refusal cause = IsOf OfLabel (IsCause points refusal) cause
+IsPointsCause (ByTable properties table) points refusal cause = IsTableCause properties table points refusal cause
+IsPointsCause (ByRequest properties table) points refusal cause = IsTableCause properties table (requested_label points) refusal cause
+IsPointsCause (ByRegisteredLine properties) points refusal cause = IsOf OfLabel (IsCause properties points refusal) cause
 
 -- the first byte that no UTF-8 goes on with (RFC 3629, section 3)
 abbrev pub IsBadByte : List ℕ → LineCause → Type 0

@@ -1,6 +1,7 @@
 -- Laws of the labels that are listed.
 use Rattle.std.specs.Prelude.{◌≡◌, ◌↔◌, ℕ, true, List, [], ◌∷◌, Ok, Err, Contains}
 use Rattle.std.specs.List.{slice_get}
+use Rattle.idn_class.specs.declared.properties.Properties.{Properties}
 use Rattle.idn_text.specs.Lines.{Numbered, raw_lines}
 use Rattle.idn_text.specs.declared.refusal.Refusal.{Refusal}
 use Rattle.idn_text.specs.declared.refusal.Refusal.TheVariants.{NotValid}
@@ -22,7 +23,7 @@ use Rattle.idn2_cli.specs.Transcript.{statements, status_of}
 
 -- a label that may be registered and that the table admits; its listing begins after the empty text, and isn't kept to other labels
 pub record IsAsked (o : Settings) (table : TableValue) (label : List ℕ) : Type 0 where
-  pub registrable : IsRegistrable label
+  pub registrable : IsRegistrable o.properties label
   pub admitted : IsAdmitted table label
   pub whole : o.after ≡ []
   pub kept : IsKept o.registered label
@@ -45,8 +46,8 @@ ListedAreMutual =
 -- says the same, in each mode and with the same status: the same listings, gaps, refusals and causes. The same labels are refused,
 -- none of them as not valid, and the same are allocatable
 pub record RulesetsSayTheSame : Type 0 where
-  pub read : (text other first second : List ℕ) (lines : List (List ℕ)) (table : TableValue) → table.version ≡ Two → raw_lines text ≡ first ∷ lines → raw_lines other ≡ second ∷ lines
-      → is_version_line Table first ≡ true → is_version_line Ruleset second ≡ true → IsTextOf Table text table → IsTextOf Ruleset other (as_ruleset table)
+  pub read : (properties : Properties) (text other first second : List ℕ) (lines : List (List ℕ)) (table : TableValue) → table.version ≡ Two → raw_lines text ≡ first ∷ lines → raw_lines other ≡ second ∷ lines
+      → is_version_line Table first ≡ true → is_version_line Ruleset second ≡ true → IsTextOf properties Table text table → IsTextOf properties Ruleset other (as_ruleset table)
   pub said : (o : Settings) (table : TableValue) (lines : List Numbered) → table.version ≡ Two → statements o (Ok table) lines ≡ statements o (Ok (as_ruleset table)) lines
   pub status : (o : Settings) (table : TableValue) (lines : List Numbered) → table.version ≡ Two → status_of o (Ok table) lines ≡ status_of o (Ok (as_ruleset table)) lines
   pub gaps : (table : TableValue) → gaps_of table.entries ≡ gaps_of (as_ruleset table).entries

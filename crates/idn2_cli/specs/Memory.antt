@@ -1,11 +1,12 @@
 -- Lines that a mode answers without memory.
 use Rattle.std.specs.Prelude.{ℕ, Bool, true, false, List, chars, All, Option, Some, None, Ok, Err, ◌≢◌}
+use Rattle.idn_class.specs.declared.properties.Properties.{Properties}
 use Rattle.idna.specs.Labels.{labels_of}
 use Rattle.idn_label.specs.FirstFault.{first_fault}
 use Rattle.idn_label.specs.Memory.{NeedsNoMemory, LooksUpWithoutMemory, RegistersWithoutMemory, DecodesWithoutMemory}
 use Rattle.variant_list.specs.Spelled.{spelled}
 use Rattle.idn2_cli.specs.Answers.{LineAnswer, filter_of, requested_label, tested_after, mode_answer, text_answer}
-use Rattle.idn2_cli.specs.Explained.{Explained, SeeksNoCause, explained_in}
+use Rattle.idn2_cli.specs.Explained.{Explained, TellsWithoutMemory, explained_in}
 use Rattle.idn2_cli.specs.Transcript.{TableGiven}
 use Rattle.idn2_options.specs.Settings.{Settings}
 use Rattle.idn2_options.specs.declared.command_line.mode.Mode.{Mode}
@@ -16,16 +17,16 @@ abbrev pub DecodesLineWithoutMemory : List ℕ → Type 0
 DecodesLineWithoutMemory name = All DecodesWithoutMemory (labels_of name)
 
 -- a label that is tested without memory, and has a fault (RFC 5891, section 4.2)
-abbrev pub IsRefusedWithoutMemory : List ℕ → Type 0
-IsRefusedWithoutMemory label = NeedsNoMemory label × (first_fault label ≢ None)
+abbrev pub IsRefusedWithoutMemory : Properties → List ℕ → Type 0
+IsRefusedWithoutMemory properties label = NeedsNoMemory label × (first_fault properties label ≢ None)
 
 -- the bytes of a line; of one whose variants are listed or searched it is said only where its label is refused
 abbrev pub AnswersWithoutMemory : Mode → Settings → List ℕ → Type 0
 AnswersWithoutMemory Lookup o line = LooksUpWithoutMemory o.std3 line
 AnswersWithoutMemory Register o line = RegistersWithoutMemory (chars line)
 AnswersWithoutMemory Decode o line = DecodesLineWithoutMemory line
-AnswersWithoutMemory Variants o line = IsRefusedWithoutMemory (chars line)
-AnswersWithoutMemory Jump o line = IsRefusedWithoutMemory (requested_label (chars line))
+AnswersWithoutMemory Variants o line = IsRefusedWithoutMemory o.properties (chars line)
+AnswersWithoutMemory Jump o line = IsRefusedWithoutMemory o.properties (requested_label (chars line))
 AnswersWithoutMemory CheckTable o line = ⊥
 
 -- a mode that reads a table, which takes memory before its first line
@@ -35,9 +36,9 @@ reads_table Jump = true
 reads_table CheckTable = true
 reads_table mode = false
 
--- the bytes of a line that needs no memory for its answer, and none for a cause: it is answered, or causes are not told
+-- the bytes of a line that needs no memory for its answer, and none for a cause
 pub record NeedsNone (explained : Explained) (answer : List ℕ → LineAnswer) (needs_none : List ℕ → Type 0) (line : List ℕ) : Type 0 where
-  pub causeless : SeeksNoCause explained (text_answer answer line)
+  pub told : TellsWithoutMemory explained line (text_answer answer line)
   pub answered : needs_none line
 
 -- the same of a mode by its table; where that has a fault, no line is answered
@@ -48,7 +49,7 @@ ServesWithoutMemory mode o (Err fault) line = AnswersWithoutMemory mode o line
 -- the bytes of a line of which the listing, once begun, goes on without memory: no label that it may test needs any; what else is
 -- answered does so whatever the line is
 abbrev pub GoesOnWithoutMemory : Mode → Settings → TableGiven → List ℕ → Type 0
-GoesOnWithoutMemory Variants o (Ok table) line = All NeedsNoMemory (tested_after (filter_of table) o (spelled table (chars line)))
+GoesOnWithoutMemory Variants o (Ok table) line = All NeedsNoMemory (tested_after (filter_of o.properties table) o (spelled table (chars line)))
 GoesOnWithoutMemory mode o given line = Unit {0}
 
 -- the body of a line; one that is too long is refused without memory

@@ -1,12 +1,13 @@
 -- Objects that are read back as they are meant.
 use Rattle.std.specs.Prelude.{◌≡◌, ◌≢◌, ℕ, ◌<◌, ◌≤◌, ◌^◌, Bool, true, All, IsUtf8, List, length, Option, Some, None, Ok, Err}
+use Rattle.idn_class.specs.declared.properties.Properties.{Properties}
 use Rattle.json.specs.Json.{document}
 use Rattle.idn_text.specs.Lines.{Numbered}
 use Rattle.idn_text.specs.declared.refusal.Refusal.{Refusal}
 use Rattle.idn_cause.specs.declared.cause.Cause.{Cause}
 use Rattle.idn_cause.specs.declared.cause.Cause.TheVariants.{Octets}
 use Rattle.idn_cause.specs.declared.a_label.ALabelCause.{ALabelCause}
-use Rattle.idn_cause.specs.declared.a_label.ALabelCause.TheVariants.{Decoded}
+use Rattle.idn_cause.specs.declared.a_label.ALabelCause.TheVariants.{Decoded, Copied}
 use Rattle.idn_cause.specs.declared.query.LengthCause.{LengthCause}
 use Rattle.idn_cause.specs.declared.query.LengthCause.TheVariants.{LabelOctets, NameOctets}
 use Rattle.registered_labels.specs.Registered.{AreRegistered}
@@ -42,14 +43,14 @@ pub record IsReadBack (answer : Answer) : Type 0 where
   pub unicode : IsUtf8 (text_of (json_of answer))
 
 -- a listing is whole, or kept to registered labels, of which there are fewer than 2 ^ 64
-abbrev pub IsKeptToFew : Option (List (List ℕ)) → Type 0
-IsKeptToFew None = Unit {0}
-IsKeptToFew (Some labels) = AreRegistered labels × (length labels < 2 ^ 64)
+abbrev pub IsKeptToFew : Properties → Option (List (List ℕ)) → Type 0
+IsKeptToFew properties None = Unit {0}
+IsKeptToFew properties (Some labels) = AreRegistered properties labels × (length labels < 2 ^ 64)
 
 -- each object that a mode says in answer to a line is read back, whatever the line holds, if its number is below 2 ^ 64
 abbrev pub SaidIsReadBack : Type 0
 SaidIsReadBack =
-    (mode : Mode) (o : Settings) (table : TableValue) (line : Numbered) (said : List Said) → IsSound table → IsCount o.tries → IsKeptToFew o.registered
+    (mode : Mode) (o : Settings) (table : TableValue) (line : Numbered) (said : List Said) → IsSound table → IsCount o.tries → IsKeptToFew o.properties o.registered
     → line.number < 2 ^ 64 → line_answer (mode_answer mode o table) line.body ≡ Ok said
     → All (λ s. IsReadBack (said_object line.number (told_of line.body) s)) said
 
@@ -67,6 +68,7 @@ HasFewOctets _ = Unit {0}
 
 abbrev pub ALabelHasFewOctets : ALabelCause → Type 0
 ALabelHasFewOctets (Decoded cause) = HasFewOctets cause
+ALabelHasFewOctets (Copied cause) = HasFewOctets cause
 ALabelHasFewOctets _ = Unit {0}
 
 abbrev pub NameHasFewOctets : LengthCause → Type 0
@@ -114,13 +116,13 @@ byte_of (places.SeventeenthVariant place c) = place
 -- so is that of the fault of a table, with its cause, where the line of the fault and the place in it are small numbers
 abbrev pub TableFaultsAreReadBack : Type 0
 TableFaultsAreReadBack =
-    (wanted : Bool) (notation : Notation) (text : List ℕ) (fault : TableFault) (line : ℕ) (refusal : Refusal) → line < 2 ^ 64
-    → ((place : FaultPlace) → fault_place notation text fault ≡ Some place → byte_of place < 2 ^ 63)
-    → IsReadBack (table_fault line refusal (told_details refusal (told_if wanted (fault_cause notation text fault))))
+    (properties : Properties) (wanted : Bool) (notation : Notation) (text : List ℕ) (fault : TableFault) (line : ℕ) (refusal : Refusal) → line < 2 ^ 64
+    → ((place : FaultPlace) → fault_place properties notation text fault ≡ Some place → byte_of place < 2 ^ 63)
+    → IsReadBack (table_fault line refusal (told_details refusal (told_if wanted (fault_cause properties notation text fault))))
 
 -- and that of a wrong line of the registered labels, with its cause
 abbrev pub RegisteredFaultsAreReadBack : Type 0
 RegisteredFaultsAreReadBack =
-    (wanted : Bool) (text : List ℕ) (number : ℕ) (refusal : Refusal) → number < 2 ^ 64
-    → TellsFewOctetsIfAny (told_of_wrong_line wanted text number refusal)
-    → IsReadBack (registered_fault number refusal (told_details refusal (told_of_wrong_line wanted text number refusal)))
+    (properties : Properties) (wanted : Bool) (text : List ℕ) (number : ℕ) (refusal : Refusal) → number < 2 ^ 64
+    → TellsFewOctetsIfAny (told_of_wrong_line properties wanted text number refusal)
+    → IsReadBack (registered_fault number refusal (told_details refusal (told_of_wrong_line properties wanted text number refusal)))

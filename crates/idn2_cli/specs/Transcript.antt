@@ -3,6 +3,8 @@ use Rattle.std.specs.Prelude.{ℕ, List, [], ◌∷◌, ◌++◌, ◌≡◌, Opt
 use Rattle.std.specs.List.{flat_map, list_any}
 use Rattle.std.specs.Result.{is_err}
 use Rattle.std.specs.Fmt.{decimal}
+use Rattle.idn_class.specs.declared.properties.Properties.{Properties}
+use Rattle.idn_class.specs.declared.properties.Properties.TheVariants.{Profile}
 use Rattle.idn_text.specs.declared.refusal.Refusal.{Refusal}
 use Rattle.variant_table.specs.declared.version.Version.TheVariants.{One}
 use Rattle.variant_table.specs.Entries.{Entry, TableValue, empty_table}
@@ -59,7 +61,7 @@ TableGiven = Result TableValue (ℕ × Refusal × Option LineCause)
 
 -- the table of a mode that names none
 abbrev pub no_table : TableValue
-no_table = empty_table One
+no_table = empty_table Profile One
 
 -- the fault of a line of a table as a refusal
 abbrev pub table_refusal : LineFault → Refusal
@@ -72,22 +74,22 @@ table_refusal faults.NoSuchName = refusals.NoSuchName
 table_refusal faults.SameName = refusals.SameName
 
 -- the text has this first fault, and this is its cause
-abbrev pub HasFault : Notation → List ℕ → ℕ × Refusal × Option LineCause → Type 0
-HasFault notation text fault =
-    (kind : LineFault) × (table_refusal kind ≡ fault.1) × IsFaultOf notation text fault.0 kind
-    × (fault.2 ≡ fault_cause notation text (fault_of_line fault.0 kind))
+abbrev pub HasFault : Properties → Notation → List ℕ → ℕ × Refusal × Option LineCause → Type 0
+HasFault properties notation text fault =
+    (kind : LineFault) × (table_refusal kind ≡ fault.1) × IsFaultOf properties notation text fault.0 kind
+    × (fault.2 ≡ fault_cause properties notation text (fault_of_line fault.0 kind))
 
 -- the text spells this table, or has this first fault
-abbrev pub IsReadAs : Notation → List ℕ → TableGiven → Type 0
-IsReadAs notation text (Ok table) = IsTextOf notation text table
-IsReadAs notation text (Err fault) = HasFault notation text fault
+abbrev pub IsReadAs : Properties → Notation → List ℕ → TableGiven → Type 0
+IsReadAs properties notation text (Ok table) = IsTextOf properties notation text table
+IsReadAs properties notation text (Err fault) = HasFault properties notation text fault
 
 -- the table by which a mode works, as its text says; a mode that names no table has the empty one
-abbrev pub IsTableOf : Mode → Notation → List ℕ → TableGiven → Type 0
-IsTableOf Variants notation text table = IsReadAs notation text table
-IsTableOf Jump notation text table = IsReadAs notation text table
-IsTableOf CheckTable notation text table = IsReadAs notation text table
-IsTableOf mode notation text table = table ≡ Ok no_table
+abbrev pub IsTableOf : Properties → Mode → Notation → List ℕ → TableGiven → Type 0
+IsTableOf properties Variants notation text table = IsReadAs properties notation text table
+IsTableOf properties Jump notation text table = IsReadAs properties notation text table
+IsTableOf properties CheckTable notation text table = IsReadAs properties notation text table
+IsTableOf properties mode notation text table = table ≡ Ok no_table
 
 -- ---- messages
 

@@ -1,6 +1,7 @@
 -- The cause that is told of a wrong line of the registered labels, where causes are wanted. Places are counted from 0.
 use Rattle.std.specs.Prelude.{◌≢◌, ℕ, ◌-◌, Bool, List, [], chars, Option, Some, None, slice_get, if◌then◌else◌}
 use Rattle.std.specs.Str.{is_utf8}
+use Rattle.idn_class.specs.declared.properties.Properties.{Properties}
 use Rattle.idn_text.specs.Lines.{raw_lines, body_of}
 use Rattle.idn_text.specs.declared.refusal.Refusal.{Refusal}
 use Rattle.idn_text.specs.declared.refusal.Refusal.TheVariants.{OutOfOrder, FileTooLong}
@@ -38,10 +39,10 @@ order_cause before label = differs_at (shared label before) (slice_get label (sh
 
 -- a line is a label that is tested, and has the cause of its fault; of the order the cause is where it differs from the line before;
 -- and of a file that is too long there is none
-abbrev pub wrong_line_cause : List ℕ → ℕ → Refusal → Option LineCause
-wrong_line_cause text number OutOfOrder = Some (order_cause (points_at text (number - 1)) (points_at text number))
-wrong_line_cause text number FileTooLong = None
-wrong_line_cause text number refusal = body_cause ByRegisteredLine (body_at text number) refusal
+abbrev pub wrong_line_cause : Properties → List ℕ → ℕ → Refusal → Option LineCause
+wrong_line_cause properties text number OutOfOrder = Some (order_cause (points_at text (number - 1)) (points_at text number))
+wrong_line_cause properties text number FileTooLong = None
+wrong_line_cause properties text number refusal = body_cause (ByRegisteredLine properties) (body_at text number) refusal
 
 -- the cause may take memory: not that of the order of two labels, nor that of a file or a line that is too long
 abbrev pub MayTakeMemory : List ℕ → ℕ → Refusal → Type 0
@@ -50,5 +51,5 @@ MayTakeMemory text number FileTooLong = ⊥
 MayTakeMemory text number refusal = body_at text number ≢ None
 
 -- the cause of a wrong line, if causes are wanted
-abbrev pub told_of_wrong_line : Bool → List ℕ → ℕ → Refusal → Option LineCause
-told_of_wrong_line wanted text number refusal = if wanted then wrong_line_cause text number refusal else None
+abbrev pub told_of_wrong_line : Properties → Bool → List ℕ → ℕ → Refusal → Option LineCause
+told_of_wrong_line properties wanted text number refusal = if wanted then wrong_line_cause properties text number refusal else None

@@ -8,7 +8,10 @@ mod refusals;
 mod request;
 mod session;
 
-pub use idn2_options::{Form, Mode, Notation, Options, Usage, input_text, read_options};
+pub use idn2_options::{
+    Form, Mode, Notation, Options, Usage, asks_for_causes, input_text, push_escaped, read_options,
+    usage_cause,
+};
 pub use output::status::Status;
 pub use session::report::{report, report_registered};
 pub use session::run::{run, run_among};

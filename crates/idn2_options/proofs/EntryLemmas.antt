@@ -10,7 +10,7 @@ use Rattle.clap.specs.Words.{Text, matched_of, rows_of}
 use Rattle.clap.specs.declared.parser.matches.Found.{Found}
 use Rattle.clap.proofs.WalkLemmas.{raw_values-rows}
 use Rattle.idn2_options.specs.Words.{strings_of}
-use Rattle.idn2_options.specs.declared.command_line.arguments.TheConstants.{STRINGS}
+use Rattle.idn2_options.specs.Names.{strings_name}
 
 -- a text that isn't `true` isn't equal to it
 no_true : (text : Text) → (text ≡ true_text → ⊥) → bytes_eq text true_text ≡ false
@@ -34,6 +34,6 @@ flag-read E None read none some = ap (λ r. unwrap_or r false) (none refl)
 flag-read E (Some text) read none some = flag-text E text read (some text refl)
 
 -- the STRINGS that `get_strs` lends
-pub strings-lent : (f : Found) (lent : Option (List Text)) → lent ≡ option_map raw_values (matched_of f STRINGS.now)
+pub strings-lent : (f : Found) (lent : Option (List Text)) → lent ≡ option_map raw_values (matched_of f strings_name)
     → unwrap_or lent [] ≡ strings_of (rows_of f)
-strings-lent f lent is = ap (λ texts. unwrap_or texts []) (is ∙ raw_values-rows f STRINGS.now)
+strings-lent f lent is = ap (λ texts. unwrap_or texts []) (is ∙ raw_values-rows f strings_name)

@@ -14,3 +14,5 @@ mod AnswerLemmas
 pub mod SuitLemmas
 -- The mode that the words name.
 pub mod ModeLemmas
+-- A rule is broken exactly where the words are not allowed.
+mod CauseLemmas

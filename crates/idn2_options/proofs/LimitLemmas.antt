@@ -11,7 +11,7 @@ use Rattle.clap.specs.Words.{Row, Text}
 use Rattle.idn_text.specs.Points.{AreScalarValues, IsScalarValue}
 use Rattle.idn2_options.specs.Settings.{IsBound, IsCount, IsWithinLimits}
 use Rattle.idn2_options.specs.Words.{listing_options_fit, checks_alone, count_of, has_counts, has_short_start, is_allowed, is_numeral, is_within, jumps_by_table, names_one_mode, settings_of, start_of, steps_of, suits_among, value_of}
-use Rattle.idn2_options.specs.declared.command_line.arguments.TheConstants.{LIMIT, STEPS, TRIES}
+use Rattle.idn2_options.specs.Names.{limit_name, steps_name, tries_name}
 
 pub le-test : (m n : ℕ) → nat_le m n ≡ true → m ≤ n
 le-test m n test = grind (arith, nat_tests)
@@ -79,7 +79,7 @@ within_limits rows is_text allowed =
     record {
       after_length = omega arith;
       after_points = all-scalar (chars (start_of rows)) (scalars-chars (start_of rows) is_text);
-      limit = IsCount-limit (value_of LIMIT.now rows);
-      tries = or_default _ (IsCount-limit (value_of TRIES.now rows));
-      steps = IsBound-steps (value_of STEPS.now rows);
+      limit = IsCount-limit (value_of limit_name rows);
+      tries = or_default _ (IsCount-limit (value_of tries_name rows));
+      steps = IsBound-steps (value_of steps_name rows);
     }

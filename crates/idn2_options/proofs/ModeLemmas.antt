@@ -4,7 +4,7 @@ use Rattle.std.proofs.lemmas.Bool.{false_from_ne_true}
 use Rattle.clap.specs.Words.{Row}
 use Rattle.idn2_options.specs.Laws.{is_named}
 use Rattle.idn2_options.specs.Words.{has_flag, is_allowed, lists, mode_of}
-use Rattle.idn2_options.specs.declared.command_line.arguments.TheConstants.{JUMP}
+use Rattle.idn2_options.specs.Names.{jump_name}
 use Rattle.idn2_options.specs.declared.command_line.mode.Mode.{Mode}
 use Rattle.idn2_options.specs.declared.command_line.mode.Mode.TheVariants.{Lookup, Register, Decode, Variants, Jump, CheckTable}
 use Rattle.idn2_options.proofs.SuitLemmas.{IsOne, mode_by, no_weight, rules, variants-alone, check-alone}
@@ -35,11 +35,11 @@ mode_of-named rows Lookup allowed is = lookup-alone _ _ _ _ _ _ (rules rows allo
 mode_of-named rows Register allowed is = rw is refl
 mode_of-named rows Decode allowed is = decode-alone _ _ _ _ _ _ (rules rows allowed).one is
 mode_of-named rows Variants allowed is =
-    let two = first_of_two (lists rows) (has_flag JUMP.now rows) is in
+    let two = first_of_two (lists rows) (has_flag jump_name rows) is in
     variants-alone _ _ _ _ _ _ (rules rows allowed).one two.0 ∙ ap (λ (j : Bool). cond j Jump Variants) two.1
 mode_of-named rows Jump allowed is =
     let r = rules rows allowed in
-    variants-alone _ _ _ _ _ _ r.one (named_by_table (lists rows) (has_flag JUMP.now rows) r.jumps is) ∙ ap (λ (j : Bool). cond j Jump Variants) is
+    variants-alone _ _ _ _ _ _ r.one (named_by_table (lists rows) (has_flag jump_name rows) r.jumps is) ∙ ap (λ (j : Bool). cond j Jump Variants) is
 mode_of-named rows CheckTable allowed is = check-alone _ _ _ _ _ _ (rules rows allowed).one is
 
 -- no word names the listing, nor a jump, so none names its table
@@ -49,7 +49,7 @@ not_by_table false j listed jumps = refl
 
 pub mode_of-none : (rows : List Row) → ((mode : Mode) → is_named mode rows ≡ false) → mode_of rows ≡ Lookup
 mode_of-none rows none =
-    rw (none Register, none Decode, not_by_table (lists rows) (has_flag JUMP.now rows) (none Variants) (none Jump), none CheckTable) refl
+    rw (none Register, none Decode, not_by_table (lists rows) (has_flag jump_name rows) (none Variants) (none Jump), none CheckTable) refl
 
 pub not_allowed : (rows : List Row) (mode other : Mode) → mode ≢ other → is_named mode rows ≡ true → is_named other rows ≡ true → is_allowed rows ≡ false
 not_allowed rows mode other differ first second =

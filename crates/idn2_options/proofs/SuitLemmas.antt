@@ -13,7 +13,7 @@ use Rattle.idn2_options.specs.Words.{among_of, listing_options_fit, checked_file
 use Rattle.idn2_options.specs.declared.command_line.mode.Mode.{Mode}
 use Rattle.idn2_options.specs.declared.command_line.mode.Mode.TheVariants.{Lookup, Register, Decode, Variants, Jump, CheckTable}
 use Rattle.idn2_options.proofs.LimitLemmas.{le-test}
-use Rattle.idn2_options.specs.declared.command_line.arguments.TheConstants.{AFTER, AMONG, CHECK_RULESET, CHECK_TABLE, DECODE, JUMP, LIMIT, LOOKUP, REGISTER, RULESET, STEPS, TRIES, VARIANTS}
+use Rattle.idn2_options.specs.Names.{after_name, among_name, check_ruleset_name, check_table_name, decode_name, jump_name, limit_name, lookup_name, register_name, ruleset_name, steps_name, tries_name, variants_name}
 
 -- ---- tests
 
@@ -88,7 +88,7 @@ neither-given (Some x) b none = absurd (let bad : true ≡ false = none in cc)
 -- ---- the rules, one by one
 
 pub record Rules (rows : List Row) : Type 0 where
-  pub one : IsOne (has_flag LOOKUP.now rows) (has_flag REGISTER.now rows) (has_flag DECODE.now rows) (lists rows) (checks rows)
+  pub one : IsOne (has_flag lookup_name rows) (has_flag register_name rows) (has_flag decode_name rows) (lists rows) (checks rows)
   pub bounds : listing_options_fit rows ≡ true
   pub jumps : jumps_by_table rows ≡ true
   pub among : suits_among rows ≡ true
@@ -103,7 +103,7 @@ rules rows allowed =
     let among = and_parts (names_one_mode rows && listing_options_fit rows && jumps_by_table rows) (suits_among rows) counts.0 in
     let jumps = and_parts (names_one_mode rows && listing_options_fit rows) (jumps_by_table rows) among.0 in
     let first = and_parts (names_one_mode rows) (listing_options_fit rows) jumps.0 in
-    record { one = fewer-named _ _ _ (value_of VARIANTS.now rows) (value_of RULESET.now rows) (value_of CHECK_TABLE.now rows) (value_of CHECK_RULESET.now rows) (le-test _ 1 first.0); bounds = first.1; jumps = jumps.1; among = among.1; alone = last.1 }
+    record { one = fewer-named _ _ _ (value_of variants_name rows) (value_of ruleset_name rows) (value_of check_table_name rows) (value_of check_ruleset_name rows) (le-test _ 1 first.0); bounds = first.1; jumps = jumps.1; among = among.1; alone = last.1 }
 
 -- a test of two that holds nowhere but in another mode
 both-false : (a b : Bool) → (a ≡ true → b ≡ true → ⊥) → (a && b) ≡ false
@@ -112,44 +112,44 @@ both-false true false never = refl
 both-false false b never = refl
 
 -- the mode is another than the listing
-no-listing : (rows : List Row) → Rules rows → mode_of rows ≢ Variants → (lists rows && not (has_flag JUMP.now rows)) ≡ false
-no-listing rows r other = both-false (lists rows) (not (has_flag JUMP.now rows)) (λ named listed.
-    other (variants-alone _ _ _ _ _ _ r.one named ∙ ap (λ (j : Bool). cond j Jump Variants) (not-true (has_flag JUMP.now rows) listed)))
+no-listing : (rows : List Row) → Rules rows → mode_of rows ≢ Variants → (lists rows && not (has_flag jump_name rows)) ≡ false
+no-listing rows r other = both-false (lists rows) (not (has_flag jump_name rows)) (λ named listed.
+    other (variants-alone _ _ _ _ _ _ r.one named ∙ ap (λ (j : Bool). cond j Jump Variants) (not-true (has_flag jump_name rows) listed)))
 
 no-check : (rows : List Row) → Rules rows → mode_of rows ≢ CheckTable → checks rows ≡ false
 no-check rows r other = false_from_ne_true (checks rows) (λ named. other (check-alone _ _ _ _ _ _ r.one named))
 
 -- nothing that bounds a listing is given
 record NoBounds (rows : List Row) : Type 0 where
-  after : value_of AFTER.now rows ≡ None
-  limit : value_of LIMIT.now rows ≡ None
-  tries : value_of TRIES.now rows ≡ None
-  steps : value_of STEPS.now rows ≡ None
-  among : value_of AMONG.now rows ≡ None
+  after : value_of after_name rows ≡ None
+  limit : value_of limit_name rows ≡ None
+  tries : value_of tries_name rows ≡ None
+  steps : value_of steps_name rows ≡ None
+  among : value_of among_name rows ≡ None
 
 none-given : (rows : List Row) → Rules rows → mode_of rows ≢ Variants → NoBounds rows
 none-given rows r other =
-    let after = has_value AFTER.now rows in
-    let limit = has_value LIMIT.now rows in
-    let tries = has_value TRIES.now rows in
-    let among = has_value AMONG.now rows in
-    let steps = has_value STEPS.now rows in
-    let none = neither (after || limit || tries || steps) among (second-test (lists rows && not (has_flag JUMP.now rows)) (not (after || limit || tries || steps || among)) r.bounds (no-listing rows r other)) in
+    let after = has_value after_name rows in
+    let limit = has_value limit_name rows in
+    let tries = has_value tries_name rows in
+    let among = has_value among_name rows in
+    let steps = has_value steps_name rows in
+    let none = neither (after || limit || tries || steps) among (second-test (lists rows && not (has_flag jump_name rows)) (not (after || limit || tries || steps || among)) r.bounds (no-listing rows r other)) in
     let third = neither (after || limit || tries) steps (ap not none.0) in
     let second = neither (after || limit) tries (ap not third.0) in
     let first = neither after limit (ap not second.0) in
     record {
-      after = not-given (value_of AFTER.now rows) first.0;
-      limit = not-given (value_of LIMIT.now rows) first.1;
-      tries = not-given (value_of TRIES.now rows) second.1;
-      steps = not-given (value_of STEPS.now rows) third.1;
-      among = not-given (value_of AMONG.now rows) none.1;
+      after = not-given (value_of after_name rows) first.0;
+      limit = not-given (value_of limit_name rows) first.1;
+      tries = not-given (value_of tries_name rows) second.1;
+      steps = not-given (value_of steps_name rows) third.1;
+      among = not-given (value_of among_name rows) none.1;
     }
 
 no-bounds : (rows : List Row) → Rules rows → mode_of rows ≢ Variants
-    → (chars (start_of rows) ≡ []) × (option_and_then count_of (value_of LIMIT.now rows) ≡ None)
-    × (unwrap_or (option_and_then count_of (value_of TRIES.now rows)) 1000000 ≡ 1000000)
-    × (option_and_then steps_of (value_of STEPS.now rows) ≡ None)
+    → (chars (start_of rows) ≡ []) × (option_and_then count_of (value_of limit_name rows) ≡ None)
+    × (unwrap_or (option_and_then count_of (value_of tries_name rows)) 1000000 ≡ 1000000)
+    × (option_and_then steps_of (value_of steps_name rows) ≡ None)
 no-bounds rows r other =
     let none = none-given rows r other in (
       ap (λ (o : Option Text). chars (unwrap_or o [])) none.after ∙ chars-nil,
@@ -159,20 +159,20 @@ no-bounds rows r other =
     )
 
 -- where registered labels are named, no number of tries or steps is
-untried : (rows : List Row) → Rules rows → value_of AMONG.now rows ≢ None
-    → (unwrap_or (option_and_then count_of (value_of TRIES.now rows)) 1000000 ≡ 1000000) × (option_and_then steps_of (value_of STEPS.now rows) ≡ None)
+untried : (rows : List Row) → Rules rows → value_of among_name rows ≢ None
+    → (unwrap_or (option_and_then count_of (value_of tries_name rows)) 1000000 ≡ 1000000) × (option_and_then steps_of (value_of steps_name rows) ≡ None)
 untried rows r named =
-    let given : not (has_value AMONG.now rows) ≡ false = false_from_ne_true (not (has_value AMONG.now rows)) (λ none. named (not-given (value_of AMONG.now rows) (not-true (has_value AMONG.now rows) none))) in
-    let bounds : Bool = not (has_value TRIES.now rows) && not (has_value STEPS.now rows) in
+    let given : not (has_value among_name rows) ≡ false = false_from_ne_true (not (has_value among_name rows)) (λ none. named (not-given (value_of among_name rows) (not-true (has_value among_name rows) none))) in
+    let bounds : Bool = not (has_value tries_name rows) && not (has_value steps_name rows) in
     let rest = and_parts bounds (not (bytes_eq (file_of rows) (among_of rows)))
-    (second-test (not (has_value AMONG.now rows)) (bounds && not (bytes_eq (file_of rows) (among_of rows))) r.among given) in
-    let both = and_parts (not (has_value TRIES.now rows)) (not (has_value STEPS.now rows)) rest.0 in (
-      ap (λ (o : Option Text). unwrap_or (option_and_then count_of o) 1000000) (not-given (value_of TRIES.now rows) (not-true (has_value TRIES.now rows) both.0)),
-      ap (option_and_then steps_of) (not-given (value_of STEPS.now rows) (not-true (has_value STEPS.now rows) both.1)),
+    (second-test (not (has_value among_name rows)) (bounds && not (bytes_eq (file_of rows) (among_of rows))) r.among given) in
+    let both = and_parts (not (has_value tries_name rows)) (not (has_value steps_name rows)) rest.0 in (
+      ap (λ (o : Option Text). unwrap_or (option_and_then count_of o) 1000000) (not-given (value_of tries_name rows) (not-true (has_value tries_name rows) both.0)),
+      ap (option_and_then steps_of) (not-given (value_of steps_name rows) (not-true (has_value steps_name rows) both.1)),
     )
 
 no-variants : (rows : List Row) → Rules rows → mode_of rows ≢ Variants → mode_of rows ≢ Jump → lists rows ≡ false
-no-variants rows r other jump = false_from_ne_true (lists rows) (λ named. either (has_flag JUMP.now rows) (variants-alone _ _ _ _ _ _ r.one named))
+no-variants rows r other jump = false_from_ne_true (lists rows) (λ named. either (has_flag jump_name rows) (variants-alone _ _ _ _ _ _ r.one named))
   where
     either : (j : Bool) → mode_of rows ≡ cond j Jump Variants → ⊥
     either true is = jump is
@@ -187,13 +187,13 @@ no-file rows r variants jump check =
 -- so nothing is read as a ruleset
 no-ruleset : (rows : List Row) → Rules rows → mode_of rows ≢ Variants → mode_of rows ≢ Jump → mode_of rows ≢ CheckTable → notation_of rows ≡ Table
 no-ruleset rows r variants jump check =
-    let w = (neither-given (value_of VARIANTS.now rows) (value_of RULESET.now rows) (no-variants rows r variants jump)).1 in
-    let m = (neither-given (value_of CHECK_TABLE.now rows) (value_of CHECK_RULESET.now rows) (no-check rows r check)).1 in
-    ap (λ (b : Bool). cond (b || has_value CHECK_RULESET.now rows) Ruleset Table) w ∙ ap (λ (b : Bool). cond b Ruleset Table) m
+    let w = (neither-given (value_of variants_name rows) (value_of ruleset_name rows) (no-variants rows r variants jump)).1 in
+    let m = (neither-given (value_of check_table_name rows) (value_of check_ruleset_name rows) (no-check rows r check)).1 in
+    ap (λ (b : Bool). cond (b || has_value check_ruleset_name rows) Ruleset Table) w ∙ ap (λ (b : Bool). cond b Ruleset Table) m
 
 alone : (rows : List Row) → Rules rows → mode_of rows ≡ CheckTable → strings_of rows ≡ []
 alone rows r is =
-    let named = check-named (has_flag REGISTER.now rows) (has_flag DECODE.now rows) (lists rows) (has_flag JUMP.now rows) (checks rows) is in
+    let named = check-named (has_flag register_name rows) (has_flag decode_name rows) (lists rows) (has_flag jump_name rows) (checks rows) is in
     let none = second-test (not (checks rows)) (not (has_strings rows)) r.alone (ap not named) in
     no-strings (strings_of rows) (false_from_ne_true (has_strings rows) (λ some. let bad : false ≡ true = ap not (sym some) ∙ none in cc))
 

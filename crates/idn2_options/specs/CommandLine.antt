@@ -3,7 +3,7 @@
 use Rattle.std.specs.Prelude.{ℕ, ◌^◌, ◌-◌, Some, codes, true}
 use Rattle.clap.specs.Words.{App, Rule, Text, new_app, new_rule, with_rule}
 use Rattle.clap.specs.declared.builder.ArgAction.TheVariants.{SetTrue, Set, Append}
-use Rattle.idn2_options.specs.declared.command_line.arguments.TheConstants.{AFTER, AMONG, CHECK_RULESET, CHECK_TABLE, DECODE, EXPLAIN, JSON, JUMP, LIMIT, LOOKUP, QUIET, REGISTER, RULESET, STD3, STEPS, STRINGS, TR46NT, TRIES, VARIANTS}
+use Rattle.idn2_options.specs.Names.{after_name, among_name, check_ruleset_name, check_table_name, decode_letter, decode_name, explain_name, json_name, jump_name, limit_name, lookup_letter, lookup_name, quiet_name, register_letter, register_name, ruleset_name, standard_name, std3_name, steps_name, strings_name, tr46nt_letter, tr46nt_name, tries_name, variants_name}
 
 -- a flag, `--name`
 abbrev pub flag_rule : Text → Rule
@@ -27,40 +27,41 @@ strings_rule name = record (new_rule name) {
 -- `-l`, `-r`, `-d`
 abbrev pub with_modes : App → App
 with_modes a = with_rule (with_rule (with_rule a
-    (short_flag_rule LOOKUP.now 108))
-    (short_flag_rule REGISTER.now 114))
-    (short_flag_rule DECODE.now 100)
+    (short_flag_rule lookup_name lookup_letter))
+    (short_flag_rule register_name register_letter))
+    (short_flag_rule decode_name decode_letter)
 
 -- `--variants FILE`, `--check-table FILE`, `--ruleset FILE`, `--check-ruleset FILE`
 abbrev pub with_tables : App → App
 with_tables a = with_rule (with_rule (with_rule (with_rule a
-    (value_rule VARIANTS.now))
-    (value_rule CHECK_TABLE.now))
-    (value_rule RULESET.now))
-    (value_rule CHECK_RULESET.now)
+    (value_rule variants_name))
+    (value_rule check_table_name))
+    (value_rule ruleset_name))
+    (value_rule check_ruleset_name)
 
 -- `--among FILE`, `--jump`
 abbrev pub with_collisions : App → App
 with_collisions a = with_rule (with_rule a
-    (value_rule AMONG.now))
-    (flag_rule JUMP.now)
+    (value_rule among_name))
+    (flag_rule jump_name)
 
--- `-N`, `--usestd3asciirules`, `--explain`, `--json`, `--quiet`
+-- `-N`, `--usestd3asciirules`, `--standard`, `--explain`, `--json`, `--quiet`
 abbrev pub with_switches : App → App
-with_switches a = with_rule (with_rule (with_rule (with_rule (with_rule a
-    (short_flag_rule TR46NT.now 78))
-    (flag_rule STD3.now))
-    (flag_rule EXPLAIN.now))
-    (flag_rule JSON.now))
-    (flag_rule QUIET.now)
+with_switches a = with_rule (with_rule (with_rule (with_rule (with_rule (with_rule a
+    (short_flag_rule tr46nt_name tr46nt_letter))
+    (flag_rule std3_name))
+    (flag_rule standard_name))
+    (flag_rule explain_name))
+    (flag_rule json_name))
+    (flag_rule quiet_name)
 
 -- `--after TEXT`, `--limit N`, `--tries N`, `--steps N`
 abbrev pub with_bounds : App → App
 with_bounds a = with_rule (with_rule (with_rule (with_rule a
-    (value_rule AFTER.now))
-    (value_rule LIMIT.now))
-    (value_rule TRIES.now))
-    (value_rule STEPS.now)
+    (value_rule after_name))
+    (value_rule limit_name))
+    (value_rule tries_name))
+    (value_rule steps_name)
 
 -- a command of this name that has a version to show
 abbrev pub versioned_app : Text → App
@@ -69,4 +70,4 @@ versioned_app name = record (new_app name) { top = record (new_app name).top { h
 -- `idn2`; building it adds `-h`, `--help`, `-V` and `--version`
 unfoldable pub app : App
 app = with_rule (with_bounds (with_switches (with_collisions (with_tables (with_modes (versioned_app (codes "idn2")))))))
-    (strings_rule STRINGS.now)
+    (strings_rule strings_name)

@@ -4,15 +4,15 @@ use Rattle.clap.specs.Words.{Row}
 use Rattle.idn2_options.specs.Words.{has_flag, checks, is_allowed, lists, mode_of}
 use Rattle.idn2_options.specs.declared.command_line.mode.Mode.{Mode}
 use Rattle.idn2_options.specs.declared.command_line.mode.Mode.TheVariants.{Lookup, Register, Decode, Variants, Jump, CheckTable}
-use Rattle.idn2_options.specs.declared.command_line.arguments.TheConstants.{DECODE, JUMP, LOOKUP, REGISTER}
+use Rattle.idn2_options.specs.Names.{decode_name, jump_name, lookup_name, register_name}
 
 -- a word of the command line names the mode
 abbrev pub is_named : Mode → List Row → Bool
-is_named Lookup rows = has_flag LOOKUP.now rows
-is_named Register rows = has_flag REGISTER.now rows
-is_named Decode rows = has_flag DECODE.now rows
-is_named Variants rows = lists rows && not (has_flag JUMP.now rows)
-is_named Jump rows = has_flag JUMP.now rows
+is_named Lookup rows = has_flag lookup_name rows
+is_named Register rows = has_flag register_name rows
+is_named Decode rows = has_flag decode_name rows
+is_named Variants rows = lists rows && not (has_flag jump_name rows)
+is_named Jump rows = has_flag jump_name rows
 is_named CheckTable rows = checks rows
 
 -- the mode is the one that is named, or lookup where none is; where two are named, the words are refused

@@ -1,6 +1,7 @@
 -- The options of a run, as contracts see them.
 use Rattle.std.specs.Prelude.{◌≡◌, ◌≢◌, ◌≤◌, ℕ, Bool, true, false, ◌||◌, List, [], Option, None, IfSome, length}
 use Rattle.idn_text.specs.Points.{AreScalarValues}
+use Rattle.idn_class.specs.declared.properties.Properties.{Properties}
 use Rattle.idn2_options.specs.declared.command_line.form.Form.{Form}
 use Rattle.idn2_options.specs.declared.command_line.form.Form.TheVariants.{Plain, Json}
 use Rattle.variant_table.specs.declared.version.Notation.{Notation}
@@ -13,6 +14,7 @@ use Rattle.idn2_options.specs.declared.command_line.mode.Mode.TheVariants.{Varia
 pub record Settings : Type 0 where
   pub mode : Mode
   pub std3 : Bool
+  pub properties : Properties
   pub explain : Bool
   pub form : Form
   pub file : List ℕ

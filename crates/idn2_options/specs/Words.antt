@@ -12,6 +12,8 @@ use Rattle.clap.specs.Words.{Row, Text, all_of, fault_of, first_of, matches_of, 
 use Rattle.clap.specs.Kinds.{Kinds}
 use Rattle.clap.specs.declared.error.ErrorKind.{ErrorKind}
 use Rattle.clap.specs.declared.error.ErrorKind.TheVariants.{DisplayHelp, DisplayVersion, OutOfMemory}
+use Rattle.idn_class.specs.declared.properties.Properties.{Properties}
+use Rattle.idn_class.specs.declared.properties.Properties.TheVariants.{Profile, Unicode}
 use Rattle.variant_table.specs.declared.version.Notation.{Notation}
 use Rattle.variant_table.specs.declared.version.Notation.TheVariants.{Table, Ruleset}
 use Rattle.idn2_options.specs.CommandLine.{app}
@@ -22,7 +24,7 @@ use Rattle.idn2_options.specs.declared.command_line.mode.Mode.{Mode}
 use Rattle.idn2_options.specs.declared.command_line.mode.Mode.TheVariants.{Lookup, Register, Decode, Variants, Jump, CheckTable}
 use Rattle.idn2_options.specs.declared.command_line.usage.Usage.{Usage}
 use Rattle.idn2_options.specs.declared.command_line.usage.Usage.TheVariants.{Bad, Show, Memory}
-use Rattle.idn2_options.specs.declared.command_line.arguments.TheConstants.{AFTER, AMONG, CHECK_RULESET, CHECK_TABLE, DECODE, EXPLAIN, JSON, JUMP, LIMIT, LOOKUP, REGISTER, RULESET, STD3, STEPS, STRINGS, TRIES, VARIANTS}
+use Rattle.idn2_options.specs.Names.{after_name, among_name, check_ruleset_name, check_table_name, decode_name, explain_name, json_name, jump_name, limit_name, lookup_name, register_name, ruleset_name, standard_name, std3_name, steps_name, strings_name, tries_name, variants_name}
 
 -- ---- what `clap` found
 
@@ -40,7 +42,7 @@ has_value name rows = is_some (value_of name rows)
 
 -- the words that belong to no option
 abbrev pub strings_of : List Row → List Text
-strings_of rows = unwrap_or (all_of STRINGS.now rows) []
+strings_of rows = unwrap_or (all_of strings_name rows) []
 
 -- there are some
 abbrev pub has_strings : List Row → Bool
@@ -74,13 +76,13 @@ is_count_if_given name rows = option_map_or (λ text. is_some (count_of text)) (
 
 -- `--steps` is left out, or its value is a number of steps
 abbrev pub is_bound_if_given : List Row → Bool
-is_bound_if_given rows = option_map_or (λ text. is_some (steps_of text)) (value_of STEPS.now rows) true
+is_bound_if_given rows = option_map_or (λ text. is_some (steps_of text)) (value_of steps_name rows) true
 
 -- ---- files
 
 -- the file by which variants are listed or requests are answered: a table or a ruleset
 abbrev pub listing_file : List Row → Option Text
-listing_file rows = option_or (value_of VARIANTS.now rows) (value_of RULESET.now rows)
+listing_file rows = option_or (value_of variants_name rows) (value_of ruleset_name rows)
 
 -- there is one
 abbrev pub lists : List Row → Bool
@@ -88,7 +90,7 @@ lists rows = is_some (listing_file rows)
 
 -- the file that is checked: a table or a ruleset
 abbrev pub checked_file : List Row → Option Text
-checked_file rows = option_or (value_of CHECK_TABLE.now rows) (value_of CHECK_RULESET.now rows)
+checked_file rows = option_or (value_of check_table_name rows) (value_of check_ruleset_name rows)
 
 -- there is one
 abbrev pub checks : List Row → Bool
@@ -100,48 +102,48 @@ file_of rows = unwrap_or (listing_file rows) (unwrap_or (checked_file rows) [])
 
 -- as what it is read
 abbrev pub notation_of : List Row → Notation
-notation_of rows = if has_value RULESET.now rows || has_value CHECK_RULESET.now rows then Ruleset else Table
+notation_of rows = if has_value ruleset_name rows || has_value check_ruleset_name rows then Ruleset else Table
 
 -- the name of the file of registered labels; empty where there is none
 abbrev pub among_of : List Row → Text
-among_of rows = unwrap_or (value_of AMONG.now rows) []
+among_of rows = unwrap_or (value_of among_name rows) []
 
 -- ---- the program's own rules
 
 -- at most one of the seven words that name a mode is given
 abbrev pub names_one_mode : List Row → Bool
 names_one_mode rows = nat_le (count_by (λ named. named)
-    (has_flag LOOKUP.now rows ∷ has_flag REGISTER.now rows ∷ has_flag DECODE.now rows
-    ∷ has_value VARIANTS.now rows ∷ has_value CHECK_TABLE.now rows
-    ∷ has_value RULESET.now rows ∷ has_value CHECK_RULESET.now rows ∷ [])) 1
+    (has_flag lookup_name rows ∷ has_flag register_name rows ∷ has_flag decode_name rows
+    ∷ has_value variants_name rows ∷ has_value check_table_name rows
+    ∷ has_value ruleset_name rows ∷ has_value check_ruleset_name rows ∷ [])) 1
 
 -- `--after`, `--limit`, `--tries`, `--steps` or `--among` is given, which say what a listing has
 abbrev pub has_listing_option : List Row → Bool
 has_listing_option rows =
-    has_value AFTER.now rows || has_value LIMIT.now rows || has_value TRIES.now rows || has_value STEPS.now rows || has_value AMONG.now rows
+    has_value after_name rows || has_value limit_name rows || has_value tries_name rows || has_value steps_name rows || has_value among_name rows
 
 -- these come with `--variants` or `--ruleset` alone, and not with `--jump`, which lists nothing
 abbrev pub listing_options_fit : List Row → Bool
-listing_options_fit rows = (lists rows && not (has_flag JUMP.now rows)) || not (has_listing_option rows)
+listing_options_fit rows = (lists rows && not (has_flag jump_name rows)) || not (has_listing_option rows)
 
 -- `--jump` comes with `--variants` or `--ruleset` alone
 abbrev pub jumps_by_table : List Row → Bool
-jumps_by_table rows = lists rows || not (has_flag JUMP.now rows)
+jumps_by_table rows = lists rows || not (has_flag jump_name rows)
 
 -- with `--among` nothing is tried, and no label is passed over, so `--tries` and `--steps` do not come with it; and its file is
 -- not that of the table
 abbrev pub suits_among : List Row → Bool
 suits_among rows =
-    not (has_value AMONG.now rows)
-    || (not (has_value TRIES.now rows) && not (has_value STEPS.now rows) && not (bytes_eq (file_of rows) (among_of rows)))
+    not (has_value among_name rows)
+    || (not (has_value tries_name rows) && not (has_value steps_name rows) && not (bytes_eq (file_of rows) (among_of rows)))
 
 -- `--limit` and `--tries` have a count, and `--steps` a number of steps
 abbrev pub has_counts : List Row → Bool
-has_counts rows = is_count_if_given LIMIT.now rows && is_count_if_given TRIES.now rows && is_bound_if_given rows
+has_counts rows = is_count_if_given limit_name rows && is_count_if_given tries_name rows && is_bound_if_given rows
 
 -- the text of `--after`, which is empty where it is left out
 abbrev pub start_of : List Row → Text
-start_of rows = unwrap_or (value_of AFTER.now rows) []
+start_of rows = unwrap_or (value_of after_name rows) []
 
 -- that text has at most 1,024 bytes
 abbrev pub has_short_start : List Row → Bool
@@ -162,31 +164,36 @@ is_allowed rows =
 -- the mode that is named; lookup where none is
 abbrev pub mode_of : List Row → Mode
 mode_of rows =
-    if has_flag REGISTER.now rows then Register
-    else (if has_flag DECODE.now rows then Decode
-    else (if lists rows then (if has_flag JUMP.now rows then Jump else Variants)
+    if has_flag register_name rows then Register
+    else (if has_flag decode_name rows then Decode
+    else (if lists rows then (if has_flag jump_name rows then Jump else Variants)
     else (if checks rows then CheckTable
     else Lookup)))
 
 -- objects of JSON if `--json` is given
 abbrev pub form_of : List Row → Form
-form_of rows = if has_flag JSON.now rows then Json else Plain
+form_of rows = if has_flag json_name rows then Json else Plain
+
+-- Unicode's own data if `--standard` is given
+abbrev pub properties_of : List Row → Properties
+properties_of rows = if has_flag standard_name rows then Unicode else Profile
 
 -- the options, part by part
 abbrev pub settings_of : List Row → Settings
 settings_of rows = record {
   mode = mode_of rows;
-  std3 = has_flag STD3.now rows;
-  explain = has_flag EXPLAIN.now rows;
+  std3 = has_flag std3_name rows;
+  properties = properties_of rows;
+  explain = has_flag explain_name rows;
   form = form_of rows;
   file = file_of rows;
   notation = notation_of rows;
   strings = strings_of rows;
   after = chars (start_of rows);
-  limit = option_and_then count_of (value_of LIMIT.now rows);
-  tries = unwrap_or (option_and_then count_of (value_of TRIES.now rows)) 1000000;
-  steps = option_and_then steps_of (value_of STEPS.now rows);
-  among = value_of AMONG.now rows;
+  limit = option_and_then count_of (value_of limit_name rows);
+  tries = unwrap_or (option_and_then count_of (value_of tries_name rows)) 1000000;
+  steps = option_and_then steps_of (value_of steps_name rows);
+  among = value_of among_name rows;
   registered = None;
 }
 

@@ -1,6 +1,7 @@
 //! The words of the command line: from words to options.
 
 pub(crate) mod arguments;
+pub(crate) mod broken_rule;
 pub(crate) mod command;
 pub(crate) mod counts;
 pub(crate) mod form;
@@ -9,4 +10,5 @@ pub(crate) mod options;
 pub(crate) mod rules;
 pub(crate) mod strings;
 pub(crate) mod usage;
+pub(crate) mod usage_cause;
 pub(crate) mod words;

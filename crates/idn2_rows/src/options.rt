@@ -1,8 +1,8 @@
 //! What the words of the command line request: options, help, the version, or nothing that can be done.
-use idn2_cli::{Form, Options, Usage, input_text, read_options};
+use idn_class::Properties;
+use idn2_options::{Form, Options, Usage, input_text, read_options};
 use std::alloc::{AllocError, Global};
 use std::test::Fail;
-use unicode::UNICODE_VERSION;
 
 /// The options of a command line, which is written with `|` between its words.
 fn read(alloc: Global, line: &str) -> Result<Options, Usage> {
@@ -33,6 +33,7 @@ fn summary_of(alloc: Global, line: &str) -> Result<String, AllocError> {
             let Options {
                 mode,
                 std3,
+                properties,
                 explain,
                 form,
                 file,
@@ -48,8 +49,12 @@ fn summary_of(alloc: Global, line: &str) -> Result<String, AllocError> {
                 Form::Plain => "",
                 Form::Json => "Json ",
             };
+            let properties = match properties {
+                Properties::Profile => "",
+                Properties::Unicode => "Unicode ",
+            };
             format!(in alloc;
-                "{form}{mode:?} {std3} {explain} {file:?} {notation:?} {after:?} {limit:?} {tries} {steps:?} {among:?} {input:?}"
+                "{form}{properties}{mode:?} {std3} {explain} {file:?} {notation:?} {after:?} {limit:?} {tries} {steps:?} {among:?} {input:?}"
             )
         }
         Err(Usage::Bad) => String::from_str(alloc, "bad"),
@@ -59,7 +64,7 @@ fn summary_of(alloc: Global, line: &str) -> Result<String, AllocError> {
 }
 
 /// Words, separated by bars, and what they are read as.
-const READ: [(&str, &str); 24] = [
+const READ: [(&str, &str); 26] = [
     (
         "idn2",
         "Lookup false false \"\" Table [] None 1000000 None None \"none\"",
@@ -153,6 +158,14 @@ const READ: [(&str, &str); 24] = [
         "CheckTable false false \"t\" Ruleset [] None 1000000 None None \"none\"",
     ),
     (
+        "idn2|-r|--standard|faß",
+        "Unicode Register false false \"\" Table [] None 1000000 None None \"faß\\n\"",
+    ),
+    (
+        "idn2|--standard|--variants|t|--among=r|--json",
+        "Json Unicode Variants false false \"t\" Table [] None 1000000 None Some(\"r\") \"none\"",
+    ),
+    (
         "idn2|--variants|t|--steps=1000000000000000000",
         "Variants false false \"t\" Table [] None 1000000 Some(1000000000000000000) None \"none\"",
     ),
@@ -164,26 +177,5 @@ fn read_as_options(rt: HostRuntime) -> Result<(), Fail> {
         let got = summary_of(rt.alloc(), line)?;
         assert_eq!(rt; got.as_str(), want, "at {line}");
     }
-    Ok(())
-}
-
-#[test]
-fn longest_start(rt: HostRuntime) -> Result<(), Fail> {
-    let longest = "a".repeat(rt.alloc(), 1_024)?;
-    let line = format!(in rt.alloc(); "idn2|--variants|t|x|--after|{longest}")?;
-    let options = read(rt.alloc(), line.as_str())?;
-    assert_eq!(rt; options.after.len(), 1_024);
-    let line = format!(in rt.alloc(); "idn2|--variants|t|x|--after|{longest}a")?;
-    let got = summary_of(rt.alloc(), line.as_str())?;
-    assert_eq!(rt; got.as_str(), "bad", "a start of 1,025 bytes");
-    Ok(())
-}
-
-#[test]
-fn shown_as_text(rt: HostRuntime) -> Result<(), Fail> {
-    let (major, minor, update) = UNICODE_VERSION;
-    let version = format!(in rt.alloc(); "idn2 0.1.0 (Unicode {major}.{minor}.{update})\n")?;
-    let got = summary_of(rt.alloc(), "idn2|--version|--bogus")?;
-    assert_eq!(rt; got.as_str(), version.as_str());
     Ok(())
 }

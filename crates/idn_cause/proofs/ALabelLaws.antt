@@ -26,6 +26,7 @@ use Rattle.idn_cause.specs.Causes.{cause_of, IsCause}
 use Rattle.idn_cause.specs.ALabelCauses.{past_ascii_or, past_ascii, code_fault, other_a_label, undecoded_cause, decoded_cause, cause_by_code, a_label_cause, IsCodeFault, IsDecodedCause, IsALabelCause}
 use Rattle.idn_cause.proofs.CauseLaws.{cause-is, fault-has_cause}
 use Rattle.idn_label.proofs.RequirementLemmas.{not_empty}
+use Rattle.idn_class.specs.declared.properties.Properties.{Properties}
 
 -- ---- why a code stands for no label
 
@@ -116,10 +117,11 @@ other-told given label None cause h = by_test (bytes_eq (a_label_of label) given
         let is : Other (record { items = a_label_of label }) ≡ cause = cc in
         (refl, λ same. let clash : true ≡ false = sym ((bytes_decides _ _).1 same) ∙ e in cc, sym is)
 
-other-from : (given label : List ℕ) → first_fault label ≡ None → a_label_of label ≢ given → other_a_label given label (first_fault label) ≡ Some (Other (record { items = a_label_of label }))
-other-from given label none other =
-    ap (other_a_label given label) none
-    ∙ ap (λ b. cond b None (Some (Other (record { items = a_label_of label })))) (false_from_ne_true (bytes_eq (a_label_of label) given) (λ h. other ((bytes_decides _ _).0 h)))
+module _ (properties : Properties) where
+  other-from : (given label : List ℕ) → first_fault properties label ≡ None → a_label_of label ≢ given → other_a_label given label (first_fault properties label) ≡ Some (Other (record { items = a_label_of label }))
+  other-from given label none other =
+      ap (other_a_label given label) none
+      ∙ ap (λ b. cond b None (Some (Other (record { items = a_label_of label })))) (false_from_ne_true (bytes_eq (a_label_of label) given) (λ h. other ((bytes_decides _ _).0 h)))
 
 -- ---- a fault of what the code stands for
 
@@ -127,51 +129,52 @@ mapped : (told : Option Cause) (cause : ALabelCause) → option_map Decoded told
 mapped None cause h = let clash : None ≡ Some cause = h in cc
 mapped (Some of_label) cause h = let same : Decoded of_label ≡ cause = cc in (of_label, refl, sym same)
 
-decoded-is : (given label : List ℕ) (refusal : Refusal) (cause : ALabelCause) → decoded_code (drop 4 given) ≡ Ok label → (option_map Decoded (cause_of label refusal) ≡ Some cause) ↔ IsDecodedCause given refusal cause
-decoded-is given label refusal cause code = (
-  λ h. let found = mapped (cause_of label refusal) cause h in (label, found.0, code, (cause-is label refusal found.0).0 found.1, found.2),
-  λ is.
-      let same = same_label is.0 label (decoded_code (drop 4 given)) is.2 code in
-      let of_label = subst (λ l. IsCause l refusal is.1) same is.3 in
-      ap (option_map Decoded) ((cause-is label refusal is.1).1 of_label) ∙ ap Some (sym is.4),
-)
+module _ (properties : Properties) where
+  decoded-is : (given label : List ℕ) (refusal : Refusal) (cause : ALabelCause) → decoded_code (drop 4 given) ≡ Ok label → (option_map Decoded (cause_of properties label refusal) ≡ Some cause) ↔ IsDecodedCause properties given refusal cause
+  decoded-is given label refusal cause code = (
+    λ h. let found = mapped (cause_of properties label refusal) cause h in (label, found.0, code, (cause-is properties label refusal found.0).0 found.1, found.2),
+    λ is.
+        let same = same_label is.0 label (decoded_code (drop 4 given)) is.2 code in
+        let of_label = subst (λ l. IsCause properties l refusal is.1) same is.3 in
+        ap (option_map Decoded) ((cause-is properties label refusal is.1).1 of_label) ∙ ap Some (sym is.4),
+  )
 
-undecoded-is : (given : List ℕ) (refusal none : Refusal) (cause : ALabelCause) → decoded_code (drop 4 given) ≡ Err none → (None ≡ Some cause) ↔ IsDecodedCause given refusal cause
-undecoded-is given refusal none cause code = (
-  λ h. let clash : None ≡ Some cause = h in cc,
-  λ is. let clash : Err none ≡ Ok is.0 = sym code ∙ is.2 in cc,
-)
+  undecoded-is : (given : List ℕ) (refusal none : Refusal) (cause : ALabelCause) → decoded_code (drop 4 given) ≡ Err none → (None ≡ Some cause) ↔ IsDecodedCause properties given refusal cause
+  undecoded-is given refusal none cause code = (
+    λ h. let clash : None ≡ Some cause = h in cc,
+    λ is. let clash : Err none ≡ Ok is.0 = sym code ∙ is.2 in cc,
+  )
 
--- ---- what is told is the cause, and nothing else is
+  -- ---- what is told is the cause, and nothing else is
 
-bad-is : (given : List ℕ) (cause : ALabelCause) (answer : Answer) → decoded_code (drop 4 given) ≡ answer → (cause_by_code given refusals.BadALabel answer ≡ Some cause) ↔ IsALabelCause given refusals.BadALabel cause
-bad-is given cause (Ok label) code = (
-  λ h. let told = other-told given label (first_fault label) cause h in inr (label, code, told.0, told.1, told.2),
-  λ is. elim is [
-    | inl fault ↦ absurd (code_fault-undecoded (drop 4 given) label cause fault code)
-    | inr other ↦
-        let same = same_label other.0 label (decoded_code (drop 4 given)) other.1 code in
-        let none : first_fault label ≡ None = sym (ap first_fault same) ∙ other.2 in
-        let apart : a_label_of label ≢ given = λ e. other.3 (ap a_label_of same ∙ e) in
-        other-from given label none apart ∙ ap (λ l. Some (Other (record { items = a_label_of l }))) (sym same) ∙ ap Some (sym other.4)
-  ],
-)
-bad-is given cause (Err none) code = (
-  λ h. let same : code_fault (drop 4 given) ≡ cause = cc in inl (subst (IsCodeFault (drop 4 given)) same (code_fault-is (drop 4 given) none code)),
-  λ is. elim is [
-    | inl fault ↦ ap Some (code_fault-only (drop 4 given) cause fault)
-    | inr other ↦ let clash : Err none ≡ Ok other.0 = sym code ∙ other.1 in cc
-  ],
-)
+  bad-is : (given : List ℕ) (cause : ALabelCause) (answer : Answer) → decoded_code (drop 4 given) ≡ answer → (cause_by_code properties given refusals.BadALabel answer ≡ Some cause) ↔ IsALabelCause properties given refusals.BadALabel cause
+  bad-is given cause (Ok label) code = (
+    λ h. let told = other-told given label (first_fault properties label) cause h in inr (label, code, told.0, told.1, told.2),
+    λ is. elim is [
+      | inl fault ↦ absurd (code_fault-undecoded (drop 4 given) label cause fault code)
+      | inr other ↦
+          let same = same_label other.0 label (decoded_code (drop 4 given)) other.1 code in
+          let none : first_fault properties label ≡ None = sym (ap (first_fault properties) same) ∙ other.2 in
+          let apart : a_label_of label ≢ given = λ e. other.3 (ap a_label_of same ∙ e) in
+          other-from properties given label none apart ∙ ap (λ l. Some (Other (record { items = a_label_of l }))) (sym same) ∙ ap Some (sym other.4)
+    ],
+  )
+  bad-is given cause (Err none) code = (
+    λ h. let same : code_fault (drop 4 given) ≡ cause = cc in inl (subst (IsCodeFault (drop 4 given)) same (code_fault-is (drop 4 given) none code)),
+    λ is. elim is [
+      | inl fault ↦ ap Some (code_fault-only (drop 4 given) cause fault)
+      | inr other ↦ let clash : Err none ≡ Ok other.0 = sym code ∙ other.1 in cc
+    ],
+  )
 
-by_answer : (given : List ℕ) (refusal : Refusal) (cause : ALabelCause) (answer : Answer) → decoded_code (drop 4 given) ≡ answer → (cause_by_code given refusal answer ≡ Some cause) ↔ IsALabelCause given refusal cause
-by_answer given refusals.BadALabel cause answer code = bad-is given cause answer code
-by_answer given refusal cause (Ok label) code = decoded-is given label refusal cause code
-by_answer given refusal cause (Err none) code = undecoded-is given refusal none cause code
+  by_answer : (given : List ℕ) (refusal : Refusal) (cause : ALabelCause) (answer : Answer) → decoded_code (drop 4 given) ≡ answer → (cause_by_code properties given refusal answer ≡ Some cause) ↔ IsALabelCause properties given refusal cause
+  by_answer given refusals.BadALabel cause answer code = bad-is given cause answer code
+  by_answer given refusal cause (Ok label) code = decoded-is given label refusal cause code
+  by_answer given refusal cause (Err none) code = undecoded-is given refusal none cause code
 
-pub a_label_cause-is : (given : List ℕ) (refusal : Refusal) (cause : ALabelCause) → (a_label_cause given refusal ≡ Some cause) ↔ IsALabelCause given refusal cause
-unfolding a_label_cause
-a_label_cause-is given refusal cause = by_answer given refusal cause (decoded_code (drop 4 given)) refl
+  pub a_label_cause-is : (given : List ℕ) (refusal : Refusal) (cause : ALabelCause) → (a_label_cause properties given refusal ≡ Some cause) ↔ IsALabelCause properties given refusal cause
+  unfolding a_label_cause
+  a_label_cause-is given refusal cause = by_answer given refusal cause (decoded_code (drop 4 given)) refl
 
 -- ---- each fault has its cause
 
@@ -179,11 +182,12 @@ unmapped : (told : Option Cause) → option_map Decoded told ≡ None → told �
 unmapped None h = refl
 unmapped (Some of_label) h = let clash : Some (Decoded of_label) ≡ None = h in cc
 
--- a first fault of what the code stands for
-decoded-told : (given label : List ℕ) (refusal : Refusal) → (cause_of label refusal ≡ None → ⊥) → decoded_cause given label refusal ≡ None → ⊥
-unfolding cause_of
-decoded-told given label refusals.BadALabel some none = some refl
-decoded-told given label refusal some none = some (unmapped (cause_of label refusal) none)
+module _ (properties : Properties) where
+  -- a first fault of what the code stands for
+  decoded-told : (given label : List ℕ) (refusal : Refusal) → (cause_of properties label refusal ≡ None → ⊥) → decoded_cause properties given label refusal ≡ None → ⊥
+  unfolding cause_of
+  decoded-told given label refusals.BadALabel some none = some refl
+  decoded-told given label refusal some none = some (unmapped (cause_of properties label refusal) none)
 
 fault_of : (fault : Option Refusal) (same : Bool) (label : List ℕ) (refusal : Refusal) → unless_fault fault (cond same (Ok label) (Err refusals.BadALabel)) ≡ Err refusal → (fault ≡ Some refusal) ⊎ ((fault ≡ None) × (same ≡ false) × (refusal ≡ refusals.BadALabel))
 fault_of (Some first) same label refusal h = let is : first ≡ refusal = cc in inl (ap Some is)
@@ -199,27 +203,28 @@ code_refusal code refusal is = by_test (length code == 0 || not (is_all_ascii co
     by_test false None e = let same : refusals.BadALabel ≡ refusal = cc in sym same
     by_test false (Some label) e = let clash : Ok label ≡ Err refusal = e in cc
 
-refused_by_code : (given : List ℕ) (refusal refused : Refusal) → u_label_answer given ≡ Err refusal → decoded_code (drop 4 given) ≡ Err refused → refusal ≡ refused
-unfolding u_label_answer
-refused_by_code given refusal refused told code =
-    let both : Err refusal ≡ Err refused = sym told ∙ ap (λ a. and_then a (confirmed given)) code in cc
+module _ (properties : Properties) where
+  refused_by_code : (given : List ℕ) (refusal refused : Refusal) → u_label_answer properties given ≡ Err refusal → decoded_code (drop 4 given) ≡ Err refused → refusal ≡ refused
+  unfolding u_label_answer
+  refused_by_code given refusal refused told code =
+      let both : Err refusal ≡ Err refused = sym told ∙ ap (λ a. and_then a (confirmed properties given)) code in cc
 
-pub a_label_fault-has_cause : (given : List ℕ) (refusal : Refusal) → u_label_answer given ≡ Err refusal → (refusal ≡ refusals.Empty → ⊥) → a_label_cause given refusal ≡ None → ⊥
-unfolding a_label_cause
-a_label_fault-has_cause given refusal told some none = by_code (decoded_code (drop 4 given)) refl none
-  where
-    by_decoded : (label : List ℕ) → decoded_code (drop 4 given) ≡ Ok label → decoded_cause given label refusal ≡ None → ⊥
-    by_decoded label code none =
-        elim (fault_of (first_fault label) (bytes_eq (a_label_of label) given) label refusal (sym (u_label_answer-of given label code) ∙ told)) [
-          | inl fault ↦ decoded-told given label refusal (fault-has_cause label refusal fault some) none
-          | inr other ↦
-              let apart : a_label_of label ≢ given = λ e. let clash : true ≡ false = sym ((bytes_decides _ _).1 e) ∙ other.1 in cc in
-              let clash : Some (Other (record { items = a_label_of label })) ≡ None = sym (other-from given label other.0 apart) ∙ sym (ap (decoded_cause given label) other.2) ∙ none in cc
-        ]
+  pub a_label_fault-has_cause : (given : List ℕ) (refusal : Refusal) → u_label_answer properties given ≡ Err refusal → (refusal ≡ refusals.Empty → ⊥) → a_label_cause properties given refusal ≡ None → ⊥
+  unfolding a_label_cause
+  a_label_fault-has_cause given refusal told some none = by_code (decoded_code (drop 4 given)) refl none
+    where
+      by_decoded : (label : List ℕ) → decoded_code (drop 4 given) ≡ Ok label → decoded_cause properties given label refusal ≡ None → ⊥
+      by_decoded label code none =
+          elim (fault_of (first_fault properties label) (bytes_eq (a_label_of label) given) label refusal (sym (u_label_answer-of properties given label code) ∙ told)) [
+            | inl fault ↦ decoded-told properties given label refusal (fault-has_cause properties label refusal fault some) none
+            | inr other ↦
+                let apart : a_label_of label ≢ given = λ e. let clash : true ≡ false = sym ((bytes_decides _ _).1 e) ∙ other.1 in cc in
+                let clash : Some (Other (record { items = a_label_of label })) ≡ None = sym (other-from properties given label other.0 apart) ∙ sym (ap (decoded_cause properties given label) other.2) ∙ none in cc
+          ]
 
-    by_code : (answer : Answer) → decoded_code (drop 4 given) ≡ answer → cause_by_code given refusal answer ≡ None → ⊥
-    by_code (Ok label) code none = by_decoded label code none
-    by_code (Err refused) code none =
-        let is : refusal ≡ refused = refused_by_code given refusal refused told code in
-        let bad : refusal ≡ refusals.BadALabel = is ∙ code_refusal (drop 4 given) refused code in
-        let clash : Some (code_fault (drop 4 given)) ≡ None = sym (ap (undecoded_cause (drop 4 given)) bad) ∙ none in cc
+      by_code : (answer : Answer) → decoded_code (drop 4 given) ≡ answer → cause_by_code properties given refusal answer ≡ None → ⊥
+      by_code (Ok label) code none = by_decoded label code none
+      by_code (Err refused) code none =
+          let is : refusal ≡ refused = refused_by_code given refusal refused told code in
+          let bad : refusal ≡ refusals.BadALabel = is ∙ code_refusal (drop 4 given) refused code in
+          let clash : Some (code_fault (drop 4 given)) ≡ None = sym (ap (undecoded_cause (drop 4 given)) bad) ∙ none in cc

@@ -33,6 +33,7 @@ use Rattle.idn_cause.proofs.CausePlaces.{barred-both}
 use Rattle.unicode_normalization.proofs.FormsLemmas.{is_in_form-true, is_in_form_from}
 use Rattle.idn_class.specs.Shared.{IsLongestShared}
 use Rattle.idn_label.proofs.FaultLemmas.{code_point_fault-cons}
+use Rattle.idn_class.specs.declared.properties.Properties.{Properties}
 
 -- ---- a cause by a place
 
@@ -52,29 +53,31 @@ none_is : (fault : Option Refusal) → (is_none fault ≡ true) ↔ (fault ≡ N
 none_is None = (λ h. refl, λ h. refl)
 none_is (Some refusal) = (λ h. cc, λ h. cc)
 
-barred-is : (label : List ℕ) (place : ℕ) → (barred_place label ≡ Some place) ↔ IsFirstFailing label (IsPermitted label) place
-barred-is label place =
-    failing_in-is label (λ k. is_none (fault_of_class (class_of (slice_index label k)))) (IsPermitted label) (λ k low. none_is (fault_of_class (class_of (slice_index label k)))) place
+module _ (properties : Properties) where
+  barred-is : (label : List ℕ) (place : ℕ) → (barred_place properties label ≡ Some place) ↔ IsFirstFailing label (IsPermitted properties label) place
+  barred-is label place =
+      failing_in-is label (λ k. is_none (fault_of_class (class_of properties (slice_index label k)))) (IsPermitted properties label) (λ k low. none_is (fault_of_class (class_of properties (slice_index label k)))) place
 
 line_told : (label : List ℕ) (place : ℕ) (told : Option BarringLine) (cause : Cause) → barred_by label place told ≡ Some cause → (line : BarringLine) × (told ≡ Some line) × (cause ≡ Barred place (slice_index label place) line)
 line_told label place None cause h = let clash : None ≡ Some cause = h in cc
 line_told label place (Some line) cause h = let same : Barred place (slice_index label place) line ≡ cause = cc in (line, refl, sym same)
 
-barred_told : (label : List ℕ) (told : Option ℕ) (cause : Cause) → barred_at label told ≡ Some cause → (place : ℕ) × (line : BarringLine) × (told ≡ Some place) × (barring_line (slice_index label place) ≡ Some line) × (cause ≡ Barred place (slice_index label place) line)
-barred_told label None cause h = let clash : None ≡ Some cause = h in cc
-barred_told label (Some place) cause h =
-    let found = line_told label place (barring_line (slice_index label place)) cause h in (place, found.0, refl, found.1, found.2)
+module _ (properties : Properties) where
+  barred_told : (label : List ℕ) (told : Option ℕ) (cause : Cause) → barred_at properties label told ≡ Some cause → (place : ℕ) × (line : BarringLine) × (told ≡ Some place) × (barring_line properties (slice_index label place) ≡ Some line) × (cause ≡ Barred place (slice_index label place) line)
+  barred_told label None cause h = let clash : None ≡ Some cause = h in cc
+  barred_told label (Some place) cause h =
+      let found = line_told label place (barring_line properties (slice_index label place)) cause h in (place, found.0, refl, found.1, found.2)
 
-barred_cause-is : (label : List ℕ) (cause : Cause) → (barred_at label (barred_place label) ≡ Some cause) ↔ IsFirstBarred label cause
-barred_cause-is label cause = (
-  λ h.
-      let found = barred_told label (barred_place label) cause h in
-      (found.0, found.1, found.4, (barred-is label found.0).0 found.2, (barring_line-is (slice_index label found.0) found.1).0 found.3),
-  λ is.
-      ap (barred_at label) ((barred-is label is.0).1 is.3)
-      ∙ ap (barred_by label is.0) ((barring_line-is (slice_index label is.0) is.1).1 is.4)
-      ∙ ap Some (sym is.2),
-)
+  barred_cause-is : (label : List ℕ) (cause : Cause) → (barred_at properties label (barred_place properties label) ≡ Some cause) ↔ IsFirstBarred properties label cause
+  barred_cause-is label cause = (
+    λ h.
+        let found = barred_told label (barred_place properties label) cause h in
+        (found.0, found.1, found.4, (barred-is properties label found.0).0 found.2, (barring_line-is properties (slice_index label found.0) found.1).0 found.3),
+    λ is.
+        ap (barred_at properties label) ((barred-is properties label is.0).1 is.3)
+        ∙ ap (barred_by label is.0) ((barring_line-is properties (slice_index label is.0) is.1).1 is.4)
+        ∙ ap Some (sym is.2),
+  )
 
 -- a class that is not barred may be registered
 permitted_class : (class : Class) → is_barred class ≡ false → fault_of_class class ≡ None
@@ -88,10 +91,11 @@ line_none : (label : List ℕ) (place : ℕ) (told : Option BarringLine) → bar
 line_none label place None h = refl
 line_none label place (Some line) h = let clash : Some (Barred place (slice_index label place) line) ≡ None = h in cc
 
-barred_none : (label : List ℕ) (told : Option ℕ) → ((place : ℕ) → told ≡ Some place → IsFirstFailing label (IsPermitted label) place) → barred_at label told ≡ None → told ≡ None
-barred_none label None first none = refl
-barred_none label (Some place) first none =
-    absurd ((first place refl).fails (permitted_class (class_of (slice_index label place)) ((barring_line-none (slice_index label place)).0 (line_none label place (barring_line (slice_index label place)) none))))
+module _ (properties : Properties) where
+  barred_none : (label : List ℕ) (told : Option ℕ) → ((place : ℕ) → told ≡ Some place → IsFirstFailing label (IsPermitted properties label) place) → barred_at properties label told ≡ None → told ≡ None
+  barred_none label None first none = refl
+  barred_none label (Some place) first none =
+      absurd ((first place refl).fails (permitted_class (class_of properties (slice_index label place)) ((barring_line-none properties (slice_index label place)).0 (line_none label place (barring_line properties (slice_index label place)) none))))
 
 -- ---- hyphens
 
@@ -162,10 +166,11 @@ leading-is (c ∷ label) cause = marked (is_mark c) c label cause
 
 -- ---- the Bidi rule
 
-condition_told : (label : List ℕ) (told : Option Broken) (cause : Cause) → condition_at label told ≡ Some cause → (broken : Broken) × (told ≡ Some broken) × (cause ≡ Condition broken (slice_index label broken.place) (bidi_class (slice_index label broken.place)))
-condition_told label None cause h = let clash : None ≡ Some cause = h in cc
-condition_told label (Some broken) cause h =
-    let same : Condition broken (slice_index label broken.place) (bidi_class (slice_index label broken.place)) ≡ cause = cc in (broken, refl, sym same)
+module _ (properties : Properties) where
+  condition_told : (label : List ℕ) (told : Option Broken) (cause : Cause) → condition_at properties label told ≡ Some cause → (broken : Broken) × (told ≡ Some broken) × (cause ≡ Condition broken (slice_index label broken.place) (bidi_class properties (slice_index label broken.place)))
+  condition_told label None cause h = let clash : None ≡ Some cause = h in cc
+  condition_told label (Some broken) cause h =
+      let same : Condition broken (slice_index label broken.place) (bidi_class properties (slice_index label broken.place)) ≡ cause = cc in (broken, refl, sym same)
 
 -- ---- lengths
 
@@ -187,23 +192,24 @@ not_lt-is a b = (
   λ h. false_from_ne_true (nat_lt a b) (λ low. h ((lt-is a b).0 low)),
 )
 
-length-is : (label : List ℕ) (cause : Cause) → (length_at label ≡ Some cause) ↔ IsCause label refusals.LabelTooLong cause
-length-is label cause =
-    let long = lt-is 63 (length label) in
-    let short = not_lt-is 63 (length label) in
-    let octets = lt-is 63 (length (a_label_of label)) in (
-      λ h.
-          elim (length_told (nat_lt 63 (length label)) (nat_lt 63 (length (a_label_of label))) (length label) (length (a_label_of label)) cause h) [
-            | inl first ↦ inl (long.0 first.0, first.1)
-            | inr second ↦ inr (short.0 second.0, octets.0 second.1, second.2)
-          ],
-      λ is.
-          length_from (nat_lt 63 (length label)) (nat_lt 63 (length (a_label_of label))) (length label) (length (a_label_of label)) cause
-          (elim is [
-            | inl first ↦ inl (long.1 first.0, first.1)
-            | inr second ↦ inr (short.1 second.0, octets.1 second.1, second.2)
-          ]),
-    )
+module _ (properties : Properties) where
+  length-is : (label : List ℕ) (cause : Cause) → (length_at label ≡ Some cause) ↔ IsCause properties label refusals.LabelTooLong cause
+  length-is label cause =
+      let long = lt-is 63 (length label) in
+      let short = not_lt-is 63 (length label) in
+      let octets = lt-is 63 (length (a_label_of label)) in (
+        λ h.
+            elim (length_told (nat_lt 63 (length label)) (nat_lt 63 (length (a_label_of label))) (length label) (length (a_label_of label)) cause h) [
+              | inl first ↦ inl (long.0 first.0, first.1)
+              | inr second ↦ inr (short.0 second.0, octets.0 second.1, second.2)
+            ],
+        λ is.
+            length_from (nat_lt 63 (length label)) (nat_lt 63 (length (a_label_of label))) (length label) (length (a_label_of label)) cause
+            (elim is [
+              | inl first ↦ inl (long.1 first.0, first.1)
+              | inr second ↦ inr (short.1 second.0, octets.1 second.1, second.2)
+            ]),
+      )
 
 -- ---- normalization
 
@@ -279,31 +285,32 @@ form_told label (Some place) cause h =
 
 -- ---- what is told of a refusal is its cause, and nothing else is
 
-pub cause-is : (label : List ℕ) (refusal : Refusal) (cause : Cause) → (cause_of label refusal ≡ Some cause) ↔ IsCause label refusal cause
-unfolding cause_of
-cause-is label refusals.Disallowed cause = barred_cause-is label cause
-cause-is label refusals.Unassigned cause = barred_cause-is label cause
-cause-is label refusals.NotNfc cause = (
-  λ h. let found = form_told label (changed_place label) cause h in let is = (changed-is label found.0).0 found.1 in (found.0, found.2, is.0, is.1),
-  λ is. ap (changed_at label) ((changed-is label is.0).1 (is.2, is.3)) ∙ ap Some (sym is.1),
-)
-cause-is label refusals.Hyphen cause = (
-  λ h. let found = hyphen_told label (misplaced_hyphen label) cause h in (found.0, found.2, (hyphen-is label found.0).0 found.1),
-  λ is. ap (hyphen_at label) ((hyphen-is label is.0).1 is.2) ∙ ap Some (sym is.1),
-)
-cause-is label refusals.LeadingMark cause = leading-is label cause
-cause-is label refusals.ContextJ cause =
-    point-is label (misplaced_joiner label) (JoinerPasses label) (failing_in-is label (joiner_at label) (JoinerPasses label) (joiner_at-rule label)) cause
-cause-is label refusals.ContextO cause =
-    point-is label (misplaced_other label) (OtherPasses label) (failing_in-is label (other_at label) (OtherPasses label) (λ k low. other_at-rule label k)) cause
-cause-is label refusals.Bidi cause = (
-  λ h.
-      let found = condition_told label (broken_condition label) cause h in
-      (found.0.condition, found.0.place, found.2, (broken_condition-is label found.0.condition found.0.place).0 found.1),
-  λ is. ap (condition_at label) ((broken_condition-is label is.0 is.1).1 is.3) ∙ ap Some (sym is.2),
-)
-cause-is label refusals.LabelTooLong cause = length-is label cause
-cause-is label _ cause = (λ h. let clash : None ≡ Some cause = h in cc, λ is. absurd is)
+module _ (properties : Properties) where
+  pub cause-is : (label : List ℕ) (refusal : Refusal) (cause : Cause) → (cause_of properties label refusal ≡ Some cause) ↔ IsCause properties label refusal cause
+  unfolding cause_of
+  cause-is label refusals.Disallowed cause = barred_cause-is properties label cause
+  cause-is label refusals.Unassigned cause = barred_cause-is properties label cause
+  cause-is label refusals.NotNfc cause = (
+    λ h. let found = form_told label (changed_place label) cause h in let is = (changed-is label found.0).0 found.1 in (found.0, found.2, is.0, is.1),
+    λ is. ap (changed_at label) ((changed-is label is.0).1 (is.2, is.3)) ∙ ap Some (sym is.1),
+  )
+  cause-is label refusals.Hyphen cause = (
+    λ h. let found = hyphen_told label (misplaced_hyphen label) cause h in (found.0, found.2, (hyphen-is label found.0).0 found.1),
+    λ is. ap (hyphen_at label) ((hyphen-is label is.0).1 is.2) ∙ ap Some (sym is.1),
+  )
+  cause-is label refusals.LeadingMark cause = leading-is label cause
+  cause-is label refusals.ContextJ cause =
+      point-is label (misplaced_joiner properties label) (JoinerPasses properties label) (failing_in-is label (joiner_at properties label) (JoinerPasses properties label) (joiner_at-rule properties label)) cause
+  cause-is label refusals.ContextO cause =
+      point-is label (misplaced_other label) (OtherPasses label) (failing_in-is label (other_at label) (OtherPasses label) (λ k low. other_at-rule label k)) cause
+  cause-is label refusals.Bidi cause = (
+    λ h.
+        let found = condition_told properties label (broken_condition properties label) cause h in
+        (found.0.condition, found.0.place, found.2, (broken_condition-is properties label found.0.condition found.0.place).0 found.1),
+    λ is. ap (condition_at properties label) ((broken_condition-is properties label is.0 is.1).1 is.3) ∙ ap Some (sym is.2),
+  )
+  cause-is label refusals.LabelTooLong cause = length-is properties label cause
+  cause-is label _ cause = (λ h. let clash : None ≡ Some cause = h in cc, λ is. absurd is)
 
 -- ---- a label's first fault has its cause
 
@@ -333,14 +340,15 @@ first_two (Some y) b x h = inl h
 first_two None (Some y) x h = inr h
 first_two None None x h = cc
 
-points_kind : (label : List ℕ) (x : Refusal) → code_point_fault label ≡ Some x → (x ≡ refusals.Disallowed) ⊎ (x ≡ refusals.Unassigned)
-unfolding code_point_fault
-points_kind [] x h = let clash : None ≡ Some x = h in cc
-points_kind (c ∷ label) x h =
-    elim (first_two (fault_of_class (class_of c)) (code_point_fault label) x (sym (code_point_fault-cons c label) ∙ h)) [
-      | inl here ↦ class_kind (class_of c) x here
-      | inr later ↦ points_kind label x later
-    ]
+module _ (properties : Properties) where
+  points_kind : (label : List ℕ) (x : Refusal) → code_point_fault properties label ≡ Some x → (x ≡ refusals.Disallowed) ⊎ (x ≡ refusals.Unassigned)
+  unfolding code_point_fault
+  points_kind [] x h = let clash : None ≡ Some x = h in cc
+  points_kind (c ∷ label) x h =
+      elim (first_two (fault_of_class (class_of properties c)) (code_point_fault properties label) x (sym (code_point_fault-cons properties c label) ∙ h)) [
+        | inl here ↦ class_kind (class_of properties c) x here
+        | inr later ↦ points_kind label x later
+      ]
 
 point_none : (label : List ℕ) (told : Option ℕ) → point_at label told ≡ None → told ≡ None
 point_none label None h = refl
@@ -354,10 +362,11 @@ hyphen_none : (label : List ℕ) (told : Option ℕ) → hyphen_at label told �
 hyphen_none label None h = refl
 hyphen_none label (Some place) h = let clash : Some (Hyphen place (length label)) ≡ None = h in cc
 
-condition_none : (label : List ℕ) (told : Option Broken) → condition_at label told ≡ None → told ≡ None
-condition_none label None h = refl
-condition_none label (Some broken) h =
-    let clash : Some (Condition broken (slice_index label broken.place) (bidi_class (slice_index label broken.place))) ≡ None = h in cc
+module _ (properties : Properties) where
+  condition_none : (label : List ℕ) (told : Option Broken) → condition_at properties label told ≡ None → told ≡ None
+  condition_none label None h = refl
+  condition_none label (Some broken) h =
+      let clash : Some (Condition broken (slice_index label broken.place) (bidi_class properties (slice_index label broken.place))) ≡ None = h in cc
 
 long_none : (a b : Bool) (n m : ℕ) → (a || b) ≡ true → cond a (Some (Points n)) (cond b (Some (Octets m)) None) ≡ None → ⊥
 long_none true b n m h none = let clash : Some (Points n) ≡ None = none in cc
@@ -392,31 +401,32 @@ not_passed : (test : Bool) → not test ≡ true → test ≡ true → ⊥
 not_passed true h g = cc
 not_passed false h g = cc
 
--- a fault that is told, but for an empty label, is told with its cause
-pub fault-has_cause : (label : List ℕ) (refusal : Refusal) → first_fault label ≡ Some refusal → (refusal ≡ refusals.Empty → ⊥) → cause_of label refusal ≡ None → ⊥
-unfolding first_fault cause_of contextj_ok contexto_ok
-fault-has_cause label refusal told =
-    let Q = λ (r : Refusal). (r ≡ refusals.Empty → ⊥) → cause_of label r ≡ None → ⊥ in
-    of_first Q (length label == 0) (code_point_fault label) (not (is_nfc label)) (has_hyphen_out_of_place label) (leading_mark label) (not (contextj_ok label)) (not (contexto_ok label)) (not (bidi_ok label)) (is_too_long label)
-    (λ empty e none. e refl)
-    (λ x points e none.
-    let barred = λ (place_none : barred_place label ≡ None).
-    let clash : None ≡ Some x = sym ((barred-both label).0 place_none) ∙ points in
-    let never : ⊥ = cc in never in
-    elim (points_kind label x points) [
-      | inl is ↦ barred (barred_none label (barred_place label) (λ place. (barred-is label place).0) (subst (λ r. cause_of label r ≡ None) is none))
-      | inr is ↦ barred (barred_none label (barred_place label) (λ place. (barred-is label place).0) (subst (λ r. cause_of label r ≡ None) is none))
-    ])
-    (λ form e none.
-    let clash : Some (shared label (nfc label)) ≡ None = sym (ap (λ b. cond b None (Some (shared label (nfc label)))) (not-true (is_nfc label) form)) ∙ form_none label (changed_place label) none in
-    let never : ⊥ = cc in never)
-    (λ hyphen e none. hyphen_somewhere label hyphen (hyphen_none label (misplaced_hyphen label) none))
-    (λ mark e none.
-    let at : leading_place label ≡ Some 0 = ap (λ b. cond b (Some 0) None) mark in
-    let clash : Some 0 ≡ None = sym at ∙ point_none label (leading_place label) none in
-    let never : ⊥ = cc in never)
-    (λ joiner e none. not_passed (contextj_ok label) joiner (first_failing-no (length label) (joiner_at label) (point_none label (misplaced_joiner label) none)))
-    (λ other e none. not_passed (contexto_ok label) other (first_failing-no (length label) (other_at label) (point_none label (misplaced_other label) none)))
-    (λ bidi e none. not_passed (bidi_ok label) bidi ((bidi_ok-PassesBidiRule label).1 ((broken_condition-none label).0 (condition_none label (broken_condition label) none))))
-    (λ long e none. long_none (nat_lt 63 (length label)) (nat_lt 63 (length (a_label_of label))) (length label) (length (a_label_of label)) long none)
-    refusal told
+module _ (properties : Properties) where
+  -- a fault that is told, but for an empty label, is told with its cause
+  pub fault-has_cause : (label : List ℕ) (refusal : Refusal) → first_fault properties label ≡ Some refusal → (refusal ≡ refusals.Empty → ⊥) → cause_of properties label refusal ≡ None → ⊥
+  unfolding first_fault cause_of contextj_ok contexto_ok
+  fault-has_cause label refusal told =
+      let Q = λ (r : Refusal). (r ≡ refusals.Empty → ⊥) → cause_of properties label r ≡ None → ⊥ in
+      of_first Q (length label == 0) (code_point_fault properties label) (not (is_nfc label)) (has_hyphen_out_of_place label) (leading_mark label) (not (contextj_ok properties label)) (not (contexto_ok label)) (not (bidi_ok properties label)) (is_too_long label)
+      (λ empty e none. e refl)
+      (λ x points e none.
+      let barred = λ (place_none : barred_place properties label ≡ None).
+      let clash : None ≡ Some x = sym ((barred-both properties label).0 place_none) ∙ points in
+      let never : ⊥ = cc in never in
+      elim (points_kind properties label x points) [
+        | inl is ↦ barred (barred_none properties label (barred_place properties label) (λ place. (barred-is properties label place).0) (subst (λ r. cause_of properties label r ≡ None) is none))
+        | inr is ↦ barred (barred_none properties label (barred_place properties label) (λ place. (barred-is properties label place).0) (subst (λ r. cause_of properties label r ≡ None) is none))
+      ])
+      (λ form e none.
+      let clash : Some (shared label (nfc label)) ≡ None = sym (ap (λ b. cond b None (Some (shared label (nfc label)))) (not-true (is_nfc label) form)) ∙ form_none label (changed_place label) none in
+      let never : ⊥ = cc in never)
+      (λ hyphen e none. hyphen_somewhere label hyphen (hyphen_none label (misplaced_hyphen label) none))
+      (λ mark e none.
+      let at : leading_place label ≡ Some 0 = ap (λ b. cond b (Some 0) None) mark in
+      let clash : Some 0 ≡ None = sym at ∙ point_none label (leading_place label) none in
+      let never : ⊥ = cc in never)
+      (λ joiner e none. not_passed (contextj_ok properties label) joiner (first_failing-no (length label) (joiner_at properties label) (point_none label (misplaced_joiner properties label) none)))
+      (λ other e none. not_passed (contexto_ok label) other (first_failing-no (length label) (other_at label) (point_none label (misplaced_other label) none)))
+      (λ bidi e none. not_passed (bidi_ok properties label) bidi ((bidi_ok-PassesBidiRule properties label).1 ((broken_condition-none properties label).0 (condition_none properties label (broken_condition properties label) none))))
+      (λ long e none. long_none (nat_lt 63 (length label)) (nat_lt 63 (length (a_label_of label))) (length label) (length (a_label_of label)) long none)
+      refusal told

@@ -16,6 +16,7 @@ use Rattle.idn_cause.specs.declared.cause.Cause.{Cause}
 use Rattle.idn_cause.specs.declared.a_label.ALabelCause.{ALabelCause}
 use Rattle.idn_cause.specs.declared.a_label.ALabelCause.TheVariants.{NoCode, NotAscii, NoPunycode, Other, Decoded}
 use Rattle.idn_cause.specs.Causes.{cause_of, IsCause}
+use Rattle.idn_class.specs.declared.properties.Properties.{Properties}
 
 -- ---- what is told
 
@@ -42,17 +43,17 @@ abbrev pub undecoded_cause : List ℕ → Refusal → Option ALabelCause
 undecoded_cause code refusals.BadALabel = Some (code_fault code)
 undecoded_cause code refusal = None
 
-abbrev pub decoded_cause : List ℕ → List ℕ → Refusal → Option ALabelCause
-decoded_cause given label refusals.BadALabel = other_a_label given label (first_fault label)
-decoded_cause given label refusal = option_map Decoded (cause_of label refusal)
+abbrev pub decoded_cause : Properties → List ℕ → List ℕ → Refusal → Option ALabelCause
+decoded_cause properties given label refusals.BadALabel = other_a_label given label (first_fault properties label)
+decoded_cause properties given label refusal = option_map Decoded (cause_of properties label refusal)
 
-abbrev pub cause_by_code : List ℕ → Refusal → Answer → Option ALabelCause
-cause_by_code given refusal (Ok label) = decoded_cause given label refusal
-cause_by_code given refusal (Err none) = undecoded_cause (drop 4 given) refusal
+abbrev pub cause_by_code : Properties → List ℕ → Refusal → Answer → Option ALabelCause
+cause_by_code properties given refusal (Ok label) = decoded_cause properties given label refusal
+cause_by_code properties given refusal (Err none) = undecoded_cause (drop 4 given) refusal
 
 -- what gives what begins with "xn--" this fault, where that can be said
-unfoldable pub a_label_cause : List ℕ → Refusal → Option ALabelCause
-a_label_cause given refusal = cause_by_code given refusal (decoded_code (drop 4 given))
+unfoldable pub a_label_cause : Properties → List ℕ → Refusal → Option ALabelCause
+a_label_cause properties given refusal = cause_by_code properties given refusal (decoded_code (drop 4 given))
 
 -- ---- the same, by what a cause is
 
@@ -65,17 +66,17 @@ IsCodeFault code cause =
     ⊎ ((code ≢ []) × (is_all_ascii code ≡ true) × (decode code ≡ None) × (cause ≡ NoPunycode)))
 
 -- the code stands for a label that may be registered, and that has another A-label (RFC 5890, section 2.3.2.1)
-abbrev pub IsOtherALabel : List ℕ → ALabelCause → Type 0
-IsOtherALabel given cause =
-    (label : List ℕ) × (decoded_code (drop 4 given) ≡ Ok label) × IsRegistrable label × (a_label_of label ≢ given)
+abbrev pub IsOtherALabel : Properties → List ℕ → ALabelCause → Type 0
+IsOtherALabel properties given cause =
+    (label : List ℕ) × (decoded_code (drop 4 given) ≡ Ok label) × IsRegistrable properties label × (a_label_of label ≢ given)
     × (cause ≡ Other (record { items = a_label_of label }))
 
 -- the code stands for a label that has this fault for this cause
-abbrev pub IsDecodedCause : List ℕ → Refusal → ALabelCause → Type 0
-IsDecodedCause given refusal cause =
-    (label : List ℕ) × (of_label : Cause) × (decoded_code (drop 4 given) ≡ Ok label) × IsCause label refusal of_label × (cause ≡ Decoded of_label)
+abbrev pub IsDecodedCause : Properties → List ℕ → Refusal → ALabelCause → Type 0
+IsDecodedCause properties given refusal cause =
+    (label : List ℕ) × (of_label : Cause) × (decoded_code (drop 4 given) ≡ Ok label) × IsCause properties label refusal of_label × (cause ≡ Decoded of_label)
 
 -- the cause of this fault of what begins with "xn--"
-abbrev pub IsALabelCause : List ℕ → Refusal → ALabelCause → Type 0
-IsALabelCause given refusals.BadALabel cause = IsCodeFault (drop 4 given) cause ⊎ IsOtherALabel given cause
-IsALabelCause given refusal cause = IsDecodedCause given refusal cause
+abbrev pub IsALabelCause : Properties → List ℕ → Refusal → ALabelCause → Type 0
+IsALabelCause properties given refusals.BadALabel cause = IsCodeFault (drop 4 given) cause ⊎ IsOtherALabel properties given cause
+IsALabelCause properties given refusal cause = IsDecodedCause properties given refusal cause

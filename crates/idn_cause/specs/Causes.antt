@@ -20,12 +20,13 @@ use Rattle.idn_label.specs.ALabel.{a_label_of}
 use Rattle.idn_label.specs.FirstFault.{fault_of_class}
 use Rattle.idn_cause.specs.declared.cause.Cause.{Cause}
 use Rattle.idn_cause.specs.declared.cause.Cause.TheVariants.{Barred, Changed, Hyphen, Point, Condition, Points, Octets}
+use Rattle.idn_class.specs.declared.properties.Properties.{Properties}
 
 -- ---- what is told
 
 -- the first place whose code point is DISALLOWED or UNASSIGNED (RFC 5891, section 4.2.2)
-abbrev pub barred_place : List ℕ → Option ℕ
-barred_place label = failing_in label (λ place. is_none (fault_of_class (class_of (slice_index label place))))
+abbrev pub barred_place : Properties → List ℕ → Option ℕ
+barred_place properties label = failing_in label (λ place. is_none (fault_of_class (class_of properties (slice_index label place))))
 
 -- the code point at a place, with the line that bars it
 abbrev pub barred_by : List ℕ → ℕ → Option BarringLine → Option Cause
@@ -33,9 +34,9 @@ barred_by label place None = None
 barred_by label place (Some line) = Some (Barred place (slice_index label place) line)
 
 -- the code point at a place, with the line that bars it, if there is such a place
-abbrev pub barred_at : List ℕ → Option ℕ → Option Cause
-barred_at label None = None
-barred_at label (Some place) = barred_by label place (barring_line (slice_index label place))
+abbrev pub barred_at : Properties → List ℕ → Option ℕ → Option Cause
+barred_at properties label None = None
+barred_at properties label (Some place) = barred_by label place (barring_line properties (slice_index label place))
 
 -- how many code points two labels share at their start
 abbrev pub shared : List ℕ → List ℕ → ℕ
@@ -78,10 +79,10 @@ point_at label None = None
 point_at label (Some place) = Some (Point place (slice_index label place))
 
 -- the condition of the Bidi rule that is broken, with the code point that breaks it and its Bidi_Class (RFC 5893, section 2)
-abbrev pub condition_at : List ℕ → Option Broken → Option Cause
-condition_at label None = None
-condition_at label (Some broken) =
-    Some (Condition broken (slice_index label broken.place) (bidi_class (slice_index label broken.place)))
+abbrev pub condition_at : Properties → List ℕ → Option Broken → Option Cause
+condition_at properties label None = None
+condition_at properties label (Some broken) =
+    Some (Condition broken (slice_index label broken.place) (bidi_class properties (slice_index label broken.place)))
 
 -- more than 63 code points, else the octets of the A-label if they are more than 63 (RFC 5891, section 4.4)
 abbrev pub length_at : List ℕ → Option Cause
@@ -90,17 +91,25 @@ length_at label =
     else (if nat_lt 63 (length (a_label_of label)) then Some (Octets (length (a_label_of label))) else None)
 
 -- what gives a label this fault, where that can be said
-unfoldable pub cause_of : List ℕ → Refusal → Option Cause
-cause_of label refusals.Disallowed = barred_at label (barred_place label)
-cause_of label refusals.Unassigned = barred_at label (barred_place label)
-cause_of label refusals.NotNfc = changed_at label (changed_place label)
-cause_of label refusals.Hyphen = hyphen_at label (misplaced_hyphen label)
-cause_of label refusals.LeadingMark = point_at label (leading_place label)
-cause_of label refusals.ContextJ = point_at label (misplaced_joiner label)
-cause_of label refusals.ContextO = point_at label (misplaced_other label)
-cause_of label refusals.Bidi = condition_at label (broken_condition label)
-cause_of label refusals.LabelTooLong = length_at label
-cause_of label _ = None
+unfoldable pub cause_of : Properties → List ℕ → Refusal → Option Cause
+cause_of properties label refusals.Disallowed = barred_at properties label (barred_place properties label)
+cause_of properties label refusals.Unassigned = barred_at properties label (barred_place properties label)
+cause_of properties label refusals.NotNfc = changed_at label (changed_place label)
+cause_of properties label refusals.Hyphen = hyphen_at label (misplaced_hyphen label)
+cause_of properties label refusals.LeadingMark = point_at label (leading_place label)
+cause_of properties label refusals.ContextJ = point_at label (misplaced_joiner properties label)
+cause_of properties label refusals.ContextO = point_at label (misplaced_other label)
+cause_of properties label refusals.Bidi = condition_at properties label (broken_condition properties label)
+cause_of properties label refusals.LabelTooLong = length_at label
+cause_of properties label _ = None
+
+-- this fault's cause is found without memory; only a class, Normalization Form C and an A-label may take some
+abbrev pub IsFoundWithoutMemory : Refusal → Type 0
+IsFoundWithoutMemory refusals.Disallowed = ⊥
+IsFoundWithoutMemory refusals.Unassigned = ⊥
+IsFoundWithoutMemory refusals.NotNfc = ⊥
+IsFoundWithoutMemory refusals.LabelTooLong = ⊥
+IsFoundWithoutMemory _ = Unit {0}
 
 -- ---- the same, by what a cause is
 
@@ -110,14 +119,14 @@ IsFirstPoint label Passes cause =
     (place : ℕ) × (cause ≡ Point place (slice_index label place)) × IsFirstFailing label Passes place
 
 -- the code point at a place may be registered, as far as its class says (RFC 5892, section 3)
-abbrev pub IsPermitted : List ℕ → ℕ → Type 0
-IsPermitted label place = fault_of_class (class_of (slice_index label place)) ≡ None
+abbrev pub IsPermitted : Properties → List ℕ → ℕ → Type 0
+IsPermitted properties label place = fault_of_class (class_of properties (slice_index label place)) ≡ None
 
 -- the cause is the first code point that may not be registered, with the line of RFC 5892, section 3, that bars it
-abbrev pub IsFirstBarred : List ℕ → Cause → Type 0
-IsFirstBarred label cause =
+abbrev pub IsFirstBarred : Properties → List ℕ → Cause → Type 0
+IsFirstBarred properties label cause =
     (place : ℕ) × (line : BarringLine) × (cause ≡ Barred place (slice_index label place) line)
-    × IsFirstFailing label (IsPermitted label) place × IsBarredBy (slice_index label place) line
+    × IsFirstFailing label (IsPermitted properties label) place × IsBarredBy properties (slice_index label place) line
 
 -- the place is the first, the last, or the third before a hyphen
 abbrev pub IsBarredToHyphens : List ℕ → ℕ → Type 0
@@ -136,29 +145,29 @@ pub record DifferFirstAt (label other : List ℕ) (place : ℕ) : Type 0 where
   pub longest : IsLongestShared label other place
 
 -- the cause of this fault of a label, in the words of the standard
-abbrev pub IsCause : List ℕ → Refusal → Cause → Type 0
+abbrev pub IsCause : Properties → List ℕ → Refusal → Cause → Type 0
 -- RFC 5891, section 4.2.2: the first code point that is DISALLOWED or UNASSIGNED
-IsCause label refusals.Disallowed cause = IsFirstBarred label cause
-IsCause label refusals.Unassigned cause = IsFirstBarred label cause
+IsCause properties label refusals.Disallowed cause = IsFirstBarred properties label cause
+IsCause properties label refusals.Unassigned cause = IsFirstBarred properties label cause
 -- section 4.2.1: the first place at which the label is not its Normalization Form C
-IsCause label refusals.NotNfc cause =
+IsCause properties label refusals.NotNfc cause =
     (place : ℕ) × (cause ≡ Changed place (slice_index label place) (slice_get (nfc label) place))
     × (nfc label ≢ label) × DifferFirstAt label (nfc label) place
 -- section 4.2.3.1: the first hyphen where none may stand
-IsCause label refusals.Hyphen cause =
+IsCause properties label refusals.Hyphen cause =
     (place : ℕ) × (cause ≡ Hyphen place (length label)) × IsFirstFailing label (HasNoHyphenOutOfPlace label) place
 -- section 4.2.3.2: the first code point, which is a mark
-IsCause label refusals.LeadingMark cause = (cause ≡ Point 0 (slice_index label 0)) × BeginsWithMark label
+IsCause properties label refusals.LeadingMark cause = (cause ≡ Point 0 (slice_index label 0)) × BeginsWithMark label
 -- section 4.2.3.3: the first joiner against its rule, and the first other code point against its rule
-IsCause label refusals.ContextJ cause = IsFirstPoint label (JoinerPasses label) cause
-IsCause label refusals.ContextO cause = IsFirstPoint label (OtherPasses label) cause
+IsCause properties label refusals.ContextJ cause = IsFirstPoint label (JoinerPasses properties label) cause
+IsCause properties label refusals.ContextO cause = IsFirstPoint label (OtherPasses label) cause
 -- section 4.2.3.4: the first condition of the Bidi rule that is broken, and the code point that breaks it
-IsCause label refusals.Bidi cause =
+IsCause properties label refusals.Bidi cause =
     (condition : BidiCondition) × (place : ℕ)
-    × (cause ≡ Condition (record { condition = condition; place = place }) (slice_index label place) (bidi_class (slice_index label place)))
-    × IsFirstBroken label condition place
--- section 4.4, and the profile: the code points, or the octets of the A-label
-IsCause label refusals.LabelTooLong cause =
+    × (cause ≡ Condition (record { condition = condition; place = place }) (slice_index label place) (bidi_class properties (slice_index label place)))
+    × IsFirstBroken properties label condition place
+-- section 4.4, and a limit of this program: the code points, or the octets of the A-label
+IsCause properties label refusals.LabelTooLong cause =
     ((63 < length label) × (cause ≡ Points (length label)))
     ⊎ ((¬ (63 < length label)) × (63 < length (a_label_of label)) × (cause ≡ Octets (length (a_label_of label))))
-IsCause label _ cause = ⊥
+IsCause properties label _ cause = ⊥

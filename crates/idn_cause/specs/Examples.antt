@@ -11,6 +11,7 @@ use Rattle.idn_cause.specs.declared.query.LengthCause.TheVariants.{LabelOctets}
 use Rattle.idn_cause.specs.Causes.{cause_of}
 use Rattle.idn_cause.specs.ALabelCauses.{a_label_cause}
 use Rattle.idn_cause.specs.NameCauses.{length_cause}
+use Rattle.idn_class.specs.declared.properties.Properties.TheVariants.{Profile}
 
 -- a label, its fault and the cause
 pub record Row : Type 0 where
@@ -20,7 +21,7 @@ pub record Row : Type 0 where
 
 abbrev pub HaveCauses : List Row → Type 0
 HaveCauses [] = Unit {0}
-HaveCauses (row ∷ rows) = (cause_of row.label row.refusal ≡ row.cause) × HaveCauses rows
+HaveCauses (row ∷ rows) = (cause_of Profile row.label row.refusal ≡ row.cause) × HaveCauses rows
 
 abbrev pub causes : List Row
 causes =
@@ -58,10 +59,10 @@ causes =
 
 -- what begins with "xn--" and stands for no label
 pub record ExamplesOfALabels : Type 0 where
-  pub no_code : a_label_cause (codes "xn--") BadALabel ≡ Some NoCode
-  pub not_ascii : a_label_cause (codes "xn--fa" ++ 0xDF ∷ []) BadALabel ≡ Some (NotAscii 6 0xDF)
-  pub first_not_ascii : a_label_cause (codes "xn--" ++ 0xE9 ∷ 0xDF ∷ []) BadALabel ≡ Some (NotAscii 4 0xE9)
-  pub no_punycode : a_label_cause (codes "xn--a_") BadALabel ≡ Some NoPunycode
+  pub no_code : a_label_cause Profile (codes "xn--") BadALabel ≡ Some NoCode
+  pub not_ascii : a_label_cause Profile (codes "xn--fa" ++ 0xDF ∷ []) BadALabel ≡ Some (NotAscii 6 0xDF)
+  pub first_not_ascii : a_label_cause Profile (codes "xn--" ++ 0xE9 ∷ 0xDF ∷ []) BadALabel ≡ Some (NotAscii 4 0xE9)
+  pub no_punycode : a_label_cause Profile (codes "xn--a_") BadALabel ≡ Some NoPunycode
 
 -- 64 octets
 abbrev pub too_long : List ℕ

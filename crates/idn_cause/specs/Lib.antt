@@ -1,3 +1,4 @@
+-- The definitions that contracts cite.
 pub mod Causes
 pub mod ALabelCauses
 pub mod NameLabels

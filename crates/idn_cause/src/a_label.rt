@@ -9,8 +9,8 @@ ghost use Rattle.idn_cause.specs.ALabelCauses.{a_label_cause, code_fault, decode
 use crate::cause::Cause;
 use crate::label::cause_of;
 use arrayvec::ArrayVec;
-use idn_class::MAX_LABEL_LEN;
-use idn_label::{ALabel, code_point_at, decoded_code, test_label};
+use idn_class::{MAX_LABEL_LEN, Properties};
+use idn_label::{ALabel, code_point_at, decoded_code, test_label_by};
 use idn_text::{MAX_LINE_LEN, Refusal};
 use std::alloc::{AllocError, Global};
 
@@ -27,6 +27,8 @@ pub enum ALabelCause {
     Other(ArrayVec<u8, MAX_LABEL_LEN>),
     /// The cause of the same fault of what it stands for.
     Decoded(Cause),
+    /// The cause in a label of a name that is no A-label, where the name as a whole has the fault.
+    Copied(Cause),
 }
 
 /// What gives a label that begins with `xn--` this fault, as the answers of registration and decoding have it. `None` where
@@ -37,35 +39,45 @@ pub fn a_label_cause(
     alloc: Global,
     given: &[u32],
     refusal: Refusal,
+    properties: Properties,
 ) -> Result<Option<ALabelCause>, AllocError>
     requires { length given.now ≤ MAX_LINE_LEN }
-    ensures { IfOk result (λ cause. cause ≡ a_label_cause given.now refusal) }
+    ensures { IfOk result (λ cause. cause ≡ a_label_cause properties given.now refusal) }
 {
     let code = code_of(given);
     match decoded_code(alloc, code)? {
-        Some(label) => decoded_cause(alloc, given, &label, refusal),
+        Some(label) => decoded_cause(alloc, given, &label, refusal, properties),
         None => Ok(undecoded_cause(code, refusal)),
     }
 }
 
 /// Whether what begins with `xn--` is the A-label of a label that may be registered.
 #[tactic(auto, using(crate::proofs::NameSteps::a_labels))]
-pub(crate) fn is_a_label(alloc: Global, given: &[u32]) -> Result<bool, AllocError>
+pub(crate) fn is_a_label(
+    alloc: Global,
+    given: &[u32],
+    properties: Properties,
+) -> Result<bool, AllocError>
     requires { length given.now ≤ MAX_LINE_LEN }
-    ensures { IfOk result (λ is. is ≡ is_ok (u_label_answer given.now)) }
+    ensures { IfOk result (λ is. is ≡ is_ok (u_label_answer properties given.now)) }
 {
     match decoded_code(alloc, code_of(given))? {
-        Some(label) => is_confirmed(alloc, given, &label),
+        Some(label) => is_confirmed(alloc, given, &label, properties),
         None => Ok(false),
     }
 }
 
 /// Whether a label may be registered, and its A-label is the one given.
 #[tactic(auto, using(crate::proofs::NameSteps::confirmed_labels))]
-fn is_confirmed(alloc: Global, given: &[u32], label: &[u32]) -> Result<bool, AllocError>
-    ensures { IfOk result (λ is. is ≡ is_ok (confirmed given.now label.now)) }
+fn is_confirmed(
+    alloc: Global,
+    given: &[u32],
+    label: &[u32],
+    properties: Properties,
+) -> Result<bool, AllocError>
+    ensures { IfOk result (λ is. is ≡ is_ok (confirmed properties given.now label.now)) }
 {
-    match test_label(alloc, label) {
+    match test_label_by(alloc, label, properties) {
         Ok(a_label) => Ok(is_same(&a_label, given)),
         Err(Refusal::Memory) => Err(AllocError),
         Err(_) => Ok(false),
@@ -121,13 +133,14 @@ fn decoded_cause(
     given: &[u32],
     label: &[u32],
     refusal: Refusal,
+    properties: Properties,
 ) -> Result<Option<ALabelCause>, AllocError>
     requires { AreScalarValues label.now }
-    ensures { IfOk result (λ cause. cause ≡ decoded_cause given.now label.now refusal) }
+    ensures { IfOk result (λ cause. cause ≡ decoded_cause properties given.now label.now refusal) }
 {
     match refusal {
-        Refusal::BadALabel => other_a_label(alloc, given, label),
-        _ => match cause_of(alloc, label, refusal)? {
+        Refusal::BadALabel => other_a_label(alloc, given, label, properties),
+        _ => match cause_of(alloc, label, refusal, properties)? {
             Some(cause) => Ok(Some(ALabelCause::Decoded(cause))),
             None => Ok(None),
         },
@@ -139,10 +152,11 @@ fn other_a_label(
     alloc: Global,
     given: &[u32],
     label: &[u32],
+    properties: Properties,
 ) -> Result<Option<ALabelCause>, AllocError>
-    ensures { IfOk result (λ cause. cause ≡ other_a_label given.now label.now (first_fault label.now)) }
+    ensures { IfOk result (λ cause. cause ≡ other_a_label given.now label.now (first_fault properties label.now)) }
 {
-    match test_label(alloc, label) {
+    match test_label_by(alloc, label, properties) {
         Ok(a_label) if is_same(&a_label, given) => Ok(None),
         Ok(a_label) => Ok(Some(ALabelCause::Other(octets_of(&a_label)))),
         Err(Refusal::Memory) => Err(AllocError),

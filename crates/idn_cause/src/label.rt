@@ -1,14 +1,15 @@
 //! Why a label is refused: one rule is looked at, that of its fault.
 ghost use Rattle.std.specs.Prelude.{◌≡◌, IfOk};
+ghost use Rattle.std.specs.Result.{IsOk};
 ghost use Rattle.idn_text.specs.Points.{AreScalarValues};
-ghost use Rattle.idn_cause.specs.Causes.{barred_at, barred_place, cause_of, condition_at, hyphen_at, leading_place, point_at};
+ghost use Rattle.idn_cause.specs.Causes.{IsFoundWithoutMemory, barred_at, barred_place, cause_of, condition_at, hyphen_at, leading_place, point_at};
 
 use crate::cause::Cause;
 use crate::lengths::length_at;
 use crate::normalization::changed_at;
 use crate::places::{barred_place, misplaced_hyphen};
 use idn_class::{
-    BidiClass, Broken, barring_line, broken_condition, leading_mark, misplaced_joiner,
+    BidiClass, Broken, Properties, barring_line, broken_condition, leading_mark, misplaced_joiner,
     misplaced_other,
 };
 use idn_label::code_point_at;
@@ -20,20 +21,31 @@ use std::alloc::{AllocError, Global};
 /// Form C; and for the A-label of a label that is not all ASCII.
 #[cold]
 #[tactic(auto, unfolding(crate::specs::Causes::cause_of))]
-pub fn cause_of(alloc: Global, label: &[u32], refusal: Refusal) -> Result<Option<Cause>, AllocError>
+pub fn cause_of(
+    alloc: Global,
+    label: &[u32],
+    refusal: Refusal,
+    properties: Properties,
+) -> Result<Option<Cause>, AllocError>
     requires { AreScalarValues label.now }
-    ensures { IfOk result (λ cause. cause ≡ cause_of label.now refusal) }
+    ensures cause { IfOk result (λ cause. cause ≡ cause_of properties label.now refusal) }
+    ensures no_memory { IsFoundWithoutMemory refusal → IsOk result }
 {
     let cause = match refusal {
         Refusal::Disallowed | Refusal::Unassigned => {
-            barred_at(alloc, label, barred_place(alloc, label)?)?
+            barred_at(
+                alloc,
+                label,
+                barred_place(alloc, label, properties)?,
+                properties,
+            )?
         }
         Refusal::NotNfc => changed_at(alloc, label)?,
         Refusal::Hyphen => hyphen_at(label, misplaced_hyphen(label)),
         Refusal::LeadingMark => point_at(label, leading_place(label)),
-        Refusal::ContextJ => point_at(label, misplaced_joiner(label)),
+        Refusal::ContextJ => point_at(label, misplaced_joiner(label, properties)),
         Refusal::ContextO => point_at(label, misplaced_other(label)),
-        Refusal::Bidi => condition_at(label, broken_condition(label)),
+        Refusal::Bidi => { condition_at(label, broken_condition(label, properties), properties) }
         Refusal::LabelTooLong => length_at(alloc, label)?,
         _ => None,
     };
@@ -45,14 +57,15 @@ fn barred_at(
     alloc: Global,
     label: &[u32],
     place: Option<usize>,
+    properties: Properties,
 ) -> Result<Option<Cause>, AllocError>
-    ensures { IfOk result (λ cause. cause ≡ barred_at label.now place) }
+    ensures { IfOk result (λ cause. cause ≡ barred_at properties label.now place) }
 {
     let Some(place) = place else {
         return Ok(None);
     };
     let point = code_point_at(label, place);
-    match barring_line(alloc, point)? {
+    match barring_line(alloc, point, properties)? {
         Some(line) => Ok(Some(Cause::Barred(place, point, line))),
         None => Ok(None),
     }
@@ -86,13 +99,17 @@ fn point_at(label: &[u32], place: Option<usize>) -> Option<Cause>
 }
 
 /// A condition with the code point that breaks it.
-fn condition_at(label: &[u32], broken: Option<Broken>) -> Option<Cause>
-    ensures { result ≡ condition_at label.now broken }
+pub(crate) fn condition_at(
+    label: &[u32],
+    broken: Option<Broken>,
+    properties: Properties,
+) -> Option<Cause>
+    ensures { result ≡ condition_at properties label.now broken }
 {
     match broken {
         Some(broken) => {
             let point = code_point_at(label, broken.place);
-            Some(Cause::Condition(broken, point, BidiClass::of(point)))
+            Some(Cause::Condition(broken, point, BidiClass::of(point, properties)))
         }
         None => None,
     }

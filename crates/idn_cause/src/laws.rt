@@ -2,6 +2,7 @@
 ghost use Rattle.std.specs.Prelude.{◌≡◌, ◌≢◌, ◌↔◌, ℕ, List, Bool, None, Some, Err, slice_index};
 ghost use Rattle.idn_text.specs.declared.refusal.Refusal.{Refusal};
 ghost use Rattle.idn_text.specs.declared.refusal.Refusal.TheVariants.{Empty, LookupLength};
+ghost use Rattle.idn_class.specs.declared.properties.Properties.{Properties};
 ghost use Rattle.idn_class.specs.Causes.{IsFirstFailing};
 ghost use Rattle.idn_class.specs.Class.{class_of};
 ghost use Rattle.idn_label.specs.FirstFault.{code_point_fault, fault_of_class, first_fault};
@@ -20,32 +21,32 @@ ghost use Rattle.idn_cause.specs.Examples.{HaveCauses, ExamplesOfALabels, Exampl
 /// What is told of a fault is its cause, and nothing else is. The class of the code point that is told says which fault it is.
 /// The first fault of a label has a cause, unless the label is empty.
 pub fn causes_are_told()
-    ensures exactly { (label : List ℕ) (refusal : Refusal) (cause : Cause) →
-        (cause_of label refusal ≡ Some cause) ↔ IsCause label refusal cause }
-    ensures kind { (label : List ℕ) (place : ℕ) → IsFirstFailing label (IsPermitted label) place →
-        code_point_fault label ≡ fault_of_class (class_of (slice_index label place)) }
-    ensures always { (label : List ℕ) (refusal : Refusal) → first_fault label ≡ Some refusal →
-        refusal ≢ Empty → cause_of label refusal ≢ None }
+    ensures exactly { (properties : Properties) (label : List ℕ) (refusal : Refusal) (cause : Cause) →
+        (cause_of properties label refusal ≡ Some cause) ↔ IsCause properties label refusal cause }
+    ensures kind { (properties : Properties) (label : List ℕ) (place : ℕ) → IsFirstFailing label (IsPermitted properties label) place →
+        code_point_fault properties label ≡ fault_of_class (class_of properties (slice_index label place)) }
+    ensures always { (properties : Properties) (label : List ℕ) (refusal : Refusal) → first_fault properties label ≡ Some refusal →
+        refusal ≢ Empty → cause_of properties label refusal ≢ None }
     ensures examples { HaveCauses causes }
 {}
 
 /// What is told of a fault of what begins with `xn--` is its cause, and nothing else is. Each fault but `Empty` has a
 /// cause.
 pub fn a_label_causes_are_told()
-    ensures exactly { (given : List ℕ) (refusal : Refusal) (cause : ALabelCause) →
-        (a_label_cause given refusal ≡ Some cause) ↔ IsALabelCause given refusal cause }
-    ensures always { (given : List ℕ) (refusal : Refusal) → u_label_answer given ≡ Err refusal →
-        refusal ≢ Empty → a_label_cause given refusal ≢ None }
+    ensures exactly { (properties : Properties) (given : List ℕ) (refusal : Refusal) (cause : ALabelCause) →
+        (a_label_cause properties given refusal ≡ Some cause) ↔ IsALabelCause properties given refusal cause }
+    ensures always { (properties : Properties) (given : List ℕ) (refusal : Refusal) → u_label_answer properties given ≡ Err refusal →
+        refusal ≢ Empty → a_label_cause properties given refusal ≢ None }
     ensures examples { ExamplesOfALabels }
 {}
 
 /// What is told of a fault of a name that is decoded is its cause, and nothing else is. Each fault but `Empty` has a
 /// cause.
 pub fn name_causes_are_told()
-    ensures exactly { (name : List ℕ) (refusal : Refusal) (cause : NameCause) →
-        (name_cause name refusal ≡ Some cause) ↔ IsNameCause name refusal cause }
-    ensures always { (name : List ℕ) (refusal : Refusal) → decode_answer name ≡ Err refusal →
-        refusal ≢ Empty → name_cause name refusal ≢ None }
+    ensures exactly { (properties : Properties) (name : List ℕ) (refusal : Refusal) (cause : NameCause) →
+        (name_cause properties name refusal ≡ Some cause) ↔ IsNameCause properties name refusal cause }
+    ensures always { (properties : Properties) (name : List ℕ) (refusal : Refusal) → decode_answer properties name ≡ Err refusal →
+        refusal ≢ Empty → name_cause properties name refusal ≢ None }
 {}
 
 /// What is told of a fault of a name that is looked up is its cause, and nothing else is. A wrong length has a cause.

@@ -2,16 +2,20 @@
 ghost use Rattle.std.specs.Prelude.{◌≡◌, ◌<◌, length, IfOk};
 ghost use Rattle.idn_cause.specs.Causes.{barred_place, is_hyphen_out_of_place, misplaced_hyphen};
 
-use idn_class::{Class, class_of};
+use idn_class::{Class, Properties, class_of_by};
 use idn_label::is_hyphen_at;
 use std::alloc::{AllocError, Global};
 
 /// The place of the first code point that may not be registered.
-pub(crate) fn barred_place(alloc: Global, label: &[u32]) -> Result<Option<usize>, AllocError>
-    ensures { IfOk result (λ place. place ≡ barred_place label.now) }
+pub(crate) fn barred_place(
+    alloc: Global,
+    label: &[u32],
+    properties: Properties,
+) -> Result<Option<usize>, AllocError>
+    ensures { IfOk result (λ place. place ≡ barred_place properties label.now) }
 {
     for place in 0..label.len() {
-        match class_of(alloc, label[place])? {
+        match class_of_by(alloc, label[place], properties)? {
             Class::Disallowed | Class::Unassigned => return Ok(Some(place)),
             Class::Pvalid | Class::Contextj | Class::Contexto => {}
         }

@@ -1,7 +1,8 @@
 //! Which length the DNS does not allow of a name that is looked up (RFC 1035, section 2.3.4).
-ghost use Rattle.std.specs.Prelude.{◌≡◌, length, IfOk};
+ghost use Rattle.std.specs.Prelude.{◌≡◌, ◌≢◌, length, IfOk};
 ghost use Rattle.std.specs.Int.{is_in_range};
 ghost use Rattle.std.specs.Option.{option_map};
+ghost use Rattle.std.specs.Result.{IsOk};
 ghost use Rattle.idna.specs.declared.options.Hyphens.TheVariants.{Allow};
 ghost use Rattle.idna.specs.declared.options.DnsLength.TheVariants.{Ignore};
 ghost use Rattle.idna.specs.Labels.{labels_of};
@@ -35,7 +36,8 @@ pub fn query_cause(
     std3: bool,
     refusal: Refusal,
 ) -> Result<Option<LengthCause>, AllocError>
-    ensures { IfOk result (λ cause. cause ≡ query_cause name.now std3 refusal) }
+    ensures cause { IfOk result (λ cause. cause ≡ query_cause name.now std3 refusal) }
+    ensures no_memory { refusal ≢ Refusal.LookupLength → IsOk result }
 {
     match refusal {
         Refusal::LookupLength => length_cause_of(alloc, name, std3),

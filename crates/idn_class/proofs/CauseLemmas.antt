@@ -9,10 +9,9 @@ use Rattle.idn_class.specs.declared.bidi_class.BidiClass.{BidiClass}
 use Rattle.idn_class.specs.declared.bidi_class.BidiClass.TheVariants.{L, R, AL}
 use Rattle.idn_class.specs.declared.broken.BidiCondition.TheVariants.{First}
 use Rattle.idn_class.specs.BidiClass.{bidi_class}
-use Rattle.idn_class.specs.BidiRule.{is_rtl_class}
-use Rattle.std.specs.List.{list_any}
 use Rattle.idn_class.proofs.TestLemmas.{all_places-at}
-use Rattle.idn_class.specs.Causes.{IsFirstFailing, earlier_or, first_failing, class_at, some_place, numbers_agree_to, broken_at, broken_in_ltr, broken_condition}
+use Rattle.idn_class.specs.Causes.{IsFirstFailing, earlier_or, first_failing, class_at, some_place, numbers_agree_to, broken_at, broken_in_rtl, broken_in_ltr, broken_in_name}
+use Rattle.idn_class.specs.declared.properties.Properties.{Properties}
 
 -- no place fails
 pub first_failing-none : (n : ℕ) (passes : ℕ → Bool) → ((k : ℕ) → k < n → passes k ≡ true) → first_failing n passes ≡ None
@@ -69,33 +68,44 @@ first_failing-none_by n passes Passes agree each = first_failing-none n passes (
 
 -- ---- the Bidi rule
 
--- up to a place, by what is known of the places before it
-pub numbers_at : (label : List ℕ) (p : ℕ) (class : BidiClass) (e a en an : Bool) → class ≡ class_at label p → e ≡ is_en class → a ≡ is_an class → en ≡ some_place p (λ k. is_en (class_at label k)) → an ≡ some_place p (λ k. is_an (class_at label k)) → numbers_agree_to label p ≡ not ((e || en) && (a || an))
-numbers_at label p class e a en an here is_e is_a before_e before_a = rw (is_e, is_a, before_e, before_a, here) refl
+module _ (properties : Properties) where
+  -- up to a place, by what is known of the places before it
+  pub numbers_at : (label : List ℕ) (p : ℕ) (class : BidiClass) (e a en an : Bool) → class ≡ class_at properties label p → e ≡ is_en class → a ≡ is_an class → en ≡ some_place p (λ k. is_en (class_at properties label k)) → an ≡ some_place p (λ k. is_an (class_at properties label k)) → numbers_agree_to properties label p ≡ not ((e || en) && (a || an))
+  numbers_at label p class e a en an here is_e is_a before_e before_a = rw (is_e, is_a, before_e, before_a, here) refl
 
-pub some_more : (holds : ℕ → Bool) (p : ℕ) (here before : Bool) → here ≡ holds p → before ≡ some_place p holds → (here || before) ≡ some_place (p + 1) holds
-some_more holds p here before is so =
-    let next : suc p ≡ p + 1 = omega arith in
-    let grown : (here || before) ≡ some_place (suc p) holds = rw (is, so) refl in
-    grown ∙ ap (λ n. some_place n holds) next
+  pub some_more : (holds : ℕ → Bool) (p : ℕ) (here before : Bool) → here ≡ holds p → before ≡ some_place p holds → (here || before) ≡ some_place (p + 1) holds
+  some_more holds p here before is so =
+      let next : suc p ≡ p + 1 = omega arith in
+      let grown : (here || before) ≡ some_place (suc p) holds = rw (is, so) refl in
+      grown ∙ ap (λ n. some_place n holds) next
 
--- the class of the first code point tells which conditions are asked
-pub condition-ltr : (label : List ℕ) → list_any is_rtl_class (map bidi_class label) ≡ true → 0 < length label → class_at label 0 ≡ L → broken_condition label ≡ broken_in_ltr label
-unfolding broken_condition
-condition-ltr [] some within first = absurd (omega arith)
-condition-ltr (c ∷ label) some within first = rw (some, first) refl
+  -- the class of the first code point tells which conditions are asked
+  pub in_name-empty : (label : List ℕ) → length label ≡ 0 → broken_in_name properties label ≡ None
+  unfolding broken_in_name
+  in_name-empty [] none = refl
+  in_name-empty (c ∷ label) none = absurd (omega arith)
 
-first_other : (class : BidiClass) (classes : List BidiClass) → (class ≡ L → ⊥) → (class ≡ R → ⊥) → (class ≡ AL → ⊥) → (is_rtl (class ∷ classes) ≡ false) × (is_ltr (class ∷ classes) ≡ false)
-first_other L classes l r al = absurd (l refl)
-first_other R classes l r al = absurd (r refl)
-first_other AL classes l r al = absurd (al refl)
-first_other _ classes l r al = (refl, refl)
+  pub in_name-ltr : (label : List ℕ) → 0 < length label → class_at properties label 0 ≡ L → broken_in_name properties label ≡ broken_in_ltr properties label
+  unfolding broken_in_name
+  in_name-ltr [] within first = absurd (omega arith)
+  in_name-ltr (c ∷ label) within first = rw first refl
 
-pub condition-first : (label : List ℕ) → list_any is_rtl_class (map bidi_class label) ≡ true → 0 < length label → (class_at label 0 ≡ L → ⊥) → (class_at label 0 ≡ R → ⊥) → (class_at label 0 ≡ AL → ⊥) → broken_condition label ≡ broken_at First (Some 0)
-unfolding broken_condition
-condition-first [] some within l r al = absurd (omega arith)
-condition-first (c ∷ label) some within l r al =
-    let other = first_other (bidi_class c) (map bidi_class label) l r al in rw (some, other.0, other.1) refl
+  pub in_name-rtl : (label : List ℕ) → 0 < length label → (class_at properties label 0 ≡ R) ⊎ (class_at properties label 0 ≡ AL) → broken_in_name properties label ≡ broken_in_rtl properties label
+  unfolding broken_in_name
+  in_name-rtl [] within first = absurd (omega arith)
+  in_name-rtl (c ∷ label) within first = elim first [ inl r ↦ rw r refl | inr al ↦ rw al refl ]
+
+  first_other : (class : BidiClass) (classes : List BidiClass) → (class ≡ L → ⊥) → (class ≡ R → ⊥) → (class ≡ AL → ⊥) → (is_rtl (class ∷ classes) ≡ false) × (is_ltr (class ∷ classes) ≡ false)
+  first_other L classes l r al = absurd (l refl)
+  first_other R classes l r al = absurd (r refl)
+  first_other AL classes l r al = absurd (al refl)
+  first_other _ classes l r al = (refl, refl)
+
+  pub in_name-first : (label : List ℕ) → 0 < length label → (class_at properties label 0 ≡ L → ⊥) → (class_at properties label 0 ≡ R → ⊥) → (class_at properties label 0 ≡ AL → ⊥) → broken_in_name properties label ≡ broken_at First (Some 0)
+  unfolding broken_in_name
+  in_name-first [] within l r al = absurd (omega arith)
+  in_name-first (c ∷ label) within l r al =
+      let other = first_other (bidi_class properties c) (map (bidi_class properties) label) l r al in rw (other.0, other.1) refl
 
 pub ruleset first_places = (first_failing-none, first_failing-found)
 

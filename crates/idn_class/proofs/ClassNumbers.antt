@@ -1,5 +1,5 @@
 -- The number that the table has for each class, as a function of properties whose steps are known.
-use Rattle.std.proofs.Common.{◌≡◌, ◌≢◌, ℕ, zero, suc, ◌<◌, ◌≤◌, nat_lt, Bool, true, false, not, ◌&&◌, ◌||◌, ◌==◌, cond, List, [], ◌∷◌, length, lit<, refl, sym, ap, subst, ◌∙◌, arith}
+use Rattle.std.proofs.Common.{◌≡◌, ◌≢◌, ℕ, zero, suc, ◌+◌, ◌-◌, ◌<◌, ◌≤◌, nat_lt, le-ltb, Bool, true, false, not, ◌&&◌, ◌||◌, ◌==◌, cond, List, [], ◌∷◌, length, lit<, refl, sym, ap, subst, ◌∙◌, arith}
 use Rattle.std.proofs.lemmas.Bool.{and_parts, cond-true, cond-false, lt-ltb}
 use Rattle.ucd_normal.specs.declared.forms.Form.TheVariants.{Nfkd, Nfkc}
 use Rattle.ucd_normal.specs.declared.forms.QuickCheck.{QuickCheck}
@@ -26,7 +26,10 @@ use Rattle.idn_class.proofs.StabilityLemmas.{in_form_alone, not_in_form_alone, n
 use Rattle.ucd_category.specs.declared.GeneralCategory.TheVariants.{Unassigned as Cn}
 use Rattle.idn_class.specs.declared.class.Class.{Class}
 use Rattle.idn_class.specs.declared.class.Class.TheVariants.{Pvalid, Contextj, Contexto, Disallowed, Unassigned}
-use Rattle.idn_class.specs.Class.{is_scalar, is_outside_profile, is_pvalid_exception, is_contexto_exception, is_disallowed_exception, is_unassigned, is_ldh, is_join_control, is_unstable, has_ignorable_property, is_in_ignorable_block, is_old_hangul_jamo, is_letter_or_digit, class_by_properties, class_of, is_undecided, is_stability_open, is_left_open}
+use Rattle.idn_class.specs.Class.{is_scalar, is_outside_profile, is_left_out, is_pvalid_exception, is_contexto_exception, is_disallowed_exception, is_unassigned, is_ldh, is_join_control, is_unstable, has_ignorable_property, is_in_ignorable_block, is_old_hangul_jamo, is_letter_or_digit, class_by_properties, class_of, is_undecided, is_stability_open, is_left_open}
+use Rattle.idn_class.specs.declared.properties.Properties.{Properties}
+use Rattle.idn_class.specs.declared.properties.Properties.TheVariants.{Profile, Unicode}
+use Rattle.idn_class.specs.inner.Entries.{number_by}
 
 -- the class with a number; the table's sixth number, 5, is none of a class
 abbrev pub class_from_number : ℕ → Class
@@ -255,30 +258,30 @@ line_3 c = cond (is_contexto_exception c) 3 (line_4 c)
 abbrev line_2 : ℕ → ℕ
 line_2 c = cond (is_pvalid_exception c) 1 (line_3 c)
 
-abbrev line_1 : ℕ → ℕ
-line_1 c = cond (is_outside_profile c) 0 (line_2 c)
+abbrev line_1 : Properties → ℕ → ℕ
+line_1 properties c = cond (is_left_out properties c) 0 (line_2 c)
 
-abbrev line_0 : ℕ → ℕ
-line_0 c = cond (is_scalar c) (line_1 c) 0
+abbrev line_0 : Properties → ℕ → ℕ
+line_0 properties c = cond (is_scalar c) (line_1 properties c) 0
 
-unfoldable pub class_number : ℕ → ℕ
-class_number c = line_0 c
+unfoldable pub class_number : Properties → ℕ → ℕ
+class_number properties c = line_0 properties c
 
 negated : {X : Type 0} (b : Bool) (x y : X) → cond (not b) x y ≡ cond b y x
 negated true x y = refl
 negated false x y = refl
 
-pub class_tells : (c : ℕ) → Tells c (class_of c) (class_number c)
+pub class_tells : (properties : Properties) (c : ℕ) → Tells c (class_of properties c) (class_number properties c)
 unfolding class_of class_number
-class_tells c =
+class_tells properties c =
     let D : Tells c Disallowed 0 = tells_known c 0 (not_five 0 (lit< tt)) in
     let P : Tells c Pvalid 1 = tells_known c 1 (not_five 1 (lit< tt)) in
     let J : Tells c Contextj 2 = tells_known c 2 (not_five 2 (lit< tt)) in
     let O : Tells c Contexto 3 = tells_known c 3 (not_five 3 (lit< tt)) in
     let U : Tells c Unassigned 4 = tells_known c 4 (not_five 4 (lit< tt)) in
-    subst (λ k. Tells c k (line_0 c)) (sym (negated (is_scalar c) _ _))
-    (tells_either c (is_scalar c) _ _ (line_1 c) 0
-    (tells_either c (is_outside_profile c) _ _ 0 (line_2 c) D
+    subst (λ k. Tells c k (line_0 properties c)) (sym (negated (is_scalar c) _ _))
+    (tells_either c (is_scalar c) _ _ (line_1 properties c) 0
+    (tells_either c (is_left_out properties c) _ _ 0 (line_2 c) D
     (tells_either c (is_pvalid_exception c) _ _ 1 (line_3 c) P
     (tells_either c (is_contexto_exception c) _ _ 3 (line_4 c) O
     (tells_either c (is_disallowed_exception c) _ _ 0 (line_5 c) D
@@ -311,25 +314,97 @@ number_0_stepped =
     let first = either_stepped 0 is_in_ignorable_block number_2 (of_ranges _ refl) second in
     zip_stepped (λ v m. cond (is_letter_or_digit v) m 0) general_category number_1 general_category_stepped first
 
-unfoldable pub class_number_stepped : Stepped class_number
-unfolding rises_from class_number is_scalar is_outside_profile is_pvalid_exception is_contexto_exception is_disallowed_exception is_ldh is_join_control unassigned_stepped number_0_stepped
-class_number_stepped =
+unfoldable line_2_stepped : Stepped line_2
+unfolding rises_from is_pvalid_exception is_contexto_exception is_disallowed_exception is_ldh is_join_control unassigned_stepped number_0_stepped
+line_2_stepped =
     let l7 = either_stepped 2 is_join_control number_0 (of_ranges _ refl) number_0_stepped in
     let l6 = either_stepped 1 is_ldh line_7 (of_ranges _ refl) l7 in
     let l5 = either_stepped 4 is_unassigned line_6 unassigned_stepped l6 in
     let l4 = either_stepped 0 is_disallowed_exception line_5 (of_ranges _ refl) l5 in
     let l3 = either_stepped 3 is_contexto_exception line_4 (of_ranges _ refl) l4 in
-    let l2 = either_stepped 1 is_pvalid_exception line_3 (of_ranges _ refl) l3 in
-    let l1 = either_stepped 0 is_outside_profile line_2 (of_ranges _ refl) l2 in
-    zip_stepped (λ b m. cond b m 0) is_scalar line_1 (of_ranges _ refl) l1
+    either_stepped 1 is_pvalid_exception line_3 (of_ranges _ refl) l3
+
+unfoldable pub class_number_stepped : Stepped (class_number Profile)
+unfolding rises_from class_number is_scalar is_outside_profile line_2_stepped
+class_number_stepped =
+    let l1 = either_stepped 0 is_outside_profile line_2 (of_ranges _ refl) line_2_stepped in
+    zip_stepped (λ b m. cond b m 0) is_scalar (line_1 Profile) (of_ranges _ refl) l1
+
+-- ---- the entry of the table: what the profile leaves out has 6 more than its number by the standard
+
+unfoldable pub table_number : ℕ → ℕ
+table_number c = cond (is_outside_profile c) (class_number Unicode c + 6) (class_number Unicode c)
+
+unfoldable pub table_number_stepped : Stepped table_number
+unfolding rises_from table_number class_number is_scalar is_outside_profile line_2_stepped
+table_number_stepped =
+    let standard = zip_stepped (λ b m. cond b m 0) is_scalar line_2 (of_ranges _ refl) line_2_stepped in
+    zip_stepped (λ b (n : ℕ). cond b (n + 6) n) is_outside_profile (class_number Unicode) (of_ranges _ refl) standard
+
+either_below : (b : Bool) (x y : ℕ) → x < 6 → y < 6 → cond b x y < 6
+either_below true x y low other = low
+either_below false x y low other = other
+
+folds_below : (n : ℕ) → by_folds n < 6
+folds_below zero = lit< tt
+folds_below (suc zero) = lit< tt
+folds_below (suc (suc n)) = lit< tt
+
+stability_below : (k n : ℕ) → by_keeping k n < 6
+stability_below zero n = lit< tt
+stability_below (suc zero) n = folds_below n
+stability_below (suc (suc k)) n = lit< tt
+
+line_2_below : (c : ℕ) → line_2 c < 6
+line_2_below c =
+    let none : 0 < 6 = lit< tt in
+    let n3 = either_below (has_ignorable_property c) 0 (stability c) none (stability_below (keeping_of c) (length (full_folding c))) in
+    let n2 = either_below (is_old_hangul_jamo c) 0 (number_3 c) none n3 in
+    let n1 = either_below (is_in_ignorable_block c) 0 (number_2 c) none n2 in
+    let n0 = either_below (is_letter c) (number_1 c) 0 n1 none in
+    let l7 = either_below (is_join_control c) 2 (number_0 c) (lit< tt) n0 in
+    let l6 = either_below (is_ldh c) 1 (line_7 c) (lit< tt) l7 in
+    let l5 = either_below (is_unassigned c) 4 (line_6 c) (lit< tt) l6 in
+    let l4 = either_below (is_disallowed_exception c) 0 (line_5 c) none l5 in
+    let l3 = either_below (is_contexto_exception c) 3 (line_4 c) (lit< tt) l4 in
+    either_below (is_pvalid_exception c) 1 (line_3 c) (lit< tt) l3
+
+abbrev left_by : Properties → Bool → Bool
+left_by Profile outside = outside
+left_by Unicode outside = false
+
+-- the number of a class by an entry, as either properties read it
+read_by : (properties : Properties) (outside scalar : Bool) (n : ℕ) → n < 6
+    → number_by properties (cond outside (cond scalar n 0 + 6) (cond scalar n 0)) ≡ cond scalar (cond (left_by properties outside) 0 n) 0
+read_by Profile true true n low = cond-false _ _ _ (le-ltb (n + 6) 6 (omega arith))
+read_by Profile true false n low = refl
+read_by Profile false true n low = cond-true _ _ _ (lt-ltb n 6 low)
+read_by Profile false false n low = refl
+read_by Unicode true true n low = cond-false _ _ _ (le-ltb (n + 6) 6 (omega arith)) ∙ back n
+  where
+    back : (n : ℕ) → n + 6 - 6 ≡ n
+    back n = omega arith
+read_by Unicode true false n low = refl
+read_by Unicode false true n low = cond-true _ _ _ (lt-ltb n 6 low)
+read_by Unicode false false n low = refl
+
+left_out-by : (properties : Properties) (c : ℕ) → left_by properties (is_outside_profile c) ≡ is_left_out properties c
+left_out-by Profile c = refl
+left_out-by Unicode c = refl
+
+pub table_number-by : (properties : Properties) (c : ℕ) → number_by properties (table_number c) ≡ class_number properties c
+unfolding table_number class_number
+table_number-by properties c =
+    read_by properties (is_outside_profile c) (is_scalar c) (line_2 c) (line_2_below c)
+    ∙ ap (λ b. cond (is_scalar c) (cond b 0 (line_2 c)) 0) (left_out-by properties c)
 
 -- ---- what the code reads
 
-pub from_number : (c n : ℕ) → n ≡ class_number c → n ≢ 5 → class_from_number n ≡ class_of c
-from_number c n is known = ap class_from_number is ∙ sym ((class_tells c).tells (λ five. known (is ∙ five)))
+pub from_number : (properties : Properties) (c n : ℕ) → n ≡ class_number properties c → n ≢ 5 → class_from_number n ≡ class_of properties c
+from_number properties c n is known = ap class_from_number is ∙ sym ((class_tells properties c).tells (λ five. known (is ∙ five)))
 
-pub from_five : (c n : ℕ) → n ≡ class_number c → n ≡ 5 → class_of c ≡ cond (is_unstable c) Disallowed Pvalid
-from_five c n is five = (class_tells c).asks (sym is ∙ five)
+pub from_five : (properties : Properties) (c n : ℕ) → n ≡ class_number properties c → n ≡ 5 → class_of properties c ≡ cond (is_unstable c) Disallowed Pvalid
+from_five properties c n is five = (class_tells properties c).asks (sym is ∙ five)
 
 first_part : (b : Bool) (x y : ℕ) → y ≢ 5 → cond b x y ≡ 5 → (b ≡ true) × (x ≡ 5)
 first_part true x y known h = (refl, h)
@@ -339,11 +414,11 @@ second_part : (b : Bool) (x y : ℕ) → x ≢ 5 → cond b x y ≡ 5 → (b ≡
 second_part true x y known h = absurd (known h)
 second_part false x y known h = (refl, h)
 
-five_parts : (c : ℕ) → class_number c ≡ 5 → (is_pvalid_exception c ≡ false) × (is_letter c ≡ true)
+five_parts : (properties : Properties) (c : ℕ) → class_number properties c ≡ 5 → (is_pvalid_exception c ≡ false) × (is_letter c ≡ true)
 unfolding class_number
-five_parts c h =
-    let l1 = (first_part (is_scalar c) (line_1 c) 0 (not_five 0 (lit< tt)) h).1 in
-    let l2 = (second_part (is_outside_profile c) 0 (line_2 c) (not_five 0 (lit< tt)) l1).1 in
+five_parts properties c h =
+    let l1 = (first_part (is_scalar c) (line_1 properties c) 0 (not_five 0 (lit< tt)) h).1 in
+    let l2 = (second_part (is_left_out properties c) 0 (line_2 c) (not_five 0 (lit< tt)) l1).1 in
     let e = second_part (is_pvalid_exception c) 1 (line_3 c) (not_five 1 (lit< tt)) l2 in
     let l4 = (second_part (is_contexto_exception c) 3 (line_4 c) (not_five 3 (lit< tt)) e.1).1 in
     let l5 = (second_part (is_disallowed_exception c) 0 (line_5 c) (not_five 0 (lit< tt)) l4).1 in
@@ -352,13 +427,13 @@ five_parts c h =
     let l8 = (second_part (is_join_control c) 2 (number_0 c) (not_five 2 (lit< tt)) l7).1 in
     (e.0, (first_part (is_letter c) (number_1 c) 0 (not_five 0 (lit< tt)) l8).0)
 
-pub five_open : (c n : ℕ) → n ≡ class_number c → n ≡ 5 → is_left_open c ≡ true
+pub five_open : (properties : Properties) (c n : ℕ) → n ≡ class_number properties c → n ≡ 5 → is_left_open c ≡ true
 unfolding is_left_open
-five_open c n is five =
-    let parts = five_parts c (sym is ∙ five) in
+five_open properties c n is five =
+    let parts = five_parts properties c (sym is ∙ five) in
     ap (λ b. not b && is_letter c && is_stability_open c) parts.0
     ∙ ap (λ b. true && b && is_stability_open c) parts.1
-    ∙ ap (λ b. true && true && b) ((class_tells c).opens (sym is ∙ five))
+    ∙ ap (λ b. true && true && b) ((class_tells properties c).opens (sym is ∙ five))
 
 pub from_high : (n : ℕ) → 4 ≤ n → class_from_number n ≡ Unassigned
 from_high zero h = absurd (omega arith)
@@ -367,9 +442,9 @@ from_high (suc (suc zero)) h = absurd (omega arith)
 from_high (suc (suc (suc zero))) h = absurd (omega arith)
 from_high (suc (suc (suc (suc n)))) h = refl
 
-pub class_of-no_scalar : (c : ℕ) → is_scalar c ≡ false → class_of c ≡ Disallowed
+pub class_of-no_scalar : (properties : Properties) (c : ℕ) → is_scalar c ≡ false → class_of properties c ≡ Disallowed
 unfolding class_of
-class_of-no_scalar c h = negated (is_scalar c) _ _ ∙ cond-false _ _ Disallowed h
+class_of-no_scalar properties c h = negated (is_scalar c) _ _ ∙ cond-false _ _ Disallowed h
 
 pub is_scalar-out : (c : ℕ) → OutOfScalarRange c → is_scalar c ≡ false
 unfolding is_scalar in_ranges

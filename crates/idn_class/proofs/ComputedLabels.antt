@@ -14,19 +14,31 @@ use Rattle.idn_class.specs.declared.class.Class.{Class}
 use Rattle.idn_class.specs.declared.class.Class.TheVariants.{Pvalid, Contextj, Contexto, Disallowed, Unassigned}
 use Rattle.idn_class.specs.declared.class_table.TheConstants.{CLASS_INDEX, CLASS_WORDS}
 use Rattle.idn_class.specs.Class.{class_of, is_scalar}
-use Rattle.idn_class.specs.JoiningType.{is_virama, is_right_joining, is_dual_joining, is_transparent, joining_type}
+use Rattle.idn_class.specs.JoiningType.{is_profile_virama, is_right_joining, is_dual_joining, is_transparent, profile_joining_type, is_standard_virama, standard_joining_type}
 use Rattle.idn_class.specs.ContextO.{is_japanese}
-use Rattle.idn_class.specs.BidiClass.{is_boundary_neutral, is_european_separator, is_european_number, is_arabic_number, is_nonspacing, is_right_to_left, is_arabic_letter, bidi_class}
+use Rattle.idn_class.specs.BidiClass.{is_boundary_neutral, is_european_separator, is_european_number, is_arabic_number, is_nonspacing, is_right_to_left, is_arabic_letter, profile_bidi_class, standard_bidi_class}
 use Rattle.idn_class.specs.LeadingMark.{is_mark}
 use Rattle.idn_class.specs.WorkedRows.{HasClasses}
 use Rattle.idn_class.specs.Tests.{all_places, contextj_ok, contexto_ok, bidi_ok}
-use Rattle.idn_class.proofs.ClassNumbers.{class_from_number, from_number, class_of-no_scalar}
+use Rattle.idn_class.proofs.ClassNumbers.{class_from_number, from_number, class_of-no_scalar, table_number-by}
 use Rattle.idn_class.proofs.ClassTrie.{trie_value-CLASS}
 use Rattle.idn_class.proofs.TestLemmas.{all_places-at}
+use Rattle.idn_class.specs.declared.properties.Properties.{Properties}
+use Rattle.idn_class.specs.declared.properties.Properties.TheVariants.{Profile}
+use Rattle.idn_class.specs.inner.Entries.{number_by}
+use Rattle.ucd_bidi.specs.BidiClass.{bidi_class as unicode_bidi_class}
+use Rattle.ucd_bidi.specs.BidiClassRows.{bidi_class_rows}
+use Rattle.ucd_bidi.specs.JoiningType.{joining_type as unicode_joining_type}
+use Rattle.ucd_bidi.specs.JoiningTypeRows.{joining_type_rows}
+use Rattle.ucd_normal.specs.CanonicalCombiningClass.{canonical_combining_class}
+use Rattle.ucd_normal.specs.CanonicalCombiningClassRows.{canonical_combining_class_rows}
+use Rattle.ucd_bidi.proofs.BidiClassLemmas.{bidi_class_stepped as unicode_bidi_class_stepped}
+use Rattle.ucd_bidi.proofs.JoiningTypeLemmas.{joining_type_stepped as unicode_joining_type_stepped}
+use Rattle.ucd_normal.proofs.CanonicalCombiningClassLemmas.{canonical_combining_class_stepped}
 
 -- `unfolding rules` opens the tests of the rules, and the properties that they ask for
 unfoldable pub rules : Unit {0}
-unfolding tables general_category_stepped script_stepped general_category script is_virama is_right_joining is_dual_joining is_transparent joining_type is_japanese is_boundary_neutral is_european_separator is_european_number is_arabic_number is_nonspacing is_right_to_left is_arabic_letter bidi_class is_mark contextj_ok contexto_ok bidi_ok
+unfolding tables unicode_bidi_class_stepped unicode_joining_type_stepped canonical_combining_class_stepped unicode_bidi_class unicode_joining_type canonical_combining_class bidi_class_rows joining_type_rows canonical_combining_class_rows standard_bidi_class standard_joining_type is_standard_virama general_category_stepped script_stepped general_category script is_profile_virama is_right_joining is_dual_joining is_transparent profile_joining_type is_japanese is_boundary_neutral is_european_separator is_european_number is_arabic_number is_nonspacing is_right_to_left is_arabic_letter profile_bidi_class is_mark contextj_ok contexto_ok bidi_ok
 rules = tt
 
 -- the class that the table has, where it has one
@@ -38,9 +50,10 @@ known_class (suc (suc (suc zero))) = Some Contexto
 known_class (suc (suc (suc (suc zero)))) = Some Unassigned
 known_class (suc (suc (suc (suc (suc n))))) = None
 
-unfoldable pub in_table : ℕ → Option Class
+unfoldable pub in_table : Properties → ℕ → Option Class
 unfolding trie_value block_value step_value
-in_table c = if nat_lt c 0x11_0000 then known_class (trie_value 4 8 CLASS_INDEX CLASS_WORDS [] c) else Some Disallowed
+in_table properties c =
+    if nat_lt c 0x11_0000 then known_class (number_by properties (trie_value 4 8 CLASS_INDEX CLASS_WORDS [] c)) else Some Disallowed
 
 known_class-from_number : (n : ℕ) (k : Class) → known_class n ≡ Some k → (n ≢ 5) × (class_from_number n ≡ k)
 known_class-from_number zero k h = (λ five. absurd (omega arith), cc)
@@ -56,17 +69,17 @@ unfolding is_scalar in_ranges
 is_scalar-past c past = grind (arith, nat_tests)
 
 -- a proof names the class of a code point by a look-up that computes, under `unfolding in_table`
-pub class_of-in_table : (c : ℕ) (k : Class) → in_table c ≡ Some k → class_of c ≡ k
+pub class_of-in_table : (properties : Properties) (c : ℕ) (k : Class) → in_table properties c ≡ Some k → class_of properties c ≡ k
 unfolding in_table
-class_of-in_table c k h =
-    let looked = known_class (trie_value 4 8 CLASS_INDEX CLASS_WORDS [] c) in
+class_of-in_table properties c k h =
+    let looked = known_class (number_by properties (trie_value 4 8 CLASS_INDEX CLASS_WORDS [] c)) in
     elim (cases_Bool (nat_lt c 0x11_0000)) [
       | inl low ↦
           let known = known_class-from_number _ k (sym (cond-true (nat_lt c 0x11_0000) looked (Some Disallowed) low) ∙ h) in
-          sym (from_number c _ (trie_value-CLASS c (ltb-true c 0x11_0000 low)) known.0) ∙ known.1
+          sym (from_number properties c _ (ap (number_by properties) (trie_value-CLASS c (ltb-true c 0x11_0000 low)) ∙ table_number-by properties c) known.0) ∙ known.1
       | inr past ↦
           let same : Some Disallowed ≡ Some k = sym (cond-false (nat_lt c 0x11_0000) looked (Some Disallowed) past) ∙ h in
-          class_of-no_scalar c (is_scalar-past c (ltb-false c 0x11_0000 past)) ∙ (let kept : Disallowed ≡ k = cc in kept)
+          class_of-no_scalar properties c (is_scalar-past c (ltb-false c 0x11_0000 past)) ∙ (let kept : Disallowed ≡ k = cc in kept)
     ]
 
 -- ---- the classes of a label, or of the rows of a table
@@ -97,33 +110,34 @@ is_known_as-true k (Some j) h = ap Some (is_class-true k j h)
 
 abbrev are_in_table : List ℕ → List Class → Bool
 are_in_table [] [] = true
-are_in_table (c ∷ label) (k ∷ classes) = is_known_as k (in_table c) && are_in_table label classes
+are_in_table (c ∷ label) (k ∷ classes) = is_known_as k (in_table Profile c) && are_in_table label classes
 are_in_table _ _ = false
 
-pub map-class_of-in_table : (label : List ℕ) (classes : List Class) → are_in_table label classes ≡ true → map class_of label ≡ classes
+pub map-class_of-in_table : (label : List ℕ) (classes : List Class) → are_in_table label classes ≡ true → map (class_of Profile) label ≡ classes
 map-class_of-in_table [] [] h = refl
 map-class_of-in_table [] (k ∷ classes) h = let clash : false ≡ true = h in cc
 map-class_of-in_table (c ∷ label) [] h = let clash : false ≡ true = h in cc
 map-class_of-in_table (c ∷ label) (k ∷ classes) h =
-    let parts = and_parts (is_known_as k (in_table c)) (are_in_table label classes) h in
-    ap (λ j. j ∷ map class_of label) (class_of-in_table c k (is_known_as-true k (in_table c) parts.0))
+    let parts = and_parts (is_known_as k (in_table Profile c)) (are_in_table label classes) h in
+    ap (λ j. j ∷ map (class_of Profile) label) (class_of-in_table Profile c k (is_known_as-true k (in_table Profile c) parts.0))
     ∙ ap (λ ks. k ∷ ks) (map-class_of-in_table label classes parts.1)
 
-abbrev row_ok : ℕ → ℕ → Class → Bool
-row_ok first last k = all_places (last - first + 1) (λ i. is_known_as k (in_table (first + i)))
+module _ (class : ℕ → Class) (looked : ℕ → Option Class) (tells : (c : ℕ) (k : Class) → looked c ≡ Some k → class c ≡ k) where
+  abbrev row_ok : ℕ → ℕ → Class → Bool
+  row_ok first last k = all_places (last - first + 1) (λ i. is_known_as k (looked (first + i)))
 
-abbrev rows_ok : List (ℕ × ℕ × Class) → Bool
-rows_ok [] = true
-rows_ok (row ∷ rows) = row_ok row.0 row.1 row.2 && rows_ok rows
+  class_of-row : (first last : ℕ) (k : Class) → row_ok first last k ≡ true → (c : ℕ) → first ≤ c → c ≤ last → class c ≡ k
+  class_of-row first last k h c low high =
+      let at : first + (c - first) ≡ c = omega arith in
+      let known = all_places-at (last - first + 1) (λ i. is_known_as k (looked (first + i))) h (c - first) (omega arith) in
+      tells c k (is_known_as-true k (looked c) (ap (λ n. is_known_as k (looked n)) (sym at) ∙ known))
 
-class_of-row : (first last : ℕ) (k : Class) → row_ok first last k ≡ true → (c : ℕ) → first ≤ c → c ≤ last → class_of c ≡ k
-class_of-row first last k h c low high =
-    let at : first + (c - first) ≡ c = omega arith in
-    let known = all_places-at (last - first + 1) (λ i. is_known_as k (in_table (first + i))) h (c - first) (omega arith) in
-    class_of-in_table c k (is_known_as-true k (in_table c) (ap (λ n. is_known_as k (in_table n)) (sym at) ∙ known))
+abbrev rows_ok : Properties → List (ℕ × ℕ × Class) → Bool
+rows_ok properties [] = true
+rows_ok properties (row ∷ rows) = row_ok (class_of properties) (in_table properties) (class_of-in_table properties) row.0 row.1 row.2 && rows_ok properties rows
 
-pub HasClasses-rows_ok : (rows : List (ℕ × ℕ × Class)) → rows_ok rows ≡ true → HasClasses rows
-HasClasses-rows_ok [] h = tt
-HasClasses-rows_ok (row ∷ rows) h =
-    let parts = and_parts (row_ok row.0 row.1 row.2) (rows_ok rows) h in
-    (class_of-row row.0 row.1 row.2 parts.0, HasClasses-rows_ok rows parts.1)
+pub HasClasses-rows_ok : (properties : Properties) (rows : List (ℕ × ℕ × Class)) → rows_ok properties rows ≡ true → HasClasses properties rows
+HasClasses-rows_ok properties [] h = tt
+HasClasses-rows_ok properties (row ∷ rows) h =
+    let parts = and_parts (row_ok (class_of properties) (in_table properties) (class_of-in_table properties) row.0 row.1 row.2) (rows_ok properties rows) h in
+    (class_of-row (class_of properties) (in_table properties) (class_of-in_table properties) row.0 row.1 row.2 parts.0, HasClasses-rows_ok properties rows parts.1)

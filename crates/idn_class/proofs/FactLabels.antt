@@ -1,5 +1,5 @@
 -- A label of which no code point has a fact passes the test that the fact stands for.
-use Rattle.std.proofs.Common.{◌≡◌, ℕ, ◌≤◌, Bool, true, false, ◌==◌, nat_le, List, [], ◌∷◌, map, All, get_or, refl, sym, ap, ◌∙◌, eqb-true, arith}
+use Rattle.std.proofs.Common.{◌≡◌, ℕ, ◌≤◌, Bool, true, false, ◌==◌, nat_le, not, cond, List, [], ◌∷◌, map, All, get_or, refl, sym, ap, ◌∙◌, eqb-true, arith}
 use Rattle.std.specs.List.{list_any}
 use Rattle.std.proofs.lemmas.Bool.{and_parts, true≢false, not-false, or_parts}
 use Rattle.std.proofs.lemmas.Bool.Decides.{nat_tests}
@@ -15,12 +15,12 @@ use Rattle.unicode_normalization.specs.Forms.{nfc, is_nfc}
 use Rattle.unicode_normalization.proofs.FormsLemmas.{quick_check_text-Yes, is_in_form_from}
 use Rattle.unicode_normalization.proofs.QuickCheckLemmas.{checked_after, checked_after-start, checked_after-step, checked_after-end}
 use Rattle.idn_class.specs.declared.class.Class.{Class}
-use Rattle.idn_class.specs.declared.class.Class.TheVariants.{Contextj as Contextj_class, Contexto as Contexto_class}
+use Rattle.idn_class.specs.declared.class.Class.TheVariants.{Contextj as Contextj_class, Contexto as Contexto_class, Disallowed as Disallowed_class}
 use Rattle.idn_class.specs.declared.facts.Fact.{Fact}
 use Rattle.idn_class.specs.declared.facts.Fact.TheVariants.{MayBeBarred, Contextj, Contexto, MayCompose, Mark, RightToLeft, NotKept}
-use Rattle.idn_class.specs.BidiClass.{bidi_class}
+use Rattle.idn_class.specs.BidiClass.{profile_bidi_class, bidi_class, named_class, standard_bidi_class}
 use Rattle.idn_class.specs.BidiRule.{is_rtl_class}
-use Rattle.idn_class.specs.Class.{class_of, is_left_open}
+use Rattle.idn_class.specs.Class.{class_of, is_left_open, is_scalar, is_outside_profile}
 use Rattle.idn_class.specs.ContextO.{is_arabic_digit, is_extended_arabic_digit}
 use Rattle.idn_class.specs.Facts.{is_barred_class, is_contextj, is_contexto, is_yes, is_unicode_rtl_class, is_kept_status, is_so, has_fact}
 use Rattle.idn_class.specs.LeadingMark.{is_mark}
@@ -30,6 +30,10 @@ use Rattle.idn_class.proofs.ComputedLabels.{in_table, HasClasses-rows_ok}
 use Rattle.idn_class.proofs.ContextJTests.{contextj_ok-PassesContextJ}
 use Rattle.idn_class.proofs.ContextOTests.{contexto_ok-PassesContextO}
 use Rattle.idn_class.proofs.ClassNumbers.{is_yes-true}
+use Rattle.idn_class.specs.declared.properties.Properties.{Properties}
+use Rattle.idn_class.specs.declared.properties.Properties.TheVariants.{Profile, Unicode}
+use Rattle.ucd_bidi.specs.declared.BidiClass.{BidiClass as UnicodeBidiClass}
+use Rattle.ucd_bidi.specs.declared.BidiClass.TheVariants as unicode
 
 -- ---- code points
 
@@ -37,15 +41,38 @@ use Rattle.idn_class.proofs.ClassNumbers.{is_yes-true}
 pub without : (fact : Fact) (c : ℕ) → has_fact fact c ≡ false → is_so fact c ≡ false
 without fact c none = (or_parts (nat_le 0x11_0000 c) (is_so fact c) none).1
 
-pub class_without : (c : ℕ) → has_fact MayBeBarred c ≡ false → (is_barred_class (class_of c) ≡ false) × (is_left_open c ≡ false)
+-- what may be registered by the profile has the same class by the standard
+same_class : (s o : Bool) (rest : Class) → is_barred_class (cond (not s) Disallowed_class (cond o Disallowed_class rest)) ≡ false
+    → cond (not s) Disallowed_class (cond false Disallowed_class rest) ≡ cond (not s) Disallowed_class (cond o Disallowed_class rest)
+same_class false o rest free = refl
+same_class true true rest free = let clash : true ≡ false = free in cc
+same_class true false rest free = refl
+
+pub class_of-standard : (c : ℕ) → is_barred_class (class_of Profile c) ≡ false → class_of Unicode c ≡ class_of Profile c
+unfolding class_of
+class_of-standard c free = same_class (is_scalar c) (is_outside_profile c) _ free
+
+pub unbarred_by : (properties : Properties) (c : ℕ) → is_barred_class (class_of Profile c) ≡ false → is_barred_class (class_of properties c) ≡ false
+unbarred_by Profile c free = free
+unbarred_by Unicode c free = ap is_barred_class (class_of-standard c free) ∙ free
+
+-- what makes the rule apply by Unicode is R, AL or AN
+named_rtl : (class : UnicodeBidiClass) → is_rtl_class (named_class class) ≡ is_unicode_rtl_class class
+named_rtl unicode.LeftToRight = refl
+named_rtl unicode.RightToLeft = refl
+named_rtl unicode.ArabicLetter = refl
+named_rtl unicode.ArabicNumber = refl
+named_rtl _ = refl
+
+pub class_without : (c : ℕ) → has_fact MayBeBarred c ≡ false → (is_barred_class (class_of Profile c) ≡ false) × (is_left_open c ≡ false)
 unfolding is_so
 class_without c none = or_parts _ _ (without MayBeBarred c none)
 
-pub contextj_without : (c : ℕ) → has_fact Contextj c ≡ false → is_contextj (class_of c) ≡ false
+pub contextj_without : (c : ℕ) → has_fact Contextj c ≡ false → is_contextj (class_of Profile c) ≡ false
 unfolding is_so
 contextj_without c none = without Contextj c none
 
-contexto_without : (c : ℕ) → has_fact Contexto c ≡ false → is_contexto (class_of c) ≡ false
+contexto_without : (c : ℕ) → has_fact Contexto c ≡ false → is_contexto (class_of Profile c) ≡ false
 unfolding is_so
 contexto_without c none = without Contexto c none
 
@@ -59,7 +86,7 @@ pub mark_without : (c : ℕ) → has_fact Mark c ≡ false → is_mark c ≡ fal
 unfolding is_so
 mark_without c none = without Mark c none
 
-pub rtl_without : (c : ℕ) → has_fact RightToLeft c ≡ false → (is_rtl_class (bidi_class c) ≡ false) × (is_unicode_rtl_class (unicode_bidi_class c) ≡ false)
+pub rtl_without : (c : ℕ) → has_fact RightToLeft c ≡ false → (is_rtl_class (profile_bidi_class c) ≡ false) × (is_unicode_rtl_class (unicode_bidi_class c) ≡ false)
 unfolding is_so
 rtl_without c none = or_parts _ _ (without RightToLeft c none)
 
@@ -67,38 +94,43 @@ pub kept_without : (c : ℕ) → has_fact NotKept c ≡ false → is_kept_status
 unfolding is_so
 kept_without c none = not-false _ (without NotKept c none)
 
+pub rtl_without_by : (properties : Properties) (c : ℕ) → has_fact RightToLeft c ≡ false → is_rtl_class (bidi_class properties c) ≡ false
+unfolding standard_bidi_class
+rtl_without_by Profile c none = (rtl_without c none).0
+rtl_without_by Unicode c none = named_rtl (unicode_bidi_class c) ∙ (rtl_without c none).1
+
 -- ---- the code points that have a rule of their own
 
-of_class : (test : Class → Bool) (first last : ℕ) (class : Class) → HasClasses ((first, last, class) ∷ []) → test class ≡ true → (c : ℕ) → test (class_of c) ≡ false → first ≤ c → c ≤ last → ⊥
+of_class : (test : Class → Bool) (first last : ℕ) (class : Class) → HasClasses Profile ((first, last, class) ∷ []) → test class ≡ true → (c : ℕ) → test (class_of Profile c) ≡ false → first ≤ c → c ≤ last → ⊥
 of_class test first last class row is c other low high = true≢false (sym is ∙ ap test (sym (row.0 c low high)) ∙ other)
 
-no_joiner : (c : ℕ) → is_contextj (class_of c) ≡ false → 0x200C ≤ c → c ≤ 0x200D → ⊥
+no_joiner : (c : ℕ) → is_contextj (class_of Profile c) ≡ false → 0x200C ≤ c → c ≤ 0x200D → ⊥
 unfolding in_table
-no_joiner = of_class is_contextj 0x200C 0x200D Contextj_class (HasClasses-rows_ok ((0x200C, 0x200D, Contextj_class) ∷ []) refl) refl
+no_joiner = of_class is_contextj 0x200C 0x200D Contextj_class (HasClasses-rows_ok Profile ((0x200C, 0x200D, Contextj_class) ∷ []) refl) refl
 
-no_middle_dot : (c : ℕ) → is_contexto (class_of c) ≡ false → 0xB7 ≤ c → c ≤ 0xB7 → ⊥
+no_middle_dot : (c : ℕ) → is_contexto (class_of Profile c) ≡ false → 0xB7 ≤ c → c ≤ 0xB7 → ⊥
 unfolding in_table
-no_middle_dot = of_class is_contexto 0xB7 0xB7 Contexto_class (HasClasses-rows_ok ((0xB7, 0xB7, Contexto_class) ∷ []) refl) refl
+no_middle_dot = of_class is_contexto 0xB7 0xB7 Contexto_class (HasClasses-rows_ok Profile ((0xB7, 0xB7, Contexto_class) ∷ []) refl) refl
 
-no_keraia : (c : ℕ) → is_contexto (class_of c) ≡ false → 0x375 ≤ c → c ≤ 0x375 → ⊥
+no_keraia : (c : ℕ) → is_contexto (class_of Profile c) ≡ false → 0x375 ≤ c → c ≤ 0x375 → ⊥
 unfolding in_table
-no_keraia = of_class is_contexto 0x375 0x375 Contexto_class (HasClasses-rows_ok ((0x375, 0x375, Contexto_class) ∷ []) refl) refl
+no_keraia = of_class is_contexto 0x375 0x375 Contexto_class (HasClasses-rows_ok Profile ((0x375, 0x375, Contexto_class) ∷ []) refl) refl
 
-no_geresh : (c : ℕ) → is_contexto (class_of c) ≡ false → 0x5F3 ≤ c → c ≤ 0x5F4 → ⊥
+no_geresh : (c : ℕ) → is_contexto (class_of Profile c) ≡ false → 0x5F3 ≤ c → c ≤ 0x5F4 → ⊥
 unfolding in_table
-no_geresh = of_class is_contexto 0x5F3 0x5F4 Contexto_class (HasClasses-rows_ok ((0x5F3, 0x5F4, Contexto_class) ∷ []) refl) refl
+no_geresh = of_class is_contexto 0x5F3 0x5F4 Contexto_class (HasClasses-rows_ok Profile ((0x5F3, 0x5F4, Contexto_class) ∷ []) refl) refl
 
-no_katakana_middle_dot : (c : ℕ) → is_contexto (class_of c) ≡ false → 0x30FB ≤ c → c ≤ 0x30FB → ⊥
+no_katakana_middle_dot : (c : ℕ) → is_contexto (class_of Profile c) ≡ false → 0x30FB ≤ c → c ≤ 0x30FB → ⊥
 unfolding in_table
-no_katakana_middle_dot = of_class is_contexto 0x30FB 0x30FB Contexto_class (HasClasses-rows_ok ((0x30FB, 0x30FB, Contexto_class) ∷ []) refl) refl
+no_katakana_middle_dot = of_class is_contexto 0x30FB 0x30FB Contexto_class (HasClasses-rows_ok Profile ((0x30FB, 0x30FB, Contexto_class) ∷ []) refl) refl
 
-no_arabic_digit : (c : ℕ) → is_contexto (class_of c) ≡ false → 0x660 ≤ c → c ≤ 0x669 → ⊥
+no_arabic_digit : (c : ℕ) → is_contexto (class_of Profile c) ≡ false → 0x660 ≤ c → c ≤ 0x669 → ⊥
 unfolding in_table
-no_arabic_digit = of_class is_contexto 0x660 0x669 Contexto_class (HasClasses-rows_ok ((0x660, 0x669, Contexto_class) ∷ []) refl) refl
+no_arabic_digit = of_class is_contexto 0x660 0x669 Contexto_class (HasClasses-rows_ok Profile ((0x660, 0x669, Contexto_class) ∷ []) refl) refl
 
-no_extended_arabic_digit : (c : ℕ) → is_contexto (class_of c) ≡ false → 0x6F0 ≤ c → c ≤ 0x6F9 → ⊥
+no_extended_arabic_digit : (c : ℕ) → is_contexto (class_of Profile c) ≡ false → 0x6F0 ≤ c → c ≤ 0x6F9 → ⊥
 unfolding in_table
-no_extended_arabic_digit = of_class is_contexto 0x6F0 0x6F9 Contexto_class (HasClasses-rows_ok ((0x6F0, 0x6F9, Contexto_class) ∷ []) refl) refl
+no_extended_arabic_digit = of_class is_contexto 0x6F0 0x6F9 Contexto_class (HasClasses-rows_ok Profile ((0x6F0, 0x6F9, Contexto_class) ∷ []) refl) refl
 
 -- ---- labels
 
@@ -116,12 +148,12 @@ pub leading_mark-lacks : (label : List ℕ) → Lacks Mark label → leading_mar
 leading_mark-lacks [] none = refl
 leading_mark-lacks (c ∷ label) none = mark_without c (or_parts (has_fact Mark c) (list_any (has_fact Mark) label) none).0
 
-pub contextj_ok-lacks : (label : List ℕ) → Lacks Contextj label → contextj_ok label ≡ true
-contextj_ok-lacks label none =
-    (contextj_ok-PassesContextJ label).1
+pub contextj_ok-lacks : (properties : Properties) (label : List ℕ) → Lacks Contextj label → contextj_ok properties label ≡ true
+contextj_ok-lacks properties label none =
+    (contextj_ok-PassesContextJ properties label).1
     (λ k lt.
     let c = get_or label k 0 in
-    let other : is_contextj (class_of c) ≡ false = contextj_without c (each_lacks Contextj label none k 0 lt) in
+    let other : is_contextj (class_of Profile c) ≡ false = contextj_without c (each_lacks Contextj label none k 0 lt) in
     record {
       non_joiner = λ is. absurd (no_joiner c other (omega arith) (omega arith));
       joiner = λ is. absurd (no_joiner c other (omega arith) (omega arith));
@@ -132,7 +164,7 @@ contexto_ok-lacks label none =
     (contexto_ok-PassesContextO label).1
     (λ k lt.
     let c = get_or label k 0 in
-    let other : is_contexto (class_of c) ≡ false = contexto_without c (each_lacks Contexto label none k 0 lt) in
+    let other : is_contexto (class_of Profile c) ≡ false = contexto_without c (each_lacks Contexto label none k 0 lt) in
     record {
       middle_dot = λ is. absurd (no_middle_dot c other (omega arith) (omega arith));
       keraia = λ is. absurd (no_keraia c other (omega arith) (omega arith));
@@ -149,10 +181,10 @@ contexto_ok-lacks label none =
     extended : (c : ℕ) → is_extended_arabic_digit c ≡ true → (0x6F0 ≤ c) × (c ≤ 0x6F9)
     extended c is = (grind (arith, nat_tests), grind (arith, nat_tests))
 
-pub bidi_ok-lacks : (label : List ℕ) → Lacks RightToLeft label → bidi_ok label ≡ true
+pub bidi_ok-lacks : (properties : Properties) (label : List ℕ) → Lacks RightToLeft label → bidi_ok properties label ≡ true
 unfolding bidi_ok
-bidi_ok-lacks label lacks =
-    let none : list_any is_rtl_class (map bidi_class label) ≡ false = list_any_none is_rtl_class (map bidi_class label) (All-map (λ class. is_rtl_class class ≡ false) bidi_class label (All-weaker (λ c. has_fact RightToLeft c ≡ false) (λ c. is_rtl_class (bidi_class c) ≡ false) (λ c h. (rtl_without c h).0) label (each_lacks RightToLeft label lacks))) in
+bidi_ok-lacks properties label lacks =
+    let none : list_any is_rtl_class (map (bidi_class properties) label) ≡ false = list_any_none is_rtl_class (map (bidi_class properties) label) (All-map (λ class. is_rtl_class class ≡ false) (bidi_class properties) label (All-weaker (λ c. has_fact RightToLeft c ≡ false) (λ c. is_rtl_class (bidi_class properties c) ≡ false) (λ c h. rtl_without_by properties c h) label (each_lacks RightToLeft label lacks))) in
     rw none refl
 
 -- the quick check of NFC passes it

@@ -21,7 +21,7 @@ use Rattle.ucd_normal.proofs.CanonicalCombiningClassLemmas.{canonical_combining_
 use Rattle.ucd_normal.proofs.QuickCheckLemmas.{quick_check_stepped}
 use Rattle.idn_class.specs.declared.bidi_class.BidiClass.{BidiClass}
 use Rattle.idn_class.specs.declared.bidi_class.BidiClass.TheVariants.{L, R, AL, AN, EN, ES, BN, NSM}
-use Rattle.idn_class.specs.BidiClass.{is_boundary_neutral, is_european_separator, is_european_number, is_arabic_number, is_nonspacing_or_enclosing, is_nonspacing, is_right_to_left, is_arabic_letter, bidi_class}
+use Rattle.idn_class.specs.BidiClass.{is_boundary_neutral, is_european_separator, is_european_number, is_arabic_number, is_nonspacing_or_enclosing, is_nonspacing, is_right_to_left, is_arabic_letter, profile_bidi_class}
 use Rattle.idn_class.specs.BidiRule.{is_rtl_class}
 use Rattle.idn_class.specs.Class.{class_of, is_unstable, is_pvalid_exception, is_letter_or_digit, is_undecided, is_stability_open, is_left_open}
 use Rattle.idn_class.specs.declared.class.Class.{Class}
@@ -31,6 +31,7 @@ use Rattle.idn_class.specs.declared.facts.Fact.TheVariants.{MayBeBarred, Context
 use Rattle.idn_class.specs.Facts.{is_barred_class, is_contextj, is_contexto, is_yes, is_unicode_rtl_class, is_kept_status, is_so, place_of}
 use Rattle.idn_class.specs.LeadingMark.{is_mark_category, is_mark}
 use Rattle.idn_class.proofs.ClassNumbers.{class_from_number, class_number, class_number_stepped, from_number, from_five, five_open}
+use Rattle.idn_class.specs.declared.properties.Properties.TheVariants.{Profile}
 
 -- ---- the parts
 
@@ -53,8 +54,8 @@ nonspacing_stepped : Stepped is_nonspacing
 unfolding is_nonspacing general_category_stepped
 nonspacing_stepped = map_stepped is_nonspacing_or_enclosing general_category general_category_stepped
 
-rtl_stepped : Stepped (λ c. is_rtl_class (bidi_class c))
-unfolding bidi_class is_boundary_neutral is_european_separator is_european_number is_arabic_number is_right_to_left is_arabic_letter rises_from nonspacing_stepped
+rtl_stepped : Stepped (λ c. is_rtl_class (profile_bidi_class c))
+unfolding profile_bidi_class is_boundary_neutral is_european_separator is_european_number is_arabic_number is_right_to_left is_arabic_letter rises_from nonspacing_stepped
 rtl_stepped =
     let al = map_stepped (λ b. cond b AL L) is_arabic_letter (of_ranges ((0x600, 0x7BF) ∷ (0x860, 0x8FF) ∷ []) refl) in
     let r = either_class R is_right_to_left _ (of_ranges ((0x590, 0x5FF) ∷ (0x7C0, 0x85F) ∷ []) refl) al in
@@ -62,7 +63,7 @@ rtl_stepped =
     let an = either_class AN is_arabic_number _ (of_ranges ((0x660, 0x669) ∷ []) refl) nsm in
     let en = either_class EN is_european_number _ (of_ranges ((0x30, 0x39) ∷ (0x6F0, 0x6F9) ∷ []) refl) an in
     let es = either_class ES is_european_separator _ (of_ranges ((0x2D, 0x2D) ∷ []) refl) en in
-    map_stepped is_rtl_class bidi_class (either_class BN is_boundary_neutral _ (of_ranges ((0x200C, 0x200D) ∷ []) refl) es)
+    map_stepped is_rtl_class profile_bidi_class (either_class BN is_boundary_neutral _ (of_ranges ((0x200C, 0x200D) ∷ []) refl) es)
 
 -- ---- the facts by steps
 
@@ -71,7 +72,7 @@ or_stepped p q s t = zip_stepped (λ a b. a || b) p q s t
 
 -- a test of the class, by its number
 abbrev by_number : (Class → Bool) → ℕ → Bool
-by_number test c = test (class_from_number (class_number c))
+by_number test c = test (class_from_number (class_number Profile c))
 
 -- the fact again, by the number of the class
 abbrev so_by_steps : Fact → ℕ → Bool
@@ -80,12 +81,12 @@ so_by_steps Contextj c = by_number is_contextj c
 so_by_steps Contexto c = by_number is_contexto c
 so_by_steps MayCompose c = not (is_yes (quick_check Nfc c) && (canonical_combining_class c == 0))
 so_by_steps Mark c = is_mark c
-so_by_steps RightToLeft c = is_rtl_class (bidi_class c) || is_unicode_rtl_class (unicode_bidi_class c)
+so_by_steps RightToLeft c = is_rtl_class (profile_bidi_class c) || is_unicode_rtl_class (unicode_bidi_class c)
 so_by_steps NotKept c = not (is_kept_status (idna_status c))
 
 by_number_stepped : (test : Class → Bool) → Stepped (by_number test)
 unfolding class_number_stepped
-by_number_stepped test = map_stepped (λ n. test (class_from_number n)) class_number class_number_stepped
+by_number_stepped test = map_stepped (λ n. test (class_from_number n)) (class_number Profile) class_number_stepped
 
 compose_stepped : Stepped (so_by_steps MayCompose)
 unfolding quick_check_stepped canonical_combining_class_stepped
@@ -202,26 +203,26 @@ absent_facts-bit c fact =
 -- ---- the facts by steps are the facts
 
 -- what holds of no class that stability decides between is told by the number alone
-by_number-class_of : (test : Class → Bool) → test Unassigned ≡ test Disallowed → test Unassigned ≡ test Pvalid → (c : ℕ) → by_number test c ≡ test (class_of c)
+by_number-class_of : (test : Class → Bool) → test Unassigned ≡ test Disallowed → test Unassigned ≡ test Pvalid → (c : ℕ) → by_number test c ≡ test (class_of Profile c)
 by_number-class_of test disallowed pvalid c =
-    elim (cases_Bool (class_number c == 5)) [
+    elim (cases_Bool (class_number Profile c == 5)) [
       | inl is ↦
-          let five : class_number c ≡ 5 = eqb-true (class_number c) 5 is in
-          ap (λ n. test (class_from_number n)) five ∙ stable (is_unstable c) ∙ ap test (sym (from_five c (class_number c) refl five))
-      | inr other ↦ ap test (from_number c (class_number c) refl (λ five. true≢false (sym (eq-eqb (class_number c) 5 five) ∙ other)))
+          let five : class_number Profile c ≡ 5 = eqb-true (class_number Profile c) 5 is in
+          ap (λ n. test (class_from_number n)) five ∙ stable (is_unstable c) ∙ ap test (sym (from_five Profile c (class_number Profile c) refl five))
+      | inr other ↦ ap test (from_number Profile c (class_number Profile c) refl (λ five. true≢false (sym (eq-eqb (class_number Profile c) 5 five) ∙ other)))
     ]
   where
     stable : (b : Bool) → test Unassigned ≡ test (cond b Disallowed Pvalid)
     stable true = disallowed
     stable false = pvalid
 
-barred : (c : ℕ) → (by_number is_barred_class c || is_left_open c) ≡ (is_barred_class (class_of c) || is_left_open c)
+barred : (c : ℕ) → (by_number is_barred_class c || is_left_open c) ≡ (is_barred_class (class_of Profile c) || is_left_open c)
 barred c =
     elim (cases_Bool (is_left_open c)) [
       | inl left_open ↦ or_right _ _ left_open ∙ sym (or_right _ _ left_open)
       | inr closed ↦
-          let known : class_number c ≢ 5 = λ five. true≢false (sym (five_open c (class_number c) refl five) ∙ closed) in
-          ap (λ class. is_barred_class class || is_left_open c) (from_number c (class_number c) refl known)
+          let known : class_number Profile c ≢ 5 = λ five. true≢false (sym (five_open Profile c (class_number Profile c) refl five) ∙ closed) in
+          ap (λ class. is_barred_class class || is_left_open c) (from_number Profile c (class_number Profile c) refl known)
     ]
 
 pub so_by_steps-is_so : (fact : Fact) (c : ℕ) → so_by_steps fact c ≡ is_so fact c

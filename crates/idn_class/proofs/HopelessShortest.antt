@@ -8,116 +8,118 @@ use Rattle.idn_class.specs.Hopeless.{has_hyphens_third_and_fourth, hopeless, IsH
 use Rattle.idn_class.specs.Directions.{IsShortest, HasNone, breaks_at_first, breaks_after, lengthened}
 use Rattle.idn_class.proofs.HopelessSteps.{Tells, Tells-longer, Tells-itself, breaks_at-last, breaks_after-nil, hyphens-few, hyphens-many, hyphens-short, hopeless-none, hopeless-breaks, hopeless-hyphens, hopeless-more}
 use Rattle.idn_class.proofs.HopelessTests.{hopeless-gives, hopeless-from}
+use Rattle.idn_class.specs.declared.properties.Properties.{Properties}
 
--- ---- one code point more
+module _ (properties : Properties) where
+  -- ---- one code point more
 
--- a beginning with the code point that follows it
-take_longer : (w : List ℕ) (i : ℕ) → i < length w → take (i + 1) w ≡ take i w ++ slice_index w i ∷ []
-take_longer w i within = take_more w i 0 within
+  -- a beginning with the code point that follows it
+  take_longer : (w : List ℕ) (i : ℕ) → i < length w → take (i + 1) w ≡ take i w ++ slice_index w i ∷ []
+  take_longer w i within = take_more w i 0 within
 
--- after the start, the first i code points lead to this direction, and keep the Bidi rule
-pub record HasKept (start : Direction) (rest : List ℕ) (i : ℕ) (d : Direction) : Type 0 where
-  pub told : Tells start (take i rest) d
-  pub kept : (k : ℕ) → k ≤ i → breaks_after start (take k rest) ≡ false
+  -- after the start, the first i code points lead to this direction, and keep the Bidi rule
+  pub record HasKept (start : Direction) (rest : List ℕ) (i : ℕ) (d : Direction) : Type 0 where
+    pub told : Tells properties start (take i rest) d
+    pub kept : (k : ℕ) → k ≤ i → breaks_after properties start (take k rest) ≡ false
 
-pub HasKept-none : (start : Direction) (rest : List ℕ) → HasKept start rest 0 start
-HasKept-none start rest = record {
-  told = λ w. refl;
-  kept = λ k none. let zero : k ≡ 0 = omega arith in ap (λ n. breaks_after start (take n rest)) zero ∙ breaks_after-nil start;
-}
+  pub HasKept-none : (start : Direction) (rest : List ℕ) → HasKept start rest 0 start
+  HasKept-none start rest = record {
+    told = λ w. refl;
+    kept = λ k none. let zero : k ≡ 0 = omega arith in ap (λ n. breaks_after properties start (take n rest)) zero ∙ breaks_after-nil properties start;
+  }
 
-pub HasKept-next : (start : Direction) (rest : List ℕ) (i : ℕ) (d e : Direction) → HasKept start rest i d → i < length rest → lengthened d (slice_index rest i) ≡ Some e → HasKept start rest (i + 1) e
-HasKept-next start rest i d e h within is =
-    let told : Tells start (take (i + 1) rest) e = subst (λ front. Tells start front e) (sym (take_longer rest i within)) (Tells-longer start (take i rest) d e (slice_index rest i) h.told is) in
-    record {
-      told = told;
-      kept = λ k few. elim (cases_order k (i + 1)) [
-        | inl last ↦ ap (λ n. breaks_after start (take n rest)) last ∙ Tells-itself start (take (i + 1) rest) e told
-        | inr other ↦ elim other [ inl less ↦ h.kept k (omega arith) | inr more ↦ absurd (omega arith) ]
-      ];
-    }
+  pub HasKept-next : (start : Direction) (rest : List ℕ) (i : ℕ) (d e : Direction) → HasKept start rest i d → i < length rest → lengthened properties d (slice_index rest i) ≡ Some e → HasKept start rest (i + 1) e
+  HasKept-next start rest i d e h within is =
+      let told : Tells properties start (take (i + 1) rest) e = subst (λ front. Tells properties start front e) (sym (take_longer rest i within)) (Tells-longer properties start (take i rest) d e (slice_index rest i) h.told is) in
+      record {
+        told = told;
+        kept = λ k few. elim (cases_order k (i + 1)) [
+          | inl last ↦ ap (λ n. breaks_after properties start (take n rest)) last ∙ Tells-itself properties start (take (i + 1) rest) e told
+          | inr other ↦ elim other [ inl less ↦ h.kept k (omega arith) | inr more ↦ absurd (omega arith) ]
+        ];
+      }
 
-pub IsShortest-here : (start : Direction) (rest : List ℕ) (i : ℕ) (d : Direction) → HasKept start rest i d → i < length rest → lengthened d (slice_index rest i) ≡ None → IsShortest (breaks_after start) rest (i + 1)
-IsShortest-here start rest i d h within is = record {
-  within = omega arith;
-  holds = ap (breaks_after start) (take_longer rest i within) ∙ breaks_at-last start (take i rest) d (slice_index rest i) h.told is;
-  first = λ k less. h.kept k (omega arith);
-}
+  pub IsShortest-here : (start : Direction) (rest : List ℕ) (i : ℕ) (d : Direction) → HasKept start rest i d → i < length rest → lengthened properties d (slice_index rest i) ≡ None → IsShortest (breaks_after properties start) rest (i + 1)
+  IsShortest-here start rest i d h within is = record {
+    within = omega arith;
+    holds = ap (breaks_after properties start) (take_longer rest i within) ∙ breaks_at-last properties start (take i rest) d (slice_index rest i) h.told is;
+    first = λ k less. h.kept k (omega arith);
+  }
 
-pub HasNone-all : (start : Direction) (rest : List ℕ) (d : Direction) → HasKept start rest (length rest) d → HasNone (breaks_after start) rest
-HasNone-all start rest d h k = elim (cases_lt k (length rest)) [
-  | inl less ↦ h.kept k (omega arith)
-  | inr whole ↦ ap (breaks_after start) (take_all k rest whole ∙ sym (take_all (length rest) rest (omega arith))) ∙ h.kept (length rest) (omega arith)
-]
+  pub HasNone-all : (start : Direction) (rest : List ℕ) (d : Direction) → HasKept start rest (length rest) d → HasNone (breaks_after properties start) rest
+  HasNone-all start rest d h k = elim (cases_lt k (length rest)) [
+    | inl less ↦ h.kept k (omega arith)
+    | inr whole ↦ ap (breaks_after properties start) (take_all k rest whole ∙ sym (take_all (length rest) rest (omega arith))) ∙ h.kept (length rest) (omega arith)
+  ]
 
--- ---- no code point
+  -- ---- no code point
 
-nothing_breaks : (k : ℕ) → breaks_at_first (take {A = ℕ} k []) ≡ false
-nothing_breaks zero = refl
-nothing_breaks (suc k) = refl
+  nothing_breaks : (k : ℕ) → breaks_at_first properties (take {A = ℕ} k []) ≡ false
+  nothing_breaks zero = refl
+  nothing_breaks (suc k) = refl
 
-pub HasNone-nil : HasNone breaks_at_first []
-HasNone-nil = nothing_breaks
+  pub HasNone-nil : HasNone (breaks_at_first properties) []
+  HasNone-nil = nothing_breaks
 
--- ---- with the hyphens
+  -- ---- with the hyphens
 
-hopeless-not : (w : List ℕ) → hopeless w ≡ false → ¬ IsHopeless w
-hopeless-not w h is = let clash : true ≡ false = sym (hopeless-from w is) ∙ h in cc
+  hopeless-not : (w : List ℕ) → hopeless properties w ≡ false → ¬ IsHopeless properties w
+  hopeless-not w h is = let clash : true ≡ false = sym (hopeless-from properties w is) ∙ h in cc
 
-no_hyphens : (w : List ℕ) (k : ℕ) → has_hyphens_third_and_fourth w ≡ false → has_hyphens_third_and_fourth (take k w) ≡ false
-no_hyphens w k none = elim (cases_lt k 4) [
-  | inl few ↦ hyphens-few w k few
-  | inr many ↦ hyphens-many w k many ∙ none
-]
+  no_hyphens : (w : List ℕ) (k : ℕ) → has_hyphens_third_and_fourth w ≡ false → has_hyphens_third_and_fourth (take k w) ≡ false
+  no_hyphens w k none = elim (cases_lt k 4) [
+    | inl few ↦ hyphens-few properties w k few
+    | inr many ↦ hyphens-many properties w k many ∙ none
+  ]
 
-HasHope-none : (w : List ℕ) → HasNone breaks_at_first w → has_hyphens_third_and_fourth w ≡ false → HasHope w
-HasHope-none w keeps none k = hopeless-not (take k w) (hopeless-none (take k w) (keeps k) (no_hyphens w k none))
+  HasHope-none : (w : List ℕ) → HasNone (breaks_at_first properties) w → has_hyphens_third_and_fourth w ≡ false → HasHope properties w
+  HasHope-none w keeps none k = hopeless-not (take k w) (hopeless-none properties (take k w) (keeps k) (no_hyphens w k none))
 
--- it breaks the direction before the fourth code point, or has no such hyphens
-IsShortestHopeless-breaks : (w : List ℕ) (n : ℕ) → IsShortest breaks_at_first w n → ((k : ℕ) → k < n → has_hyphens_third_and_fourth (take k w) ≡ false) → IsShortestHopeless w n
-IsShortestHopeless-breaks w n s clear = record {
-  within = s.within;
-  holds = hopeless-gives (take n w) (hopeless-breaks (take n w) s.holds);
-  first = λ k less. hopeless-not (take k w) (hopeless-none (take k w) (s.first k less) (clear k less));
-}
+  -- it breaks the direction before the fourth code point, or has no such hyphens
+  IsShortestHopeless-breaks : (w : List ℕ) (n : ℕ) → IsShortest (breaks_at_first properties) w n → ((k : ℕ) → k < n → has_hyphens_third_and_fourth (take k w) ≡ false) → IsShortestHopeless properties w n
+  IsShortestHopeless-breaks w n s clear = record {
+    within = s.within;
+    holds = hopeless-gives properties (take n w) (hopeless-breaks properties (take n w) s.holds);
+    first = λ k less. hopeless-not (take k w) (hopeless-none properties (take k w) (s.first k less) (clear k less));
+  }
 
-IsShortestHopeless-hyphens : (w : List ℕ) → has_hyphens_third_and_fourth w ≡ true → ((k : ℕ) → k < 4 → breaks_at_first (take k w) ≡ false) → IsShortestHopeless w 4
-IsShortestHopeless-hyphens w hyphens keeps = record {
-  within = elim (cases_lt (length w) 4) [
-    | inl few ↦ let clash : true ≡ false = sym hyphens ∙ hyphens-short w few in cc
-    | inr many ↦ many
-  ];
-  holds = hopeless-gives (take 4 w) (hopeless-hyphens (take 4 w) (hyphens-many w 4 (omega arith) ∙ hyphens));
-  first = λ k less. hopeless-not (take k w) (hopeless-none (take k w) (keeps k less) (hyphens-few w k less));
-}
+  IsShortestHopeless-hyphens : (w : List ℕ) → has_hyphens_third_and_fourth w ≡ true → ((k : ℕ) → k < 4 → breaks_at_first properties (take k w) ≡ false) → IsShortestHopeless properties w 4
+  IsShortestHopeless-hyphens w hyphens keeps = record {
+    within = elim (cases_lt (length w) 4) [
+      | inl few ↦ let clash : true ≡ false = sym hyphens ∙ hyphens-short properties w few in cc
+      | inr many ↦ many
+    ];
+    holds = hopeless-gives properties (take 4 w) (hopeless-hyphens properties (take 4 w) (hyphens-many properties w 4 (omega arith) ∙ hyphens));
+    first = λ k less. hopeless-not (take k w) (hopeless-none properties (take k w) (keeps k less) (hyphens-few properties w k less));
+  }
 
--- ---- a label is hopeless where one of its beginnings is
+  -- ---- a label is hopeless where one of its beginnings is
 
-no_true : (b : Bool) → ¬ (b ≡ true) → b ≡ false
-no_true true h = absurd (h refl)
-no_true false h = refl
+  no_true : (b : Bool) → ¬ (b ≡ true) → b ≡ false
+  no_true true h = absurd (h refl)
+  no_true false h = refl
 
-pub is_some-hopeless : (w : List ℕ) (shortest : Option ℕ) → MatchOption shortest (HasHope w) (IsShortestHopeless w) → is_some shortest ≡ hopeless w
-is_some-hopeless w None hope =
-    sym (no_true (hopeless w) (λ h. hope (length w) (subst IsHopeless (sym (take_all (length w) w (omega arith))) (hopeless-gives w h))))
-is_some-hopeless w (Some n) s =
-    sym (ap hopeless (sym (take-append-drop n w)) ∙ hopeless-more (take n w) (drop n w) (hopeless-from (take n w) s.holds))
+  pub is_some-hopeless : (w : List ℕ) (shortest : Option ℕ) → MatchOption shortest (HasHope properties w) (IsShortestHopeless properties w) → is_some shortest ≡ hopeless properties w
+  is_some-hopeless w None hope =
+      sym (no_true (hopeless properties w) (λ h. hope (length w) (subst (IsHopeless properties) (sym (take_all (length w) w (omega arith))) (hopeless-gives properties w h))))
+  is_some-hopeless w (Some n) s =
+      sym (ap (hopeless properties) (sym (take-append-drop n w)) ∙ hopeless-more properties (take n w) (drop n w) (hopeless-from properties (take n w) s.holds))
 
--- ---- the lesser of the two
+  -- ---- the lesser of the two
 
-pub shortest-without : (w : List ℕ) (o : Option ℕ) → MatchOption o (HasNone breaks_at_first w) (IsShortest breaks_at_first w) → has_hyphens_third_and_fourth w ≡ false → MatchOption o (HasHope w) (IsShortestHopeless w)
-shortest-without w None keeps none = HasHope-none w keeps none
-shortest-without w (Some n) s none = IsShortestHopeless-breaks w n s (λ k less. no_hyphens w k none)
+  pub shortest-without : (w : List ℕ) (o : Option ℕ) → MatchOption o (HasNone (breaks_at_first properties) w) (IsShortest (breaks_at_first properties) w) → has_hyphens_third_and_fourth w ≡ false → MatchOption o (HasHope properties w) (IsShortestHopeless properties w)
+  shortest-without w None keeps none = HasHope-none w keeps none
+  shortest-without w (Some n) s none = IsShortestHopeless-breaks w n s (λ k less. no_hyphens w k none)
 
-pub shortest-with : (w : List ℕ) (o : Option ℕ) → MatchOption o (HasNone breaks_at_first w) (IsShortest breaks_at_first w) → has_hyphens_third_and_fourth w ≡ true → IsShortestHopeless w (min (unwrap_or o 4) 4)
-shortest-with w None keeps hyphens =
-    let same : 4 ≡ min 4 4 = omega arith in
-    subst (IsShortestHopeless w) same (IsShortestHopeless-hyphens w hyphens (λ k less. keeps k))
-shortest-with w (Some n) s hyphens = elim (cases_lt n 4) [
-  | inl few ↦
-      let same : n ≡ min n 4 = omega (arith, few) in
-      subst (IsShortestHopeless w) same (IsShortestHopeless-breaks w n s (λ k less. hyphens-few w k (omega arith)))
-  | inr many ↦
-      let same : 4 ≡ min n 4 = omega (arith, many) in
-      subst (IsShortestHopeless w) same (IsShortestHopeless-hyphens w hyphens (λ k less. s.first k (omega arith)))
-]
+  pub shortest-with : (w : List ℕ) (o : Option ℕ) → MatchOption o (HasNone (breaks_at_first properties) w) (IsShortest (breaks_at_first properties) w) → has_hyphens_third_and_fourth w ≡ true → IsShortestHopeless properties w (min (unwrap_or o 4) 4)
+  shortest-with w None keeps hyphens =
+      let same : 4 ≡ min 4 4 = omega arith in
+      subst (IsShortestHopeless properties w) same (IsShortestHopeless-hyphens w hyphens (λ k less. keeps k))
+  shortest-with w (Some n) s hyphens = elim (cases_lt n 4) [
+    | inl few ↦
+        let same : n ≡ min n 4 = omega (arith, few) in
+        subst (IsShortestHopeless properties w) same (IsShortestHopeless-breaks w n s (λ k less. hyphens-few properties w k (omega arith)))
+    | inr many ↦
+        let same : 4 ≡ min n 4 = omega (arith, many) in
+        subst (IsShortestHopeless properties w) same (IsShortestHopeless-hyphens w hyphens (λ k less. s.first k (omega arith)))
+  ]

@@ -26,12 +26,16 @@ pub mod TestLemmas
 pub mod ContextOTests
 -- The test of the Bidi rule agrees with the rule.
 pub mod BidiTests
+-- The digits that have a rule of their own are AN and EN, by the profile and by Unicode.
+pub mod DigitClasses
 -- The test of hopeless beginnings, code point by code point: a list that is hopeless once stays so.
 pub mod HopelessSteps
 -- The test of hopeless beginnings says what it is to be hopeless; a hopeless list stays so, and fails some test of a label.
 pub mod HopelessTests
 -- The shortest hopeless beginning: the shortest that breaks the direction, or hyphens third and fourth before it.
 pub mod HopelessShortest
+-- The joiners that the profile allows, the standards allow.
+pub mod StandardLemmas
 -- How a proof computes classes and rules on a label that is written out.
 pub mod ComputedLabels
 -- What is known of a beginning, and of one that is longer by a code point.
@@ -44,3 +48,7 @@ pub mod CauseLemmas
 pub mod BrokenLemmas
 -- The line that is told of a code point which may not be registered.
 pub mod BarringLemmas
+-- The part of the hopeless beginnings that is the Bidi rule is exact.
+pub mod DeadBeginnings
+-- The Bidi classes of what the profile permits are those of Unicode, but for eight marks, or L where the rule does not ask.
+pub mod StandardBidi

@@ -14,8 +14,8 @@ use Rattle.idn_class.specs.declared.bidi_class.BidiClass.{BidiClass}
 use Rattle.idn_class.specs.declared.bidi_class.BidiClass.TheVariants.{L, R, AL, AN, EN, ES, ET, CS, ON, BN, NSM}
 use Rattle.idn_class.specs.declared.joining_type.JoiningType.{JoiningType}
 use Rattle.idn_class.specs.declared.joining_type.JoiningType.TheVariants.{Right, Dual, Left, Transparent, NonJoining}
-use Rattle.idn_class.specs.BidiClass.{bidi_class, is_boundary_neutral, is_european_separator, is_european_number, is_arabic_number, is_nonspacing, is_nonspacing_or_enclosing, is_right_to_left, is_arabic_letter}
-use Rattle.idn_class.specs.JoiningType.{is_virama, is_right_joining, is_dual_joining, is_transparent, is_nonspacing_mark, joining_type, right_joining, dual_joining}
+use Rattle.idn_class.specs.BidiClass.{profile_bidi_class, is_boundary_neutral, is_european_separator, is_european_number, is_arabic_number, is_nonspacing, is_nonspacing_or_enclosing, is_right_to_left, is_arabic_letter}
+use Rattle.idn_class.specs.JoiningType.{is_profile_virama, is_right_joining, is_dual_joining, is_transparent, is_nonspacing_mark, profile_joining_type, right_joining, dual_joining}
 use Rattle.idn_class.specs.Profile.{IsIn, IsNonspacing, IsOneOf, arabic_blocks, arabic_digits, european_digits, right_to_left_blocks, BidiClassesOfTheProfile, JoiningTypesOfTheProfile, ViramasOfTheProfile}
 use Rattle.idn_class.proofs.CategoryLemmas.{none_fails}
 
@@ -130,15 +130,15 @@ tested_at class c =
     Tested class (is_boundary_neutral c) (is_european_separator c) (is_european_number c) (is_arabic_number c) (is_nonspacing c)
     (is_right_to_left c) (is_arabic_letter c)
 
-bidi_class-chain : (c : ℕ) → bidi_class c
+profile_bidi_class-chain : (c : ℕ) → profile_bidi_class c
     ≡ chain (is_boundary_neutral c) (is_european_separator c) (is_european_number c) (is_arabic_number c) (is_nonspacing c)
     (is_right_to_left c) (is_arabic_letter c)
-unfolding bidi_class
-bidi_class-chain c = chained _ _ _ _ _ _ _
+unfolding profile_bidi_class
+profile_bidi_class-chain c = chained _ _ _ _ _ _ _
 
-bidi_class-tested : (c : ℕ) (class : BidiClass) → bidi_class c ≡ class → tested_at class c
-bidi_class-tested c class same =
-    subst (λ (v : BidiClass). tested_at v c) (sym (bidi_class-chain c) ∙ same) (chain-Tested _ _ _ _ _ _ _)
+profile_bidi_class-tested : (c : ℕ) (class : BidiClass) → profile_bidi_class c ≡ class → tested_at class c
+profile_bidi_class-tested c class same =
+    subst (λ (v : BidiClass). tested_at v c) (sym (profile_bidi_class-chain c) ∙ same) (chain-Tested _ _ _ _ _ _ _)
 
 -- from the tests to the class
 chain-BN : (bn es en an nsm r al : Bool) → bn ≡ true → chain bn es en an nsm r al ≡ BN
@@ -219,77 +219,77 @@ not_european c out = european c ∙ in_ranges-out european_digits c out
 not_arabic : (c : ℕ) → ¬ IsIn arabic_digits c → is_arabic_number c ≡ false
 not_arabic c out = arabic c ∙ in_ranges-out arabic_digits c out
 
-right_to_left-given : (c : ℕ) → bidi_class c ≡ R → IsIn right_to_left_blocks c × ¬ IsNonspacing c
+right_to_left-given : (c : ℕ) → profile_bidi_class c ≡ R → IsIn right_to_left_blocks c × ¬ IsNonspacing c
 right_to_left-given c same =
-    let tested = bidi_class-tested c R same in (
+    let tested = profile_bidi_class-tested c R same in (
       in_ranges-gives right_to_left_blocks c (sym (right c) ∙ tested.0),
       λ mark. let clash : true ≡ false = sym (is_nonspacing-from c mark) ∙ tested.1 in cc,
     )
 
-right_to_left-from : (c : ℕ) → IsIn right_to_left_blocks c → ¬ IsNonspacing c → bidi_class c ≡ R
+right_to_left-from : (c : ℕ) → IsIn right_to_left_blocks c → ¬ IsNonspacing c → profile_bidi_class c ≡ R
 right_to_left-from c inside unmarked =
-    bidi_class-chain c ∙ chain-R _ _ _ _ _ _ _
+    profile_bidi_class-chain c ∙ chain-R _ _ _ _ _ _ _
     (not_neutral c (λ h. grind arith)) (not_hyphen c (λ h. grind arith)) (not_european c (λ h. grind arith))
     (not_arabic c (λ h. grind arith)) (is_nonspacing-out c unmarked) (right c ∙ in_ranges-from right_to_left_blocks c inside)
 
-arabic_letter-given : (c : ℕ) → bidi_class c ≡ AL →
+arabic_letter-given : (c : ℕ) → profile_bidi_class c ≡ AL →
     IsIn arabic_blocks c × (¬ IsNonspacing c) × (¬ IsIn arabic_digits c) × (¬ IsIn european_digits c)
 arabic_letter-given c same =
-    let tested = bidi_class-tested c AL same in (
+    let tested = profile_bidi_class-tested c AL same in (
       in_ranges-gives arabic_blocks c (sym (letter c) ∙ tested.0),
       (λ mark. let clash : true ≡ false = sym (is_nonspacing-from c mark) ∙ tested.1 in cc),
       (λ inside. let clash : true ≡ false = sym (in_ranges-from arabic_digits c inside) ∙ sym (arabic c) ∙ tested.2 in cc),
       λ inside. let clash : true ≡ false = sym (in_ranges-from european_digits c inside) ∙ sym (european c) ∙ tested.3 in cc,
     )
 
-arabic_letter-from : (c : ℕ) → IsIn arabic_blocks c → ¬ IsNonspacing c → ¬ IsIn arabic_digits c → ¬ IsIn european_digits c → bidi_class c ≡ AL
+arabic_letter-from : (c : ℕ) → IsIn arabic_blocks c → ¬ IsNonspacing c → ¬ IsIn arabic_digits c → ¬ IsIn european_digits c → profile_bidi_class c ≡ AL
 arabic_letter-from c inside unmarked not_an not_en =
-    bidi_class-chain c ∙ chain-AL _ _ _ _ _ _ _
+    profile_bidi_class-chain c ∙ chain-AL _ _ _ _ _ _ _
     (not_neutral c (λ h. grind arith)) (not_hyphen c (λ h. grind arith)) (not_european c not_en) (not_arabic c not_an)
     (is_nonspacing-out c unmarked) (right c ∙ in_ranges-out right_to_left_blocks c (λ h. grind arith))
     (letter c ∙ in_ranges-from arabic_blocks c inside)
 
-arabic_number-given : (c : ℕ) → bidi_class c ≡ AN → IsIn arabic_digits c
-arabic_number-given c same = in_ranges-gives arabic_digits c (sym (arabic c) ∙ bidi_class-tested c AN same)
+arabic_number-given : (c : ℕ) → profile_bidi_class c ≡ AN → IsIn arabic_digits c
+arabic_number-given c same = in_ranges-gives arabic_digits c (sym (arabic c) ∙ profile_bidi_class-tested c AN same)
 
-arabic_number-from : (c : ℕ) → IsIn arabic_digits c → bidi_class c ≡ AN
+arabic_number-from : (c : ℕ) → IsIn arabic_digits c → profile_bidi_class c ≡ AN
 arabic_number-from c inside =
-    bidi_class-chain c ∙ chain-AN _ _ _ _ _ _ _
+    profile_bidi_class-chain c ∙ chain-AN _ _ _ _ _ _ _
     (not_neutral c (λ h. grind arith)) (not_hyphen c (λ h. grind arith)) (not_european c (λ h. grind arith))
     (arabic c ∙ in_ranges-from arabic_digits c inside)
 
-european_number-given : (c : ℕ) → bidi_class c ≡ EN → IsIn european_digits c
-european_number-given c same = in_ranges-gives european_digits c (sym (european c) ∙ bidi_class-tested c EN same)
+european_number-given : (c : ℕ) → profile_bidi_class c ≡ EN → IsIn european_digits c
+european_number-given c same = in_ranges-gives european_digits c (sym (european c) ∙ profile_bidi_class-tested c EN same)
 
-european_number-from : (c : ℕ) → IsIn european_digits c → bidi_class c ≡ EN
+european_number-from : (c : ℕ) → IsIn european_digits c → profile_bidi_class c ≡ EN
 european_number-from c inside =
-    bidi_class-chain c ∙ chain-EN _ _ _ _ _ _ _
+    profile_bidi_class-chain c ∙ chain-EN _ _ _ _ _ _ _
     (not_neutral c (λ h. grind arith)) (not_hyphen c (λ h. grind arith)) (european c ∙ in_ranges-from european_digits c inside)
 
-european_separator-given : (c : ℕ) → bidi_class c ≡ ES → c ≡ 0x2D
+european_separator-given : (c : ℕ) → profile_bidi_class c ≡ ES → c ≡ 0x2D
 european_separator-given c same =
-    let inside = in_ranges-gives hyphen c (sym (separator c) ∙ bidi_class-tested c ES same) in grind arith
+    let inside = in_ranges-gives hyphen c (sym (separator c) ∙ profile_bidi_class-tested c ES same) in grind arith
 
-european_separator-from : (c : ℕ) → c ≡ 0x2D → bidi_class c ≡ ES
+european_separator-from : (c : ℕ) → c ≡ 0x2D → profile_bidi_class c ≡ ES
 european_separator-from c same =
-    bidi_class-chain c ∙ chain-ES _ _ _ _ _ _ _
+    profile_bidi_class-chain c ∙ chain-ES _ _ _ _ _ _ _
     (not_neutral c (λ h. grind arith)) (separator c ∙ in_ranges-from hyphen c (inl (omega arith, omega arith)))
 
-boundary_neutral-given : (c : ℕ) → bidi_class c ≡ BN → IsIn joiners c
-boundary_neutral-given c same = in_ranges-gives joiners c (sym (neutral c) ∙ bidi_class-tested c BN same)
+boundary_neutral-given : (c : ℕ) → profile_bidi_class c ≡ BN → IsIn joiners c
+boundary_neutral-given c same = in_ranges-gives joiners c (sym (neutral c) ∙ profile_bidi_class-tested c BN same)
 
-boundary_neutral-from : (c : ℕ) → IsIn joiners c → bidi_class c ≡ BN
+boundary_neutral-from : (c : ℕ) → IsIn joiners c → profile_bidi_class c ≡ BN
 boundary_neutral-from c inside =
-    bidi_class-chain c ∙ chain-BN _ _ _ _ _ _ _ (neutral c ∙ in_ranges-from joiners c inside)
+    profile_bidi_class-chain c ∙ chain-BN _ _ _ _ _ _ _ (neutral c ∙ in_ranges-from joiners c inside)
 
-nonspacing-given : (c : ℕ) → bidi_class c ≡ NSM → IsNonspacing c
-nonspacing-given c same = is_nonspacing-gives c (bidi_class-tested c NSM same)
+nonspacing-given : (c : ℕ) → profile_bidi_class c ≡ NSM → IsNonspacing c
+nonspacing-given c same = is_nonspacing-gives c (profile_bidi_class-tested c NSM same)
 
-nonspacing-from : (c : ℕ) → IsNonspacing c → bidi_class c ≡ NSM
+nonspacing-from : (c : ℕ) → IsNonspacing c → profile_bidi_class c ≡ NSM
 nonspacing-from c mark =
     let is_mark = is_nonspacing-from c mark in
     let out = no_mark_in c is_mark in
-    bidi_class-chain c ∙ chain-NSM _ _ _ _ _ _ _
+    profile_bidi_class-chain c ∙ chain-NSM _ _ _ _ _ _ _
     (not_neutral c (λ h. out (grind arith))) (not_hyphen c (λ h. out (grind arith)))
     (not_european c (λ h. out (grind arith))) (not_arabic c (λ h. out (grind arith))) is_mark
 
@@ -302,7 +302,7 @@ bidi_classes = record {
   european_separator = λ c. (european_separator-given c, european_separator-from c);
   boundary_neutral = λ c. (boundary_neutral-given c, boundary_neutral-from c);
   nonspacing = λ c. (nonspacing-given c, nonspacing-from c);
-  no_other = λ c. ((λ same. bidi_class-tested c ET same), (λ same. bidi_class-tested c CS same), λ same. bidi_class-tested c ON same);
+  no_other = λ c. ((λ same. profile_bidi_class-tested c ET same), (λ same. profile_bidi_class-tested c CS same), λ same. profile_bidi_class-tested c ON same);
 }
 
 -- ---- joining types
@@ -323,9 +323,9 @@ chained_types false true t = refl
 chained_types false false true = refl
 chained_types false false false = refl
 
-joining_type-chain : (c : ℕ) → joining_type c ≡ chain_of_types (is_right_joining c) (is_dual_joining c) (is_transparent c)
-unfolding joining_type
-joining_type-chain c = chained_types _ _ _
+profile_joining_type-chain : (c : ℕ) → profile_joining_type c ≡ chain_of_types (is_right_joining c) (is_dual_joining c) (is_transparent c)
+unfolding profile_joining_type
+profile_joining_type-chain c = chained_types _ _ _
 
 abbrev TestedType : JoiningType → (r d t : Bool) → Type 0
 TestedType Right r d t = r ≡ true
@@ -341,10 +341,10 @@ chain-TestedType false true t = refl
 chain-TestedType false false true = refl
 chain-TestedType false false false = tt
 
-joining_type-tested : (c : ℕ) (type : JoiningType) → joining_type c ≡ type → TestedType type (is_right_joining c) (is_dual_joining c) (is_transparent c)
-joining_type-tested c type same =
+profile_joining_type-tested : (c : ℕ) (type : JoiningType) → profile_joining_type c ≡ type → TestedType type (is_right_joining c) (is_dual_joining c) (is_transparent c)
+profile_joining_type-tested c type same =
     subst (λ (v : JoiningType). TestedType v (is_right_joining c) (is_dual_joining c) (is_transparent c))
-    (sym (joining_type-chain c) ∙ same) (chain-TestedType _ _ _)
+    (sym (profile_joining_type-chain c) ∙ same) (chain-TestedType _ _ _)
 
 -- what is in ranges that lie between two bounds lies between them
 between : (ranges : List Range) (low high c : ℕ) → list_all (λ r. nat_le low r.0 && nat_le r.1 high) ranges ≡ true →
@@ -391,18 +391,18 @@ not_joining : (v : GeneralCategory) (joins : Bool) → v ≡ NonspacingMark → 
 not_joining v true mark h = let clash : false ≡ true = ap (λ w. unmarked_joining w true) (sym mark) ∙ h in cc
 not_joining v false mark h = refl
 
-transparent-from : (c : ℕ) → general_category c ≡ NonspacingMark → joining_type c ≡ Transparent
+transparent-from : (c : ℕ) → general_category c ≡ NonspacingMark → profile_joining_type c ≡ Transparent
 unfolding chain_of_types is_transparent is_right_joining is_dual_joining
 transparent-from c mark =
-    joining_type-chain c
+    profile_joining_type-chain c
     ∙ rw (not_joining _ (in_ranges right_joining c) mark (right-unmarked c), not_joining _ (in_ranges dual_joining c) mark (dual-unmarked c), mark)
 
 pub joining_types : JoiningTypesOfTheProfile
 joining_types = record {
-  right = λ c same. right-in_block c (joining_type-tested c Right same);
-  dual = λ c same. dual-in_block c (joining_type-tested c Dual same);
-  transparent = λ c. ((λ same. is_transparent-gives c (joining_type-tested c Transparent same)), transparent-from c);
-  left = λ c same. joining_type-tested c Left same;
+  right = λ c same. right-in_block c (profile_joining_type-tested c Right same);
+  dual = λ c same. dual-in_block c (profile_joining_type-tested c Dual same);
+  transparent = λ c. ((λ same. is_transparent-gives c (profile_joining_type-tested c Transparent same)), transparent-from c);
+  left = λ c same. profile_joining_type-tested c Left same;
 }
 
 -- ---- viramas
@@ -424,12 +424,12 @@ single-from (point ∷ points) c h =
 abbrev ten : List ℕ
 ten = 0x94D ∷ 0x9CD ∷ 0xA4D ∷ 0xACD ∷ 0xB4D ∷ 0xBCD ∷ 0xC4D ∷ 0xCCD ∷ 0xD4D ∷ 0xDCA ∷ []
 
-is_virama-singles : (c : ℕ) → is_virama c ≡ in_ranges (singles ten) c
-unfolding is_virama
-is_virama-singles c = refl
+is_profile_virama-singles : (c : ℕ) → is_profile_virama c ≡ in_ranges (singles ten) c
+unfolding is_profile_virama
+is_profile_virama-singles c = refl
 
 pub viramas : ViramasOfTheProfile
 viramas c = (
-  (λ virama. single-gives ten c (in_ranges-gives (singles ten) c (sym (is_virama-singles c) ∙ virama))),
-  λ one. is_virama-singles c ∙ in_ranges-from (singles ten) c (single-from ten c one),
+  (λ virama. single-gives ten c (in_ranges-gives (singles ten) c (sym (is_profile_virama-singles c) ∙ virama))),
+  λ one. is_profile_virama-singles c ∙ in_ranges-from (singles ten) c (single-from ten c one),
 )

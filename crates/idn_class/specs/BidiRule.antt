@@ -1,7 +1,8 @@
 -- The Bidi rule (RFC 5893, section 2), on the list of the Bidi classes of a label.
 use Rattle.std.specs.Prelude.{◌≡◌, ℕ, ◌<◌, ◌⊎◌, Bool, true, false, IsTrue, List, length, map, All, Any, Contains, Some, IsSomeAnd, slice_get}
 use Rattle.idn_class.specs.declared.bidi_class.BidiClass.{BidiClass}
-use Rattle.idn_class.specs.declared.bidi_class.BidiClass.TheVariants.{L, R, AL, AN, EN, ES, CS, ET, ON, BN, NSM}
+use Rattle.idn_class.specs.declared.bidi_class.BidiClass.TheVariants.{L, R, AL, AN, EN, ES, CS, ET, ON, BN, NSM, Other}
+use Rattle.idn_class.specs.declared.properties.Properties.{Properties}
 use Rattle.idn_class.specs.BidiClass.{bidi_class}
 
 -- an RTL label: its first is R or AL
@@ -25,6 +26,7 @@ is_allowed_in_rtl ON = true
 is_allowed_in_rtl BN = true
 is_allowed_in_rtl NSM = true
 is_allowed_in_rtl L = false
+is_allowed_in_rtl Other = false
 
 -- what an RTL label may end in
 abbrev pub is_end_of_rtl : BidiClass → Bool
@@ -82,8 +84,8 @@ is_rtl_class AL = true
 is_rtl_class AN = true
 is_rtl_class _ = false
 
--- the profile applies the rule to each label by itself, and only to a label that holds R, AL or AN
-abbrev pub PassesBidiRule : List ℕ → Type 0
-PassesBidiRule label =
-    let classes = map bidi_class label in
+-- the rule is applied to each label by itself, and only to a label that holds R, AL or AN
+abbrev pub PassesBidiRule : Properties → List ℕ → Type 0
+PassesBidiRule properties label =
+    let classes = map (bidi_class properties) label in
     Any (λ class. IsTrue (is_rtl_class class)) classes → MeetsSixConditions classes

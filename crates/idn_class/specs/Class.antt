@@ -14,6 +14,8 @@ use Rattle.unicode_normalization.specs.Forms.{nfkc}
 use Rattle.caseless.specs.Caseless.{default_case_fold}
 use Rattle.idn_class.specs.declared.class.Class.{Class}
 use Rattle.idn_class.specs.declared.class.Class.TheVariants.{Pvalid, Contextj, Contexto, Disallowed, Unassigned}
+use Rattle.idn_class.specs.declared.properties.Properties.{Properties}
+use Rattle.idn_class.specs.declared.properties.Properties.TheVariants.{Profile, Unicode}
 
 -- a Unicode scalar value: a code point that is no surrogate
 unfoldable pub is_scalar : ℕ → Bool
@@ -22,6 +24,11 @@ is_scalar = in_ranges ((0, 0xD7FF) ∷ (0xE000, 0x10_FFFF) ∷ [])
 -- the profile: blocks of right-to-left scripts and presentation forms that it does not cover
 unfoldable pub is_outside_profile : ℕ → Bool
 is_outside_profile = in_ranges ((0xFB1D, 0xFDFF) ∷ (0xFE70, 0xFEFF) ∷ (0x1_0800, 0x1_0FFF) ∷ (0x1_E800, 0x1_EFFF) ∷ [])
+
+-- what these properties leave out: the standard nothing
+abbrev pub is_left_out : Properties → ℕ → Bool
+is_left_out Profile = is_outside_profile
+is_left_out Unicode = λ _. false
 
 -- Exceptions (F, 2.6) that are PVALID
 unfoldable pub is_pvalid_exception : ℕ → Bool
@@ -84,11 +91,12 @@ class_by_properties c =
     else (if is_letter_or_digit (general_category c) then Pvalid
     else Disallowed))))
 
--- section 3, after two lines of this profile: the first line that applies decides. BackwardCompatible (G, 2.7) is empty.
-unfoldable pub class_of : ℕ → Class
-class_of c =
+-- section 3, after no scalar value and what the properties leave out: the first line that applies decides. BackwardCompatible (G,
+-- 2.7) is empty.
+unfoldable pub class_of : Properties → ℕ → Class
+class_of properties c =
     if not (is_scalar c) then Disallowed
-    else (if is_outside_profile c then Disallowed
+    else (if is_left_out properties c then Disallowed
     else (if is_pvalid_exception c then Pvalid
     else (if is_contexto_exception c then Contexto
     else (if is_disallowed_exception c then Disallowed

@@ -19,10 +19,11 @@ use Rattle.idn_class.specs.declared.class.Class.TheVariants as classes
 use Rattle.idn_class.specs.declared.facts.Fact.{Fact}
 use Rattle.idn_class.specs.declared.facts.Fact.TheVariants.{MayBeBarred, Contextj, Contexto, MayCompose, Mark, RightToLeft, NotKept}
 use Rattle.idn_class.specs.declared.facts.Facts.{Facts}
-use Rattle.idn_class.specs.BidiClass.{bidi_class}
+use Rattle.idn_class.specs.BidiClass.{profile_bidi_class}
 use Rattle.idn_class.specs.BidiRule.{is_rtl_class}
 use Rattle.idn_class.specs.Class.{class_of, is_left_open}
 use Rattle.idn_class.specs.LeadingMark.{is_mark}
+use Rattle.idn_class.specs.declared.properties.Properties.TheVariants.{Profile}
 
 -- DISALLOWED or UNASSIGNED (RFC 5892, section 1)
 abbrev pub is_barred_class : Class → Bool
@@ -59,16 +60,16 @@ is_kept_status _ = false
 -- a code point has the fact
 unfoldable pub is_so : Fact → ℕ → Bool
 -- it may not be registered, or no look-up says whether it may
-is_so MayBeBarred c = is_barred_class (class_of c) || is_left_open c
+is_so MayBeBarred c = is_barred_class (class_of Profile c) || is_left_open c
 -- a joiner, or another code point that needs a context (RFC 5892, appendix A)
-is_so Contextj c = is_contextj (class_of c)
-is_so Contexto c = is_contexto (class_of c)
+is_so Contextj c = is_contextj (class_of Profile c)
+is_so Contexto c = is_contexto (class_of Profile c)
 -- NFC may change a text that holds it (UAX 15, section 9)
 is_so MayCompose c = not (is_yes (quick_check Nfc c) && (canonical_combining_class c == 0))
 -- it may not begin a label (RFC 5891, section 4.2.3.2)
 is_so Mark c = is_mark c
 -- it makes the Bidi rule apply, by the profile or by Unicode (RFC 5893, section 2)
-is_so RightToLeft c = is_rtl_class (bidi_class c) || is_unicode_rtl_class (unicode_bidi_class c)
+is_so RightToLeft c = is_rtl_class (profile_bidi_class c) || is_unicode_rtl_class (unicode_bidi_class c)
 -- UTS 46 maps it to another text, ignores it or disallows it
 is_so NotKept c = not (is_kept_status (idna_status c))
 

@@ -1,3 +1,4 @@
+-- The definitions that contracts cite.
 pub mod Barring
 pub mod BidiClass
 pub mod BidiRule
@@ -16,3 +17,5 @@ pub mod Hopeless
 pub mod Directions
 pub mod Known
 pub mod Shared
+pub mod StandardRows
+pub mod inner

@@ -8,6 +8,7 @@ use Rattle.idn_class.specs.declared.bidi_class.BidiClass.{BidiClass}
 use Rattle.idn_class.specs.declared.bidi_class.BidiClass.TheVariants.{L, R, AL, AN, EN, NSM}
 use Rattle.idn_class.specs.declared.joining_type.JoiningType.{JoiningType}
 use Rattle.idn_class.specs.declared.joining_type.JoiningType.TheVariants.{Transparent}
+use Rattle.idn_class.specs.declared.properties.Properties.{Properties}
 use Rattle.idn_class.specs.BidiClass.{bidi_class}
 use Rattle.idn_class.specs.BidiRule.{is_rtl_class, is_allowed_in_rtl, is_end_of_rtl, is_allowed_in_ltr, is_end_of_ltr}
 use Rattle.idn_class.specs.ContextJ.{type_at}
@@ -36,33 +37,34 @@ abbrev pub first_other : (JoiningType → Bool) → JoiningType → Bool → Boo
 first_other joins Transparent farther = farther
 first_other joins type farther = joins type
 
-abbrev pub joins_before : List ℕ → ℕ → Bool
-joins_before label zero = false
-joins_before label (suc place) = first_other joins_next (type_at label place) (joins_before label place)
+abbrev pub joins_before : Properties → List ℕ → ℕ → Bool
+joins_before properties label zero = false
+joins_before properties label (suc place) = first_other joins_next (type_at properties label place) (joins_before properties label place)
 
-abbrev pub joins_after : List ℕ → Bool
-joins_after [] = false
-joins_after (c ∷ label) = first_other joins_previous (joining_type c) (joins_after label)
+abbrev pub joins_after : Properties → List ℕ → Bool
+joins_after properties [] = false
+joins_after properties (c ∷ label) = first_other joins_previous (joining_type properties c) (joins_after properties label)
 
-abbrev pub follows_virama : List ℕ → ℕ → Bool
-follows_virama label place = is_some_and (before label place) is_virama
+abbrev pub follows_virama : Properties → List ℕ → ℕ → Bool
+follows_virama properties label place = is_some_and (before label place) (is_virama properties)
 
-abbrev pub non_joiner_passes : Bool → List ℕ → ℕ → Bool
-non_joiner_passes true label place = follows_virama label place || joins_before label place && joins_after (drop (place + 1) label)
-non_joiner_passes false label place = true
+abbrev pub non_joiner_passes : Properties → Bool → List ℕ → ℕ → Bool
+non_joiner_passes properties true label place =
+    follows_virama properties label place || joins_before properties label place && joins_after properties (drop (place + 1) label)
+non_joiner_passes properties false label place = true
 
-abbrev pub joiner_passes : Bool → List ℕ → ℕ → Bool
-joiner_passes true label place = follows_virama label place
-joiner_passes false label place = true
+abbrev pub joiner_passes : Properties → Bool → List ℕ → ℕ → Bool
+joiner_passes properties true label place = follows_virama properties label place
+joiner_passes properties false label place = true
 
 -- the joiner at a place, if one stands there, meets its rule
-abbrev pub joiner_at : List ℕ → ℕ → Bool
-joiner_at label place =
+abbrev pub joiner_at : Properties → List ℕ → ℕ → Bool
+joiner_at properties label place =
     let c = slice_index label place in
-    non_joiner_passes (c == 0x200C) label place && joiner_passes (c == 0x200D) label place
+    non_joiner_passes properties (c == 0x200C) label place && joiner_passes properties (c == 0x200D) label place
 
-unfoldable pub contextj_ok : List ℕ → Bool
-contextj_ok label = all_places (length label) (joiner_at label)
+unfoldable pub contextj_ok : Properties → List ℕ → Bool
+contextj_ok properties label = all_places (length label) (joiner_at properties label)
 
 -- ---- other code points that need a context
 
@@ -151,5 +153,5 @@ abbrev pub bidi_rule : Bool → List BidiClass → Bool
 bidi_rule true classes = meets_six_conditions classes
 bidi_rule false classes = true
 
-unfoldable pub bidi_ok : List ℕ → Bool
-bidi_ok label = let classes = map bidi_class label in bidi_rule (list_any is_rtl_class classes) classes
+unfoldable pub bidi_ok : Properties → List ℕ → Bool
+bidi_ok properties label = let classes = map (bidi_class properties) label in bidi_rule (list_any is_rtl_class classes) classes

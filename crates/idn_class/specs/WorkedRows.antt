@@ -4,13 +4,14 @@ use Rattle.idn_class.specs.declared.bidi_class.BidiClass.{BidiClass}
 use Rattle.idn_class.specs.declared.bidi_class.BidiClass.TheVariants.{L, R, AL, EN, AN, ES, CS, ET, ON, BN, NSM}
 use Rattle.idn_class.specs.declared.class.Class.{Class}
 use Rattle.idn_class.specs.declared.class.Class.TheVariants.{Pvalid, Contextj, Contexto, Disallowed, Unassigned}
+use Rattle.idn_class.specs.declared.properties.Properties.{Properties}
 use Rattle.idn_class.specs.Class.{class_of}
 
 -- ---- classes: the first and the last code point of a row, and their class
 
-abbrev pub HasClasses : List (ℕ × ℕ × Class) → Type 0
-HasClasses [] = Unit {0}
-HasClasses (row ∷ rows) = ((c : ℕ) → row.0 ≤ c → c ≤ row.1 → class_of c ≡ row.2) × HasClasses rows
+abbrev pub HasClasses : Properties → List (ℕ × ℕ × Class) → Type 0
+HasClasses properties [] = Unit {0}
+HasClasses properties (row ∷ rows) = ((c : ℕ) → row.0 ≤ c → c ≤ row.1 → class_of properties c ≡ row.2) × HasClasses properties rows
 
 -- RFC 5892, appendix B.1, from its first line to the end of Latin-1
 abbrev pub latin_1 : List (ℕ × ℕ × Class)

@@ -2,9 +2,10 @@
 ghost use Rattle.std.specs.Prelude.{◌≡◌, IfOk, [], ◌∷◌};
 ghost use Rattle.std.specs.List.{find};
 ghost use Rattle.idn_class.specs.Barring.{applies, barring_line, barring_lines, lines_of_properties};
-ghost use Rattle.idn_class.specs.Class.{is_outside_profile, is_disallowed_exception, is_unassigned, has_ignorable_property, is_in_ignorable_block, is_old_hangul_jamo, is_letter_or_digit};
+ghost use Rattle.idn_class.specs.Class.{is_left_out, is_outside_profile, is_disallowed_exception, is_unassigned, has_ignorable_property, is_in_ignorable_block, is_old_hangul_jamo, is_letter_or_digit};
 
-use crate::class::{Class, class_of};
+use crate::class::{Class, class_of_by};
+use crate::properties::Properties;
 use crate::stability::is_unstable;
 use std::alloc::{AllocError, Global};
 use unicode::properties::{
@@ -38,32 +39,44 @@ pub enum BarringLine {
 /// The first line by which a code point may not be registered. `None` where its class is neither DISALLOWED nor
 /// UNASSIGNED. Memory is taken for most code points.
 #[tactic(auto, unfolding(crate::specs::Barring::barring_line))]
-pub fn barring_line(alloc: Global, c: u32) -> Result<Option<BarringLine>, AllocError>
-    ensures { IfOk result (λ line. line ≡ barring_line c) }
+pub fn barring_line(
+    alloc: Global,
+    c: u32,
+    properties: Properties,
+) -> Result<Option<BarringLine>, AllocError>
+    ensures { IfOk result (λ line. line ≡ barring_line properties c) }
 {
-    match class_of(alloc, c)? {
-        Class::Disallowed | Class::Unassigned => Ok(first_line(alloc, c)?),
+    match class_of_by(alloc, c, properties)? {
+        Class::Disallowed | Class::Unassigned => Ok(first_line(alloc, c, properties)?),
         Class::Pvalid | Class::Contextj | Class::Contexto => Ok(None),
     }
 }
 
 /// The first line that applies, of all that bar.
-fn first_line(alloc: Global, c: u32) -> Result<Option<BarringLine>, AllocError>
-    ensures { IfOk result (λ line. line ≡ find (applies c) barring_lines) }
+fn first_line(
+    alloc: Global,
+    c: u32,
+    properties: Properties,
+) -> Result<Option<BarringLine>, AllocError>
+    ensures { IfOk result (λ line. line ≡ find (applies properties c) barring_lines) }
 {
     match char::from_u32(c) {
-        Some(point) => Ok(line_of_scalar(alloc, point)?),
+        Some(point) => Ok(line_of_scalar(alloc, point, properties)?),
         None => Ok(Some(BarringLine::NoScalarValue)),
     }
 }
 
 /// The first line that applies to a scalar value.
 #[tactic(auto, unfolding(crate::specs::Barring::applies))]
-fn line_of_scalar(alloc: Global, c: char) -> Result<Option<BarringLine>, AllocError>
-    ensures { IfOk result (λ line. line ≡ find (applies c)
+fn line_of_scalar(
+    alloc: Global,
+    c: char,
+    properties: Properties,
+) -> Result<Option<BarringLine>, AllocError>
+    ensures { IfOk result (λ line. line ≡ find (applies properties c)
         (BarringLine.OutsideProfile ∷ BarringLine.Exceptions ∷ BarringLine.Unassigned ∷ lines_of_properties)) }
 {
-    if is_outside_profile(c as u32) {
+    if is_left_out(c as u32, properties) {
         return Ok(Some(BarringLine::OutsideProfile));
     }
     if is_disallowed_exception(c as u32) {
@@ -72,24 +85,28 @@ fn line_of_scalar(alloc: Global, c: char) -> Result<Option<BarringLine>, AllocEr
     if is_unassigned(c) {
         return Ok(Some(BarringLine::Unassigned));
     }
-    Ok(line_of_properties(alloc, c)?)
+    Ok(line_of_properties(alloc, c, properties)?)
 }
 
 /// The first of the lines from Unstable on.
 #[tactic(auto, unfolding(crate::specs::Barring::applies))]
-fn line_of_properties(alloc: Global, c: char) -> Result<Option<BarringLine>, AllocError>
-    ensures { IfOk result (λ line. line ≡ find (applies c) lines_of_properties) }
+fn line_of_properties(
+    alloc: Global,
+    c: char,
+    properties: Properties,
+) -> Result<Option<BarringLine>, AllocError>
+    ensures { IfOk result (λ line. line ≡ find (applies properties c) lines_of_properties) }
 {
     if is_unstable(alloc, c)? {
         return Ok(Some(BarringLine::Unstable));
     }
-    Ok(line_by_look_up(c))
+    Ok(line_by_look_up(c, properties))
 }
 
 /// The first of the lines after Unstable, which look-ups tell.
 #[tactic(auto, unfolding(crate::specs::Barring::applies))]
-fn line_by_look_up(c: char) -> Option<BarringLine>
-    ensures { result ≡ find (applies c)
+fn line_by_look_up(c: char, properties: Properties) -> Option<BarringLine>
+    ensures { result ≡ find (applies properties c)
         (BarringLine.IgnorableProperties ∷ BarringLine.IgnorableBlocks ∷ BarringLine.OldHangulJamo ∷ BarringLine.NoLetterDigit ∷ []) }
 {
     if has_ignorable_property(c) {
@@ -105,6 +122,15 @@ fn line_by_look_up(c: char) -> Option<BarringLine>
         return None;
     }
     Some(BarringLine::NoLetterDigit)
+}
+
+fn is_left_out(c: u32, properties: Properties) -> bool
+    ensures { result ≡ is_left_out properties c }
+{
+    match properties {
+        Properties::Profile => is_outside_profile(c),
+        Properties::Unicode => false,
+    }
 }
 
 #[tactic(auto, unfolding(crate::specs::Class::is_outside_profile, ucd_table::specs::Rows::in_ranges))]

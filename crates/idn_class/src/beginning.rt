@@ -4,6 +4,7 @@ ghost use Rattle.idn_class.specs.Hopeless.{has_hyphens_third_and_fourth, hopeles
 ghost use Rattle.idn_class.specs.Directions.{IsShortest, HasNone, breaks_at_first};
 
 use crate::direction::Direction;
+use crate::properties::Properties;
 
 const HYPHEN: u32 = 0x2D;
 
@@ -12,25 +13,37 @@ const HYPHEN: u32 = 0x2D;
 /// scalar value counts as an LTR letter. Only tests call this and `shortest_hopeless`: a run asks `KeptBeginnings`,
 /// which keeps what it found for the next label.
 pub fn hopeless(label: &[u32]) -> bool
-    ensures rule { IsTrue result ↔ IsHopeless label.now }
-    ensures test { result ≡ hopeless label.now }
+    ensures rule { IsTrue result ↔ IsHopeless Properties.Profile label.now }
+    ensures test { result ≡ hopeless Properties.Profile label.now }
 {
-    shortest_hopeless(label).is_some()
+    hopeless_by(label, Properties::Profile)
+}
+
+/// Whether no label that begins so may be registered by these properties, as `hopeless` tells it.
+pub fn hopeless_by(label: &[u32], properties: Properties) -> bool
+    ensures rule { IsTrue result ↔ IsHopeless properties label.now }
+    ensures test { result ≡ hopeless properties label.now }
+{
+    shortest_hopeless(label, properties).is_some()
 }
 
 /// How many code points the shortest hopeless beginning of a label has, by one pass over the label. `None` where
 /// neither a beginning nor the whole label is hopeless. It says in one call what `KeptBeginnings` tells.
-pub fn shortest_hopeless(label: &[u32]) -> Option<usize>
-    ensures { MatchOption result (HasHope label.now) (IsShortestHopeless label.now) }
+pub fn shortest_hopeless(label: &[u32], properties: Properties) -> Option<usize>
+    ensures { MatchOption result (HasHope properties label.now) (IsShortestHopeless properties label.now) }
 {
-    with_hyphens(label, shortest_breaking(label))
+    with_hyphens(label, shortest_breaking(label, properties), properties)
 }
 
 /// The shortest hopeless beginning of a label, by the shortest that breaks a test of its first code point or the Bidi
 /// rule, and by the hyphens third and fourth.
-pub(crate) fn with_hyphens(label: &[u32], breaking: Option<usize>) -> Option<usize>
-    requires { MatchOption breaking (HasNone breaks_at_first label.now) (IsShortest breaks_at_first label.now) }
-    ensures shortest { MatchOption result (HasHope label.now) (IsShortestHopeless label.now) }
+pub(crate) fn with_hyphens(
+    label: &[u32],
+    breaking: Option<usize>,
+    properties: Properties,
+) -> Option<usize>
+    requires { MatchOption breaking (HasNone (breaks_at_first properties) label.now) (IsShortest (breaks_at_first properties) label.now) }
+    ensures shortest { MatchOption result (HasHope properties label.now) (IsShortestHopeless properties label.now) }
     ensures whole { result ≡ None → breaking ≡ None }
 {
     if has_hyphens_third_and_fourth(label) {
@@ -48,14 +61,14 @@ fn has_hyphens_third_and_fourth(label: &[u32]) -> bool
 
 /// How many code points the shortest beginning has that breaks a test of the first code point or the Bidi rule for
 /// good. The first code point gives a direction, and the others must keep it.
-fn shortest_breaking(label: &[u32]) -> Option<usize>
-    ensures { MatchOption result (HasNone breaks_at_first label.now) (IsShortest breaks_at_first label.now) }
+fn shortest_breaking(label: &[u32], properties: Properties) -> Option<usize>
+    ensures { MatchOption result (HasNone (breaks_at_first properties) label.now) (IsShortest (breaks_at_first properties) label.now) }
 {
     let [first, rest @ ..] = label else {
         return None;
     };
-    let Some(direction) = Direction::begun(*first) else {
+    let Some(direction) = Direction::begun(*first, properties) else {
         return Some(1);
     };
-    Some(direction.shortest_breaking(rest)? + 1)
+    Some(direction.shortest_breaking(rest, properties)? + 1)
 }

@@ -1,13 +1,15 @@
-//! Bidi_Class, by the list of this profile.
+//! Bidi_Class: by the list of this profile, or by Unicode.
 ghost use Rattle.std.specs.Prelude.{◌≡◌};
-ghost use Rattle.idn_class.specs.BidiClass.{is_boundary_neutral, is_european_separator, is_european_number, is_arabic_number, is_nonspacing, is_right_to_left, is_arabic_letter, bidi_class};
+ghost use Rattle.idn_class.specs.BidiClass.{is_boundary_neutral, is_european_separator, is_european_number, is_arabic_number, is_nonspacing, is_right_to_left, is_arabic_letter, profile_bidi_class, bidi_class, named_class, standard_bidi_class};
 
-use crate::category::category_of;
+use crate::category::{bidi_class_of, category_of};
 use crate::facts::{Fact, Facts};
+use crate::properties::Properties;
+use ucd_bidi::BidiClass as UnicodeBidiClass;
 use unicode::properties::GeneralCategory;
 
-/// Bidi_Class, with the values that the Bidi rule names, by this profile's own list. The list gives
-/// no code point ET, CS or ON.
+/// Bidi_Class, with the values that the Bidi rule names. The list of the profile gives no code point ET, CS,
+/// ON or `Other`.
 #[derive(Clone, Copy, Debug, PartialEq, Eq)]
 pub enum BidiClass {
     /// Left-to-right.
@@ -32,21 +34,61 @@ pub enum BidiClass {
     BN,
     /// Nonspacing mark.
     NSM,
+    /// A class that the Bidi rule does not name, and so allows in no label.
+    Other,
 }
 
 impl BidiClass {
-    /// Bidi_Class of a code point, by the list of the profile.
-    pub fn of(c: u32) -> BidiClass
-        ensures { result ≡ bidi_class c }
+    /// Bidi_Class of a code point, by these properties.
+    pub fn of(c: u32, properties: Properties) -> BidiClass
+        ensures { result ≡ bidi_class properties c }
     {
-        bidi_class(c)
+        bidi_class(c, properties)
     }
 }
 
 /// Bidi_Class of a code point.
-#[tactic(auto, unfolding(crate::specs::BidiClass::bidi_class))]
-pub(crate) fn bidi_class(c: u32) -> BidiClass
-    ensures { result ≡ bidi_class c }
+pub(crate) fn bidi_class(c: u32, properties: Properties) -> BidiClass
+    ensures { result ≡ bidi_class properties c }
+{
+    match properties {
+        Properties::Profile => listed_class(c),
+        Properties::Unicode => standard_class(c),
+    }
+}
+
+/// Bidi_Class of a code point by Unicode.
+#[tactic(auto, unfolding(crate::specs::BidiClass::standard_bidi_class))]
+pub(crate) fn standard_class(c: u32) -> BidiClass
+    ensures { result ≡ standard_bidi_class c }
+{
+    named_class(bidi_class_of(c))
+}
+
+/// A class as the Bidi rule names it.
+fn named_class(class: UnicodeBidiClass) -> BidiClass
+    ensures { result ≡ named_class class }
+{
+    match class {
+        UnicodeBidiClass::LeftToRight => BidiClass::L,
+        UnicodeBidiClass::RightToLeft => BidiClass::R,
+        UnicodeBidiClass::ArabicLetter => BidiClass::AL,
+        UnicodeBidiClass::ArabicNumber => BidiClass::AN,
+        UnicodeBidiClass::EuropeanNumber => BidiClass::EN,
+        UnicodeBidiClass::EuropeanSeparator => BidiClass::ES,
+        UnicodeBidiClass::CommonSeparator => BidiClass::CS,
+        UnicodeBidiClass::EuropeanTerminator => BidiClass::ET,
+        UnicodeBidiClass::OtherNeutral => BidiClass::ON,
+        UnicodeBidiClass::BoundaryNeutral => BidiClass::BN,
+        UnicodeBidiClass::NonspacingMark => BidiClass::NSM,
+        _ => BidiClass::Other,
+    }
+}
+
+/// Bidi_Class of a code point by the list of this profile.
+#[tactic(auto, unfolding(crate::specs::BidiClass::profile_bidi_class))]
+pub(crate) fn listed_class(c: u32) -> BidiClass
+    ensures { result ≡ profile_bidi_class c }
 {
     if is_boundary_neutral(c) {
         BidiClass::BN

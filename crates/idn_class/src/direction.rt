@@ -1,37 +1,38 @@
 //! What may follow the first code points of a label under the Bidi rule.
 ghost use Rattle.std.specs.Prelude.{◌≡◌, MatchOption};
-ghost use Rattle.idn_class.specs.Directions.{IsShortest, HasNone, begun, lengthened, rtl_lengthened, breaks_after};
+ghost use Rattle.idn_class.specs.Directions.{IsShortest, HasNone, begun_in, lengthened, rtl_lengthened, breaks_after};
 
 use crate::bidi::is_rtl_code_point;
 use crate::bidi_class::{BidiClass, bidi_class};
 use crate::mark::is_mark;
+use crate::properties::Properties;
 
 /// What may follow the code points of a beginning under the Bidi rule (RFC 5893, section 2).
 #[derive(Clone, Copy)]
 pub(crate) enum Direction {
     /// The first is neither R nor AL: no R, AL and AN may follow.
     Ltr,
-    /// The first is R or AL: no L may follow, and EN and AN may not both follow. Neither is there yet.
+    /// The first is R or AL: nothing that an RTL label may not hold may follow, and not both EN and AN. Neither is there yet.
     Rtl,
-    /// The first is R or AL, and an EN is there: no L and no AN may follow.
+    /// The first is R or AL, and an EN is there: no AN may follow either.
     RtlEuropean,
-    /// The first is R or AL, and an AN is there: no L and no EN may follow.
+    /// The first is R or AL, and an AN is there: no EN may follow either.
     RtlArabic,
 }
 
 impl Direction {
     /// The direction of a first code point. `None` for one with which no label may begin: a hyphen, a
     /// combining mark, or AN.
-    pub(crate) fn begun(first: u32) -> Option<Direction>
-        ensures { result ≡ begun first }
+    pub(crate) fn begun(first: u32, properties: Properties) -> Option<Direction>
+        ensures { result ≡ begun_in properties first }
     {
         if first == 0x2D || is_mark(first) {
             return None;
         }
-        if !is_rtl_code_point(first) {
+        if !is_rtl_code_point(first, properties) {
             return Some(Direction::Ltr);
         }
-        match bidi_class(first) {
+        match bidi_class(first, properties) {
             BidiClass::AN => None,
             _ => Some(Direction::Rtl),
         }
@@ -39,12 +40,12 @@ impl Direction {
 
     /// How many code points have to follow until the Bidi rule is broken for good. `None` where all may
     /// follow.
-    pub(crate) fn shortest_breaking(self, rest: &[u32]) -> Option<usize>
-        ensures { MatchOption result (HasNone (breaks_after self) rest.now) (IsShortest (breaks_after self) rest.now) }
+    pub(crate) fn shortest_breaking(self, rest: &[u32], properties: Properties) -> Option<usize>
+        ensures { MatchOption result (HasNone (breaks_after properties self) rest.now) (IsShortest (breaks_after properties self) rest.now) }
     {
         let mut direction = self;
         for index in 0..rest.len() {
-            match direction.lengthened(rest[index]) {
+            match direction.lengthened(rest[index], properties) {
                 Some(longer) => direction = longer,
                 None => return Some(index + 1),
             }
@@ -53,13 +54,13 @@ impl Direction {
     }
 
     /// The direction once a code point follows. `None` where it may not.
-    pub(crate) fn lengthened(self, c: u32) -> Option<Direction>
-        ensures { result ≡ lengthened self c }
+    pub(crate) fn lengthened(self, c: u32, properties: Properties) -> Option<Direction>
+        ensures { result ≡ lengthened properties self c }
     {
         match self {
-            Direction::Ltr if is_rtl_code_point(c) => None,
+            Direction::Ltr if is_rtl_code_point(c, properties) => None,
             Direction::Ltr => Some(self),
-            _ => self.rtl_lengthened(bidi_class(c)),
+            _ => self.rtl_lengthened(bidi_class(c, properties)),
         }
     }
 
@@ -68,7 +69,7 @@ impl Direction {
         ensures { result ≡ rtl_lengthened self class }
     {
         match (self, class) {
-            (_, BidiClass::L) => None,
+            (_, BidiClass::L | BidiClass::Other) => None,
             (Direction::Rtl, BidiClass::EN) => Some(Direction::RtlEuropean),
             (Direction::RtlArabic, BidiClass::EN) => None,
             (Direction::Rtl, BidiClass::AN) => Some(Direction::RtlArabic),

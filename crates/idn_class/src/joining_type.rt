@@ -1,11 +1,13 @@
-//! Joining_Type and the viramas, by the lists of this profile. The context rules of the joiners ask for them.
+//! Joining_Type and the viramas, by the lists of this profile or by Unicode. The context rules of the joiners ask for them.
 ghost use Rattle.std.specs.Prelude.{◌≡◌};
-ghost use Rattle.idn_class.specs.JoiningType.{is_virama, is_right_joining, is_dual_joining, is_transparent, joining_type};
+ghost use Rattle.idn_class.specs.JoiningType.{is_profile_virama, is_right_joining, is_dual_joining, is_transparent, profile_joining_type, joining_type, is_virama, is_standard_virama, named_type, standard_joining_type};
 
-use crate::category::category_of;
+use crate::category::{category_of, combining_class_of, joining_type_of};
+use crate::properties::Properties;
+use ucd_bidi::JoiningType as UnicodeJoiningType;
 use unicode::properties::GeneralCategory;
 
-/// Joining_Type, by the list of this profile: it joins inside the Arabic block alone.
+/// Joining_Type. By the list of this profile letters join inside the Arabic block alone.
 #[derive(Clone, Copy, Debug, PartialEq, Eq)]
 pub enum JoiningType {
     /// R: joins with the code point before it.
@@ -21,9 +23,40 @@ pub enum JoiningType {
 }
 
 /// Joining_Type of a code point.
-#[tactic(auto, unfolding(crate::specs::JoiningType::joining_type))]
-pub(crate) fn joining_type(c: u32) -> JoiningType
-    ensures { result ≡ joining_type c }
+pub(crate) fn joining_type(c: u32, properties: Properties) -> JoiningType
+    ensures { result ≡ joining_type properties c }
+{
+    match properties {
+        Properties::Profile => listed_type(c),
+        Properties::Unicode => standard_type(c),
+    }
+}
+
+/// Joining_Type of a code point by Unicode.
+#[tactic(auto, unfolding(crate::specs::JoiningType::standard_joining_type))]
+fn standard_type(c: u32) -> JoiningType
+    ensures { result ≡ standard_joining_type c }
+{
+    named_type(joining_type_of(c))
+}
+
+/// A type as the rules of the joiners name it.
+fn named_type(joining: UnicodeJoiningType) -> JoiningType
+    ensures { result ≡ named_type joining }
+{
+    match joining {
+        UnicodeJoiningType::RightJoining => JoiningType::Right,
+        UnicodeJoiningType::LeftJoining => JoiningType::Left,
+        UnicodeJoiningType::DualJoining => JoiningType::Dual,
+        UnicodeJoiningType::Transparent => JoiningType::Transparent,
+        UnicodeJoiningType::JoinCausing | UnicodeJoiningType::NonJoining => JoiningType::NonJoining,
+    }
+}
+
+/// Joining_Type of a code point by the list of this profile.
+#[tactic(auto, unfolding(crate::specs::JoiningType::profile_joining_type))]
+fn listed_type(c: u32) -> JoiningType
+    ensures { result ≡ profile_joining_type c }
 {
     if is_right_joining(c) {
         JoiningType::Right
@@ -36,10 +69,28 @@ pub(crate) fn joining_type(c: u32) -> JoiningType
     }
 }
 
+/// Whether a code point is a virama.
+pub(crate) fn is_virama(c: u32, properties: Properties) -> bool
+    ensures { result ≡ is_virama properties c }
+{
+    match properties {
+        Properties::Profile => is_listed_virama(c),
+        Properties::Unicode => is_standard_virama(c),
+    }
+}
+
+/// Whether the Canonical_Combining_Class of a code point is Virama.
+#[tactic(auto, unfolding(crate::specs::JoiningType::is_standard_virama))]
+fn is_standard_virama(c: u32) -> bool
+    ensures { result ≡ is_standard_virama c }
+{
+    combining_class_of(c) == 9
+}
+
 /// Whether a code point is one of the ten Indic viramas of this profile.
-#[tactic(auto, unfolding(crate::specs::JoiningType::is_virama))]
-pub(crate) fn is_virama(c: u32) -> bool
-    ensures { result ≡ is_virama c }
+#[tactic(auto, unfolding(crate::specs::JoiningType::is_profile_virama))]
+fn is_listed_virama(c: u32) -> bool
+    ensures { result ≡ is_profile_virama c }
 {
     matches!(
         c,

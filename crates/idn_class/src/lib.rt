@@ -23,25 +23,27 @@ mod known;
 mod laws;
 mod mark;
 mod neighbor;
+mod properties;
 mod shared;
 mod stability;
 
 pub use barring::{BarringLine, barring_line};
-pub use beginning::{hopeless, shortest_hopeless};
-pub use bidi::bidi_ok;
+pub use beginning::{hopeless, hopeless_by, shortest_hopeless};
+pub use bidi::{bidi_ok, bidi_ok_by};
 pub use bidi_class::BidiClass;
-pub use broken::{BidiCondition, Broken, broken_condition};
-pub use class::{Class, class_of};
-pub use contextj::{contextj_ok, misplaced_joiner};
+pub use broken::{BidiCondition, Broken, broken_condition, broken_in_name};
+pub use class::{Class, class_of, class_of_by};
+pub use contextj::{contextj_ok, contextj_ok_by, misplaced_joiner};
 pub use contexto::{contexto_ok, misplaced_other};
 pub use facts::{Fact, Facts};
 pub use joining_type::JoiningType;
 pub use kept_beginnings::KeptBeginnings;
 pub use kept_label::{KeptLabel, MAX_LABEL_LEN};
 pub use laws::{
-    barring_lines_are_told, bidi_rows, class_rows, first_faults_are_told, hopeless_for_good,
-    hopeless_rows, joiner_rows, lists_of_the_profile, mark_rows, only_rtl_labels_pass, other_rows,
-    tests_are_rules,
+    barring_lines_are_told, bidi_part_is_exact, bidi_rows, class_rows, first_faults_are_told,
+    hopeless_for_good, hopeless_rows, joiner_rows, lists_of_the_profile, mark_rows,
+    only_rtl_labels_pass, other_rows, profile_is_stricter, standard_rows, tests_are_rules,
 };
 pub use mark::leading_mark;
+pub use properties::Properties;
 pub use shared::shared_len;

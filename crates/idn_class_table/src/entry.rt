@@ -22,7 +22,7 @@ pub(crate) enum Entry {
 
 impl Entry {
     /// The number that stands for it in the table.
-    pub(crate) fn number(self) -> u32
+    fn number(self) -> u32
         ensures { result < 6 }
     {
         match self {
@@ -36,15 +36,39 @@ impl Entry {
     }
 }
 
-/// The entry of a code point: the lines of RFC 5892, section 3, after those of this profile.
+/// The number in the table for a code point: that of its entry by RFC 5892, and 6 more if the profile leaves it out.
+pub(crate) fn number_of(c: u32) -> u32
+    ensures { result < 12 }
+{
+    let number = standard_entry_of(c).number();
+    if is_outside_profile(c) {
+        6 + number
+    } else {
+        number
+    }
+}
+
+/// The entry of a code point by the profile.
 pub(crate) fn entry_of(c: u32) -> Entry {
+    if is_outside_profile(c) {
+        return Entry::Disallowed;
+    }
+    standard_entry_of(c)
+}
+
+fn is_outside_profile(c: u32) -> bool {
+    matches!(
+        c,
+        0xFB1D..=0xFDFF | 0xFE70..=0xFEFF | 0x1_0800..=0x1_0FFF | 0x1_E800..=0x1_EFFF
+    )
+}
+
+/// The entry of a code point: the lines of RFC 5892, section 3.
+fn standard_entry_of(c: u32) -> Entry {
     let Some(point) = char::from_u32(c) else {
         return Entry::Disallowed;
     };
     match c {
-        0xFB1D..=0xFDFF | 0xFE70..=0xFEFF | 0x1_0800..=0x1_0FFF | 0x1_E800..=0x1_EFFF => {
-            Entry::Disallowed
-        }
         0xDF | 0x3C2 | 0x6FD..=0x6FE | 0xF0B | 0x3007 => Entry::Pvalid,
         0xB7 | 0x375 | 0x5F3..=0x5F4 | 0x30FB | 0x660..=0x669 | 0x6F0..=0x6F9 => Entry::Contexto,
         0x640 | 0x7FA | 0x302E..=0x302F | 0x3031..=0x3035 | 0x303B => Entry::Disallowed,

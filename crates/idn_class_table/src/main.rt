@@ -11,13 +11,13 @@ mod facts;
 mod print;
 mod trie;
 
-use crate::entry::entry_of;
+use crate::entry::number_of;
 use crate::facts::absent_facts;
 use crate::print::print_tables;
 use crate::trie::Trie;
 
 fn main(rt: HostRuntime) -> anyhow::Result<()> {
-    let classes = Trie::new::<4, 8, _>(rt.alloc(), &|c| entry_of(c).number())?;
+    let classes = Trie::new::<4, 8, _>(rt.alloc(), &|c| number_of(c))?;
     let facts = Trie::new::<8, 16, _>(rt.alloc(), &|c| absent_facts(c))?;
     print_tables(&rt, &classes, &facts)?;
     Ok(())

@@ -14,8 +14,9 @@ pub(crate) fn print_tables(rt: &impl Print, classes: &Trie, facts: &Trie) -> io:
         "//! That of the classes, for `ucd_table::get::<4, 8>`: 0 is DISALLOWED, 1 PVALID, 2 CONTEXTJ,"
     )?;
     println!(rt;
-        "//! 3 CONTEXTO, 4 UNASSIGNED, and 5 PVALID for a stable code point and else DISALLOWED."
+        "//! 3 CONTEXTO, 4 UNASSIGNED, and 5 PVALID for a stable code point and else DISALLOWED. A code point that the"
     )?;
+    println!(rt; "//! profile leaves out has 6 more.")?;
     println!(rt; "//!")?;
     println!(rt;
         "//! That of the facts, for `ucd_table::get::<8, 16>`: a bit for each fact that is absent, as the"

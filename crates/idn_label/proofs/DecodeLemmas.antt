@@ -12,9 +12,10 @@ use Rattle.idna.proofs.LabelsLemmas.{labels_of_cons}
 use Rattle.idn_text.specs.declared.refusal.Refusal.{Refusal}
 use Rattle.idn_text.specs.Points.{utf8_of}
 use Rattle.idn_label.specs.Answers.{Answer, and_then}
-use Rattle.idn_label.specs.Decode.{decoded_label, with_others, decoded_labels, decode_answer}
+use Rattle.idn_label.specs.Decode.{decoded_label, with_others, decoded_labels, decoded_name}
 use Rattle.idn_label.specs.Register.{u_label_answer}
 use Rattle.idn_label.specs.Steps.{in_utf8}
+use Rattle.idn_class.specs.declared.properties.Properties.{Properties}
 
 -- ---- the first label of a name
 
@@ -25,27 +26,28 @@ labels_of-stop name at lt stop none =
 
 -- ---- one label
 
-pub decoded_label-coded : (label : List ℕ) → has_ace_prefix (map to_ascii_lowercase label) ≡ true → decoded_label label ≡ u_label_answer (map to_ascii_lowercase label)
-unfolding decoded_label
-decoded_label-coded label coded = cond-true _ _ _ coded
+module _ (properties : Properties) where
+  pub decoded_label-coded : (label : List ℕ) → has_ace_prefix (map to_ascii_lowercase label) ≡ true → decoded_label properties label ≡ u_label_answer properties (map to_ascii_lowercase label)
+  unfolding decoded_label
+  decoded_label-coded label coded = cond-true _ _ _ coded
 
-pub decoded_label-other : (label : List ℕ) → has_ace_prefix (map to_ascii_lowercase label) ≡ false → decoded_label label ≡ Ok label
-unfolding decoded_label
-decoded_label-other label ldh = cond-false _ _ _ ldh
+  pub decoded_label-other : (label : List ℕ) → has_ace_prefix (map to_ascii_lowercase label) ≡ false → decoded_label properties label ≡ Ok label
+  unfolding decoded_label
+  decoded_label-other label ldh = cond-false _ _ _ ldh
 
--- ---- all labels
+  -- ---- all labels
 
-pub decode_answer-last : (name label : List ℕ) → labels_of name ≡ label ∷ [] → decode_answer name ≡ decoded_label label
-unfolding decode_answer decoded_labels
-decode_answer-last name label last = rw last (join_one (decoded_label label))
-  where
-    join_one : (answer : Answer) → and_then (with_others answer (Ok [])) (λ labels. Ok (join_labels labels)) ≡ answer
-    join_one (Ok label) = refl
-    join_one (Err refusal) = refl
+  pub decoded_name-last : (name label : List ℕ) → labels_of name ≡ label ∷ [] → decoded_name properties name ≡ decoded_label properties label
+  unfolding decoded_name decoded_labels
+  decoded_name-last name label last = rw last (join_one (decoded_label properties label))
+    where
+      join_one : (answer : Answer) → and_then (with_others answer (Ok [])) (λ labels. Ok (join_labels labels)) ≡ answer
+      join_one (Ok label) = refl
+      join_one (Err refusal) = refl
 
-pub decode_answer-err : (name label : List ℕ) (others : List (List ℕ)) (refusal : Refusal) → labels_of name ≡ label ∷ others → decoded_label label ≡ Err refusal → decode_answer name ≡ Err refusal
-unfolding decode_answer decoded_labels
-decode_answer-err name label others refusal parts fault = rw (parts, fault) refl
+  pub decoded_name-err : (name label : List ℕ) (others : List (List ℕ)) (refusal : Refusal) → labels_of name ≡ label ∷ others → decoded_label properties label ≡ Err refusal → decoded_name properties name ≡ Err refusal
+  unfolding decoded_name decoded_labels
+  decoded_name-err name label others refusal parts fault = rw (parts, fault) refl
 
 -- the answer after what there was
 abbrev pub appended : List ℕ → Answer → Answer
@@ -58,17 +60,18 @@ followed first others = and_then first (λ label. appended (label ++ 0x2E ∷ []
 abbrev pub joined : Result (List (List ℕ)) Refusal → Answer
 joined labels = and_then labels (λ ls. Ok (join_labels ls))
 
-pub decode_answer-more : (name label others : List ℕ) → labels_of name ≡ label ∷ labels_of others → decode_answer name ≡ followed (decoded_label label) (decode_answer others)
-unfolding decode_answer decoded_labels
-decode_answer-more name label others parts =
-    let more = labels_of_cons others in
-    rw (parts, more.2) (join_more (decoded_label label) (decoded_label more.0) (decoded_labels more.1))
-  where
-    join_more : (answer first : Answer) (others : Result (List (List ℕ)) Refusal) → joined (with_others answer (with_others first others)) ≡ followed answer (joined (with_others first others))
-    join_more (Err refusal) first others = refl
-    join_more (Ok label) (Err refusal) others = refl
-    join_more (Ok label) (Ok next) (Err refusal) = refl
-    join_more (Ok label) (Ok next) (Ok others) = ap Ok (sym (append_assoc label (0x2E ∷ []) (join_labels (next ∷ others))))
+module _ (properties : Properties) where
+  pub decoded_name-more : (name label others : List ℕ) → labels_of name ≡ label ∷ labels_of others → decoded_name properties name ≡ followed (decoded_label properties label) (decoded_name properties others)
+  unfolding decoded_name decoded_labels
+  decoded_name-more name label others parts =
+      let more = labels_of_cons others in
+      rw (parts, more.2) (join_more (decoded_label properties label) (decoded_label properties more.0) (decoded_labels properties more.1))
+    where
+      join_more : (answer first : Answer) (others : Result (List (List ℕ)) Refusal) → joined (with_others answer (with_others first others)) ≡ followed answer (joined (with_others first others))
+      join_more (Err refusal) first others = refl
+      join_more (Ok label) (Err refusal) others = refl
+      join_more (Ok label) (Ok next) (Err refusal) = refl
+      join_more (Ok label) (Ok next) (Ok others) = ap Ok (sym (append_assoc label (0x2E ∷ []) (join_labels (next ∷ others))))
 
 -- ---- after what was decoded before
 

@@ -21,6 +21,7 @@ use Rattle.idn_label.specs.Register.{decoded_code, u_label_answer, register_answ
 use Rattle.idn_label.proofs.AnswerLemmas.{u_label_answer-of, register_answer-prefixed}
 use Rattle.idn_label.proofs.DecodeLemmas.{joined}
 use Rattle.idn_label.specs.FirstFault.{first_of, fault_if, fault_of_class, code_point_fault, has_hyphen_out_of_place, is_too_long, first_fault}
+use Rattle.idn_class.specs.declared.properties.Properties.TheVariants.{Profile}
 
 -- the first fault of a label whose classes are known
 abbrev told : List ℕ → List Class → Option Refusal
@@ -31,14 +32,14 @@ told label classes =
     ∷ fault_if (not (is_nfc label)) NotNfc
     ∷ fault_if (has_hyphen_out_of_place label) Hyphen
     ∷ fault_if (leading_mark label) LeadingMark
-    ∷ fault_if (not (contextj_ok label)) ContextJ
+    ∷ fault_if (not (contextj_ok Profile label)) ContextJ
     ∷ fault_if (not (contexto_ok label)) ContextO
-    ∷ fault_if (not (bidi_ok label)) Bidi
+    ∷ fault_if (not (bidi_ok Profile label)) Bidi
     ∷ fault_if (is_too_long label) LabelTooLong
     ∷ []
     )
 
-told_is : (label : List ℕ) (classes : List Class) (fault : Option Refusal) → map class_of label ≡ classes → told label classes ≡ fault → first_fault label ≡ fault
+pub told_is : (label : List ℕ) (classes : List Class) (fault : Option Refusal) → map (class_of Profile) label ≡ classes → told label classes ≡ fault → first_fault Profile label ≡ fault
 unfolding first_fault code_point_fault
 told_is label classes fault known is = rw known is
 
@@ -58,45 +59,45 @@ HaveFirstFaults-first_faults_of_two =
     (told_is _ _ _ (map-class_of-in_table (0x41 ∷ 0x50000 ∷ []) (class.Disallowed ∷ class.Unassigned ∷ []) refl) refl, (told_is _ _ _ (map-class_of-in_table (0x50000 ∷ 0x41 ∷ []) (class.Unassigned ∷ class.Disallowed ∷ []) refl) refl, (told_is _ _ _ (map-class_of-in_table (0x61 ∷ 0x301 ∷ 0x2D ∷ []) (Pvalid ∷ Pvalid ∷ Pvalid ∷ []) refl) refl, (told_is _ _ _ (map-class_of-in_table (0x301 ∷ 0x2D ∷ []) (Pvalid ∷ Pvalid ∷ []) refl) refl, (told_is _ _ _ (map-class_of-in_table (0x301 ∷ 0x200D ∷ []) (Pvalid ∷ Contextj ∷ []) refl) refl, tt)))))
 
 -- the prefix alone
-no_code : u_label_answer (codes "xn--") ≡ Err refusals.BadALabel
+no_code : u_label_answer Profile (codes "xn--") ≡ Err refusals.BadALabel
 unfolding idna u_label_answer decoded_code
 no_code = refl
 
 -- the code of a label that needs none
-needless_code : u_label_answer (codes "xn--abc-") ≡ Err refusals.BadALabel
+needless_code : u_label_answer Profile (codes "xn--abc-") ≡ Err refusals.BadALabel
 unfolding idna decoded_code a_label_of rules in_table
 needless_code =
-    let tested : first_fault (codes "abc") ≡ None = told_is _ _ _ (map-class_of-in_table (codes "abc") (Pvalid ∷ Pvalid ∷ Pvalid ∷ []) refl) refl in
-    u_label_answer-of (codes "xn--abc-") (codes "abc") refl ∙ rw tested refl
+    let tested : first_fault Profile (codes "abc") ≡ None = told_is _ _ _ (map-class_of-in_table (codes "abc") (Pvalid ∷ Pvalid ∷ Pvalid ∷ []) refl) refl in
+    u_label_answer-of Profile (codes "xn--abc-") (codes "abc") refl ∙ rw tested refl
 
 -- the code of U+0080
-disallowed_code : u_label_answer (codes "xn--a") ≡ Err refusals.Disallowed
+disallowed_code : u_label_answer Profile (codes "xn--a") ≡ Err refusals.Disallowed
 unfolding idna decoded_code a_label_of rules in_table
 disallowed_code =
-    let tested : first_fault (0x80 ∷ []) ≡ Some refusals.Disallowed = told_is _ _ _ (map-class_of-in_table (0x80 ∷ []) (class.Disallowed ∷ []) refl) refl in
-    u_label_answer-of (codes "xn--a") (0x80 ∷ []) refl ∙ rw tested refl
+    let tested : first_fault Profile (0x80 ∷ []) ≡ Some refusals.Disallowed = told_is _ _ _ (map-class_of-in_table (0x80 ∷ []) (class.Disallowed ∷ []) refl) refl in
+    u_label_answer-of Profile (codes "xn--a") (0x80 ∷ []) refl ∙ rw tested refl
 
-sharp_s_tested : first_fault (0x66 ∷ 0x61 ∷ 0xDF ∷ []) ≡ None
+sharp_s_tested : first_fault Profile (0x66 ∷ 0x61 ∷ 0xDF ∷ []) ≡ None
 unfolding a_label_of idna rules in_table
 sharp_s_tested = told_is _ _ _ (map-class_of-in_table (0x66 ∷ 0x61 ∷ 0xDF ∷ []) (Pvalid ∷ Pvalid ∷ Pvalid ∷ []) refl) refl
 
-sharp_s : u_label_answer (codes "xn--fa-hia") ≡ Ok (0x66 ∷ 0x61 ∷ 0xDF ∷ [])
+sharp_s : u_label_answer Profile (codes "xn--fa-hia") ≡ Ok (0x66 ∷ 0x61 ∷ 0xDF ∷ [])
 unfolding idna decoded_code a_label_of
-sharp_s = u_label_answer-of (codes "xn--fa-hia") (0x66 ∷ 0x61 ∷ 0xDF ∷ []) refl ∙ rw sharp_s_tested refl
+sharp_s = u_label_answer-of Profile (codes "xn--fa-hia") (0x66 ∷ 0x61 ∷ 0xDF ∷ []) refl ∙ rw sharp_s_tested refl
 
 -- the same code in upper case is not the A-label
-sharp_s_in_upper_case : u_label_answer (codes "xn--fa-HIA") ≡ Err refusals.BadALabel
+sharp_s_in_upper_case : u_label_answer Profile (codes "xn--fa-HIA") ≡ Err refusals.BadALabel
 unfolding idna decoded_code a_label_of
-sharp_s_in_upper_case = u_label_answer-of (codes "xn--fa-HIA") (0x66 ∷ 0x61 ∷ 0xDF ∷ []) refl ∙ rw sharp_s_tested refl
+sharp_s_in_upper_case = u_label_answer-of Profile (codes "xn--fa-HIA") (0x66 ∷ 0x61 ∷ 0xDF ∷ []) refl ∙ rw sharp_s_tested refl
 
-china : u_label_answer (codes "xn--fiqs8s") ≡ Ok (0x4E2D ∷ 0x56FD ∷ [])
+china : u_label_answer Profile (codes "xn--fiqs8s") ≡ Ok (0x4E2D ∷ 0x56FD ∷ [])
 unfolding idna decoded_code a_label_of rules in_table
 china =
-    let tested : first_fault (0x4E2D ∷ 0x56FD ∷ []) ≡ None = told_is _ _ _ (map-class_of-in_table (0x4E2D ∷ 0x56FD ∷ []) (Pvalid ∷ Pvalid ∷ []) refl) refl in
-    u_label_answer-of (codes "xn--fiqs8s") (0x4E2D ∷ 0x56FD ∷ []) refl ∙ rw tested refl
+    let tested : first_fault Profile (0x4E2D ∷ 0x56FD ∷ []) ≡ None = told_is _ _ _ (map-class_of-in_table (0x4E2D ∷ 0x56FD ∷ []) (Pvalid ∷ Pvalid ∷ []) refl) refl in
+    u_label_answer-of Profile (codes "xn--fiqs8s") (0x4E2D ∷ 0x56FD ∷ []) refl ∙ rw tested refl
 
-registered_as : (label : List ℕ) (answer : Answer) → has_ace_prefix label ≡ true → u_label_answer label ≡ answer → register_answer label ≡ and_then answer (λ decoded. Ok label)
-registered_as label answer coded is = register_answer-prefixed label coded ∙ ap (λ first. and_then first (λ decoded. Ok label)) is
+registered_as : (label : List ℕ) (answer : Answer) → has_ace_prefix label ≡ true → u_label_answer Profile label ≡ answer → register_answer Profile label ≡ and_then answer (λ decoded. Ok label)
+registered_as label answer coded is = register_answer-prefixed Profile label coded ∙ ap (λ first. and_then first (λ decoded. Ok label)) is
 
 pub HaveRegisterAnswers-register_answers : HaveRegisterAnswers register_answers
 unfolding idna
@@ -108,10 +109,10 @@ unfolding decode_answer decoded_labels decoded_label idna
 HaveDecodeAnswers-decode_answers = (
   refl,
   (
-    ap (λ first. joined (with_others first (decoded_labels (codes "de" ∷ [])))) sharp_s,
+    ap (λ first. joined (with_others first (decoded_labels Profile (codes "de" ∷ [])))) sharp_s,
     (
-      ap (λ first. joined (with_others first (decoded_labels (codes "example" ∷ [])))) china,
-      (ap (λ second. joined (with_others (Ok (codes "a")) (with_others second (decoded_labels (codes "xn--" ∷ []))))) disallowed_code, tt),
+      ap (λ first. joined (with_others first (decoded_labels Profile (codes "example" ∷ [])))) china,
+      (ap (λ second. joined (with_others (Ok (codes "a")) (with_others second (decoded_labels Profile (codes "xn--" ∷ []))))) disallowed_code, tt),
     ),
   ),
 )

@@ -117,13 +117,13 @@ ascii_label-known label l =
 
 -- ---- the Bidi rule
 
-rtl : (class : BidiClass) → is_unicode_rtl_class class ≡ is_rtl class
+pub rtl : (class : BidiClass) → is_unicode_rtl_class class ≡ is_rtl class
 rtl RightToLeft_class = refl
 rtl ArabicLetter = refl
 rtl ArabicNumber = refl
 rtl _ = refl
 
-left_to_right-full_stop : is_rtl (bidi_class full_stop) ≡ false
+pub left_to_right-full_stop : is_rtl (bidi_class full_stop) ≡ false
 unfolding tables bidi_class bidi_class_rows
 left_to_right-full_stop = refl
 

@@ -32,6 +32,7 @@ use Rattle.idn_class.specs.LeadingMark.{is_mark_category, is_mark}
 use Rattle.idn_label.specs.inner.SimpleNames.{AreAppended, Cover, PassesInName}
 use Rattle.idn_label.specs.Steps.{is_ldh_point}
 use Rattle.idn_label.proofs.LdhLemmas.{class_of-ascii}
+use Rattle.idn_class.specs.declared.properties.Properties.TheVariants.{Profile}
 
 -- ---- one code point
 
@@ -40,20 +41,20 @@ status Valid = refl
 status Deviation = refl
 status _ = refl
 
-non_joiner : is_contextj (class_of 0x200C) ≡ true
+non_joiner : is_contextj (class_of Profile 0x200C) ≡ true
 unfolding in_table rules
-non_joiner = ap is_contextj (class_of-in_table 0x200C Contextj refl)
+non_joiner = ap is_contextj (class_of-in_table Profile 0x200C Contextj refl)
 
-joiner : is_contextj (class_of 0x200D) ≡ true
+joiner : is_contextj (class_of Profile 0x200D) ≡ true
 unfolding in_table rules
-joiner = ap is_contextj (class_of-in_table 0x200D Contextj refl)
+joiner = ap is_contextj (class_of-in_table Profile 0x200D Contextj refl)
 
-other_class : (c d : ℕ) → is_contextj (class_of c) ≡ false → is_contextj (class_of d) ≡ true → (c == d) ≡ false
-other_class c d not is = ne_eqb c d (λ e. false≢true (sym not ∙ ap (λ x. is_contextj (class_of x)) e ∙ is))
+other_class : (c d : ℕ) → is_contextj (class_of Profile c) ≡ false → is_contextj (class_of Profile d) ≡ true → (c == d) ≡ false
+other_class c d not is = ne_eqb c d (λ e. false≢true (sym not ∙ ap (λ x. is_contextj (class_of Profile x)) e ∙ is))
 
 -- of the ASCII code points only those of LDH are not barred
-ldh_class : (c : ℕ) → c < 128 → is_barred_class (class_of c) ≡ false → is_ldh_point c ≡ true
-ldh_class c low is = by_test (is_ldh_point c) (ap is_barred_class (sym (class_of-ascii c low)) ∙ is)
+ldh_class : (c : ℕ) → c < 128 → is_barred_class (class_of Profile c) ≡ false → is_ldh_point c ≡ true
+ldh_class c low is = by_test (is_ldh_point c) (ap is_barred_class (sym (class_of-ascii Profile c low)) ∙ is)
   where
     by_test : (b : Bool) → is_barred_class (cond b Pvalid Disallowed) ≡ false → b ≡ true
     by_test true h = refl
@@ -62,7 +63,7 @@ ldh_class c low is = by_test (is_ldh_point c) (ap is_barred_class (sym (class_of
 allowed_ldh : (c : ℕ) → is_ldh_point c ≡ true → may_be_denied c ≡ false
 allowed_ldh c ldh = grind (arith, nat_tests)
 
-allowed_simple : (c : ℕ) → is_barred_class (class_of c) ≡ false → may_be_denied c ≡ false
+allowed_simple : (c : ℕ) → is_barred_class (class_of Profile c) ≡ false → may_be_denied c ≡ false
 allowed_simple c is =
     elim (cases_lt c 128) [
       | inl low ↦ allowed_ldh c (ldh_class c low is)

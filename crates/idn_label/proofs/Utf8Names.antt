@@ -18,15 +18,17 @@ use Rattle.idn_text.specs.declared.refusal.Refusal.{Refusal}
 use Rattle.idn_text.specs.declared.refusal.Refusal.TheVariants.{NotUtf8}
 use Rattle.idn_text.proofs.Utf8Lemmas.{encode_utf8-two, encode_utf8-three, encode_utf8-four}
 use Rattle.idn_label.specs.Answers.{Answer}
-use Rattle.idn_label.specs.Decode.{decoded_label, decode_answer, decode_utf8_answer}
+use Rattle.idn_label.specs.Decode.{decoded_label, decoded_name}
+use Rattle.idn_label.specs.inner.DecodedNames.{decoded_utf8}
 use Rattle.idn_label.specs.LabelEnds.{EndsLabel}
 use Rattle.idn_label.specs.Register.{u_label_answer}
 use Rattle.idn_label.specs.Steps.{begins_with_prefix, in_utf8}
 use Rattle.idn_label.proofs.ALabels.{refused-past_ascii}
-use Rattle.idn_label.proofs.DecodeLemmas.{followed, in_utf8-followed, decoded_label-coded, decoded_label-other, decode_answer-last, decode_answer-more}
+use Rattle.idn_label.proofs.DecodeLemmas.{followed, in_utf8-followed, decoded_label-coded, decoded_label-other, decoded_name-last, decoded_name-more}
 use Rattle.idn_label.proofs.LabelsByPlace.{label_last, label_before}
 use Rattle.idn_label.proofs.LdhLemmas.{is_all_ascii-octets}
 use Rattle.idn_label.proofs.LowerCase.{is_all_ascii-lower}
+use Rattle.idn_class.specs.declared.properties.Properties.{Properties}
 
 -- ---- full stops
 
@@ -103,6 +105,16 @@ labels_of-last name label utf8 parts =
       ap (λ (l : List ℕ). labels_of (chars l)) whole ∙ slice_split_none is_full_stop (chars label) (label_without_stop label own (first_without_stop name label [] parts)),
     )
 
+-- the first label from a place on
+pub labels_of-first : (name : List ℕ) (start end : ℕ) → IsUtf8 (drop start name) → EndsLabel name start end
+    → IsUtf8 (slice_range name start end) × (others : List (List ℕ)) × (labels_of (chars (drop start name)) ≡ chars (slice_range name start end) ∷ others)
+labels_of-first name start end utf8 ends = elim (cases_Bool (end == length name)) [
+  | inl is ↦ let own = labels_of-last (drop start name) _ utf8 (label_last name start end ends (eqb-true end (length name) is)) in (own.0, [], own.1)
+  | inr other ↦
+      let own = labels_of-more (drop start name) _ (drop (end + 1) name) utf8 (label_before name start end ends (λ e. both_ways _ other (eq-eqb end (length name) e))) in
+      (own.0, labels_of (chars (drop (end + 1) name)), own.2)
+]
+
 -- ---- the prefix
 
 -- a code point past ASCII begins with an octet past ASCII
@@ -137,9 +149,10 @@ begins_with_prefix-chars label utf8 =
 
 -- ---- a label that is decoded, as UTF-8
 
--- what an A-label stands for, and any other label as it stands
-abbrev pub decoded_octets : List ℕ → Answer
-decoded_octets label = if begins_with_prefix label then in_utf8 (u_label_answer (map to_ascii_lowercase label)) else Ok label
+module _ (properties : Properties) where
+  -- what an A-label stands for, and any other label as it stands
+  abbrev pub decoded_octets : List ℕ → Answer
+  decoded_octets label = if begins_with_prefix label then in_utf8 (u_label_answer properties (map to_ascii_lowercase label)) else Ok label
 
 chars_past_ascii : (label : List ℕ) → IsUtf8 label → is_all_ascii label ≡ false → is_all_ascii (chars label) ≡ false
 chars_past_ascii label utf8 other = elim (cases_Bool (is_all_ascii (chars label))) [
@@ -149,54 +162,55 @@ chars_past_ascii label utf8 other = elim (cases_Bool (is_all_ascii (chars label)
   | inr past ↦ past
 ]
 
--- a code past ASCII stands for nothing
-u_label_answer-chars : (label : List ℕ) → IsUtf8 label → begins_with_prefix label ≡ true → u_label_answer (map to_ascii_lowercase (chars label)) ≡ u_label_answer (map to_ascii_lowercase label)
-u_label_answer-chars label utf8 coded = elim (cases_Bool (is_all_ascii label)) [
-  | inl ascii ↦ ap (λ (l : List ℕ). u_label_answer (map to_ascii_lowercase l)) (chars-IsAscii label (is_all_ascii-octets label ascii))
-  | inr other ↦
-      refused-past_ascii _ (begins_with_prefix-chars label utf8 ∙ coded) (is_all_ascii-lower (chars label) ∙ chars_past_ascii label utf8 other)
-      ∙ sym (refused-past_ascii _ coded (is_all_ascii-lower label ∙ other))
-]
+module _ (properties : Properties) where
+  -- a code past ASCII stands for nothing
+  u_label_answer-chars : (label : List ℕ) → IsUtf8 label → begins_with_prefix label ≡ true → u_label_answer properties (map to_ascii_lowercase (chars label)) ≡ u_label_answer properties (map to_ascii_lowercase label)
+  u_label_answer-chars label utf8 coded = elim (cases_Bool (is_all_ascii label)) [
+    | inl ascii ↦ ap (λ (l : List ℕ). u_label_answer properties (map to_ascii_lowercase l)) (chars-IsAscii label (is_all_ascii-octets label ascii))
+    | inr other ↦
+        refused-past_ascii properties _ (begins_with_prefix-chars label utf8 ∙ coded) (is_all_ascii-lower (chars label) ∙ chars_past_ascii label utf8 other)
+        ∙ sym (refused-past_ascii properties _ coded (is_all_ascii-lower label ∙ other))
+  ]
 
-pub decoded_label-octets : (label : List ℕ) → IsUtf8 label → in_utf8 (decoded_label (chars label)) ≡ decoded_octets label
-decoded_label-octets label utf8 = elim (cases_Bool (begins_with_prefix label)) [
-  | inl coded ↦
-      ap in_utf8 (decoded_label-coded (chars label) (begins_with_prefix-chars label utf8 ∙ coded) ∙ u_label_answer-chars label utf8 coded)
-      ∙ sym (cond-true _ _ _ coded)
-  | inr other ↦
-      ap in_utf8 (decoded_label-other (chars label) (begins_with_prefix-chars label utf8 ∙ other))
-      ∙ ap Ok (encodes-chars label utf8) ∙ sym (cond-false _ _ _ other)
-]
+  pub decoded_label-octets : (label : List ℕ) → IsUtf8 label → in_utf8 (decoded_label properties (chars label)) ≡ decoded_octets properties label
+  decoded_label-octets label utf8 = elim (cases_Bool (begins_with_prefix label)) [
+    | inl coded ↦
+        ap in_utf8 (decoded_label-coded properties (chars label) (begins_with_prefix-chars label utf8 ∙ coded) ∙ u_label_answer-chars label utf8 coded)
+        ∙ sym (cond-true _ _ _ coded)
+    | inr other ↦
+        ap in_utf8 (decoded_label-other properties (chars label) (begins_with_prefix-chars label utf8 ∙ other))
+        ∙ ap Ok (encodes-chars label utf8) ∙ sym (cond-false _ _ _ other)
+  ]
 
--- ---- a name that is decoded, as UTF-8
+  -- ---- a name that is decoded, as UTF-8
 
-pub decoded_more : (name label others : List ℕ) → IsUtf8 name → labels_of name ≡ label ∷ labels_of others → in_utf8 (decode_answer (chars name)) ≡ followed (decoded_octets label) (in_utf8 (decode_answer (chars others)))
-decoded_more name label others utf8 parts =
-    let more = labels_of-more name label others utf8 parts in
-    ap in_utf8 (decode_answer-more (chars name) (chars label) (chars others) more.2) ∙ in_utf8-followed _ _
-    ∙ ap (λ (first : Answer). followed first (in_utf8 (decode_answer (chars others)))) (decoded_label-octets label more.0)
+  pub decoded_more : (name label others : List ℕ) → IsUtf8 name → labels_of name ≡ label ∷ labels_of others → in_utf8 (decoded_name properties (chars name)) ≡ followed (decoded_octets properties label) (in_utf8 (decoded_name properties (chars others)))
+  decoded_more name label others utf8 parts =
+      let more = labels_of-more name label others utf8 parts in
+      ap in_utf8 (decoded_name-more properties (chars name) (chars label) (chars others) more.2) ∙ in_utf8-followed _ _
+      ∙ ap (λ (first : Answer). followed first (in_utf8 (decoded_name properties (chars others)))) (decoded_label-octets label more.0)
 
-pub decoded_last : (name label : List ℕ) → IsUtf8 name → labels_of name ≡ label ∷ [] → in_utf8 (decode_answer (chars name)) ≡ decoded_octets label
-decoded_last name label utf8 parts =
-    let last = labels_of-last name label utf8 parts in
-    ap in_utf8 (decode_answer-last (chars name) (chars label) last.1) ∙ decoded_label-octets label last.0
+  pub decoded_last : (name label : List ℕ) → IsUtf8 name → labels_of name ≡ label ∷ [] → in_utf8 (decoded_name properties (chars name)) ≡ decoded_octets properties label
+  decoded_last name label utf8 parts =
+      let last = labels_of-last name label utf8 parts in
+      ap in_utf8 (decoded_name-last properties (chars name) (chars label) last.1) ∙ decoded_label-octets label last.0
 
--- the first label is refused
-pub decoded_refused : (name : List ℕ) (start end : ℕ) (refusal : Refusal) → EndsLabel name start end → IsUtf8 (drop start name) → decoded_octets (slice_range name start end) ≡ Err refusal → in_utf8 (decode_answer (chars (drop start name))) ≡ Err refusal
-decoded_refused name start end refusal ends utf8 fault = elim (cases_Bool (end == length name)) [
-  | inl is ↦ decoded_last (drop start name) _ utf8 (label_last name start end ends (eqb-true end (length name) is)) ∙ fault
-  | inr other ↦
-      decoded_more (drop start name) _ (drop (end + 1) name) utf8 (label_before name start end ends (λ e. both_ways _ other (eq-eqb end (length name) e)))
-      ∙ ap (λ (first : Answer). followed first (in_utf8 (decode_answer (chars (drop (end + 1) name))))) fault
-]
+  -- the first label is refused
+  pub decoded_refused : (name : List ℕ) (start end : ℕ) (refusal : Refusal) → EndsLabel name start end → IsUtf8 (drop start name) → decoded_octets properties (slice_range name start end) ≡ Err refusal → in_utf8 (decoded_name properties (chars (drop start name))) ≡ Err refusal
+  decoded_refused name start end refusal ends utf8 fault = elim (cases_Bool (end == length name)) [
+    | inl is ↦ decoded_last (drop start name) _ utf8 (label_last name start end ends (eqb-true end (length name) is)) ∙ fault
+    | inr other ↦
+        decoded_more (drop start name) _ (drop (end + 1) name) utf8 (label_before name start end ends (λ e. both_ways _ other (eq-eqb end (length name) e)))
+        ∙ ap (λ (first : Answer). followed first (in_utf8 (decoded_name properties (chars (drop (end + 1) name))))) fault
+  ]
 
-pub decode_utf8_answer-utf8 : (bytes : List ℕ) → IsUtf8 bytes → decode_utf8_answer bytes ≡ in_utf8 (decode_answer (chars bytes))
-unfolding decode_utf8_answer
-decode_utf8_answer-utf8 bytes utf8 = cond-true _ _ _ (is_utf8-from_IsUtf8 bytes utf8)
+  pub decoded_utf8-utf8 : (bytes : List ℕ) → IsUtf8 bytes → decoded_utf8 properties bytes ≡ in_utf8 (decoded_name properties (chars bytes))
+  unfolding decoded_utf8
+  decoded_utf8-utf8 bytes utf8 = cond-true _ _ _ (is_utf8-from_IsUtf8 bytes utf8)
 
-pub decode_utf8_answer-other : (bytes : List ℕ) → ¬ (IsUtf8 bytes) → decode_utf8_answer bytes ≡ Err NotUtf8
-unfolding decode_utf8_answer
-decode_utf8_answer-other bytes none = elim (cases_Bool (is_utf8 bytes)) [
-  | inl utf8 ↦ absurd (none (IsUtf8-from_is_utf8 bytes utf8))
-  | inr other ↦ cond-false _ _ _ other
-]
+  pub decoded_utf8-other : (bytes : List ℕ) → ¬ (IsUtf8 bytes) → decoded_utf8 properties bytes ≡ Err NotUtf8
+  unfolding decoded_utf8
+  decoded_utf8-other bytes none = elim (cases_Bool (is_utf8 bytes)) [
+    | inl utf8 ↦ absurd (none (IsUtf8-from_is_utf8 bytes utf8))
+    | inr other ↦ cond-false _ _ _ other
+  ]

@@ -8,6 +8,7 @@ use Rattle.idn_label.specs.Decode.{decode_answer}
 use Rattle.idn_label.specs.FirstFault.{first_fault}
 use Rattle.idn_label.specs.Lookup.{lookup_answer}
 use Rattle.idn_label.specs.Register.{register_answer}
+use Rattle.idn_class.specs.declared.properties.Properties.TheVariants.{Profile}
 
 -- each label has the A-label beside it
 abbrev pub HaveALabels : List (List ℕ × List ℕ) → Type 0
@@ -17,7 +18,7 @@ HaveALabels (row ∷ rows) = (a_label_of row.0 ≡ row.1) × HaveALabels rows
 -- each label has the first fault beside it, or none
 abbrev pub HaveFirstFaults : List (List ℕ × Option Refusal) → Type 0
 HaveFirstFaults [] = Unit {0}
-HaveFirstFaults (row ∷ rows) = (first_fault row.0 ≡ row.1) × HaveFirstFaults rows
+HaveFirstFaults (row ∷ rows) = (first_fault Profile row.0 ≡ row.1) × HaveFirstFaults rows
 
 abbrev pub a_labels : List (List ℕ × List ℕ)
 a_labels =
@@ -71,7 +72,7 @@ first_faults_of_two =
 -- each label that begins with "xn--" is registered with the answer beside it
 abbrev pub HaveRegisterAnswers : List (List ℕ × Answer) → Type 0
 HaveRegisterAnswers [] = Unit {0}
-HaveRegisterAnswers (row ∷ rows) = (register_answer row.0 ≡ row.1) × HaveRegisterAnswers rows
+HaveRegisterAnswers (row ∷ rows) = (register_answer Profile row.0 ≡ row.1) × HaveRegisterAnswers rows
 
 abbrev pub register_answers : List (List ℕ × Answer)
 register_answers =
@@ -85,7 +86,7 @@ register_answers =
 -- each name is decoded to the answer beside it
 abbrev pub HaveDecodeAnswers : List (List ℕ × Answer) → Type 0
 HaveDecodeAnswers [] = Unit {0}
-HaveDecodeAnswers (row ∷ rows) = (decode_answer row.0 ≡ row.1) × HaveDecodeAnswers rows
+HaveDecodeAnswers (row ∷ rows) = (decode_answer Profile row.0 ≡ row.1) × HaveDecodeAnswers rows
 
 abbrev pub decode_answers : List (List ℕ × Answer)
 decode_answers =

@@ -1,3 +1,4 @@
+-- The definitions that contracts cite.
 pub mod ALabel
 pub mod FirstFault
 pub mod Memory

@@ -10,7 +10,7 @@ ghost use Rattle.idn_label.specs.Memory.{NeedsNoMemory};
 use crate::a_label::{ALabel, ascii_text};
 use crate::first_fault::check_label;
 use crate::unit::is_all_ascii;
-use idn_class::{Facts, MAX_LABEL_LEN};
+use idn_class::{Facts, MAX_LABEL_LEN, Properties};
 use idn_punycode::KeptPunycode;
 use idn_text::Refusal;
 use std::alloc::Global;
@@ -64,16 +64,22 @@ impl KeptALabel {
     /// does. The facts of the label are known, and what is taken apart must be of it. At a fault nothing is said of the
     /// A-label that is then kept.
     #[tactic(auto, using(crate::proofs::FaultLemmas::measured), unfolding(crate::specs::ALabel::a_label_of))]
-    pub fn test_label(&mut self, alloc: Global, label: &[u32], facts: Facts) -> Result<(), Refusal>
+    pub fn test_label(
+        &mut self,
+        alloc: Global,
+        label: &[u32],
+        facts: Facts,
+        properties: Properties,
+    ) -> Result<(), Refusal>
         requires facts { AreFactsOf facts label.now }
         requires begun { IsTakenApart label.now self.old }
         ensures apart { IsTakenApart label.now self.new }
-        ensures registrable { OnOk result (IsRegistrable label.now) }
+        ensures registrable { OnOk result (IsRegistrable properties label.now) }
         ensures a_label { OnOk result (self.new.text ≡ a_label_of label.now) }
-        ensures fault { IfErr result (λ refusal. refusal ≢ Refusal.Memory → first_fault label.now ≡ Some refusal) }
+        ensures fault { IfErr result (λ refusal. refusal ≢ Refusal.Memory → first_fault properties label.now ≡ Some refusal) }
         ensures no_memory { NeedsNoMemory label.now → result ≢ Err Refusal.Memory }
     {
-        check_label(alloc, label, facts)?;
+        check_label(alloc, label, facts, properties)?;
         if label.len() > MAX_LABEL_LEN {
             return Err(Refusal::LabelTooLong);
         }

@@ -5,7 +5,6 @@ ghost use Rattle.idn_label.specs.Answers.{Gives};
 ghost use Rattle.idn_label.specs.Lookup.{utf8_answer, lookup_answer};
 ghost use Rattle.idn_label.specs.Memory.{LooksUpWithoutMemory};
 
-mod bidi;
 mod buffers;
 mod full;
 mod ldh;

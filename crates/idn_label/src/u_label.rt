@@ -11,10 +11,10 @@ ghost use Rattle.idn_label.specs.Register.{decoded_code, u_label_answer};
 
 use crate::a_label::ascii_text;
 use crate::code_points::points_of;
-use crate::first_fault::{check_label, test_label};
+use crate::first_fault::{check_label, test_label_by};
 use crate::unit::{Unit, is_all_ascii, to_lowercase};
 use arrayvec::{ArrayString, ArrayVec};
-use idn_class::MAX_LABEL_LEN;
+use idn_class::{MAX_LABEL_LEN, Properties};
 use idn_punycode::DecodedLabel;
 use idn_text::{MAX_LINE_LEN, Refusal};
 use idna::{Errors, punycode};
@@ -27,19 +27,20 @@ pub(crate) fn u_label_in_any_case<U: Unit>(
     alloc: Global,
     given: &[U],
     label: &mut DecodedLabel,
+    properties: Properties,
 ) -> Result<(), Refusal>
     requires prefix { has_ace_prefix (map to_ascii_lowercase (U.codes given.now)) ≡ true }
     requires short { length given.now ≤ MAX_LINE_LEN }
-    ensures answer { Gives (λ _. label.new) result (u_label_answer (map to_ascii_lowercase (U.codes given.now))) }
+    ensures answer { Gives (λ _. label.new) result (u_label_answer properties (map to_ascii_lowercase (U.codes given.now))) }
     ensures shorter { OnOk result (length label.new < length given.now) }
     ensures no_memory { NeedsNoMemoryDecoded (map to_ascii_lowercase (U.codes given.now)) → result ≢ Err Refusal.Memory }
 {
-    match tested_u_label(alloc, given, label) {
+    match tested_u_label(alloc, given, label, properties) {
         Ok(()) => Ok(()),
         Err(refusal) if has_no_capital(given) => Err(refusal),
         Err(_) if !is_all_ascii(given) => Err(Refusal::BadALabel),
         // A label put into lower case has no capital.
-        Err(_) => tested_u_label(alloc, &lowercase_of(given), label),
+        Err(_) => tested_u_label(alloc, &lowercase_of(given), label, properties),
     }
 }
 
@@ -75,26 +76,27 @@ pub(crate) fn tested_u_label<U: Unit>(
     alloc: Global,
     given: &[U],
     label: &mut DecodedLabel,
+    properties: Properties,
 ) -> Result<(), Refusal>
     requires prefix { has_ace_prefix (map to_ascii_lowercase (U.codes given.now)) ≡ true }
     requires short { length given.now ≤ MAX_LINE_LEN }
-    ensures passes { OnOk result (u_label_answer (map to_ascii_lowercase (U.codes given.now)) ≡ Ok label.new) }
+    ensures passes { OnOk result (u_label_answer properties (map to_ascii_lowercase (U.codes given.now)) ≡ Ok label.new) }
     ensures fault { IfErr result (λ refusal. list_all (λ c. not (is_ascii_uppercase c)) (U.codes given.now) ≡ true
-        → refusal ≢ Refusal.Memory → u_label_answer (U.codes given.now) ≡ Err refusal) }
+        → refusal ≢ Refusal.Memory → u_label_answer properties (U.codes given.now) ≡ Err refusal) }
     ensures shorter { OnOk result (length label.new < length given.now) }
     ensures no_memory { NeedsNoMemoryDecoded (U.codes given.now) → result ≢ Err Refusal.Memory }
 {
     // The A-label of a label that may be registered is short.
     if given.len() > MAX_LABEL_LEN {
-        return refuse(alloc, given);
+        return refuse(alloc, given, properties);
     }
     let Ok(facts) = label.decode(code_of(given)) else {
         return Err(Refusal::BadALabel);
     };
     if is_all_ascii(label.as_slice()) {
-        return refuse(alloc, given);
+        return refuse(alloc, given, properties);
     }
-    check_label(alloc, label.as_slice(), facts)
+    check_label(alloc, label.as_slice(), facts, properties)
 }
 
 /// What stands after the prefix of an A-label.
@@ -111,14 +113,18 @@ fn code_of<U: Unit>(given: &[U]) -> &[U]
 
 /// Refuses what is the A-label of no label which may be registered, and tells why.
 #[tactic(auto, using(crate::proofs::AnswerLemmas::confirming), unfolding(crate::specs::Register::u_label_answer))]
-pub(crate) fn refuse<U: Unit, T>(alloc: Global, given: &[U]) -> Result<T, Refusal>
+pub(crate) fn refuse<U: Unit, T>(
+    alloc: Global,
+    given: &[U],
+    properties: Properties,
+) -> Result<T, Refusal>
     requires prefix { has_ace_prefix (map to_ascii_lowercase (U.codes given.now)) ≡ true }
     requires short { length given.now ≤ MAX_LINE_LEN }
-    requires of_none { IsErr (u_label_answer (U.codes given.now)) }
-    ensures { IsErrAnd result (λ refusal. refusal ≢ Refusal.Memory → u_label_answer (U.codes given.now) ≡ Err refusal) }
+    requires of_none { IsErr (u_label_answer properties (U.codes given.now)) }
+    ensures { IsErrAnd result (λ refusal. refusal ≢ Refusal.Memory → u_label_answer properties (U.codes given.now) ≡ Err refusal) }
 {
     if let Some(label) = decoded_code(alloc, code_of(given))? {
-        test_label(alloc, &label)?;
+        test_label_by(alloc, &label, properties)?;
     }
     Err(Refusal::BadALabel)
 }

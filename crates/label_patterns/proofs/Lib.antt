@@ -1,3 +1,4 @@
+-- The lemmas of this crate.
 pub mod PlaceLemmas
 pub mod RoundLemmas
 pub mod SetLemmas

@@ -1,3 +1,4 @@
+-- The definitions that contracts cite.
 pub mod Patterns
 pub mod Sets
 pub mod Places

@@ -26,14 +26,16 @@ use Rattle.registered_labels.specs.Registered.{AreRegistered}
 use Rattle.registered_labels.specs.Texts.{AreLinesOf, IsTextOf, line_refusal, IsFirstWrong, IsOutOfOrder, IsWrongBy, IsFaultOf, fault_of}
 use Rattle.registered_labels.specs.inner.Readings.{IsLineEnd, IsReadAs}
 use Rattle.variant_table.proofs.ListLemmas.{drop_all}
+use Rattle.idn_class.specs.declared.properties.Properties.{Properties}
 
 -- ---- one line
 
 pub body_of-short : (line : List ℕ) → length line ≤ 1024 → body_of line ≡ Some (strip_carriage_return line)
 body_of-short line few = ap (λ b. cond b None (Some (strip_carriage_return line))) (is_long_line-short line few)
 
-pub refused_body : (line body : List ℕ) (refusal : Refusal) → length line ≤ 1024 → body ≡ strip_carriage_return line → utf8_fault body ≡ Some refusal → line_refusal (body_of line) ≡ Some refusal
-refused_body line body refusal few is fault = ap line_refusal (body_of-short line few ∙ ap Some (sym is)) ∙ fault
+module _ (properties : Properties) where
+  pub refused_body : (line body : List ℕ) (refusal : Refusal) → length line ≤ 1024 → body ≡ strip_carriage_return line → utf8_fault properties body ≡ Some refusal → line_refusal properties (body_of line) ≡ Some refusal
+  refused_body line body refusal few is fault = ap (line_refusal properties) (body_of-short line few ∙ ap Some (sym is)) ∙ fault
 
 -- the body of a line stands at its front
 pub stripped_front : (line : List ℕ) → strip_carriage_return line ≡ take (length (strip_carriage_return line)) line
@@ -43,18 +45,19 @@ stripped_front line = by_test (eqb (get_or line (length line - 1) 0) 13)
     by_test true = sym (ap (λ n. take n line) (length-take (length line - 1) line) ∙ take_min (length line - 1) line)
     by_test false = sym (take_all (length line) line (omega arith))
 
--- a body without a fault is the UTF-8 of a label that may be registered
-pub IsReadAs-body : (line body : List ℕ) (len : ℕ) → length line ≤ 1024 → body ≡ strip_carriage_return line → len ≡ length body → utf8_fault body ≡ None → IsReadAs line len (chars (take len line))
-IsReadAs-body line body len few is count none =
-    let front : body ≡ take (length body) line = is ∙ stripped_front line ∙ ap (λ (b : List ℕ). take (length b) line) (sym is) in
-    let here : take len line ≡ body = ap (λ n. take n line) count ∙ sym front in
-    let label = utf8_fault-none body none in
-    subst (λ (b : List ℕ). IsReadAs line len (chars b)) (sym here) (record {
-      within = omega (arith, count, ap length front, length-take (length body) line);
-      body = body_of-short line few ∙ ap Some (sym is ∙ sym here);
-      read = subst (λ (b : List ℕ). IsUtf8Of b (chars body)) (sym here) label.0;
-      registrable = label.1;
-    })
+module _ (properties : Properties) where
+  -- a body without a fault is the UTF-8 of a label that may be registered
+  pub IsReadAs-body : (line body : List ℕ) (len : ℕ) → length line ≤ 1024 → body ≡ strip_carriage_return line → len ≡ length body → utf8_fault properties body ≡ None → IsReadAs properties line len (chars (take len line))
+  IsReadAs-body line body len few is count none =
+      let front : body ≡ take (length body) line = is ∙ stripped_front line ∙ ap (λ (b : List ℕ). take (length b) line) (sym is) in
+      let here : take len line ≡ body = ap (λ n. take n line) count ∙ sym front in
+      let label = utf8_fault-none properties body none in
+      subst (λ (b : List ℕ). IsReadAs properties line len (chars b)) (sym here) (record {
+        within = omega (arith, count, ap length front, length-take (length body) line);
+        body = body_of-short line few ∙ ap Some (sym is ∙ sym here);
+        read = subst (λ (b : List ℕ). IsUtf8Of b (chars body)) (sym here) label.0;
+        registrable = label.1;
+      })
 
 -- ---- the lines so far
 
@@ -112,40 +115,41 @@ length-joined (first ∷ lines) line =
 pub length-next : (text : List ℕ) (at end : ℕ) → IsLineEnd text at end → length (slice_range text at end) ≡ end - at
 length-next text at end is = omega (arith, is.reached, is.within, length-take (end - at) (drop at text), length-drop at text)
 
-pub HasRead-more : (text : List ℕ) (at end number len : ℕ) (labels : List (List ℕ)) (label : List ℕ) → at < length text → IsLineEnd text at end → IsReadAs (slice_range text at end) len label → HasRead text at number labels → HasRead text (end + 1) (number + 1) (labels ++ label ∷ [])
-HasRead-more text at end number len labels label more is read h =
-    let line : List ℕ = slice_range text at end in
-    let body : body_of line ≡ Some (utf8_of label) = read.body ∙ ap Some (sym (read.read).encoded) in
-    record {
-      front = h.front ++ line ∷ [];
-      split = h.split ∙ ap (λ xs. h.front ++ xs) (raw_lines-next text at end more is) ∙ sym (append_assoc h.front (line ∷ []) (raw_lines (drop (end + 1) text)));
-      read = map-append body_of h.front (line ∷ []) ∙ ap (λ xs. xs ++ body_of line ∷ []) h.read ∙ ap (λ o. map (λ v. Some (utf8_of v)) labels ++ o ∷ []) body ∙ sym (map-append (λ v. Some (utf8_of v)) labels (label ∷ []));
-      counted = omega (arith, h.counted, length-append h.front (line ∷ []));
-      placed = omega (arith, is.reached, h.placed, length-joined h.front line, length-next text at end is);
-    }
+module _ (properties : Properties) where
+  pub HasRead-more : (text : List ℕ) (at end number len : ℕ) (labels : List (List ℕ)) (label : List ℕ) → at < length text → IsLineEnd text at end → IsReadAs properties (slice_range text at end) len label → HasRead text at number labels → HasRead text (end + 1) (number + 1) (labels ++ label ∷ [])
+  HasRead-more text at end number len labels label more is read h =
+      let line : List ℕ = slice_range text at end in
+      let body : body_of line ≡ Some (utf8_of label) = read.body ∙ ap Some (sym (read.read).encoded) in
+      record {
+        front = h.front ++ line ∷ [];
+        split = h.split ∙ ap (λ xs. h.front ++ xs) (raw_lines-next text at end more is) ∙ sym (append_assoc h.front (line ∷ []) (raw_lines (drop (end + 1) text)));
+        read = map-append body_of h.front (line ∷ []) ∙ ap (λ xs. xs ++ body_of line ∷ []) h.read ∙ ap (λ o. map (λ v. Some (utf8_of v)) labels ++ o ∷ []) body ∙ sym (map-append (λ v. Some (utf8_of v)) labels (label ∷ []));
+        counted = omega (arith, h.counted, length-append h.front (line ∷ []));
+        placed = omega (arith, is.reached, h.placed, length-joined h.front line, length-next text at end is);
+      }
 
-pub IsTextOf-read : (text : List ℕ) (at number : ℕ) (labels : List (List ℕ)) → length text ≤ at → at ≤ 2 ^ 32 → HasRead text at number labels → AreRegistered labels → IsTextOf text labels
-IsTextOf-read text at number labels past few h all =
-    let whole : raw_lines text ≡ h.front = h.split ∙ ap (λ xs. h.front ++ raw_lines xs) (drop_all text at past) ∙ append-nil h.front in
-    record {
-      lines = ap (map body_of) whole ∙ h.read;
-      registered = all;
-      in_time = omega (arith, few, h.placed, ap (λ ls. length (joined_lines ls)) whole);
-    }
+  pub IsTextOf-read : (text : List ℕ) (at number : ℕ) (labels : List (List ℕ)) → length text ≤ at → at ≤ 2 ^ 32 → HasRead text at number labels → AreRegistered properties labels → IsTextOf properties text labels
+  IsTextOf-read text at number labels past few h all =
+      let whole : raw_lines text ≡ h.front = h.split ∙ ap (λ xs. h.front ++ raw_lines xs) (drop_all text at past) ∙ append-nil h.front in
+      record {
+        lines = ap (map body_of) whole ∙ h.read;
+        registered = all;
+        in_time = omega (arith, few, h.placed, ap (λ ls. length (joined_lines ls)) whole);
+      }
 
-pub IsFirstWrong-here : (text : List ℕ) (at end number : ℕ) (labels : List (List ℕ)) (W : ℕ → List (List ℕ) → List ℕ → Type 0) → at < length text → at ≤ 2 ^ 32 → IsLineEnd text at end → HasRead text at number labels → AreRegistered labels → W at labels (slice_range text at end) → IsFirstWrong text (number + 1) W
-IsFirstWrong-here text at end number labels W more few is h all wrong = record {
-  before = h.front;
-  line = slice_range text at end;
-  rest = raw_lines (drop (end + 1) text);
-  lines = h.split ∙ ap (λ xs. h.front ++ xs) (raw_lines-next text at end more is);
-  numbered = omega (arith, h.counted);
-  labels = labels;
-  read = h.read;
-  registered = all;
-  in_time = omega (arith, few, h.placed);
-  wrong = subst (λ n. W n labels (slice_range text at end)) h.placed wrong;
-}
+  pub IsFirstWrong-here : (text : List ℕ) (at end number : ℕ) (labels : List (List ℕ)) (W : ℕ → List (List ℕ) → List ℕ → Type 0) → at < length text → at ≤ 2 ^ 32 → IsLineEnd text at end → HasRead text at number labels → AreRegistered properties labels → W at labels (slice_range text at end) → IsFirstWrong properties text (number + 1) W
+  IsFirstWrong-here text at end number labels W more few is h all wrong = record {
+    before = h.front;
+    line = slice_range text at end;
+    rest = raw_lines (drop (end + 1) text);
+    lines = h.split ∙ ap (λ xs. h.front ++ xs) (raw_lines-next text at end more is);
+    numbered = omega (arith, h.counted);
+    labels = labels;
+    read = h.read;
+    registered = all;
+    in_time = omega (arith, few, h.placed);
+    wrong = subst (λ n. W n labels (slice_range text at end)) h.placed wrong;
+  }
 
 -- ---- the last label
 
@@ -158,48 +162,49 @@ not_lt v w o b e f t below =
     let less : o ≡ Less = e ∙ Less_from_below v w below in
     let clash : true ≡ false = sym (ap is_lt less) ∙ sym f ∙ t in cc
 
-pub IsOutOfOrder-seen : (line : List ℕ) (len : ℕ) (labels : List (List ℕ)) (last label : List ℕ) (o : Ordering) (b : Bool) → IsReadAs line len label → IsLastOf labels last → o ≡ label_cmp last label → b ≡ is_lt o → b ≡ false → IsOutOfOrder labels (body_of line)
-IsOutOfOrder-seen line len labels last label o b read is e f t = elim is [
-  | inl none ↦ absurd (not_lt last label o b e f t (subst (λ v. IsBelow v label) (sym none.1) (above_nothing label ((MeetsRequirements-registrable label read.registrable).some))))
-  | inr some ↦ record {
-    label = label;
-    is = read.body ∙ ap Some (sym (read.read).encoded);
-    registrable = read.registrable;
-    front = some.0;
-    last = last;
-    ending = some.1;
-    not_greater = not_lt last label o b e f t;
-  }
-]
-  where
-    above_nothing : (v : List ℕ) → v ≢ [] → IsBelow [] v
-    above_nothing [] h = absurd (h refl)
-    above_nothing (x ∷ v) h = tt
+module _ (properties : Properties) where
+  pub IsOutOfOrder-seen : (line : List ℕ) (len : ℕ) (labels : List (List ℕ)) (last label : List ℕ) (o : Ordering) (b : Bool) → IsReadAs properties line len label → IsLastOf labels last → o ≡ label_cmp last label → b ≡ is_lt o → b ≡ false → IsOutOfOrder properties labels (body_of line)
+  IsOutOfOrder-seen line len labels last label o b read is e f t = elim is [
+    | inl none ↦ absurd (not_lt last label o b e f t (subst (λ v. IsBelow v label) (sym none.1) (above_nothing label ((MeetsRequirements-registrable properties label read.registrable).some))))
+    | inr some ↦ record {
+      label = label;
+      is = read.body ∙ ap Some (sym (read.read).encoded);
+      registrable = read.registrable;
+      front = some.0;
+      last = last;
+      ending = some.1;
+      not_greater = not_lt last label o b e f t;
+    }
+  ]
+    where
+      above_nothing : (v : List ℕ) → v ≢ [] → IsBelow [] v
+      above_nothing [] h = absurd (h refl)
+      above_nothing (x ∷ v) h = tt
 
--- a label that is greater than the last one is in order
-pub in_order : (line : List ℕ) (len : ℕ) (labels : List (List ℕ)) (last label : List ℕ) → IsReadAs line len label → IsLastOf labels last → IsBelow last label → IsOutOfOrder labels (body_of line) → ⊥
-in_order line len labels last label read is below out = elim is [
-  | inl none ↦ omega (arith, length-append out.front (out.last ∷ []), ap length (sym out.ending ∙ none.0))
-  | inr some ↦
-      let before : out.last ≡ last = (same_from_push out.front some.0 out.last last (sym out.ending ∙ some.1)).1 in
-      out.not_greater (subst (λ v. IsBelow v out.label) (sym before) (subst (λ v. IsBelow last v) (sym same) below))
-]
-  where
-    bytes : utf8_of out.label ≡ take len line
-    bytes = ap (λ (o : Option (List ℕ)). unwrap_or o []) (sym out.is ∙ read.body)
+  -- a label that is greater than the last one is in order
+  pub in_order : (line : List ℕ) (len : ℕ) (labels : List (List ℕ)) (last label : List ℕ) → IsReadAs properties line len label → IsLastOf labels last → IsBelow last label → IsOutOfOrder properties labels (body_of line) → ⊥
+  in_order line len labels last label read is below out = elim is [
+    | inl none ↦ omega (arith, length-append out.front (out.last ∷ []), ap length (sym out.ending ∙ none.0))
+    | inr some ↦
+        let before : out.last ≡ last = (same_from_push out.front some.0 out.last last (sym out.ending ∙ some.1)).1 in
+        out.not_greater (subst (λ v. IsBelow v out.label) (sym before) (subst (λ v. IsBelow last v) (sym same) below))
+  ]
+    where
+      bytes : utf8_of out.label ≡ take len line
+      bytes = ap (λ (o : Option (List ℕ)). unwrap_or o []) (sym out.is ∙ read.body)
 
-    same : out.label ≡ label
-    same =
-        sym (points_from_utf8 (take len line) out.label (record { scalar_values = registrable_scalars out.label out.registrable; encoded = bytes }))
-        ∙ points_from_utf8 (take len line) label read.read
+      same : out.label ≡ label
+      same =
+          sym (points_from_utf8 (take len line) out.label (record { scalar_values = registrable_scalars properties out.label out.registrable; encoded = bytes }))
+          ∙ points_from_utf8 (take len line) label read.read
 
--- a label that may be registered is right by itself
-pub accepted_label : (line : List ℕ) (len : ℕ) (label : List ℕ) → IsReadAs line len label → line_refusal (body_of line) ≡ None
-accepted_label line len label is = ap line_refusal is.body ∙ utf8_fault-points (take len line) label is.read ∙ is.registrable
+  -- a label that may be registered is right by itself
+  pub accepted_label : (line : List ℕ) (len : ℕ) (label : List ℕ) → IsReadAs properties line len label → line_refusal properties (body_of line) ≡ None
+  accepted_label line len label is = ap (line_refusal properties) is.body ∙ utf8_fault-points properties (take len line) label is.read ∙ is.registrable
 
-pub IsFaultOf-refused : (text : List ℕ) (line : ℕ) (refusal : Refusal) → (refusal ≢ refusals.Memory → IsFirstWrong text line (IsWrongBy refusal)) → IsFaultOf text (fault_of line refusal)
-IsFaultOf-refused text line refusals.Memory h = tt
-IsFaultOf-refused text line refusal h = h (λ e. cc)
+  pub IsFaultOf-refused : (text : List ℕ) (line : ℕ) (refusal : Refusal) → (refusal ≢ refusals.Memory → IsFirstWrong properties text line (IsWrongBy properties refusal)) → IsFaultOf properties text (fault_of line refusal)
+  IsFaultOf-refused text line refusals.Memory h = tt
+  IsFaultOf-refused text line refusal h = h (λ e. cc)
 
 -- one label more is the last
 pub IsLastOf-more : (labels : List (List ℕ)) (label : List ℕ) → IsLastOf (labels ++ label ∷ []) label

@@ -7,6 +7,7 @@ use Rattle.variant_list.specs.Examples.{allocatable, entry}
 use Rattle.variant_list.specs.Spelled.{spelled}
 use Rattle.registered_labels.specs.Collisions.{collisions}
 use Rattle.registered_labels.specs.Texts.{line_refusal}
+use Rattle.idn_class.specs.declared.properties.Properties.TheVariants.{Profile}
 
 -- a source without variants, and one with a single variant
 abbrev pub plain : List ℕ → Entry
@@ -17,7 +18,7 @@ pair source variant = entry source (allocatable variant ∷ [])
 
 -- a table of version 2
 abbrev pub version_two : List Entry → TableValue
-version_two entries = record (empty_table Two) { entries = entries }
+version_two entries = record (empty_table Profile Two) { entries = entries }
 
 -- ß
 abbrev pub sharp : List ℕ
@@ -78,6 +79,6 @@ pub record ExamplesOfCollisions : Type 0 where
 
 -- what is wrong with a line by itself: it is too long, no UTF-8, or empty
 pub record ExamplesOfLines : Type 0 where
-  pub too_long : line_refusal None ≡ Some LineTooLong
-  pub not_utf8 : line_refusal (Some (0xFF ∷ [])) ≡ Some NotUtf8
-  pub empty : line_refusal (Some []) ≡ Some Empty
+  pub too_long : line_refusal Profile None ≡ Some LineTooLong
+  pub not_utf8 : line_refusal Profile (Some (0xFF ∷ [])) ≡ Some NotUtf8
+  pub empty : line_refusal Profile (Some []) ≡ Some Empty

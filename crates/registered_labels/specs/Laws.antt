@@ -7,6 +7,7 @@ use Rattle.variant_list.specs.Labels.{label_cmp, IsListOf}
 use Rattle.variant_list.specs.Variants.{variants_among}
 use Rattle.registered_labels.specs.Registered.{AreRegistered}
 use Rattle.registered_labels.specs.Collisions.{collisions, IsCollision}
+use Rattle.idn_class.specs.declared.properties.Properties.{Properties}
 
 -- the byte order of the UTF-8 of two lists is their label order
 abbrev pub Utf8KeepsOrder : Type 0
@@ -15,10 +16,10 @@ Utf8KeepsOrder = (v w : List ℕ) → label_cmp (utf8_of v) (utf8_of w) ≡ labe
 -- the collisions that compute are the one rising list of the registered labels, greater than the text, that are spelled;
 -- and they are exactly those variants after the text, which are those spelled labels that may be registered, that are registered
 pub record CollisionsAreListed : Type 0 where
-  pub exactly : (spelled labels : List (List ℕ)) (after : List ℕ) → AreRegistered labels →
+  pub exactly : (properties : Properties) (spelled labels : List (List ℕ)) (after : List ℕ) → AreRegistered properties labels →
       IsListOf (IsCollision spelled labels after) (collisions spelled labels after)
-  pub variants_registered : (spelled labels : List (List ℕ)) (after v : List ℕ) → AreRegistered labels →
-      Contains (collisions spelled labels after) v ↔ (Contains (variants_among (λ w. is_none (first_fault w)) spelled after) v × Contains labels v)
+  pub variants_registered : (properties : Properties) (spelled labels : List (List ℕ)) (after v : List ℕ) → AreRegistered properties labels →
+      Contains (collisions spelled labels after) v ↔ (Contains (variants_among (λ w. is_none (first_fault properties w)) spelled after) v × Contains labels v)
 
 -- registered labels that are kept in two parts have the collisions of the first part, then those of the second
 abbrev pub CollisionsOfParts : Type 0

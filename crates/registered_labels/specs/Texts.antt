@@ -10,6 +10,7 @@ use Rattle.variant_list.specs.Labels.{IsBelow}
 use Rattle.registered_labels.specs.declared.labels.RegisteredFileFault.{RegisteredFileFault}
 use Rattle.registered_labels.specs.declared.labels.RegisteredFileFault.TheVariants.{Refused, Memory}
 use Rattle.registered_labels.specs.Registered.{AreRegistered}
+use Rattle.idn_class.specs.declared.properties.Properties.{Properties}
 
 -- these lines are the UTF-8 of these labels, in their order; one carriage return at the end of a line doesn't count
 abbrev pub AreLinesOf : List (List ℕ) → List (List ℕ) → Type 0
@@ -20,19 +21,19 @@ abbrev pub EndInTime : List (List ℕ) → Type 0
 EndInTime lines = length (joined_lines lines) ≤ 2 ^ 32
 
 -- the text has a line for each of these labels, which may be registered and stand in label order, each once
-pub record IsTextOf (text : List ℕ) (labels : List (List ℕ)) : Type 0 where
+pub record IsTextOf (properties : Properties) (text : List ℕ) (labels : List (List ℕ)) : Type 0 where
   pub lines : AreLinesOf (raw_lines text) labels
-  pub registered : AreRegistered labels
+  pub registered : AreRegistered properties labels
   pub in_time : EndInTime (raw_lines text)
 
 -- what is wrong with the body of a line alone
-abbrev pub line_refusal : Option (List ℕ) → Option Refusal
-line_refusal None = Some LineTooLong
-line_refusal (Some bytes) = utf8_fault bytes
+abbrev pub line_refusal : Properties → Option (List ℕ) → Option Refusal
+line_refusal properties None = Some LineTooLong
+line_refusal properties (Some bytes) = utf8_fault properties bytes
 
 -- all lines before the line of this number, from 1, are labels in label order and end in time, and the line, after so many bytes
 -- of the text, is wrong after them
-pub record IsFirstWrong (text : List ℕ) (number : ℕ) (IsWrong : ℕ → List (List ℕ) → List ℕ → Type 0) : Type 0 where
+pub record IsFirstWrong (properties : Properties) (text : List ℕ) (number : ℕ) (IsWrong : ℕ → List (List ℕ) → List ℕ → Type 0) : Type 0 where
   pub before : List (List ℕ)
   pub line : List ℕ
   pub rest : List (List ℕ)
@@ -40,15 +41,15 @@ pub record IsFirstWrong (text : List ℕ) (number : ℕ) (IsWrong : ℕ → List
   pub numbered : number ≡ length before + 1
   pub labels : List (List ℕ)
   pub read : AreLinesOf before labels
-  pub registered : AreRegistered labels
+  pub registered : AreRegistered properties labels
   pub in_time : EndInTime before
   pub wrong : IsWrong (length (joined_lines before)) labels line
 
 -- the line is a label that may be registered, but is not greater than the last of these
-pub record IsOutOfOrder (labels : List (List ℕ)) (body : Option (List ℕ)) : Type 0 where
+pub record IsOutOfOrder (properties : Properties) (labels : List (List ℕ)) (body : Option (List ℕ)) : Type 0 where
   pub label : List ℕ
   pub is : body ≡ Some (utf8_of label)
-  pub registrable : IsRegistrable label
+  pub registrable : IsRegistrable properties label
   pub front : List (List ℕ)
   pub last : List ℕ
   pub ending : labels ≡ front ++ last ∷ []
@@ -56,17 +57,17 @@ pub record IsOutOfOrder (labels : List (List ℕ)) (body : Option (List ℕ)) : 
 
 -- a line after so many bytes of the text, and after these labels, is wrong by itself; or it is not greater than the last of
 -- them; or it is neither, but it ends after byte 2^32 - 1 of the text, where the first is byte 1
-abbrev pub IsWrongBy : Refusal → ℕ → List (List ℕ) → List ℕ → Type 0
-IsWrongBy refusal at labels line =
-    (line_refusal (body_of line) ≡ Some refusal)
-    ⊎ ((refusal ≡ OutOfOrder) × IsOutOfOrder labels (body_of line))
-    ⊎ ((refusal ≡ FileTooLong) × (line_refusal (body_of line) ≡ None) × (¬ IsOutOfOrder labels (body_of line))
+abbrev pub IsWrongBy : Properties → Refusal → ℕ → List (List ℕ) → List ℕ → Type 0
+IsWrongBy properties refusal at labels line =
+    (line_refusal properties (body_of line) ≡ Some refusal)
+    ⊎ ((refusal ≡ OutOfOrder) × IsOutOfOrder properties labels (body_of line))
+    ⊎ ((refusal ≡ FileTooLong) × (line_refusal properties (body_of line) ≡ None) × (¬ IsOutOfOrder properties labels (body_of line))
     × (2 ^ 32 ≤ at + length line))
 
 -- the first fault of a text; lack of memory is none of a text
-abbrev pub IsFaultOf : List ℕ → RegisteredFileFault → Type 0
-IsFaultOf text (Refused line refusal) = IsFirstWrong text line (IsWrongBy refusal)
-IsFaultOf text Memory = Unit {0}
+abbrev pub IsFaultOf : Properties → List ℕ → RegisteredFileFault → Type 0
+IsFaultOf properties text (Refused line refusal) = IsFirstWrong properties text line (IsWrongBy properties refusal)
+IsFaultOf properties text Memory = Unit {0}
 
 -- the fault of a line that is refused; lack of memory is none
 abbrev pub fault_of : ℕ → Refusal → RegisteredFileFault

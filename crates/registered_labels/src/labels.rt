@@ -7,12 +7,13 @@ ghost use Rattle.idn_label.specs.Steps.{is_ldh_point};
 ghost use Rattle.idn_text.specs.Points.{AreScalarValues, utf8_of};
 ghost use Rattle.variant_list.specs.Labels.{label_cmp};
 ghost use Rattle.registered_labels.specs.declared.labels.RegisteredFileFault.TheVariants as faults;
+ghost use Rattle.idn_class.specs.declared.properties.Properties.{Properties};
 ghost use Rattle.registered_labels.specs.Registered.{AreRegistered, IsBetween, IsFirstFrom, IsFirstAfter};
 ghost use Rattle.registered_labels.specs.inner.Readings.{IsLineEnd, IsReadAs};
 
 use crate::order::order_of;
 use arrayvec::ArrayVec;
-use idn_class::MAX_LABEL_LEN;
+use idn_class::{MAX_LABEL_LEN, Properties};
 use idn_label::{ldh_end, test_utf8};
 use idn_text::{MAX_LINE_LEN, Refusal, decode_points, put_points, without_carriage_return};
 use memchr::memchr;
@@ -55,6 +56,8 @@ struct Span {
 pub struct RegisteredLabels<'a> {
     text: &'a [u8],
     spans: Vec<Span>,
+    /// By which they may be registered.
+    properties: Properties,
 }
 
 impl<'a> Model for RegisteredLabels<'a> {
@@ -65,7 +68,7 @@ impl<'a> Model for RegisteredLabels<'a> {
 
     ghost view = { λ r. labels_at r.text.now r.spans.items };
 
-    ghost invariant = { λ r. AreLabelsIn r.text.now r.spans.items };
+    ghost invariant = { λ r. AreLabelsIn r.properties r.text.now r.spans.items };
 }
 
 impl<'a> RegisteredLabels<'a> {
@@ -73,9 +76,13 @@ impl<'a> RegisteredLabels<'a> {
 
     /// The labels of a text, one on each line, each greater than the one before; or the first fault of the text. An empty text
     /// takes no memory.
-    pub fn read(alloc: Global, text: &'a [u8]) -> Result<RegisteredLabels<'a>, RegisteredFileFault>
-        ensures labels { IfOk result (IsTextOf text.now) }
-        ensures fault { IfErr result (IsFaultOf text.now) }
+    pub fn read(
+        alloc: Global,
+        text: &'a [u8],
+        properties: Properties,
+    ) -> Result<RegisteredLabels<'a>, RegisteredFileFault>
+        ensures labels { IfOk result (IsTextOf properties text.now) }
+        ensures fault { IfErr result (IsFaultOf properties text.now) }
         ensures no_memory { text.now ≡ [] → IsOk result }
     {
         let mut spans = Vec::new(alloc);
@@ -90,7 +97,7 @@ impl<'a> RegisteredLabels<'a> {
             number += 1;
             let line = line_end(text, at);
             let end = line.end;
-            let len = match read_label(alloc, &text[at..end], line.is_ldh, &mut room) {
+            let len = match read_label(alloc, &text[at..end], line.is_ldh, &mut room, properties) {
                 Ok(len) => len,
                 Err(refusal) => return Err(refused(number, refusal)),
             };
@@ -110,13 +117,17 @@ impl<'a> RegisteredLabels<'a> {
             from_last = &text[at..];
             at = end + 1;
         }
-        Ok(RegisteredLabels { text, spans })
+        Ok(RegisteredLabels {
+            text,
+            spans,
+            properties,
+        })
     }
 
     /// How many labels there are.
     pub fn len(&self) -> usize
         ensures count { result ≡ length self.now }
-        ensures registered { AreRegistered self.now }
+        ensures registered { (properties : Properties) × AreRegistered properties self.now }
     {
         self.spans.len()
     }
@@ -262,16 +273,17 @@ fn read_label(
     line: &[u8],
     is_ldh: bool,
     room: &mut [u32; MAX_LINE_LEN],
+    properties: Properties,
 ) -> Result<usize, Refusal>
     requires { is_ldh ≡ true → list_all is_ldh_point line.now ≡ true }
-    ensures read { IfOk result (λ len. IsReadAs line.now len (chars (take len line.now))) }
-    ensures refused { IfErr result (λ refusal. refusal ≢ Refusal.Memory → line_refusal (body_of line.now) ≡ Some refusal) }
+    ensures read { IfOk result (λ len. IsReadAs properties line.now len (chars (take len line.now))) }
+    ensures refused { IfErr result (λ refusal. refusal ≢ Refusal.Memory → line_refusal properties (body_of line.now) ≡ Some refusal) }
 {
     if line.len() > MAX_LINE_LEN {
         return Err(Refusal::LineTooLong);
     }
     let body = without_carriage_return(line);
-    match test_utf8(alloc, body, is_ldh, room) {
+    match test_utf8(alloc, body, is_ldh, room, properties) {
         Ok(()) => Ok(body.len()),
         Err(refusal) => Err(refusal),
     }

@@ -14,6 +14,7 @@ use Rattle.ruleset_text.specs.Limits.{groups, stars, atoms, IsWithin}
 use Rattle.ruleset_text.specs.Names.{is_name, is_one_of, AreNames}
 use Rattle.ruleset_text.specs.WellFormed.{HasParts, IsDefinition, AreDefinitions}
 use Rattle.ruleset_text.proofs.KnownSetLemmas.{KnowsSets, known_more, definition_text-more}
+use Rattle.idn_class.specs.declared.properties.Properties.{Properties}
 
 -- ---- lists with one element more
 
@@ -126,17 +127,17 @@ size_inserted : (f : Definition → List ℕ) (xs ys : List Definition) (y : Def
 size_inserted f [] ys y = omega arith
 size_inserted f (x ∷ xs) ys y = omega (arith, size_inserted f xs ys y)
 
-pub knows_sets : (n : ℕ) (x : Definition) → HasParts n x → KnowsSets n x
-knows_sets n (definition.Tag name) h = tt
-knows_sets n (definition.Set name spans) h = tt
-knows_sets n (definition.Rule name contexts) h = h.0.known
-knows_sets n (definition.Demand kind p) h = h.0.known
+pub knows_sets : (properties : Properties) (n : ℕ) (x : Definition) → HasParts properties n x → KnowsSets n x
+knows_sets properties n (definition.Tag name) h = tt
+knows_sets properties n (definition.Set name spans) h = tt
+knows_sets properties n (definition.Rule name contexts) h = h.0.known
+knows_sets properties n (definition.Demand kind p) h = h.0.known
 
-size_more : (names more : List (List ℕ)) (xs : List Definition) → AllByRecursion (IsDefinition names) xs
+size_more : (properties : Properties) (names more : List (List ℕ)) (xs : List Definition) → AllByRecursion (IsDefinition properties names) xs
     → lines_size (map (definition_text (names ++ more)) xs) ≡ lines_size (map (definition_text names) xs)
-size_more names more [] all = refl
-size_more names more (x ∷ xs) all =
-    omega (arith, ap length (definition_text-more names more x (knows_sets (length names) x all.0.parts)), size_more names more xs all.1)
+size_more properties names more [] all = refl
+size_more properties names more (x ∷ xs) all =
+    omega (arith, ap length (definition_text-more names more x (knows_sets properties (length names) x all.0.parts)), size_more properties names more xs all.1)
 
 pub canonical_size-added : (d : Definitions) (x : Definition) → AreDefinitions d → canonical_size (added d x) ≡ canonical_size d + (length (definition_text d.set_names x) + 1)
 unfolding canonical_size
@@ -160,7 +161,7 @@ canonical_size-added d (definition.Set name spans) are =
     let i = inserted d x are.named_sets are.named_rules in
     let f = definition_text (d.set_names ++ name ∷ []) in
     ap (λ l. lines_size (map f l)) i.after ∙ size_inserted f i.front i.back x ∙ ap (λ l. lines_size (map f l) + (length (f x) + 1)) (sym i.before)
-    ∙ ap (λ n. n + (length (f x) + 1)) (size_more d.set_names (name ∷ []) (all_definitions d) are.each)
+    ∙ ap (λ n. n + (length (f x) + 1)) (size_more d.properties d.set_names (name ∷ []) (all_definitions d) are.each)
 
 -- ---- the conditions on a further one
 
@@ -199,27 +200,27 @@ room_for d (definition.Demand kind p) e = (room_for_pattern d p e).0
 
 -- ---- no fault
 
-has_parts-more : (m n : ℕ) (x : Definition) → m ≤ n → HasParts m x → HasParts n x
-has_parts-more m n (definition.Tag name) l h = tt
-has_parts-more m n (definition.Set name spans) l h = h
-has_parts-more m n (definition.Rule name contexts) l h =
+has_parts-more : (properties : Properties) (m n : ℕ) (x : Definition) → m ≤ n → HasParts properties m x → HasParts properties n x
+has_parts-more properties m n (definition.Tag name) l h = tt
+has_parts-more properties m n (definition.Set name spans) l h = h
+has_parts-more properties m n (definition.Rule name contexts) l h =
     (record { whole = h.0.whole; within = h.0.within; known = known_more m n contexts l h.0.known; classes = h.0.classes }, h.1)
-has_parts-more m n (definition.Demand kind p) l h =
+has_parts-more properties m n (definition.Demand kind p) l h =
     (record { whole = h.0.whole; within = h.0.within; known = known_more m n p l h.0.known; classes = h.0.classes }, h.1)
 
-is_definition-more : (names more : List (List ℕ)) (x : Definition) → IsDefinition names x → IsDefinition (names ++ more) x
-is_definition-more names more x is = record {
-  parts = has_parts-more (length names) (length (names ++ more)) x (omega (arith, length-append names more)) is.parts;
-  short = omega (arith, is.short, ap length (definition_text-more names more x (knows_sets (length names) x is.parts)));
+is_definition-more : (properties : Properties) (names more : List (List ℕ)) (x : Definition) → IsDefinition properties names x → IsDefinition properties (names ++ more) x
+is_definition-more properties names more x is = record {
+  parts = has_parts-more properties (length names) (length (names ++ more)) x (omega (arith, length-append names more)) is.parts;
+  short = omega (arith, is.short, ap length (definition_text-more names more x (knows_sets properties (length names) x is.parts)));
 }
 
-each_added : (d : Definitions) (x : Definition) (names : List (List ℕ)) → AreDefinitions d → IsDefinition names x → AllByRecursion (IsDefinition names) (all_definitions d) → AllByRecursion (IsDefinition names) (all_definitions (added d x))
+each_added : (d : Definitions) (x : Definition) (names : List (List ℕ)) → AreDefinitions d → IsDefinition d.properties names x → AllByRecursion (IsDefinition d.properties names) (all_definitions d) → AllByRecursion (IsDefinition d.properties names) (all_definitions (added d x))
 each_added d x names are is all =
     let i = inserted d x are.named_sets are.named_rules in
-    let before : AllByRecursion (IsDefinition names) (i.front ++ i.back) = subst (AllByRecursion (IsDefinition names)) i.before all in
-    subst (AllByRecursion (IsDefinition names)) (sym i.after) (all_inserted (IsDefinition names) i.front i.back x is before)
+    let before : AllByRecursion (IsDefinition d.properties names) (i.front ++ i.back) = subst (AllByRecursion (IsDefinition d.properties names)) i.before all in
+    subst (AllByRecursion (IsDefinition d.properties names)) (sym i.after) (all_inserted (IsDefinition d.properties names) i.front i.back x is before)
 
-pub are_added : (d : Definitions) (x : Definition) → AreDefinitions d → IsDefinition d.set_names x → HasNewName d x → HasRoomFor d x → AreDefinitions (added d x)
+pub are_added : (d : Definitions) (x : Definition) → AreDefinitions d → IsDefinition d.properties d.set_names x → HasNewName d x → HasRoomFor d x → AreDefinitions (added d x)
 are_added d (definition.Tag name) are is new room = record {
   few_tags = omega (arith, length-append d.tags (name ∷ []), room);
   few_sets = are.few_sets;
@@ -241,8 +242,8 @@ are_added d (definition.Set name spans) are is new room = record {
       let after : (d.tags ++ d.set_names) ++ name ∷ d.rule_names ≡ d.tags ++ ((d.set_names ++ name ∷ []) ++ d.rule_names) =
       append_assoc d.tags d.set_names (name ∷ d.rule_names) ∙ ap (λ l. d.tags ++ l) (sym (append_assoc d.set_names (name ∷ []) d.rule_names)) in
       subst AreNames after (names_inserted (d.tags ++ d.set_names) d.rule_names name new.0 (subst (IsNew name) before new.1) (subst AreNames before are.names));
-  each = each_added d (definition.Set name spans) (d.set_names ++ name ∷ []) are (is_definition-more d.set_names (name ∷ []) (definition.Set name spans) is)
-      (all_weaker (IsDefinition d.set_names) (IsDefinition (d.set_names ++ name ∷ [])) (all_definitions d) (is_definition-more d.set_names (name ∷ [])) are.each);
+  each = each_added d (definition.Set name spans) (d.set_names ++ name ∷ []) are (is_definition-more d.properties d.set_names (name ∷ []) (definition.Set name spans) is)
+      (all_weaker (IsDefinition d.properties d.set_names) (IsDefinition d.properties (d.set_names ++ name ∷ [])) (all_definitions d) (is_definition-more d.properties d.set_names (name ∷ [])) are.each);
 }
 are_added d (definition.Rule name contexts) are is new room = record {
   few_tags = are.few_tags;
@@ -270,14 +271,14 @@ are_added d (definition.Demand kind p) are is new room = record {
 
 -- ---- how definitions are held
 
-pub nothing_held : (d : Definitions) → d.tags ≡ [] → d.set_names ≡ [] → d.sets ≡ [] → d.rule_names ≡ [] → d.rules ≡ [] → d.demands ≡ [] → d ≡ nothing_defined
+pub nothing_held : (d : Definitions) → d.tags ≡ [] → d.set_names ≡ [] → d.sets ≡ [] → d.rule_names ≡ [] → d.rules ≡ [] → d.demands ≡ [] → d ≡ nothing_defined d.properties
 nothing_held d tags set_names sets rule_names rules demands =
     let e : d ≡ record d { tags = [] } = ap (λ l. record d { tags = l }) tags in
-    e ∙ ap (λ l. record nothing_defined { set_names = l; sets = d.sets; rule_names = d.rule_names; rules = d.rules; demands = d.demands }) set_names
-    ∙ ap (λ l. record nothing_defined { sets = l; rule_names = d.rule_names; rules = d.rules; demands = d.demands }) sets
-    ∙ ap (λ l. record nothing_defined { rule_names = l; rules = d.rules; demands = d.demands }) rule_names
-    ∙ ap (λ l. record nothing_defined { rules = l; demands = d.demands }) rules
-    ∙ ap (λ l. record nothing_defined { demands = l }) demands
+    e ∙ ap (λ l. record (nothing_defined d.properties) { set_names = l; sets = d.sets; rule_names = d.rule_names; rules = d.rules; demands = d.demands }) set_names
+    ∙ ap (λ l. record (nothing_defined d.properties) { sets = l; rule_names = d.rule_names; rules = d.rules; demands = d.demands }) sets
+    ∙ ap (λ l. record (nothing_defined d.properties) { rule_names = l; rules = d.rules; demands = d.demands }) rule_names
+    ∙ ap (λ l. record (nothing_defined d.properties) { rules = l; demands = d.demands }) rules
+    ∙ ap (λ l. record (nothing_defined d.properties) { demands = l }) demands
 
 -- they have no fault; so many atoms are left, and so many bytes are written
 pub record IsCounted (d : Definitions) (spare bytes : ℕ) : Type 0 where
@@ -285,9 +286,9 @@ pub record IsCounted (d : Definitions) (spare bytes : ℕ) : Type 0 where
   pub left : all_atoms d + spare ≡ 4096
   pub size : bytes ≡ canonical_size d
 
-pub nothing_counted : IsCounted nothing_defined 4096 0
+pub nothing_counted : (properties : Properties) → IsCounted (nothing_defined properties) 4096 0
 unfolding all_atoms canonical_size
-nothing_counted = record {
+nothing_counted properties = record {
   without_fault = record {
     few_tags = omega arith;
     few_sets = omega arith;

@@ -24,7 +24,7 @@ Answer = Result Definitions DefinitionFault
 
 abbrev after_limit : Definitions → Definition → Answer
 after_limit d x =
-    cond (not (has_known_sets (length d.sets) x)) (Err NoSuchName) (cond (has_bad_class x) (Err BadClass) (cond (has_same_name d x) (Err SameName) (Ok (added d x))))
+    cond (not (has_known_sets (length d.sets) x)) (Err NoSuchName) (cond (has_bad_class d.properties x) (Err BadClass) (cond (has_same_name d x) (Err SameName) (Ok (added d x))))
 
 with_some : (limit : ℕ) (d : Definitions) (names : List (List ℕ)) (o : Option Definition) (x : Definition) → o ≡ Some x
     → with_definition limit d names o ≡ cond (is_over_limit limit d names x) (Err Limit) (after_limit d x)
@@ -66,28 +66,28 @@ pub name_fault : (limit : ℕ) (d : Definitions) (names : List (List ℕ)) (o : 
     → has_known_sets (length d.sets) x ≡ false → with_definition limit d names o ≡ Err NoSuchName
 name_fault limit d names o x len w known =
     within_limits limit d names o x len w
-    ∙ ap (λ b. cond (not b) (Err NoSuchName) (cond (has_bad_class x) (Err BadClass) (cond (has_same_name d x) (Err SameName) (Ok (added d x))))) known
+    ∙ ap (λ b. cond (not b) (Err NoSuchName) (cond (has_bad_class d.properties x) (Err BadClass) (cond (has_same_name d x) (Err SameName) (Ok (added d x))))) known
 
 named : (limit : ℕ) (d : Definitions) (names : List (List ℕ)) (o : Option Definition) (x : Definition) (len : ℕ) → IsWithinLimits limit d names o x len
     → has_known_sets (length d.sets) x ≡ true
-    → with_definition limit d names o ≡ cond (has_bad_class x) (Err BadClass) (cond (has_same_name d x) (Err SameName) (Ok (added d x)))
+    → with_definition limit d names o ≡ cond (has_bad_class d.properties x) (Err BadClass) (cond (has_same_name d x) (Err SameName) (Ok (added d x)))
 named limit d names o x len w known =
     within_limits limit d names o x len w
-    ∙ ap (λ b. cond (not b) (Err NoSuchName) (cond (has_bad_class x) (Err BadClass) (cond (has_same_name d x) (Err SameName) (Ok (added d x))))) known
+    ∙ ap (λ b. cond (not b) (Err NoSuchName) (cond (has_bad_class d.properties x) (Err BadClass) (cond (has_same_name d x) (Err SameName) (Ok (added d x))))) known
 
 pub class_fault : (limit : ℕ) (d : Definitions) (names : List (List ℕ)) (o : Option Definition) (x : Definition) (len : ℕ) → IsWithinLimits limit d names o x len
-    → has_known_sets (length d.sets) x ≡ true → has_bad_class x ≡ true → with_definition limit d names o ≡ Err BadClass
+    → has_known_sets (length d.sets) x ≡ true → has_bad_class d.properties x ≡ true → with_definition limit d names o ≡ Err BadClass
 class_fault limit d names o x len w known bad =
     named limit d names o x len w known ∙ ap (λ b. cond b (Err BadClass) (cond (has_same_name d x) (Err SameName) (Ok (added d x)))) bad
 
 pub same_fault : (limit : ℕ) (d : Definitions) (names : List (List ℕ)) (o : Option Definition) (x : Definition) (len : ℕ) → IsWithinLimits limit d names o x len
-    → has_known_sets (length d.sets) x ≡ true → has_bad_class x ≡ false → has_same_name d x ≡ true → with_definition limit d names o ≡ Err SameName
+    → has_known_sets (length d.sets) x ≡ true → has_bad_class d.properties x ≡ false → has_same_name d x ≡ true → with_definition limit d names o ≡ Err SameName
 same_fault limit d names o x len w known good same =
     named limit d names o x len w known ∙ ap (λ b. cond b (Err BadClass) (cond (has_same_name d x) (Err SameName) (Ok (added d x)))) good
     ∙ ap (λ b. cond b (Err SameName) (Ok (added d x))) same
 
 pub no_fault : (limit : ℕ) (d : Definitions) (names : List (List ℕ)) (o : Option Definition) (x : Definition) (len : ℕ) → IsWithinLimits limit d names o x len
-    → has_known_sets (length d.sets) x ≡ true → has_bad_class x ≡ false → has_same_name d x ≡ false → with_definition limit d names o ≡ Ok (added d x)
+    → has_known_sets (length d.sets) x ≡ true → has_bad_class d.properties x ≡ false → has_same_name d x ≡ false → with_definition limit d names o ≡ Ok (added d x)
 no_fault limit d names o x len w known good new =
     named limit d names o x len w known ∙ ap (λ b. cond b (Err BadClass) (cond (has_same_name d x) (Err SameName) (Ok (added d x)))) good
     ∙ ap (λ b. cond b (Err SameName) (Ok (added d x))) new
@@ -111,7 +111,7 @@ line_formed found line is formed = subst (λ o. IfSome o (λ l. HasForm (trees.d
 
 -- ---- one without a fault
 
-has_parts : (n : ℕ) (d : Definitions) (x : Definition) → HasForm x → is_one_too_many d x ≡ false → has_known_sets n x ≡ true → has_bad_class x ≡ false → HasParts n x
+has_parts : (n : ℕ) (d : Definitions) (x : Definition) → HasForm x → is_one_too_many d x ≡ false → has_known_sets n x ≡ true → has_bad_class d.properties x ≡ false → HasParts d.properties n x
 has_parts n d (definition.Tag name) form few known good = tt
 has_parts n d (definition.Set name spans) form few known good = record { some = form.1; rise = form.2; classes = good }
 has_parts n d (definition.Rule name contexts) form few known good =
@@ -132,15 +132,15 @@ pub record MayBeAdded (limit : ℕ) (d : Definitions) (x : Definition) (len : �
   pub room : canonical_size d + (len + 1) ≤ limit
 
 pub may_be_added : (limit : ℕ) (d : Definitions) (names more : List (List ℕ)) (o : Option Definition) (x : Definition) (len : ℕ) → names ≡ d.set_names ++ more → AreDefinitions d → HasForm x
-    → IsWithinLimits limit d names o x len → has_known_sets (length d.sets) x ≡ true → has_bad_class x ≡ false → has_same_name d x ≡ false → MayBeAdded limit d x len
+    → IsWithinLimits limit d names o x len → has_known_sets (length d.sets) x ≡ true → has_bad_class d.properties x ≡ false → has_same_name d x ≡ false → MayBeAdded limit d x len
 may_be_added limit d names more o x len e are form w known good new =
     let n = length d.set_names in
-    let parts : HasParts n x = has_parts n d x form w.count (ap (λ k. has_known_sets k x) are.named_sets ∙ known) good in
-    let text : definition_text names x ≡ definition_text d.set_names x = ap (λ l. definition_text l x) e ∙ definition_text-more d.set_names more x (knows_sets n x parts) in
+    let parts : HasParts d.properties n x = has_parts n d x form w.count (ap (λ k. has_known_sets k x) are.named_sets ∙ known) good in
+    let text : definition_text names x ≡ definition_text d.set_names x = ap (λ l. definition_text l x) e ∙ definition_text-more d.set_names more x (knows_sets d.properties n x parts) in
     let size : len ≡ length (definition_text d.set_names x) = w.size ∙ ap length text in
     let over = or_parts (nat_lt 8192 len) (nat_lt limit (canonical_size d + (len + 1))) w.line in
     let short : len ≤ 8192 = ltb-false 8192 len over.0 in
-    let is : IsDefinition d.set_names x = record { parts = parts; short = omega (arith, short, size) } in record {
+    let is : IsDefinition d.properties d.set_names x = record { parts = parts; short = omega (arith, short, size) } in record {
       without_fault = are_added d x are is (has_new_name d x form new) (room_for d x w.count);
       size = size;
       room = ltb-false limit (canonical_size d + (len + 1)) over.1;

@@ -77,13 +77,13 @@ if_not true fault r e h = absurd (cc)
 if_not false fault r e h = (refl, h)
 
 with_none : (limit : ℕ) (d : Definitions) (names : List (List ℕ)) (o : Option Definition) (e : Definitions) → with_definition limit d names o ≡ Ok e
-    → (x : Definition) × (o ≡ Some x) × (is_over_limit limit d names x ≡ false) × (has_known_sets (length d.sets) x ≡ true) × (has_bad_class x ≡ false) × (has_same_name d x ≡ false) × (added d x ≡ e)
+    → (x : Definition) × (o ≡ Some x) × (is_over_limit limit d names x ≡ false) × (has_known_sets (length d.sets) x ≡ true) × (has_bad_class d.properties x ≡ false) × (has_same_name d x ≡ false) × (added d x ≡ e)
 unfolding with_definition
 with_none limit d names None e h = absurd (cc)
 with_none limit d names (Some x) e h =
     let limits = if_not (is_over_limit limit d names x) Limit _ e h in
     let known = if_not (not (has_known_sets (length d.sets) x)) NoSuchName _ e limits.1 in
-    let classes = if_not (has_bad_class x) BadClass _ e known.1 in
+    let classes = if_not (has_bad_class d.properties x) BadClass _ e known.1 in
     let new = if_not (has_same_name d x) SameName _ e classes.1 in
     let same : added d x ≡ e = let ok = new.1 in cc in
     (x, refl, limits.0, not-false (has_known_sets (length d.sets) x) known.0, classes.0, new.0, same)
@@ -205,12 +205,13 @@ without_demands limit d e keyword.Always words h none =
 pub record NamesStay (d e : Definitions) : Type 0 where
   pub tags : (more : List (List ℕ)) × (e.tags ≡ d.tags ++ more)
   pub rules : (more : List (List ℕ)) × (e.rule_names ≡ d.rule_names ++ more)
+  pub properties : e.properties ≡ d.properties
 
 stays : (d : Definitions) (x : Definition) → NamesStay d (added d x)
-stays d (definition.Tag name) = record { tags = (name ∷ [], refl); rules = ([], sym (append-nil d.rule_names)) }
-stays d (definition.Set name spans) = record { tags = ([], sym (append-nil d.tags)); rules = ([], sym (append-nil d.rule_names)) }
-stays d (definition.Rule name contexts) = record { tags = ([], sym (append-nil d.tags)); rules = (name ∷ [], refl) }
-stays d (definition.Demand kind p) = record { tags = ([], sym (append-nil d.tags)); rules = ([], sym (append-nil d.rule_names)) }
+stays d (definition.Tag name) = record { tags = (name ∷ [], refl); rules = ([], sym (append-nil d.rule_names)); properties = refl }
+stays d (definition.Set name spans) = record { tags = ([], sym (append-nil d.tags)); rules = ([], sym (append-nil d.rule_names)); properties = refl }
+stays d (definition.Rule name contexts) = record { tags = ([], sym (append-nil d.tags)); rules = (name ∷ [], refl); properties = refl }
+stays d (definition.Demand kind p) = record { tags = ([], sym (append-nil d.tags)); rules = ([], sym (append-nil d.rule_names)); properties = refl }
 
 pub names_stay : (limit : ℕ) (d e : Definitions) (k : Keyword) (words : List (List ℕ)) → defined limit d k words ≡ Ok e → NamesStay d e
 names_stay limit d e k words h =

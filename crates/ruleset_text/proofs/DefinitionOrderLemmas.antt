@@ -8,7 +8,7 @@ use Rattle.ruleset_text.specs.declared.fault.DefinitionFault.{DefinitionFault}
 use Rattle.ruleset_text.specs.declared.fault.DefinitionFault.TheVariants.{Syntax, Limit, NoSuchName, BadClass, SameName}
 use Rattle.ruleset_text.specs.declared.keyword.Keyword.{Keyword}
 use Rattle.ruleset_text.specs.declared.keyword.Keyword.TheVariants as keyword
-use Rattle.ruleset_text.specs.declared.rules.Sign.TheVariants as sign
+use Rattle.ruleset_text.specs.Signs as sign
 use Rattle.ruleset_text.specs.declared.token.Token.{Token}
 use Rattle.ruleset_text.specs.Definition as definition
 use Rattle.ruleset_text.specs.Definition.{Definition, if_such, tag_in, set_in, rule_in, contexts_in, demand_in, definition_of}
@@ -137,16 +137,16 @@ module _ (limit : ℕ) (d : Definitions) (k : Keyword) (words : List (List ℕ))
   unfolding with_definition
   formless e = ap (with_definition limit d names) e
 
-  formed : (x : Definition) → definition_of names k words ≡ Some x → defined limit d k words ≡ told_by d x (over x) (has_known_sets (length d.sets) x) (has_bad_class x) (has_same_name d x)
+  formed : (x : Definition) → definition_of names k words ≡ Some x → defined limit d k words ≡ told_by d x (over x) (has_known_sets (length d.sets) x) (has_bad_class d.properties x) (has_same_name d x)
   unfolding with_definition
   formed x e = ap (with_definition limit d names) e
 
-  pub by_tests : (x : Definition) → definition_of names k words ≡ Some x → (o n b s : Bool) → over x ≡ o → has_known_sets (length d.sets) x ≡ n → has_bad_class x ≡ b → has_same_name d x ≡ s
+  pub by_tests : (x : Definition) → definition_of names k words ≡ Some x → (o n b s : Bool) → over x ≡ o → has_known_sets (length d.sets) x ≡ n → has_bad_class d.properties x ≡ b → has_same_name d x ≡ s
       → defined limit d k words ≡ told_by d x o n b s
   by_tests x read o n b s i j l m =
       formed x read
-      ∙ ap (λ t. told_by d x t (has_known_sets (length d.sets) x) (has_bad_class x) (has_same_name d x)) i
-      ∙ ap (λ t. told_by d x o t (has_bad_class x) (has_same_name d x)) j
+      ∙ ap (λ t. told_by d x t (has_known_sets (length d.sets) x) (has_bad_class d.properties x) (has_same_name d x)) i
+      ∙ ap (λ t. told_by d x o t (has_bad_class d.properties x) (has_same_name d x)) j
       ∙ ap (λ t. told_by d x o n t (has_same_name d x)) l
       ∙ ap (λ t. told_by d x o n b t) m
 
@@ -179,18 +179,18 @@ module _ (limit : ℕ) (d : Definitions) (k : Keyword) (words : List (List ℕ))
     before_bad_class o n bad_class l h = omega (arith, l)
     before_bad_class o n same_name l h = omega (arith, l)
 
-    before_same_name : over x ≡ false → unnamed x ≡ false → has_bad_class x ≡ false → (c : DefinitionCondition) → order_of c < 5 → Holds limit d k words c → ⊥
+    before_same_name : over x ≡ false → unnamed x ≡ false → has_bad_class d.properties x ≡ false → (c : DefinitionCondition) → order_of c < 5 → Holds limit d k words c → ⊥
     before_same_name o n b no_form l h = h x spelled
     before_same_name o n b over_limit l h = never x spelled over o h
     before_same_name o n b no_such_name l h = never x spelled unnamed n h
-    before_same_name o n b bad_class l h = never x spelled has_bad_class b h
+    before_same_name o n b bad_class l h = never x spelled (has_bad_class d.properties) b h
     before_same_name o n b same_name l h = omega (arith, l)
 
-    first_of_tests : (f : DefinitionFault) (o n b s : Bool) → over x ≡ o → has_known_sets (length d.sets) x ≡ n → has_bad_class x ≡ b → has_same_name d x ≡ s
+    first_of_tests : (f : DefinitionFault) (o n b s : Bool) → over x ≡ o → has_known_sets (length d.sets) x ≡ n → has_bad_class d.properties x ≡ b → has_same_name d x ≡ s
         → told_by d x o n b s ≡ Err f → IsDefinitionFault limit d k words f
     first_of_tests f true n b s i j l m is = (over_limit, err_is Limit f (Err Limit) refl is, such x spelled over i, before_over_limit)
     first_of_tests f false false b s i j l m is = (no_such_name, err_is NoSuchName f (Err NoSuchName) refl is, such x spelled unnamed (ap not j), before_no_such_name i)
-    first_of_tests f false true true s i j l m is = (bad_class, err_is BadClass f (Err BadClass) refl is, such x spelled has_bad_class l, before_bad_class i (ap not j))
+    first_of_tests f false true true s i j l m is = (bad_class, err_is BadClass f (Err BadClass) refl is, such x spelled (has_bad_class d.properties) l, before_bad_class i (ap not j))
     first_of_tests f false true false true i j l m is =
         (same_name, err_is SameName f (Err SameName) refl is, such x spelled (has_same_name d) m, before_same_name i (ap not j) l)
     first_of_tests f false true false false i j l m is = no_ok f (added d x) is
@@ -234,7 +234,7 @@ module _ (limit : ℕ) (d : Definitions) (k : Keyword) (words : List (List ℕ))
   first_told same_name (x, spelled, is_true) first =
       by_tests x (definition_read names k words x spelled) false true false true (test_false x spelled over (first over_limit (omega arith)))
       (true_of (has_known_sets (length d.sets) x) (test_false x spelled unnamed (first no_such_name (omega arith))))
-      (test_false x spelled has_bad_class (first bad_class (omega arith))) is_true
+      (test_false x spelled (has_bad_class d.properties) (first bad_class (omega arith))) is_true
 
   pub wrong_from : (f : DefinitionFault) → IsDefinitionFault limit d k words f → defined limit d k words ≡ Err f
   wrong_from f w = first_told w.0 w.2 w.3 ∙ ap (λ g. Err g) w.1

@@ -17,6 +17,7 @@ use Rattle.ruleset_text.proofs.AddedLemmas.{IsNew, inserted, named-push, all_ato
 use Rattle.ruleset_text.proofs.LineBackLemmas.{Fits, line_back}
 use Rattle.ruleset_text.proofs.KnownPatternLemmas.{all_before}
 use Rattle.ruleset_text.proofs.NameLemmas.{names_after}
+use Rattle.idn_class.specs.declared.properties.Properties.{Properties}
 
 -- ---- lists without an element
 
@@ -70,27 +71,27 @@ plain_texts names more [] plain = refl
 plain_texts names more (x ∷ xs) plain =
     ap (λ l. l ∷ map (definition_text (names ++ more)) xs) (plain_text names more x plain.0) ∙ ap (λ l. definition_text names x ∷ l) (plain_texts names more xs plain.1)
 
-fewer_names : (names more : List (List ℕ)) (x : Definition) → IsDefinition (names ++ more) x → IsPlain x → IsDefinition names x
-fewer_names names more (definition.Tag name) is plain = record { parts = tt; short = is.short }
-fewer_names names more (definition.Set name spans) is plain = record { parts = is.parts; short = is.short }
-fewer_names names more (definition.Rule name contexts) is plain = absurd plain
-fewer_names names more (definition.Demand kind p) is plain = absurd plain
+fewer_names : (properties : Properties) (names more : List (List ℕ)) (x : Definition) → IsDefinition properties (names ++ more) x → IsPlain x → IsDefinition properties names x
+fewer_names properties names more (definition.Tag name) is plain = record { parts = tt; short = is.short }
+fewer_names properties names more (definition.Set name spans) is plain = record { parts = is.parts; short = is.short }
+fewer_names properties names more (definition.Rule name contexts) is plain = absurd plain
+fewer_names properties names more (definition.Demand kind p) is plain = absurd plain
 
 -- ---- the definitions before the last one
 
 -- what is said of definitions, and of a further one, if there is no fault with it
 record Removed (d : Definitions) (x : Definition) : Type 0 where
   are : AreDefinitions d
-  is : IsDefinition d.set_names x
+  is : IsDefinition d.properties d.set_names x
   new : HasNewName d x
   room : HasRoomFor d x
 
 each_removed : (d : Definitions) (x : Definition) (names : List (List ℕ)) → length d.set_names ≡ length d.sets → length d.rule_names ≡ length d.rules
-    → AllByRecursion (IsDefinition names) (all_definitions (added d x)) → AllByRecursion (IsDefinition names) (all_definitions d) × IsDefinition names x
+    → AllByRecursion (IsDefinition d.properties names) (all_definitions (added d x)) → AllByRecursion (IsDefinition d.properties names) (all_definitions d) × IsDefinition d.properties names x
 each_removed d x names s r all =
     let i = inserted d x s r in
-    let parts = all_removed (IsDefinition names) i.front i.back x (subst (AllByRecursion (IsDefinition names)) i.after all) in
-    (subst (AllByRecursion (IsDefinition names)) (sym i.before) parts.0, parts.1)
+    let parts = all_removed (IsDefinition d.properties names) i.front i.back x (subst (AllByRecursion (IsDefinition d.properties names)) i.after all) in
+    (subst (AllByRecursion (IsDefinition d.properties names)) (sym i.before) parts.0, parts.1)
 
 tag_removed : (d : Definitions) (name : List ℕ) → AreDefinitions (added d (definition.Tag name)) → Removed d (definition.Tag name)
 tag_removed d name are =
@@ -130,9 +131,9 @@ set_removed d name spans plain are =
         named_sets = sets;
         named_rules = are.named_rules;
         names = subst AreNames together names.0;
-        each = all_with (IsDefinition (d.set_names ++ name ∷ [])) IsPlain (IsDefinition d.set_names) (all_definitions d) (fewer_names d.set_names (name ∷ [])) each.0 plain;
+        each = all_with (IsDefinition d.properties (d.set_names ++ name ∷ [])) IsPlain (IsDefinition d.properties d.set_names) (all_definitions d) (fewer_names d.properties d.set_names (name ∷ [])) each.0 plain;
       };
-      is = fewer_names d.set_names (name ∷ []) x each.1 tt;
+      is = fewer_names d.properties d.set_names (name ∷ []) x each.1 tt;
       new = (names.1, subst (IsNew name) together names.2);
       room = omega (arith, length-append d.sets (spans ∷ []), are.few_sets);
     }
@@ -198,7 +199,7 @@ lines_push limit d e (first ∷ lines) line h = by_cases (with_words limit d (le
 -- ---- all lines
 
 abbrev Reads : ℕ → Definitions → Type 0
-Reads limit d = AreDefinitions d → canonical_size d ≤ limit → with_lines limit nothing_defined (canonical_lines d) ≡ Ok d
+Reads limit d = AreDefinitions d → canonical_size d ≤ limit → with_lines limit (nothing_defined d.properties) (canonical_lines d) ≡ Ok d
 
 fits : (limit : ℕ) (d : Definitions) (x : Definition) → Removed d x → canonical_size (added d x) ≤ limit → Fits limit d x
 fits limit d x r size = record {
@@ -211,13 +212,20 @@ fits limit d x r size = record {
   room = r.room;
 }
 
+properties_kept : (d : Definitions) (x : Definition) → (added d x).properties ≡ d.properties
+properties_kept d (definition.Tag name) = refl
+properties_kept d (definition.Set name spans) = refl
+properties_kept d (definition.Rule name contexts) = refl
+properties_kept d (definition.Demand kind p) = refl
+
 reads_more : (limit : ℕ) (d : Definitions) (x : Definition) → (AreDefinitions (added d x) → Removed d x) → canonical_lines (added d x) ≡ canonical_lines d ++ definition_text d.set_names x ∷ []
     → Reads limit d → Reads limit (added d x)
 reads_more limit d x removed last reads are size =
     let r = removed are in
     let fit = fits limit d x r size in
-    ap (with_lines limit nothing_defined) last
-    ∙ lines_push limit nothing_defined d (canonical_lines d) (definition_text d.set_names x) (reads r.are (omega (arith, canonical_size-added d x r.are, size)))
+    ap (λ p. with_lines limit (nothing_defined p) (canonical_lines (added d x))) (properties_kept d x)
+    ∙ ap (with_lines limit (nothing_defined d.properties)) last
+    ∙ lines_push limit (nothing_defined d.properties) d (canonical_lines d) (definition_text d.set_names x) (reads r.are (omega (arith, canonical_size-added d x r.are, size)))
     ∙ line_back limit d x fit
 
 -- ---- section by section
@@ -225,115 +233,116 @@ reads_more limit d x removed last reads are size =
 lines_last : (f : Definition → List ℕ) (xs ys : List Definition) (x : Definition) → ys ≡ xs ++ x ∷ [] → map f ys ≡ map f xs ++ f x ∷ []
 lines_last f xs ys x e = ap (map f) e ∙ map-append f xs (x ∷ [])
 
-abbrev with_tags : List (List ℕ) → Definitions
-with_tags tags = record nothing_defined { tags = tags }
+module _ (properties : Properties) where
+  abbrev with_tags : List (List ℕ) → Definitions
+  with_tags tags = record (nothing_defined properties) { tags = tags }
 
-last_tag : (tags : List (List ℕ)) (name : List ℕ) → all_definitions (with_tags (tags ++ name ∷ [])) ≡ all_definitions (with_tags tags) ++ definition.Tag name ∷ []
-last_tag tags name =
-    append-nil (map definition.Tag (tags ++ name ∷ [])) ∙ map-append definition.Tag tags (name ∷ [])
-    ∙ ap (λ l. l ++ definition.Tag name ∷ []) (sym (append-nil (map definition.Tag tags)))
+  last_tag : (tags : List (List ℕ)) (name : List ℕ) → all_definitions (with_tags (tags ++ name ∷ [])) ≡ all_definitions (with_tags tags) ++ definition.Tag name ∷ []
+  last_tag tags name =
+      append-nil (map definition.Tag (tags ++ name ∷ [])) ∙ map-append definition.Tag tags (name ∷ [])
+      ∙ ap (λ l. l ++ definition.Tag name ∷ []) (sym (append-nil (map definition.Tag tags)))
 
-tags_read : (limit : ℕ) (before tags : List (List ℕ)) → Reads limit (with_tags before) → Reads limit (with_tags (before ++ tags))
-tags_read limit before [] reads = subst (λ l. Reads limit (with_tags l)) (sym (append-nil before)) reads
-tags_read limit before (tag ∷ tags) reads =
-    let d = with_tags before in
-    let x = definition.Tag tag in
-    let more = reads_more limit d x (tag_removed d tag) (lines_last (definition_text []) (all_definitions d) (all_definitions (added d x)) x (last_tag before tag)) reads in
-    subst (λ l. Reads limit (with_tags l)) (append_assoc before (tag ∷ []) tags) (tags_read limit (before ++ tag ∷ []) tags more)
+  tags_read : (limit : ℕ) (before tags : List (List ℕ)) → Reads limit (with_tags before) → Reads limit (with_tags (before ++ tags))
+  tags_read limit before [] reads = subst (λ l. Reads limit (with_tags l)) (sym (append-nil before)) reads
+  tags_read limit before (tag ∷ tags) reads =
+      let d = with_tags before in
+      let x = definition.Tag tag in
+      let more = reads_more limit d x (tag_removed d tag) (lines_last (definition_text []) (all_definitions d) (all_definitions (added d x)) x (last_tag before tag)) reads in
+      subst (λ l. Reads limit (with_tags l)) (append_assoc before (tag ∷ []) tags) (tags_read limit (before ++ tag ∷ []) tags more)
 
-abbrev with_sets : List (List ℕ) → List (List ℕ) → List (List Span) → Definitions
-with_sets tags names sets = record nothing_defined { tags = tags; set_names = names; sets = sets }
+  abbrev with_sets : List (List ℕ) → List (List ℕ) → List (List Span) → Definitions
+  with_sets tags names sets = record (nothing_defined properties) { tags = tags; set_names = names; sets = sets }
 
-last_set : (tags names : List (List ℕ)) (sets : List (List Span)) (name : List ℕ) (spans : List Span) → length names ≡ length sets
-    → all_definitions (with_sets tags (names ++ name ∷ []) (sets ++ spans ∷ [])) ≡ all_definitions (with_sets tags names sets) ++ definition.Set name spans ∷ []
-last_set tags names sets name spans e =
-    let before = map definition.Tag tags in
-    let all = named definition.Set names sets in
-    let x = definition.Set name spans in
-    ap (λ l. before ++ l) (append-nil (named definition.Set (names ++ name ∷ []) (sets ++ spans ∷ [])) ∙ named-push definition.Set names sets name spans e)
-    ∙ sym (append_assoc before all (x ∷ [])) ∙ ap (λ l. (before ++ l) ++ x ∷ []) (sym (append-nil all))
+  last_set : (tags names : List (List ℕ)) (sets : List (List Span)) (name : List ℕ) (spans : List Span) → length names ≡ length sets
+      → all_definitions (with_sets tags (names ++ name ∷ []) (sets ++ spans ∷ [])) ≡ all_definitions (with_sets tags names sets) ++ definition.Set name spans ∷ []
+  last_set tags names sets name spans e =
+      let before = map definition.Tag tags in
+      let all = named definition.Set names sets in
+      let x = definition.Set name spans in
+      ap (λ l. before ++ l) (append-nil (named definition.Set (names ++ name ∷ []) (sets ++ spans ∷ [])) ∙ named-push definition.Set names sets name spans e)
+      ∙ sym (append_assoc before all (x ∷ [])) ∙ ap (λ l. (before ++ l) ++ x ∷ []) (sym (append-nil all))
 
-sets_read : (limit : ℕ) (tags before names : List (List ℕ)) (front sets : List (List Span)) → length before ≡ length front → length names ≡ length sets
-    → Reads limit (with_sets tags before front) → Reads limit (with_sets tags (before ++ names) (front ++ sets))
-sets_read limit tags before [] front [] s e reads =
-    subst (λ l. Reads limit (with_sets tags l (front ++ []))) (sym (append-nil before)) (subst (λ l. Reads limit (with_sets tags before l)) (sym (append-nil front)) reads)
-sets_read limit tags before [] front (spans ∷ sets) s e reads = absurd (omega (arith, e))
-sets_read limit tags before (name ∷ names) front [] s e reads = absurd (omega (arith, e))
-sets_read limit tags before (name ∷ names) front (spans ∷ sets) s e reads =
-    let d = with_sets tags before front in
-    let x = definition.Set name spans in
-    let all = all_definitions d in
-    let plain : ArePlain all = plain_after_tags tags (named definition.Set before front ++ []) (subst ArePlain (sym (append-nil (named definition.Set before front))) (plain_sets before front)) in
-    let lines = lines_last (definition_text (before ++ name ∷ [])) all (all_definitions (added d x)) x (last_set tags before front name spans s)
-    ∙ ap (λ l. l ++ definition_text before x ∷ []) (plain_texts before (name ∷ []) all plain) in
-    let more = reads_more limit d x (set_removed d name spans plain) lines reads in
-    subst (λ l. Reads limit (with_sets tags l (front ++ spans ∷ sets))) (append_assoc before (name ∷ []) names)
-    (subst (λ l. Reads limit (with_sets tags ((before ++ name ∷ []) ++ names) l)) (append_assoc front (spans ∷ []) sets)
-    (sets_read limit tags (before ++ name ∷ []) names (front ++ spans ∷ []) sets (omega (arith, s, length-append before (name ∷ []), length-append front (spans ∷ []))) (omega (arith, e)) more))
+  sets_read : (limit : ℕ) (tags before names : List (List ℕ)) (front sets : List (List Span)) → length before ≡ length front → length names ≡ length sets
+      → Reads limit (with_sets tags before front) → Reads limit (with_sets tags (before ++ names) (front ++ sets))
+  sets_read limit tags before [] front [] s e reads =
+      subst (λ l. Reads limit (with_sets tags l (front ++ []))) (sym (append-nil before)) (subst (λ l. Reads limit (with_sets tags before l)) (sym (append-nil front)) reads)
+  sets_read limit tags before [] front (spans ∷ sets) s e reads = absurd (omega (arith, e))
+  sets_read limit tags before (name ∷ names) front [] s e reads = absurd (omega (arith, e))
+  sets_read limit tags before (name ∷ names) front (spans ∷ sets) s e reads =
+      let d = with_sets tags before front in
+      let x = definition.Set name spans in
+      let all = all_definitions d in
+      let plain : ArePlain all = plain_after_tags tags (named definition.Set before front ++ []) (subst ArePlain (sym (append-nil (named definition.Set before front))) (plain_sets before front)) in
+      let lines = lines_last (definition_text (before ++ name ∷ [])) all (all_definitions (added d x)) x (last_set tags before front name spans s)
+      ∙ ap (λ l. l ++ definition_text before x ∷ []) (plain_texts before (name ∷ []) all plain) in
+      let more = reads_more limit d x (set_removed d name spans plain) lines reads in
+      subst (λ l. Reads limit (with_sets tags l (front ++ spans ∷ sets))) (append_assoc before (name ∷ []) names)
+      (subst (λ l. Reads limit (with_sets tags ((before ++ name ∷ []) ++ names) l)) (append_assoc front (spans ∷ []) sets)
+      (sets_read limit tags (before ++ name ∷ []) names (front ++ spans ∷ []) sets (omega (arith, s, length-append before (name ∷ []), length-append front (spans ∷ []))) (omega (arith, e)) more))
 
-abbrev with_rules : Definitions → List (List ℕ) → List Pattern → Definitions
-with_rules d names rules = record d { rule_names = names; rules = rules; demands = [] }
+  abbrev with_rules : Definitions → List (List ℕ) → List Pattern → Definitions
+  with_rules d names rules = record d { rule_names = names; rules = rules; demands = [] }
 
-last_rule : (d : Definitions) (names : List (List ℕ)) (rules : List Pattern) (name : List ℕ) (contexts : Pattern) → length names ≡ length rules
-    → all_definitions (with_rules d (names ++ name ∷ []) (rules ++ contexts ∷ [])) ≡ all_definitions (with_rules d names rules) ++ definition.Rule name contexts ∷ []
-last_rule d names rules name contexts e =
-    let tags = map definition.Tag d.tags in
-    let sets = named definition.Set d.set_names d.sets in
-    let all = named definition.Rule names rules in
-    let x = definition.Rule name contexts in
-    ap (λ l. tags ++ (sets ++ l)) (append-nil (named definition.Rule (names ++ name ∷ []) (rules ++ contexts ∷ [])) ∙ named-push definition.Rule names rules name contexts e)
-    ∙ ap (λ l. tags ++ l) (sym (append_assoc sets all (x ∷ []))) ∙ sym (append_assoc tags (sets ++ all) (x ∷ []))
-    ∙ ap (λ l. (tags ++ (sets ++ l)) ++ x ∷ []) (sym (append-nil all))
+  last_rule : (d : Definitions) (names : List (List ℕ)) (rules : List Pattern) (name : List ℕ) (contexts : Pattern) → length names ≡ length rules
+      → all_definitions (with_rules d (names ++ name ∷ []) (rules ++ contexts ∷ [])) ≡ all_definitions (with_rules d names rules) ++ definition.Rule name contexts ∷ []
+  last_rule d names rules name contexts e =
+      let tags = map definition.Tag d.tags in
+      let sets = named definition.Set d.set_names d.sets in
+      let all = named definition.Rule names rules in
+      let x = definition.Rule name contexts in
+      ap (λ l. tags ++ (sets ++ l)) (append-nil (named definition.Rule (names ++ name ∷ []) (rules ++ contexts ∷ [])) ∙ named-push definition.Rule names rules name contexts e)
+      ∙ ap (λ l. tags ++ l) (sym (append_assoc sets all (x ∷ []))) ∙ sym (append_assoc tags (sets ++ all) (x ∷ []))
+      ∙ ap (λ l. (tags ++ (sets ++ l)) ++ x ∷ []) (sym (append-nil all))
 
-rules_read : (limit : ℕ) (d : Definitions) (before names : List (List ℕ)) (front rules : List Pattern) → length before ≡ length front → length names ≡ length rules
-    → Reads limit (with_rules d before front) → Reads limit (with_rules d (before ++ names) (front ++ rules))
-rules_read limit d before [] front [] s e reads =
-    subst (λ l. Reads limit (with_rules d l (front ++ []))) (sym (append-nil before)) (subst (λ l. Reads limit (with_rules d before l)) (sym (append-nil front)) reads)
-rules_read limit d before [] front (contexts ∷ rules) s e reads = absurd (omega (arith, e))
-rules_read limit d before (name ∷ names) front [] s e reads = absurd (omega (arith, e))
-rules_read limit d before (name ∷ names) front (contexts ∷ rules) s e reads =
-    let r = with_rules d before front in
-    let x = definition.Rule name contexts in
-    let lines = lines_last (definition_text d.set_names) (all_definitions r) (all_definitions (added r x)) x (last_rule d before front name contexts s) in
-    let more = reads_more limit r x (rule_removed r name contexts) lines reads in
-    subst (λ l. Reads limit (with_rules d l (front ++ contexts ∷ rules))) (append_assoc before (name ∷ []) names)
-    (subst (λ l. Reads limit (with_rules d ((before ++ name ∷ []) ++ names) l)) (append_assoc front (contexts ∷ []) rules)
-    (rules_read limit d (before ++ name ∷ []) names (front ++ contexts ∷ []) rules (omega (arith, s, length-append before (name ∷ []), length-append front (contexts ∷ []))) (omega (arith, e)) more))
+  rules_read : (limit : ℕ) (d : Definitions) (before names : List (List ℕ)) (front rules : List Pattern) → length before ≡ length front → length names ≡ length rules
+      → Reads limit (with_rules d before front) → Reads limit (with_rules d (before ++ names) (front ++ rules))
+  rules_read limit d before [] front [] s e reads =
+      subst (λ l. Reads limit (with_rules d l (front ++ []))) (sym (append-nil before)) (subst (λ l. Reads limit (with_rules d before l)) (sym (append-nil front)) reads)
+  rules_read limit d before [] front (contexts ∷ rules) s e reads = absurd (omega (arith, e))
+  rules_read limit d before (name ∷ names) front [] s e reads = absurd (omega (arith, e))
+  rules_read limit d before (name ∷ names) front (contexts ∷ rules) s e reads =
+      let r = with_rules d before front in
+      let x = definition.Rule name contexts in
+      let lines = lines_last (definition_text d.set_names) (all_definitions r) (all_definitions (added r x)) x (last_rule d before front name contexts s) in
+      let more = reads_more limit r x (rule_removed r name contexts) lines reads in
+      subst (λ l. Reads limit (with_rules d l (front ++ contexts ∷ rules))) (append_assoc before (name ∷ []) names)
+      (subst (λ l. Reads limit (with_rules d ((before ++ name ∷ []) ++ names) l)) (append_assoc front (contexts ∷ []) rules)
+      (rules_read limit d (before ++ name ∷ []) names (front ++ contexts ∷ []) rules (omega (arith, s, length-append before (name ∷ []), length-append front (contexts ∷ []))) (omega (arith, e)) more))
 
-abbrev with_demands : Definitions → List Demand → Definitions
-with_demands d demands = record d { demands = demands }
+  abbrev with_demands : Definitions → List Demand → Definitions
+  with_demands d demands = record d { demands = demands }
 
-abbrev demand_definition : Demand → Definition
-demand_definition e = definition.Demand e.kind e.pattern
+  abbrev demand_definition : Demand → Definition
+  demand_definition e = definition.Demand e.kind e.pattern
 
-last_demand : (d : Definitions) (demands : List Demand) (e : Demand) → all_definitions (with_demands d (demands ++ e ∷ [])) ≡ all_definitions (with_demands d demands) ++ demand_definition e ∷ []
-last_demand d demands e =
-    let tags = map definition.Tag d.tags in
-    let sets = named definition.Set d.set_names d.sets in
-    let rules = named definition.Rule d.rule_names d.rules in
-    let all = map demand_definition demands in
-    let more = demand_definition e ∷ [] in
-    ap (λ l. tags ++ (sets ++ (rules ++ l))) (map-append demand_definition demands (e ∷ []))
-    ∙ ap (λ l. tags ++ (sets ++ l)) (sym (append_assoc rules all more))
-    ∙ ap (λ l. tags ++ l) (sym (append_assoc sets (rules ++ all) more))
-    ∙ sym (append_assoc tags (sets ++ (rules ++ all)) more)
+  last_demand : (d : Definitions) (demands : List Demand) (e : Demand) → all_definitions (with_demands d (demands ++ e ∷ [])) ≡ all_definitions (with_demands d demands) ++ demand_definition e ∷ []
+  last_demand d demands e =
+      let tags = map definition.Tag d.tags in
+      let sets = named definition.Set d.set_names d.sets in
+      let rules = named definition.Rule d.rule_names d.rules in
+      let all = map demand_definition demands in
+      let more = demand_definition e ∷ [] in
+      ap (λ l. tags ++ (sets ++ (rules ++ l))) (map-append demand_definition demands (e ∷ []))
+      ∙ ap (λ l. tags ++ (sets ++ l)) (sym (append_assoc rules all more))
+      ∙ ap (λ l. tags ++ l) (sym (append_assoc sets (rules ++ all) more))
+      ∙ sym (append_assoc tags (sets ++ (rules ++ all)) more)
 
-demands_read : (limit : ℕ) (d : Definitions) (before demands : List Demand) → Reads limit (with_demands d before) → Reads limit (with_demands d (before ++ demands))
-demands_read limit d before [] reads = subst (λ l. Reads limit (with_demands d l)) (sym (append-nil before)) reads
-demands_read limit d before (e ∷ demands) reads =
-    let r = with_demands d before in
-    let x = demand_definition e in
-    let more = reads_more limit r x (demand_removed r e) (lines_last (definition_text d.set_names) (all_definitions r) (all_definitions (added r x)) x (last_demand d before e)) reads in
-    subst (λ l. Reads limit (with_demands d l)) (append_assoc before (e ∷ []) demands) (demands_read limit d (before ++ e ∷ []) demands more)
+  demands_read : (limit : ℕ) (d : Definitions) (before demands : List Demand) → Reads limit (with_demands d before) → Reads limit (with_demands d (before ++ demands))
+  demands_read limit d before [] reads = subst (λ l. Reads limit (with_demands d l)) (sym (append-nil before)) reads
+  demands_read limit d before (e ∷ demands) reads =
+      let r = with_demands d before in
+      let x = demand_definition e in
+      let more = reads_more limit r x (demand_removed r e) (lines_last (definition_text d.set_names) (all_definitions r) (all_definitions (added r x)) x (last_demand d before e)) reads in
+      subst (λ l. Reads limit (with_demands d l)) (append_assoc before (e ∷ []) demands) (demands_read limit d (before ++ e ∷ []) demands more)
 
-nothing_read : (limit : ℕ) → Reads limit nothing_defined
-nothing_read limit are size = refl
+  nothing_read : (limit : ℕ) → Reads limit (nothing_defined properties)
+  nothing_read limit are size = refl
 
 -- their canonical lines are read as these definitions
-pub definitions_back : (d : Definitions) (limit : ℕ) → AreDefinitions d → canonical_size d ≤ limit → with_lines limit nothing_defined (canonical_lines d) ≡ Ok d
+pub definitions_back : (d : Definitions) (limit : ℕ) → AreDefinitions d → canonical_size d ≤ limit → with_lines limit (nothing_defined d.properties) (canonical_lines d) ≡ Ok d
 definitions_back d limit are size =
-    let tags = tags_read limit [] d.tags (nothing_read limit) in
-    let sets = sets_read limit d.tags [] d.set_names [] d.sets refl are.named_sets tags in
-    let rules = rules_read limit (with_sets d.tags d.set_names d.sets) [] d.rule_names [] d.rules refl are.named_rules sets in
-    let demands = demands_read limit (with_rules d d.rule_names d.rules) [] d.demands rules in
+    let tags = tags_read d.properties limit [] d.tags (nothing_read d.properties limit) in
+    let sets = sets_read d.properties limit d.tags [] d.set_names [] d.sets refl are.named_sets tags in
+    let rules = rules_read d.properties limit (with_sets d.properties d.tags d.set_names d.sets) [] d.rule_names [] d.rules refl are.named_rules sets in
+    let demands = demands_read d.properties limit (with_rules d.properties d d.rule_names d.rules) [] d.demands rules in
     demands are size

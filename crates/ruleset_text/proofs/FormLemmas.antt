@@ -2,7 +2,7 @@
 use Rattle.std.proofs.Common.{◌≡◌, ℕ, Bool, true, false, not, cond, List, Option, Some, None, refl, sym, ap, ◌∙◌}
 use Rattle.std.proofs.lemmas.Bool.{not-true}
 use Rattle.label_patterns.specs.Patterns.{Pattern}
-use Rattle.ruleset_text.specs.declared.rules.Sign.TheVariants as sign
+use Rattle.ruleset_text.specs.Signs as sign
 use Rattle.ruleset_text.specs.Definition.{if_such, contexts_in, demand_in}
 use Rattle.ruleset_text.specs.Grammar.{Is, Whole}
 use Rattle.ruleset_text.specs.Reading.{pattern_of}

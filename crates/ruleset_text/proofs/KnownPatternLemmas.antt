@@ -7,6 +7,7 @@ use Rattle.ruleset_text.specs.Definition as definition
 use Rattle.ruleset_text.specs.Definition.{Definition}
 use Rattle.ruleset_text.specs.Definitions.{Demand, Definitions, named}
 use Rattle.ruleset_text.specs.WellFormed.{IsDefinition, AreDefinitions}
+use Rattle.idn_class.specs.declared.properties.Properties.{Properties}
 
 pub all_after : {X : Type 0} (P : X → Type 0) (xs ys : List X) → AllByRecursion P (xs ++ ys) → AllByRecursion P ys
 all_after P [] ys all = all
@@ -16,17 +17,17 @@ pub all_before : {X : Type 0} (P : X → Type 0) (xs ys : List X) → AllByRecur
 all_before P [] ys all = tt
 all_before P (x ∷ xs) ys all = (all.0, all_before P xs ys all.1)
 
-rules_of : (sets : List (List ℕ)) (names : List (List ℕ)) (rules : List Pattern) (n : ℕ) → length sets ≡ n → length names ≡ length rules
-    → AllByRecursion (IsDefinition sets) (named definition.Rule names rules) → AllByRecursion (HasItsSets n) rules
-rules_of sets [] [] n e same all = tt
-rules_of sets [] (p ∷ rules) n e same all = absurd (omega (arith, same))
-rules_of sets (name ∷ names) [] n e same all = tt
-rules_of sets (name ∷ names) (p ∷ rules) n e same all = (subst (λ k. HasItsSets k p) e all.0.parts.0.known, rules_of sets names rules n e (omega (arith, same)) all.1)
+rules_of : (properties : Properties) (sets : List (List ℕ)) (names : List (List ℕ)) (rules : List Pattern) (n : ℕ) → length sets ≡ n → length names ≡ length rules
+    → AllByRecursion (IsDefinition properties sets) (named definition.Rule names rules) → AllByRecursion (HasItsSets n) rules
+rules_of properties sets [] [] n e same all = tt
+rules_of properties sets [] (p ∷ rules) n e same all = absurd (omega (arith, same))
+rules_of properties sets (name ∷ names) [] n e same all = tt
+rules_of properties sets (name ∷ names) (p ∷ rules) n e same all = (subst (λ k. HasItsSets k p) e all.0.parts.0.known, rules_of properties sets names rules n e (omega (arith, same)) all.1)
 
-demands_of : (sets : List (List ℕ)) (demands : List Demand) (n : ℕ) → length sets ≡ n
-    → AllByRecursion (IsDefinition sets) (map (λ e. definition.Demand e.kind e.pattern) demands) → AllByRecursion (λ e. HasItsSets n e.pattern) demands
-demands_of sets [] n e all = tt
-demands_of sets (d ∷ demands) n e all = (subst (λ k. HasItsSets k d.pattern) e all.0.parts.0.known, demands_of sets demands n e all.1)
+demands_of : (properties : Properties) (sets : List (List ℕ)) (demands : List Demand) (n : ℕ) → length sets ≡ n
+    → AllByRecursion (IsDefinition properties sets) (map (λ e. definition.Demand e.kind e.pattern) demands) → AllByRecursion (λ e. HasItsSets n e.pattern) demands
+demands_of properties sets [] n e all = tt
+demands_of properties sets (d ∷ demands) n e all = (subst (λ k. HasItsSets k d.pattern) e all.0.parts.0.known, demands_of properties sets demands n e all.1)
 
 abbrev tags_in : Definitions → List Definition
 tags_in d = map definition.Tag d.tags
@@ -40,14 +41,14 @@ rules_in d = named definition.Rule d.rule_names d.rules
 abbrev pub demands_in : Definitions → List Definition
 demands_in d = map (λ e. definition.Demand e.kind e.pattern) d.demands
 
-pub patterns : (d : Definitions) → AreDefinitions d → AllByRecursion (IsDefinition d.set_names) (rules_in d ++ demands_in d)
+pub patterns : (d : Definitions) → AreDefinitions d → AllByRecursion (IsDefinition d.properties d.set_names) (rules_in d ++ demands_in d)
 patterns d are =
-    all_after (IsDefinition d.set_names) (sets_in d) (rules_in d ++ demands_in d)
-    (all_after (IsDefinition d.set_names) (tags_in d) (sets_in d ++ (rules_in d ++ demands_in d)) are.each)
+    all_after (IsDefinition d.properties d.set_names) (sets_in d) (rules_in d ++ demands_in d)
+    (all_after (IsDefinition d.properties d.set_names) (tags_in d) (sets_in d ++ (rules_in d ++ demands_in d)) are.each)
 
 pub rules_known : (d : Definitions) → AreDefinitions d → AllByRecursion (HasItsSets (length d.sets)) d.rules
 rules_known d are =
-    rules_of d.set_names d.rule_names d.rules (length d.sets) are.named_sets are.named_rules (all_before (IsDefinition d.set_names) (rules_in d) (demands_in d) (patterns d are))
+    rules_of d.properties d.set_names d.rule_names d.rules (length d.sets) are.named_sets are.named_rules (all_before (IsDefinition d.properties d.set_names) (rules_in d) (demands_in d) (patterns d are))
 
 pub demands_known : (d : Definitions) → AreDefinitions d → AllByRecursion (λ e. HasItsSets (length d.sets) e.pattern) d.demands
-demands_known d are = demands_of d.set_names d.demands (length d.sets) are.named_sets (all_after (IsDefinition d.set_names) (rules_in d) (demands_in d) (patterns d are))
+demands_known d are = demands_of d.properties d.set_names d.demands (length d.sets) are.named_sets (all_after (IsDefinition d.properties d.set_names) (rules_in d) (demands_in d) (patterns d are))

@@ -1,9 +1,13 @@
+-- The lemmas of this crate.
+pub mod StopLemmas
 pub mod PatternLemmas
+pub mod SignLemmas
+pub mod UseLemmas
+mod LineLemmas
 pub mod SpanExactLemmas
-mod StateLemmas
 pub mod LexemeLemmas
+pub mod PlacedLemmas
 mod NameLemmas
-mod TokenLemmas
 mod SpanLemmas
 pub mod HexLemmas
 mod PointLemmas

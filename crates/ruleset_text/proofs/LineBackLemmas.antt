@@ -10,7 +10,7 @@ use Rattle.label_patterns.specs.Matches.{HasItsSets}
 use Rattle.label_patterns.specs.Patterns.{Pattern, Point, Set, Any, Start, End, Anchor, Group, Optional, Many, Then, Either}
 use Rattle.ruleset_text.specs.declared.definition.DemandKind.{DemandKind}
 use Rattle.ruleset_text.specs.declared.definition.DemandKind.TheVariants as demand
-use Rattle.ruleset_text.specs.declared.rules.Sign.TheVariants as sign
+use Rattle.ruleset_text.specs.Signs as sign
 use Rattle.ruleset_text.specs.declared.token.Token.{Token}
 use Rattle.ruleset_text.specs.declared.token.Token.TheVariants as token
 use Rattle.ruleset_text.specs.Canonical.{HasPoints, pattern_text, spans_text, definition_text}
@@ -32,6 +32,7 @@ use Rattle.ruleset_text.proofs.BackLemmas.{text_read_back, text_tokens}
 use Rattle.ruleset_text.proofs.DefineLemmas.{no_fault}
 use Rattle.ruleset_text.proofs.SetWordLemmas.{other_than, name_in_word, letter_in_name, bytes_in_word}
 use Rattle.ruleset_text.proofs.SpanBackLemmas.{word_first, has_points, spans_back}
+use Rattle.idn_class.specs.declared.properties.Properties.{Properties}
 
 -- ---- a name among lexemes
 
@@ -150,7 +151,7 @@ new_to (x ∷ xs) name h =
 pub record Fits (limit : ℕ) (d : Definitions) (x : Definition) : Type 0 where
   pub named_sets : length d.set_names ≡ length d.sets
   pub names : AreNames d.set_names
-  pub parts : HasParts (length d.set_names) x
+  pub parts : HasParts d.properties (length d.set_names) x
   pub short : length (definition_text d.set_names x) ≤ 8192
   pub size : canonical_size d + (length (definition_text d.set_names x) + 1) ≤ limit
   pub new : HasNewName d x
@@ -198,7 +199,7 @@ set_back limit d name spans f =
     let names = names_on d.set_names (name ∷ words) in
     ap (λ l. with_words limit d (codes "%set" ∷ l)) (word_first name (spans_text spans) word.some word.word (begins_blank spans))
     ∙ ap (λ b. with_definition limit d names (cond b (option_map (definition.Set name) (spans_in words)) None)) f.new.0
-    ∙ ap (λ o. with_definition limit d names (option_map (definition.Set name) o)) (spans_back spans f.parts.some f.parts.rise f.parts.classes)
+    ∙ ap (λ o. with_definition limit d names (option_map (definition.Set name) o)) (spans_back d.properties spans f.parts.some f.parts.rise f.parts.classes)
     ∙ no_fault limit d names (Some x) x (length (definition_text names x)) (record { read = refl; size = refl; line = line_fits limit d x f; count = lt-leb 256 (length d.sets) f.room })
     refl f.parts.classes (new_to (all_names d) name f.new.1)
 
@@ -206,8 +207,8 @@ name_skipped : (names words : List (List ℕ)) (word : List ℕ) → set_name wo
 unfolding names_on
 name_skipped names words word e = ap (λ o. names_on (with_name names o) words) e
 
-pattern_back : (names : List (List ℕ)) (p : Pattern) → AreNames names → IsPattern (length names) p → pattern_of (tokens_in names (lexemes (pattern_text names p))) ≡ Some p
-pattern_back names p are is = text_read_back names p are is.known (has_points p is.classes) is.whole
+pattern_back : (properties : Properties) (names : List (List ℕ)) (p : Pattern) → AreNames names → IsPattern properties (length names) p → pattern_of (tokens_in names (lexemes (pattern_text names p))) ≡ Some p
+pattern_back properties names p are is = text_read_back names p are is.known (has_points properties p is.classes) is.whole
 
 sets_known : (d : Definitions) (p : Pattern) → length d.set_names ≡ length d.sets → HasItsSets (length d.set_names) p → has_its_sets (length d.sets) p ≡ true
 sets_known d p e known = ap (λ n. has_its_sets n p) (sym e) ∙ known_to (length d.set_names) p known
@@ -220,11 +221,11 @@ rule_back limit d name p f =
     let sets = d.set_names in
     let is = f.parts.0 in
     let words : List (List ℕ) = lexemes (pattern_text sets p) in
-    let kept : names_on sets (name ∷ words) ≡ sets = name_skipped sets words name word.no_set ∙ pattern_names sets p f.names is.known (has_points p is.classes) in
+    let kept : names_on sets (name ∷ words) ≡ sets = name_skipped sets words name word.no_set ∙ pattern_names sets p f.names is.known (has_points d.properties p is.classes) in
     ap (λ l. with_words limit d (codes "%rule" ∷ l)) (word_first name (32 ∷ pattern_text sets p) word.some word.word refl)
     ∙ ap (λ n. with_definition limit d n (cond (is_name name) (option_map (definition.Rule name) (contexts_in n words)) None)) kept
     ∙ ap (λ b. with_definition limit d sets (cond b (option_map (definition.Rule name) (contexts_in sets words)) None)) f.new.0
-    ∙ ap (λ o. with_definition limit d sets (option_map (definition.Rule name) o)) (if_such_is is_rule (pattern_of (tokens_in sets words)) p (pattern_back sets p f.names is) f.parts.1)
+    ∙ ap (λ o. with_definition limit d sets (option_map (definition.Rule name) o)) (if_such_is is_rule (pattern_of (tokens_in sets words)) p (pattern_back d.properties sets p f.names is) f.parts.1)
     ∙ no_fault limit d sets (Some x) x (length (definition_text sets x)) (record { read = refl; size = refl; line = line_fits limit d x f; count = pattern_fits d p is.within f.room })
     (sets_known d p f.named_sets is.known) is.classes (new_to (all_names d) name f.new.1)
 
@@ -236,9 +237,9 @@ demand_read limit d kind p f =
     let sets = d.set_names in
     let is = f.parts.0 in
     let words : List (List ℕ) = lexemes (pattern_text sets p) in
-    ap (λ n. with_definition limit d n (option_map (definition.Demand kind) (demand_in n words))) (pattern_names sets p f.names is.known (has_points p is.classes))
+    ap (λ n. with_definition limit d n (option_map (definition.Demand kind) (demand_in n words))) (pattern_names sets p f.names is.known (has_points d.properties p is.classes))
     ∙ ap (λ o. with_definition limit d sets (option_map (definition.Demand kind) o))
-    (if_such_is (λ q. not (has sign.Anchor q)) (pattern_of (tokens_in sets words)) p (pattern_back sets p f.names is) (ap not f.parts.1))
+    (if_such_is (λ q. not (has sign.Anchor q)) (pattern_of (tokens_in sets words)) p (pattern_back d.properties sets p f.names is) (ap not f.parts.1))
     ∙ no_fault limit d sets (Some x) x (length (definition_text sets x)) (record { read = refl; size = refl; line = line_fits limit d x f; count = pattern_fits d p is.within f.room })
     (sets_known d p f.named_sets is.known) is.classes refl
 

@@ -1,116 +1,163 @@
--- What is spelled is read, and what is read is spelled.
-use Rattle.std.proofs.Common.{◌≡◌, List, [], ◌∷◌, ◌++◌, Option, Some, None, refl, sym, ap, subst, ◌∙◌, append_assoc, append-nil}
+-- What a pattern spells leads to its pieces, and what leads to pieces is what they spell.
+use Rattle.std.proofs.Common.{◌≡◌, Bool, true, false, List, [], ◌∷◌, ◌++◌, Option, Some, None, refl, sym, ap, subst, ◌∙◌, append_assoc, append-nil}
 use Rattle.ruleset_text.specs.declared.token.Token.{Token}
 use Rattle.ruleset_text.specs.declared.token.Token.TheVariants as token
 use Rattle.label_patterns.specs.Patterns.{Pattern, Point, Set, Any, Start, End, Anchor, Group, Optional, Many, Then, Either}
 use Rattle.ruleset_text.specs.Grammar.{Sort, Atom, Item, Branch, Whole, Is, tokens, SpellsPattern}
-use Rattle.ruleset_text.specs.declared.reading.Suffix.{Suffix}
-use Rattle.ruleset_text.specs.declared.reading.Suffix.TheVariants.{Once, AtMostOnce, AnyNumber}
-use Rattle.ruleset_text.specs.Reading.{Frame, State, then_items, or_branches, with_suffix, with_atom, with_end, with_sign, closed, with_bar, with_open, step, stepped, state_of, ended, pattern_at, pattern_of}
+use Rattle.ruleset_text.specs.Reading.{Piece, Opening, Branched, Part, items, before_items, branches, before_branches, ending, with_sign, with_bar, with_close, step, alone, ended, pattern_at, pattern_of}
+use Rattle.ruleset_text.specs.Stops.{run}
+use Rattle.ruleset_text.proofs.StopLemmas.{run_none}
 
-abbrev pub at : Suffix → Option Pattern → Option Pattern → List Frame → Option State
-at s items branches outer = Some (record { inner = record { suffix = s; items = items; branches = branches }; outer = outer })
+-- ---- what is spelled is read
 
--- what a part of each sort makes of the state after it
-abbrev pub Reads : Sort → Pattern → Type 0
-Reads Atom p = (ts : List Token) (s : Suffix) (items branches : Option Pattern) (outer : List Frame) →
-    state_of ts ≡ at s items branches outer → state_of (tokens p ++ ts) ≡ at Once (Some (then_items (with_suffix s p) items)) branches outer
-Reads Item p = (ts : List Token) (items branches : Option Pattern) (outer : List Frame) →
-    state_of ts ≡ at Once items branches outer → state_of (tokens p ++ ts) ≡ at Once (Some (then_items p items)) branches outer
-Reads Branch p = (ts : List Token) (branches : Option Pattern) (outer : List Frame) →
-    state_of ts ≡ at Once None branches outer → state_of (tokens p ++ ts) ≡ at Once (Some p) branches outer
-Reads Whole p = (ts : List Token) (outer : List Frame) →
-    state_of ts ≡ at Once None None outer →
-    (items : Pattern) × (branches : Option Pattern) × (p ≡ or_branches items branches) × (state_of (tokens p ++ ts) ≡ at Once (Some items) branches outer)
+-- the pieces that a pattern leads to, after these
+abbrev pub pieces_of : Pattern → List Piece → List Piece
+pieces_of (Point c) s = Part true (Point c) ∷ s
+pieces_of (Set n) s = Part true (Set n) ∷ s
+pieces_of Any s = Part true Any ∷ s
+pieces_of Start s = Part false Start ∷ s
+pieces_of End s = Part false End ∷ s
+pieces_of Anchor s = Part false Anchor ∷ s
+pieces_of (Group p) s = Part true (Group p) ∷ s
+pieces_of (Optional p) s = Part false (Optional p) ∷ s
+pieces_of (Many p) s = Part false (Many p) ∷ s
+pieces_of (Then p q) s = pieces_of q (pieces_of p s)
+pieces_of (Either p q) s = pieces_of q (Branched p ∷ s)
 
-atom_item : (p : Pattern) → Reads Atom p → Reads Item p
-atom_item p r ts items branches outer e = r ts Once items branches outer e
+-- no item stands last
+abbrev pub IsFresh : List Piece → Type 0
+IsFresh (Part b p ∷ s) = ⊥
+IsFresh s = Unit {0}
 
-item_branch : (p : Pattern) → Reads Item p → Reads Branch p
-item_branch p r ts branches outer e = r ts None branches outer e
+pub atom_piece : (p : Pattern) (s : List Piece) → Is Atom p → pieces_of p s ≡ Part true p ∷ s
+atom_piece (Point c) s h = refl
+atom_piece (Set n) s h = refl
+atom_piece Any s h = refl
+atom_piece Start s h = absurd h
+atom_piece End s h = absurd h
+atom_piece Anchor s h = absurd h
+atom_piece (Group p) s h = refl
+atom_piece (Optional p) s h = absurd h
+atom_piece (Many p) s h = absurd h
+atom_piece (Then p q) s h = absurd h
+atom_piece (Either p q) s h = absurd h
 
-branch_whole : (p : Pattern) → Reads Branch p → Reads Whole p
-branch_whole p r ts outer e = (p, None, refl, r ts None outer e)
+item_piece : (p : Pattern) (s : List Piece) → Is Item p → (b : Bool) × (pieces_of p s ≡ Part b p ∷ s)
+item_piece (Point c) s h = (true, refl)
+item_piece (Set n) s h = (true, refl)
+item_piece Any s h = (true, refl)
+item_piece Start s h = (false, refl)
+item_piece End s h = (false, refl)
+item_piece Anchor s h = (false, refl)
+item_piece (Group p) s h = (true, refl)
+item_piece (Optional p) s h = (false, refl)
+item_piece (Many p) s h = (false, refl)
+item_piece (Then p q) s h = absurd h
+item_piece (Either p q) s h = absurd h
 
--- a lower sort is each higher one
-lift_atom : (s : Sort) (p : Pattern) → Reads Atom p → Reads s p
-lift_atom Atom p r = r
-lift_atom Item p r = atom_item p r
-lift_atom Branch p r = item_branch p (atom_item p r)
-lift_atom Whole p r = branch_whole p (item_branch p (atom_item p r))
+-- a branch is folded by its '/'
+pub bars : (p : Pattern) (s : List Piece) → Is Branch p → with_bar (pieces_of p s) ≡ Some (Branched (items p s) ∷ before_items s)
+bars (Point c) s h = refl
+bars (Set n) s h = refl
+bars Any s h = refl
+bars Start s h = refl
+bars End s h = refl
+bars Anchor s h = refl
+bars (Group p) s h = refl
+bars (Optional p) s h = refl
+bars (Many p) s h = refl
+bars (Then p q) s h =
+    let first = item_piece p s h.0 in
+    ap (λ l. with_bar (pieces_of q l)) first.1 ∙ bars q (Part first.0 p ∷ s) h.1
+bars (Either p q) s h = absurd h
 
-group_reads : (p : Pattern) → Reads Whole p → Reads Atom (Group p)
-group_reads p r ts s items branches outer e =
-    let inside = r (token.Close ∷ ts) ((record { suffix = s; items = items; branches = branches }) ∷ outer) (ap (stepped token.Close) e) in
-    ap (λ l. stepped token.Open (state_of l)) (append_assoc (tokens p) (token.Close ∷ []) ts)
-    ∙ ap (stepped token.Open) inside.3
-    ∙ ap (λ q. at Once (Some (then_items (with_suffix s (Group q)) items)) branches outer) (sym inside.2)
+-- a branch at the end, and a whole pattern
+branch_ends : {X : Type 0} (f : Pattern → List Piece → Option X) (p : Pattern) (s : List Piece) → Is Branch p
+    → ending f (pieces_of p s) ≡ f (branches (items p s) (before_items s)) (before_branches (before_items s))
+branch_ends f (Point c) s h = refl
+branch_ends f (Set n) s h = refl
+branch_ends f Any s h = refl
+branch_ends f Start s h = refl
+branch_ends f End s h = refl
+branch_ends f Anchor s h = refl
+branch_ends f (Group p) s h = refl
+branch_ends f (Optional p) s h = refl
+branch_ends f (Many p) s h = refl
+branch_ends f (Then p q) s h =
+    let first = item_piece p s h.0 in
+    ap (λ l. ending f (pieces_of q l)) first.1 ∙ branch_ends f q (Part first.0 p ∷ s) h.1
+branch_ends f (Either p q) s h = absurd h
 
-optional_reads : (p : Pattern) → Reads Atom p → Reads Item (Optional p)
-optional_reads p r ts items branches outer e =
-    ap state_of (append_assoc (tokens p) (token.Optional ∷ []) ts)
-    ∙ r (token.Optional ∷ ts) AtMostOnce items branches outer (ap (stepped token.Optional) e)
+-- where no item stands last there is nothing to fold
+pub fresh_folds : {X : Type 0} (f : Pattern → List Piece → X) (p : Pattern) (s : List Piece) → IsFresh s → f (items p s) (before_items s) ≡ f p s
+fresh_folds f p [] h = refl
+fresh_folds f p (Opening ∷ s) h = refl
+fresh_folds f p (Branched q ∷ s) h = refl
+fresh_folds f p (Part b q ∷ s) h = absurd h
 
-many_reads : (p : Pattern) → Reads Atom p → Reads Item (Many p)
-many_reads p r ts items branches outer e =
-    ap state_of (append_assoc (tokens p) (token.Many ∷ []) ts)
-    ∙ r (token.Many ∷ ts) AnyNumber items branches outer (ap (stepped token.Many) e)
+pub whole_ends : {X : Type 0} (f : Pattern → List Piece → Option X) (p : Pattern) (s : List Piece) → Is Whole p → IsFresh s
+    → ending f (pieces_of p s) ≡ f (branches p s) (before_branches s)
+whole_ends f (Point c) s h fresh = fresh_folds (λ q r. f (branches q r) (before_branches r)) (Point c) s fresh
+whole_ends f (Set n) s h fresh = fresh_folds (λ q r. f (branches q r) (before_branches r)) (Set n) s fresh
+whole_ends f Any s h fresh = fresh_folds (λ q r. f (branches q r) (before_branches r)) Any s fresh
+whole_ends f Start s h fresh = fresh_folds (λ q r. f (branches q r) (before_branches r)) Start s fresh
+whole_ends f End s h fresh = fresh_folds (λ q r. f (branches q r) (before_branches r)) End s fresh
+whole_ends f Anchor s h fresh = fresh_folds (λ q r. f (branches q r) (before_branches r)) Anchor s fresh
+whole_ends f (Group p) s h fresh = fresh_folds (λ q r. f (branches q r) (before_branches r)) (Group p) s fresh
+whole_ends f (Optional p) s h fresh = fresh_folds (λ q r. f (branches q r) (before_branches r)) (Optional p) s fresh
+whole_ends f (Many p) s h fresh = fresh_folds (λ q r. f (branches q r) (before_branches r)) (Many p) s fresh
+whole_ends f (Then p q) s h fresh = branch_ends f (Then p q) s h ∙ fresh_folds (λ p r. f (branches p r) (before_branches r)) (Then p q) s fresh
+whole_ends f (Either p q) s h fresh = whole_ends f q (Branched p ∷ s) h.1 tt
 
-then_reads : (p q : Pattern) → Reads Item p → Reads Branch q → Reads Branch (Then p q)
-then_reads p q r s ts branches outer e =
-    ap state_of (append_assoc (tokens p) (tokens q) ts)
-    ∙ r (tokens q ++ ts) (Some q) branches outer (s ts branches outer e)
+-- a whole pattern is read where no item stands last, and any other part of one anywhere
+abbrev pub May : Sort → List Piece → Type 0
+May Whole s = IsFresh s
+May other s = Unit {0}
 
-either_reads : (p q : Pattern) → Reads Branch p → Reads Whole q → Reads Whole (Either p q)
-either_reads p q r s ts outer e =
-    let after = s ts outer e in (
-      p,
-      Some q,
-      refl,
-      ap state_of (append_assoc (tokens p) (token.Or ∷ tokens q) ts)
-          ∙ r (token.Or ∷ (tokens q ++ ts)) (Some q) outer
-          (ap (stepped token.Or) after.3 ∙ ap (λ x. at Once None (Some x) outer) (sym after.2)),
-    )
+sign_reads : (f : Pattern → Pattern) (t : Token) (p : Pattern) (ts : List Token) (s : List Piece) → Is Atom p
+    → ((r : List Piece) → step r t ≡ with_sign f r)
+    → run step (Some s) (tokens p ++ t ∷ ts) ≡ run step (Some (pieces_of p s)) (t ∷ ts) → run step (Some s) ((tokens p ++ t ∷ []) ++ ts) ≡ run step (Some (Part false (f p) ∷ s)) ts
+sign_reads f t p ts s h is e =
+    ap (run step (Some s)) (append_assoc (tokens p) (t ∷ []) ts) ∙ e ∙ ap (λ o. run step o ts) (is (pieces_of p s) ∙ ap (with_sign f) (atom_piece p s h))
 
-pub reads : (s : Sort) (p : Pattern) → Is s p → Reads s p
-reads s (Point c) h = lift_atom s (Point c) (λ ts t items branches outer e. ap (stepped (token.Point c)) e)
-reads s (Set n) h = lift_atom s (Set n) (λ ts t items branches outer e. ap (stepped (token.Set n)) e)
-reads s Any h = lift_atom s Any (λ ts t items branches outer e. ap (stepped token.Any) e)
-reads Atom Start h = absurd h
-reads Item Start h = λ ts items branches outer e. ap (stepped token.Start) e
-reads Branch Start h = λ ts branches outer e. ap (stepped token.Start) e
-reads Whole Start h = λ ts outer e. (Start, None, refl, ap (stepped token.Start) e)
-reads Atom End h = absurd h
-reads Item End h = λ ts items branches outer e. ap (stepped token.End) e
-reads Branch End h = λ ts branches outer e. ap (stepped token.End) e
-reads Whole End h = λ ts outer e. (End, None, refl, ap (stepped token.End) e)
-reads Atom Anchor h = absurd h
-reads Item Anchor h = λ ts items branches outer e. ap (stepped token.Anchor) e
-reads Branch Anchor h = λ ts branches outer e. ap (stepped token.Anchor) e
-reads Whole Anchor h = λ ts outer e. (Anchor, None, refl, ap (stepped token.Anchor) e)
-reads s (Group p) h = lift_atom s (Group p) (group_reads p (reads Whole p h))
-reads Atom (Optional p) h = absurd h
-reads Item (Optional p) h = optional_reads p (reads Atom p h)
-reads Branch (Optional p) h = item_branch (Optional p) (optional_reads p (reads Atom p h))
-reads Whole (Optional p) h = branch_whole (Optional p) (item_branch (Optional p) (optional_reads p (reads Atom p h)))
-reads Atom (Many p) h = absurd h
-reads Item (Many p) h = many_reads p (reads Atom p h)
-reads Branch (Many p) h = item_branch (Many p) (many_reads p (reads Atom p h))
-reads Whole (Many p) h = branch_whole (Many p) (item_branch (Many p) (many_reads p (reads Atom p h)))
-reads Atom (Then p q) h = absurd h
-reads Item (Then p q) h = absurd h
-reads Branch (Then p q) h = then_reads p q (reads Item p h.0) (reads Branch q h.1)
-reads Whole (Then p q) h = branch_whole (Then p q) (then_reads p q (reads Item p h.0) (reads Branch q h.1))
-reads Atom (Either p q) h = absurd h
-reads Item (Either p q) h = absurd h
-reads Branch (Either p q) h = absurd h
-reads Whole (Either p q) h = either_reads p q (reads Branch p h.0) (reads Whole q h.1)
+pub reads : (k : Sort) (p : Pattern) → Is k p → (ts : List Token) (s : List Piece) → May k s → run step (Some s) (tokens p ++ ts) ≡ run step (Some (pieces_of p s)) ts
+reads k (Point c) h ts s m = refl
+reads k (Set n) h ts s m = refl
+reads k Any h ts s m = refl
+reads k Start h ts s m = refl
+reads k End h ts s m = refl
+reads k Anchor h ts s m = refl
+reads k (Group p) h ts s m =
+    ap (run step (Some (Opening ∷ s))) (append_assoc (tokens p) (token.Close ∷ []) ts)
+    ∙ reads Whole p h (token.Close ∷ ts) (Opening ∷ s) tt
+    ∙ ap (λ o. run step o ts) (whole_ends with_close p (Opening ∷ s) h tt)
+reads Atom (Optional p) h ts s m = absurd h
+reads Item (Optional p) h ts s m = sign_reads Optional token.Optional p ts s h (λ r. refl) (reads Atom p h (token.Optional ∷ ts) s tt)
+reads Branch (Optional p) h ts s m = sign_reads Optional token.Optional p ts s h (λ r. refl) (reads Atom p h (token.Optional ∷ ts) s tt)
+reads Whole (Optional p) h ts s m = sign_reads Optional token.Optional p ts s h (λ r. refl) (reads Atom p h (token.Optional ∷ ts) s tt)
+reads Atom (Many p) h ts s m = absurd h
+reads Item (Many p) h ts s m = sign_reads Many token.Many p ts s h (λ r. refl) (reads Atom p h (token.Many ∷ ts) s tt)
+reads Branch (Many p) h ts s m = sign_reads Many token.Many p ts s h (λ r. refl) (reads Atom p h (token.Many ∷ ts) s tt)
+reads Whole (Many p) h ts s m = sign_reads Many token.Many p ts s h (λ r. refl) (reads Atom p h (token.Many ∷ ts) s tt)
+reads Atom (Then p q) h ts s m = absurd h
+reads Item (Then p q) h ts s m = absurd h
+reads Branch (Then p q) h ts s m =
+    ap (run step (Some s)) (append_assoc (tokens p) (tokens q) ts) ∙ reads Item p h.0 (tokens q ++ ts) s tt ∙ reads Branch q h.1 ts (pieces_of p s) tt
+reads Whole (Then p q) h ts s m =
+    ap (run step (Some s)) (append_assoc (tokens p) (tokens q) ts) ∙ reads Item p h.0 (tokens q ++ ts) s tt ∙ reads Branch q h.1 ts (pieces_of p s) tt
+reads Atom (Either p q) h ts s m = absurd h
+reads Item (Either p q) h ts s m = absurd h
+reads Branch (Either p q) h ts s m = absurd h
+reads Whole (Either p q) h ts s m =
+    ap (run step (Some s)) (append_assoc (tokens p) (token.Or ∷ tokens q) ts)
+    ∙ reads Branch p h.0 (token.Or ∷ (tokens q ++ ts)) s tt
+    ∙ ap (λ o. run step o (tokens q ++ ts)) (bars p s h.0 ∙ fresh_folds (λ r u. Some (Branched r ∷ u)) p s m)
+    ∙ reads Whole q h.1 ts (Branched p ∷ s) tt
 
-pub spelled_read : (ts : List Token) (p : Pattern) → SpellsPattern ts p → pattern_of ts ≡ Some p
-unfolding pattern_of
-spelled_read ts p h =
-    let r = reads Whole p h.0 [] [] refl in
-    ap (λ l. pattern_at (state_of l)) (h.1 ∙ sym (append-nil (tokens p))) ∙ ap pattern_at r.3 ∙ ap (λ q. Some q) (sym r.2)
+-- the pieces of a whole pattern are that pattern
+pub spelled_pieces : (ts : List Token) (p : Pattern) → SpellsPattern ts p → (run step (Some []) ts ≡ Some (pieces_of p [])) × (ended (pieces_of p []) ≡ Some p)
+spelled_pieces ts p h =
+    (ap (run step (Some [])) (h.1 ∙ sym (append-nil (tokens p))) ∙ reads Whole p h.0 [] [] tt, whole_ends alone p [] h.0 tt)
 
 -- ---- what is read is spelled
 
@@ -153,170 +200,168 @@ whole_is (Many p) h = h
 whole_is (Then p q) h = h
 whole_is (Either p q) h = absurd h
 
-abbrev pub suffix_tokens : Suffix → List Token
-suffix_tokens Once = []
-suffix_tokens AtMostOnce = token.Optional ∷ []
-suffix_tokens AnyNumber = token.Many ∷ []
+abbrev pub piece_tokens : Piece → List Token
+piece_tokens Opening = token.Open ∷ []
+piece_tokens (Branched p) = tokens p ++ token.Or ∷ []
+piece_tokens (Part b p) = tokens p
 
-abbrev pub items_tokens : Option Pattern → List Token
-items_tokens None = []
-items_tokens (Some p) = tokens p
+abbrev pub spelled : List Piece → List Token
+spelled [] = []
+spelled (x ∷ s) = spelled s ++ piece_tokens x
 
-abbrev pub branches_tokens : Option Pattern → List Token
-branches_tokens None = []
-branches_tokens (Some p) = token.Or ∷ tokens p
-
-abbrev pub parts_tokens : Suffix → Option Pattern → Option Pattern → List Token
-parts_tokens s items branches = suffix_tokens s ++ (items_tokens items ++ branches_tokens branches)
-
-abbrev pub outer_tokens : List Frame → List Token
-outer_tokens [] = []
-outer_tokens (f ∷ outer) = token.Close ∷ (parts_tokens f.suffix f.items f.branches ++ outer_tokens outer)
-
-abbrev pub IfAny : Sort → Option Pattern → Type 0
-IfAny s None = Unit {0}
-IfAny s (Some p) = Is s p
-
-abbrev pub AreGood : List Frame → Type 0
+-- items, atoms where a sign may follow, and whole branches
+abbrev pub AreGood : List Piece → Type 0
 AreGood [] = Unit {0}
-AreGood (f ∷ outer) = IfAny Branch f.items × IfAny Whole f.branches × AreGood outer
+AreGood (Opening ∷ s) = AreGood s
+AreGood (Branched p ∷ s) = Is Branch p × IsFresh s × AreGood s
+AreGood (Part true p ∷ s) = Is Atom p × AreGood s
+AreGood (Part false p ∷ s) = Is Item p × AreGood s
 
--- the state is what these tokens lead to
-abbrev pub IsSound : Option State → List Token → Type 0
-IsSound None ts = Unit {0}
-IsSound (Some s) ts = IfAny Branch s.inner.items × IfAny Whole s.inner.branches × AreGood s.outer
-    × (ts ≡ parts_tokens s.inner.suffix s.inner.items s.inner.branches ++ outer_tokens s.outer)
+part_is : (b : Bool) (p : Pattern) (s : List Piece) → AreGood (Part b p ∷ s) → Is Item p × AreGood s
+part_is true p s h = (item_is p h.0, h.1)
+part_is false p s h = h
 
-suffix_is : (s : Suffix) (p : Pattern) → Is Atom p → Is Item (with_suffix s p)
-suffix_is Once p h = item_is p h
-suffix_is AtMostOnce p h = h
-suffix_is AnyNumber p h = h
+-- q at the end of p and what stands before, folded
+abbrev pub Folds : List Piece → List Piece → Pattern → Pattern → Type 0
+Folds s r p q = (spelled r ++ tokens q ≡ spelled s ++ tokens p) × AreGood r
 
-suffix_has : (s : Suffix) (p : Pattern) → tokens p ++ suffix_tokens s ≡ tokens (with_suffix s p)
-suffix_has Once p = append-nil (tokens p)
-suffix_has AtMostOnce p = refl
-suffix_has AnyNumber p = refl
+pub items_fold : (s : List Piece) (p : Pattern) → AreGood s → Is Branch p → Is Branch (items p s) × IsFresh (before_items s) × Folds s (before_items s) p (items p s)
+items_fold [] p good h = (h, tt, (refl, tt))
+items_fold (Opening ∷ s) p good h = (h, tt, (refl, good))
+items_fold (Branched q ∷ s) p good h = (h, tt, (refl, good))
+items_fold (Part b q ∷ s) p good h =
+    let part = part_is b q s good in
+    let rest = items_fold s (Then q p) part.1 (part.0, h) in
+    (rest.0, rest.1, (rest.2.0 ∙ sym (append_assoc (spelled s) (tokens q) (tokens p)), rest.2.1))
 
-items_are : (p : Pattern) (items : Option Pattern) → Is Item p → IfAny Branch items → Is Branch (then_items p items)
-items_are p None h k = branch_is p h
-items_are p (Some q) h k = (h, k)
+branches_fold : (s : List Piece) (p : Pattern) → AreGood s → Is Whole p → Is Whole (branches p s) × Folds s (before_branches s) p (branches p s)
+branches_fold [] p good h = (h, (refl, tt))
+branches_fold (Opening ∷ s) p good h = (h, (refl, good))
+branches_fold (Branched q ∷ s) p good h =
+    let rest = branches_fold s (Either q p) good.2 (good.0, h) in (
+      rest.0,
+      (
+        rest.1.0
+            ∙ ap (λ l. spelled s ++ l) (sym (append_assoc (tokens q) (token.Or ∷ []) (tokens p)))
+            ∙ sym (append_assoc (spelled s) (tokens q ++ token.Or ∷ []) (tokens p)),
+        rest.1.1,
+      ),
+    )
+branches_fold (Part b q ∷ s) p good h = (h, (refl, good))
 
-items_have : (p : Pattern) (items : Option Pattern) → tokens p ++ items_tokens items ≡ tokens (then_items p items)
-items_have p None = append-nil (tokens p)
-items_have p (Some q) = refl
+-- the whole pattern since the last '('
+pub whole_folds : (b : Bool) (p : Pattern) (s : List Piece) → AreGood (Part b p ∷ s)
+    → Is Whole (branches (items p s) (before_items s)) × Folds s (before_branches (before_items s)) p (branches (items p s) (before_items s))
+whole_folds b p s good =
+    let part = part_is b p s good in
+    let inner = items_fold s p part.1 (branch_is p part.0) in
+    let outer = branches_fold (before_items s) (items p s) inner.2.1 (whole_is (items p s) inner.0) in
+    (outer.0, (outer.1.0 ∙ inner.2.0, outer.1.1))
 
-whole_are : (p : Pattern) (branches : Option Pattern) → Is Branch p → IfAny Whole branches → Is Whole (or_branches p branches)
-whole_are p None h k = whole_is p h
-whole_are p (Some q) h k = (h, k)
+-- the pieces are those of the tokens
+abbrev pub Holds : Option (List Piece) → List Token → Type 0
+Holds None ts = Unit {0}
+Holds (Some s) ts = AreGood s × (spelled s ≡ ts)
 
-whole_have : (p : Pattern) (branches : Option Pattern) → tokens p ++ branches_tokens branches ≡ tokens (or_branches p branches)
-whole_have p None = append-nil (tokens p)
-whole_have p (Some q) = refl
+sign_holds : (f : Pattern → Pattern) (t : Token) (s : List Piece) → AreGood s → ((p : Pattern) → Is Atom p → Is Item (f p)) → ((p : Pattern) → tokens (f p) ≡ tokens p ++ t ∷ [])
+    → Holds (with_sign f s) (spelled s ++ t ∷ [])
+sign_holds f t [] good is has = tt
+sign_holds f t (Opening ∷ s) good is has = tt
+sign_holds f t (Branched p ∷ s) good is has = tt
+sign_holds f t (Part false p ∷ s) good is has = tt
+sign_holds f t (Part true p ∷ s) good is has =
+    ((is p good.0, good.1), ap (λ l. spelled s ++ l) (has p) ∙ sym (append_assoc (spelled s) (tokens p) (t ∷ [])))
 
--- an item before the items that were read
-item_before : (p : Pattern) (items branches : Option Pattern) (rest : List Token) →
-    tokens p ++ ((items_tokens items ++ branches_tokens branches) ++ rest) ≡ (tokens (then_items p items) ++ branches_tokens branches) ++ rest
-item_before p items branches rest =
-    sym (append_assoc (tokens p) (items_tokens items ++ branches_tokens branches) rest)
-    ∙ ap (λ l. l ++ rest) (sym (append_assoc (tokens p) (items_tokens items) (branches_tokens branches)) ∙ ap (λ l. l ++ branches_tokens branches) (items_have p items))
+pub bar_holds : (s : List Piece) → AreGood s → Holds (with_bar s) (spelled s ++ token.Or ∷ [])
+bar_holds [] good = tt
+bar_holds (Opening ∷ s) good = tt
+bar_holds (Branched p ∷ s) good = tt
+bar_holds (Part b p ∷ s) good =
+    let part = part_is b p s good in
+    let folded = items_fold s p part.1 (branch_is p part.0) in (
+      (folded.0, folded.1, folded.2.1),
+      sym (append_assoc (spelled (before_items s)) (tokens (items p s)) (token.Or ∷ [])) ∙ ap (λ l. l ++ token.Or ∷ []) folded.2.0,
+    )
 
-atom_before : (p : Pattern) (s : Suffix) (items branches : Option Pattern) (rest : List Token) →
-    tokens p ++ (parts_tokens s items branches ++ rest) ≡ (tokens (then_items (with_suffix s p) items) ++ branches_tokens branches) ++ rest
-atom_before p s items branches rest =
-    ap (λ l. tokens p ++ l) (append_assoc (suffix_tokens s) (items_tokens items ++ branches_tokens branches) rest)
-    ∙ sym (append_assoc (tokens p) (suffix_tokens s) ((items_tokens items ++ branches_tokens branches) ++ rest))
-    ∙ ap (λ l. l ++ ((items_tokens items ++ branches_tokens branches) ++ rest)) (suffix_has s p)
-    ∙ item_before (with_suffix s p) items branches rest
-
-atom_sound : (p : Pattern) (f : Frame) (outer : List Frame) (ts : List Token) → Is Atom p → IsSound (Some (record { inner = f; outer = outer })) ts
-    → IsSound (Some (record { inner = with_atom p f; outer = outer })) (tokens p ++ ts)
-atom_sound p f outer ts h k = (
-  items_are (with_suffix f.suffix p) f.items (suffix_is f.suffix p h) k.0,
-  k.1,
-  k.2,
-  ap (λ l. tokens p ++ l) k.3 ∙ atom_before p f.suffix f.items f.branches (outer_tokens outer),
+-- a group is an atom
+group_holds : (w : Pattern) (r : List Piece) (ts : List Token) → Is Whole w → AreGood r → spelled r ++ tokens w ≡ ts → Holds (with_close w r) (ts ++ token.Close ∷ [])
+group_holds w [] ts h good e = tt
+group_holds w (Branched p ∷ r) ts h good e = tt
+group_holds w (Part b p ∷ r) ts h good e = tt
+group_holds w (Opening ∷ r) ts h good e = (
+  (h, good),
+  sym (append_assoc (spelled r) (token.Open ∷ tokens w) (token.Close ∷ []))
+      ∙ ap (λ l. l ++ token.Close ∷ []) (sym (append_assoc (spelled r) (token.Open ∷ []) (tokens w)) ∙ e),
 )
 
-end_sound : (p : Pattern) (s : Suffix) (items branches : Option Pattern) (outer : List Frame) (ts : List Token) → Is Item p → IsSound (at s items branches outer) ts
-    → IsSound (with_end p s items branches outer) (tokens p ++ ts)
-end_sound p Once items branches outer ts h k =
-    (items_are p items h k.0, k.1, k.2, ap (λ l. tokens p ++ l) k.3 ∙ item_before p items branches (outer_tokens outer))
-end_sound p AtMostOnce items branches outer ts h k = tt
-end_sound p AnyNumber items branches outer ts h k = tt
+close_holds : (s : List Piece) → AreGood s → Holds (ending with_close s) (spelled s ++ token.Close ∷ [])
+close_holds [] good = tt
+close_holds (Opening ∷ s) good = tt
+close_holds (Branched p ∷ s) good = tt
+close_holds (Part b p ∷ s) good =
+    let folded = whole_folds b p s good in
+    group_holds (branches (items p s) (before_items s)) (before_branches (before_items s)) (spelled s ++ tokens p) folded.0 folded.1.1 folded.1.0
 
-sign_sound : (t : Token) (new s : Suffix) (items branches : Option Pattern) (outer : List Frame) (ts : List Token) → suffix_tokens new ≡ t ∷ [] → IsSound (at s items branches outer) ts
-    → IsSound (with_sign new s items branches outer) (t ∷ ts)
-sign_sound t new Once items branches outer ts e k =
-    (k.0, k.1, k.2, ap (λ l. t ∷ l) k.3 ∙ ap (λ l. (l ++ (items_tokens items ++ branches_tokens branches)) ++ outer_tokens outer) (sym e))
-sign_sound t new AtMostOnce items branches outer ts e k = tt
-sign_sound t new AnyNumber items branches outer ts e k = tt
+step_holds : (t : Token) (s : List Piece) → AreGood s → Holds (step s t) (spelled s ++ t ∷ [])
+step_holds (token.Point c) s good = ((tt, good), refl)
+step_holds (token.Set n) s good = ((tt, good), refl)
+step_holds token.Any s good = ((tt, good), refl)
+step_holds token.Start s good = ((tt, good), refl)
+step_holds token.End s good = ((tt, good), refl)
+step_holds token.Anchor s good = ((tt, good), refl)
+step_holds token.Open s good = (good, refl)
+step_holds token.Close s good = close_holds s good
+step_holds token.Optional s good = sign_holds Optional token.Optional s good (λ p h. h) (λ p. refl)
+step_holds token.Many s good = sign_holds Many token.Many s good (λ p h. h) (λ p. refl)
+step_holds token.Or s good = bar_holds s good
+step_holds token.Other s good = tt
 
--- a whole pattern that is followed by the rest
-abbrev pub IsWholeOf : Option Pattern → List Token → List Token → Type 0
-IsWholeOf None rest ts = Unit {0}
-IsWholeOf (Some p) rest ts = Is Whole p × (ts ≡ tokens p ++ rest)
+run_holds : (ts : List Token) (o : Option (List Piece)) (before : List Token) → Holds o before → Holds (run step o ts) (before ++ ts)
+run_holds [] o before h = subst (Holds o) (sym (append-nil before)) h
+run_holds (t ∷ ts) None before h = subst (λ o. Holds o (before ++ t ∷ ts)) (sym (run_none step ts)) tt
+run_holds (t ∷ ts) (Some s) before h =
+    subst (Holds (run step (step s t) ts)) (append_assoc before (t ∷ []) ts)
+    (run_holds ts (step s t) (before ++ t ∷ []) (subst (λ l. Holds (step s t) (l ++ t ∷ [])) h.1 (step_holds t s h.0)))
 
-closed_sound : (s : Suffix) (items branches : Option Pattern) (outer : List Frame) (ts : List Token) → IsSound (at s items branches outer) ts
-    → IsWholeOf (closed s items branches) (outer_tokens outer) ts
-closed_sound Once None branches outer ts k = tt
-closed_sound Once (Some p) branches outer ts k = (whole_are p branches k.0 k.1, k.3 ∙ ap (λ l. l ++ outer_tokens outer) (whole_have p branches))
-closed_sound AtMostOnce items branches outer ts k = tt
-closed_sound AnyNumber items branches outer ts k = tt
+-- what leads to pieces is what they spell
+pub read_holds : (ts : List Token) (s : List Piece) → run step (Some []) ts ≡ Some s → AreGood s × (spelled s ≡ ts)
+read_holds ts s e = subst (λ o. Holds o ts) e (run_holds ts (Some []) [] (tt, refl))
 
-bar_sound : (o : Option Pattern) (outer : List Frame) (ts : List Token) → AreGood outer → IsWholeOf o (outer_tokens outer) ts → IsSound (with_bar o outer) (token.Or ∷ ts)
-bar_sound None outer ts g k = tt
-bar_sound (Some p) outer ts g k = (tt, k.0, g, ap (λ l. token.Or ∷ l) k.1)
-
-open_sound : (o : Option Pattern) (outer : List Frame) (ts : List Token) → AreGood outer → IsWholeOf o (outer_tokens outer) ts → IsSound (with_open o outer) (token.Open ∷ ts)
-open_sound None outer ts g k = tt
-open_sound (Some p) [] ts g k = tt
-open_sound (Some p) (f ∷ outer) ts g k =
-    let rest : List Token = parts_tokens f.suffix f.items f.branches ++ outer_tokens outer in
-    let a = atom_sound (Group p) f outer rest k.0 (g.0, g.1, g.2, refl) in
-    (a.0, a.1, a.2, ap (λ l. token.Open ∷ l) (k.1 ∙ sym (append_assoc (tokens p) (token.Close ∷ []) rest)) ∙ a.3)
-
-step_sound : (t : Token) (f : Frame) (outer : List Frame) (ts : List Token) → IsSound (Some (record { inner = f; outer = outer })) ts
-    → IsSound (step t (record { inner = f; outer = outer })) (t ∷ ts)
-step_sound (token.Point c) f outer ts k = atom_sound (Point c) f outer ts tt k
-step_sound (token.Set n) f outer ts k = atom_sound (Set n) f outer ts tt k
-step_sound token.Any f outer ts k = atom_sound Any f outer ts tt k
-step_sound token.Start f outer ts k = end_sound Start f.suffix f.items f.branches outer ts tt k
-step_sound token.End f outer ts k = end_sound End f.suffix f.items f.branches outer ts tt k
-step_sound token.Anchor f outer ts k = end_sound Anchor f.suffix f.items f.branches outer ts tt k
-step_sound token.Optional f outer ts k = sign_sound token.Optional AtMostOnce f.suffix f.items f.branches outer ts refl k
-step_sound token.Many f outer ts k = sign_sound token.Many AnyNumber f.suffix f.items f.branches outer ts refl k
-step_sound token.Or f outer ts k = bar_sound (closed f.suffix f.items f.branches) outer ts k.2 (closed_sound f.suffix f.items f.branches outer ts k)
-step_sound token.Close f outer ts k = (tt, tt, (k.0, k.1, k.2), ap (λ l. token.Close ∷ l) k.3)
-step_sound token.Open f outer ts k = open_sound (closed f.suffix f.items f.branches) outer ts k.2 (closed_sound f.suffix f.items f.branches outer ts k)
-step_sound token.Other f outer ts k = tt
-
-stepped_sound : (t : Token) (o : Option State) (ts : List Token) → IsSound o ts → IsSound (stepped t o) (t ∷ ts)
-stepped_sound t None ts k = tt
-stepped_sound t (Some s) ts k = step_sound t s.inner s.outer ts k
-
-pub sound : (ts : List Token) → IsSound (state_of ts) ts
-sound [] = (tt, tt, tt, refl)
-sound (t ∷ ts) = stepped_sound t (state_of ts) ts (sound ts)
-
-abbrev pub IsSpelledBy : Option Pattern → List Token → Type 0
+-- a pattern at the end, if there is one
+abbrev IsSpelledBy : Option Pattern → List Token → Type 0
 IsSpelledBy None ts = Unit {0}
 IsSpelledBy (Some p) ts = SpellsPattern ts p
 
-whole_spelled : (o : Option Pattern) (ts : List Token) → IsWholeOf o [] ts → IsSpelledBy o ts
-whole_spelled None ts k = tt
-whole_spelled (Some p) ts k = (k.0, k.1 ∙ append-nil (tokens p))
+alone_spelled : (w : Pattern) (r : List Piece) (ts : List Token) → Is Whole w → spelled r ++ tokens w ≡ ts → IsSpelledBy (alone w r) ts
+alone_spelled w [] ts h e = (h, sym e)
+alone_spelled w (x ∷ r) ts h e = tt
 
-ended_sound : (f : Frame) (outer : List Frame) (ts : List Token) → IsSound (Some (record { inner = f; outer = outer })) ts → IsSpelledBy (ended f outer) ts
-ended_sound f [] ts k = whole_spelled (closed f.suffix f.items f.branches) ts (closed_sound f.suffix f.items f.branches [] ts k)
-ended_sound f (g ∷ outer) ts k = tt
+ended_spelled : (s : List Piece) → AreGood s → IsSpelledBy (ended s) (spelled s)
+ended_spelled [] good = tt
+ended_spelled (Opening ∷ s) good = tt
+ended_spelled (Branched p ∷ s) good = tt
+ended_spelled (Part b p ∷ s) good =
+    let folded = whole_folds b p s good in
+    alone_spelled (branches (items p s) (before_items s)) (before_branches (before_items s)) (spelled s ++ tokens p) folded.0 folded.1.0
 
-at_end_sound : (o : Option State) (ts : List Token) → IsSound o ts → IsSpelledBy (pattern_at o) ts
-at_end_sound None ts k = tt
-at_end_sound (Some s) ts k = ended_sound s.inner s.outer ts k
+pub pieces_spelled : (ts : List Token) (s : List Piece) (p : Pattern) → run step (Some []) ts ≡ Some s → ended s ≡ Some p → SpellsPattern ts p
+pieces_spelled ts s p e f =
+    let holds = read_holds ts s e in
+    subst (λ l. SpellsPattern l p) holds.1 (subst (λ o. IsSpelledBy o (spelled s)) f (ended_spelled s holds.0))
+
+-- ---- reading is exact
+
+pub spelled_read : (ts : List Token) (p : Pattern) → SpellsPattern ts p → pattern_of ts ≡ Some p
+unfolding pattern_of
+spelled_read ts p h = let read = spelled_pieces ts p h in ap pattern_at read.0 ∙ read.1
 
 pub read_spelled : (ts : List Token) (p : Pattern) → pattern_of ts ≡ Some p → SpellsPattern ts p
 unfolding pattern_of
-read_spelled ts p e = let P : Option Pattern → Type 0 = λ o. IsSpelledBy o ts in subst P e (at_end_sound (state_of ts) ts (sound ts))
+read_spelled ts p e = by (run step (Some []) ts) refl e
+  where
+    by : (o : Option (List Piece)) → run step (Some []) ts ≡ o → pattern_at o ≡ Some p → SpellsPattern ts p
+    by None at f = absurd (let clash : None ≡ Some p = f in cc)
+    by (Some s) at f = pieces_spelled ts s p at f
 
 some_one : (o : Option Pattern) (p q : Pattern) → o ≡ Some p → o ≡ Some q → p ≡ q
 some_one o p q e f = cc

@@ -23,42 +23,43 @@ use Rattle.ruleset_text.specs.Tokens.{without_prefix}
 use Rattle.ruleset_text.proofs.HexLemmas.{hex_facts, point_of_hex-text}
 use Rattle.ruleset_text.proofs.PointLemmas.{point_word, without_prefix-hex}
 use Rattle.ruleset_text.proofs.TextLemmas.{IsApart, word_lexeme}
+use Rattle.idn_class.specs.declared.properties.Properties.{Properties}
 
 -- ---- a code point of the three classes is a scalar value
 
 no_scalar : (c : ℕ) → is_scalar_value c ≡ false → is_scalar c ≡ false
 no_scalar c h = is_scalar-out c (grind (arith, nat_tests))
 
-pub scalar_of_class : (c : ℕ) → is_bad_point c ≡ false → is_scalar_value c ≡ true
-scalar_of_class c h = by_cases (is_scalar_value c) refl
+pub scalar_of_class : (properties : Properties) (c : ℕ) → is_bad_point properties c ≡ false → is_scalar_value c ≡ true
+scalar_of_class properties c h = by_cases (is_scalar_value c) refl
   where
     by_cases : (b : Bool) → is_scalar_value c ≡ b → is_scalar_value c ≡ true
     by_cases true e = e
-    by_cases false e = (let f : true ≡ false = sym (not-false (is_label_class (class_of c)) h) ∙ ap is_label_class (class_of-no_scalar c (no_scalar c e)) in absurd (cc))
+    by_cases false e = (let f : true ≡ false = sym (not-false (is_label_class (class_of properties c)) h) ∙ ap is_label_class (class_of-no_scalar properties c (no_scalar c e)) in absurd (cc))
 
-pub has_points : (p : Pattern) → has_bad_point p ≡ false → HasPoints p
-has_points (Point c) h = scalar_of_class c h
-has_points (Set n) h = tt
-has_points Any h = tt
-has_points Start h = tt
-has_points End h = tt
-has_points Anchor h = tt
-has_points (Group p) h = has_points p h
-has_points (Optional p) h = has_points p h
-has_points (Many p) h = has_points p h
-has_points (Then p q) h = let parts = or_parts (has_bad_point p) (has_bad_point q) h in (has_points p parts.0, has_points q parts.1)
-has_points (Either p q) h = let parts = or_parts (has_bad_point p) (has_bad_point q) h in (has_points p parts.0, has_points q parts.1)
+pub has_points : (properties : Properties) (p : Pattern) → has_bad_point properties p ≡ false → HasPoints p
+has_points properties (Point c) h = scalar_of_class properties c h
+has_points properties (Set n) h = tt
+has_points properties Any h = tt
+has_points properties Start h = tt
+has_points properties End h = tt
+has_points properties Anchor h = tt
+has_points properties (Group p) h = has_points properties p h
+has_points properties (Optional p) h = has_points properties p h
+has_points properties (Many p) h = has_points properties p h
+has_points properties (Then p q) h = let parts = or_parts (has_bad_point properties p) (has_bad_point properties q) h in (has_points properties p parts.0, has_points properties q parts.1)
+has_points properties (Either p q) h = let parts = or_parts (has_bad_point properties p) (has_bad_point properties q) h in (has_points properties p parts.0, has_points properties q parts.1)
 
 -- the ends of each span are scalar values
 abbrev pub HaveScalars : List Span → Type 0
 HaveScalars spans = AllByRecursion (λ s. IsTrue (is_scalar_value s.first) × IsTrue (is_scalar_value s.last)) spans
 
-pub have_scalars : (spans : List Span) → has_bad_end spans ≡ false → HaveScalars spans
-have_scalars [] h = tt
-have_scalars (s ∷ spans) h =
-    let parts = or_parts (is_bad_span s) (has_bad_end spans) h in
-    let ends = or_parts (is_bad_point s.first) (is_bad_point s.last) parts.0 in
-    ((scalar_of_class s.first ends.0, scalar_of_class s.last ends.1), have_scalars spans parts.1)
+pub have_scalars : (properties : Properties) (spans : List Span) → has_bad_end properties spans ≡ false → HaveScalars spans
+have_scalars properties [] h = tt
+have_scalars properties (s ∷ spans) h =
+    let parts = or_parts (is_bad_span properties s) (has_bad_end properties spans) h in
+    let ends = or_parts (is_bad_point properties s.first) (is_bad_point properties s.last) parts.0 in
+    ((scalar_of_class properties s.first ends.0, scalar_of_class properties s.last ends.1), have_scalars properties spans parts.1)
 
 -- ---- words
 
@@ -201,9 +202,9 @@ fold : (spans : List Span) → Rise spans → Folds spans
 fold [] rise before h go some = end_of before h go some
 fold (s ∷ spans) rise before h go some = fold_one s spans before h (eqb s.first s.last) refl rise go (fold spans rise.2)
 
-pub spans_back : (spans : List Span) → 0 < length spans → Rise spans → has_bad_end spans ≡ false → spans_in (lexemes (spans_text spans)) ≡ Some spans
+pub spans_back : (properties : Properties) (spans : List Span) → 0 < length spans → Rise spans → has_bad_end properties spans ≡ false → spans_in (lexemes (spans_text spans)) ≡ Some spans
 unfolding spans_in
-spans_back [] some rise good = absurd (omega (arith, some))
-spans_back (s ∷ spans) some rise good =
-    ap (λ ps. spans_at (state_after (Some (state [] (held.Above 0))) ps)) (spans_go (s ∷ spans) (have_scalars (s ∷ spans) good))
+spans_back properties [] some rise good = absurd (omega (arith, some))
+spans_back properties (s ∷ spans) some rise good =
+    ap (λ ps. spans_at (state_after (Some (state [] (held.Above 0))) ps)) (spans_go (s ∷ spans) (have_scalars properties (s ∷ spans) good))
     ∙ fold (s ∷ spans) rise [] (held.Above 0) (omega arith) some

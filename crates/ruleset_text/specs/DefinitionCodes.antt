@@ -7,6 +7,8 @@ use Rattle.label_patterns.specs.Patterns.{Pattern, Point, Set, Any, Start, End, 
 use Rattle.ruleset_text.specs.declared.definition.DemandKind.{DemandKind}
 use Rattle.ruleset_text.specs.declared.definition.DemandKind.TheVariants.{Never, Always}
 use Rattle.ruleset_text.specs.Definitions.{Demand, Definitions}
+use Rattle.idn_class.specs.declared.properties.Properties.{Properties}
+use Rattle.idn_class.specs.declared.properties.Properties.TheVariants.{Profile, Unicode}
 
 -- ---- patterns, each part before what it is a part of
 
@@ -103,6 +105,23 @@ kind_code = code_by Bool coded_bool is_never kind_from kind_back
 abbrev pub demand_code : Coded Demand
 demand_code = code_by (DemandKind × Pattern) (coded× kind_code pattern_code) (λ d. (d.kind, d.pattern)) (λ p. record { kind = p.0; pattern = p.1 }) (λ _. refl)
 
+-- ---- properties
+
+abbrev pub is_profile : Properties → Bool
+is_profile Profile = true
+is_profile Unicode = false
+
+abbrev pub properties_from : Bool → Properties
+properties_from true = Profile
+properties_from false = Unicode
+
+pub properties_back : (properties : Properties) → properties_from (is_profile properties) ≡ properties
+properties_back Profile = refl
+properties_back Unicode = refl
+
+abbrev pub properties_code : Coded Properties
+properties_code = code_by Bool coded_bool is_profile properties_from properties_back
+
 -- ---- all definitions
 
 abbrev pub names_code : Coded (List (List ℕ))
@@ -110,8 +129,8 @@ names_code = coded_list (coded_list coded_ℕ)
 
 abbrev pub definitions_code : Coded Definitions
 definitions_code =
-    code_by (List (List ℕ) × (List (List ℕ) × (List (List Span) × (List (List ℕ) × (List Pattern × List Demand)))))
-    (coded× names_code (coded× names_code (coded× (coded_list (coded_list span_code)) (coded× names_code (coded× (coded_list pattern_code) (coded_list demand_code))))))
-    (λ d. (d.tags, (d.set_names, (d.sets, (d.rule_names, (d.rules, d.demands))))))
-    (λ t. record { tags = t.0; set_names = t.1.0; sets = t.1.1.0; rule_names = t.1.1.1.0; rules = t.1.1.1.1.0; demands = t.1.1.1.1.1 })
+    code_by (Properties × (List (List ℕ) × (List (List ℕ) × (List (List Span) × (List (List ℕ) × (List Pattern × List Demand))))))
+    (coded× properties_code (coded× names_code (coded× names_code (coded× (coded_list (coded_list span_code)) (coded× names_code (coded× (coded_list pattern_code) (coded_list demand_code)))))))
+    (λ d. (d.properties, (d.tags, (d.set_names, (d.sets, (d.rule_names, (d.rules, d.demands)))))))
+    (λ t. record { properties = t.0; tags = t.1.0; set_names = t.1.1.0; sets = t.1.1.1.0; rule_names = t.1.1.1.1.0; rules = t.1.1.1.1.1.0; demands = t.1.1.1.1.1.1 })
     (λ _. refl)

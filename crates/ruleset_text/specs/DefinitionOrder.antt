@@ -6,7 +6,7 @@ use Rattle.ruleset_text.specs.declared.fault.DefinitionFault.{DefinitionFault}
 use Rattle.ruleset_text.specs.declared.fault.DefinitionFault.TheVariants.{Syntax, Limit, NoSuchName, BadClass, SameName}
 use Rattle.ruleset_text.specs.declared.keyword.Keyword.{Keyword}
 use Rattle.ruleset_text.specs.declared.keyword.Keyword.TheVariants as keyword
-use Rattle.ruleset_text.specs.declared.rules.Sign.TheVariants as sign
+use Rattle.ruleset_text.specs.Signs as sign
 use Rattle.ruleset_text.specs.Definition as definition
 use Rattle.ruleset_text.specs.Definition.{Definition}
 use Rattle.ruleset_text.specs.Definitions.{Definitions, is_over_limit, has_known_sets, has_bad_class, has_same_name}
@@ -71,7 +71,7 @@ abbrev pub Holds : ℕ → Definitions → Keyword → List (List ℕ) → Defin
 Holds limit d k words no_form = (x : Definition) → SpellsDefinition (names_on d.set_names words) k words x → ⊥
 Holds limit d k words over_limit = IsSuch (names_on d.set_names words) k words (is_over_limit limit d (names_on d.set_names words))
 Holds limit d k words no_such_name = IsSuch (names_on d.set_names words) k words (λ x. not (has_known_sets (length d.sets) x))
-Holds limit d k words bad_class = IsSuch (names_on d.set_names words) k words has_bad_class
+Holds limit d k words bad_class = IsSuch (names_on d.set_names words) k words (has_bad_class d.properties)
 Holds limit d k words same_name = IsSuch (names_on d.set_names words) k words (has_same_name d)
 
 -- the fault of the first condition that holds

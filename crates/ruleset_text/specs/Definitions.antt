@@ -15,15 +15,17 @@ use Rattle.ruleset_text.specs.Lexemes.{lexemes}
 use Rattle.ruleset_text.specs.Limits.{groups, stars, atoms, has_its_sets}
 use Rattle.ruleset_text.specs.Names.{is_one_of}
 use Rattle.ruleset_text.specs.SetNames.{names_on}
+use Rattle.idn_class.specs.declared.properties.Properties.{Properties}
 
 -- a demand on each label
 pub record Demand : Type 0 where
   pub kind : DemandKind
   pub pattern : Pattern
 
--- the names of the tags; the sets and their names, by number; the rules and their names, by number; the demands. Each in the
--- order of the lines that define them
+-- whose classes are asked; the names of the tags; the sets and their names, by number; the rules and their names, by number;
+-- the demands. Each in the order of the lines that define them
 pub record Definitions : Type 0 where
+  pub properties : Properties
   pub tags : List (List ℕ)
   pub set_names : List (List ℕ)
   pub sets : List (List Span)
@@ -31,8 +33,8 @@ pub record Definitions : Type 0 where
   pub rules : List Pattern
   pub demands : List Demand
 
-abbrev pub nothing_defined : Definitions
-nothing_defined = record { tags = []; set_names = []; sets = []; rule_names = []; rules = []; demands = [] }
+abbrev pub nothing_defined : Properties → Definitions
+nothing_defined properties = record { properties = properties; tags = []; set_names = []; sets = []; rule_names = []; rules = []; demands = [] }
 
 -- ---- all of them, in the order of canonical text
 
@@ -120,11 +122,11 @@ has_known_sets n (definition.Rule name contexts) = has_its_sets n contexts
 has_known_sets n (definition.Demand kind p) = has_its_sets n p
 
 -- a code point is written in it that no label has
-abbrev pub has_bad_class : Definition → Bool
-has_bad_class (definition.Tag name) = false
-has_bad_class (definition.Set name spans) = has_bad_end spans
-has_bad_class (definition.Rule name contexts) = has_bad_point contexts
-has_bad_class (definition.Demand kind p) = has_bad_point p
+abbrev pub has_bad_class : Properties → Definition → Bool
+has_bad_class properties (definition.Tag name) = false
+has_bad_class properties (definition.Set name spans) = has_bad_end properties spans
+has_bad_class properties (definition.Rule name contexts) = has_bad_point properties contexts
+has_bad_class properties (definition.Demand kind p) = has_bad_point properties p
 
 -- its name is that of a tag, a set or a rule
 abbrev pub has_same_name : Definitions → Definition → Bool
@@ -147,7 +149,7 @@ with_definition limit d names None = Err Syntax
 with_definition limit d names (Some x) =
     if is_over_limit limit d names x then Err Limit else
     if not (has_known_sets (length d.sets) x) then Err NoSuchName else
-    if has_bad_class x then Err BadClass else
+    if has_bad_class d.properties x then Err BadClass else
     if has_same_name d x then Err SameName else
     Ok (added d x)
 

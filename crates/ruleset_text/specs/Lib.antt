@@ -1,9 +1,15 @@
+-- The definitions that contracts cite.
 pub mod Grammar
+pub mod Stops
 pub mod Reading
-pub mod Frames
+pub mod Pieces
+pub mod PatternSigns
+pub mod PatternPlaces
 pub mod Limits
+pub mod Signs
 pub mod Rules
 pub mod Lexemes
+pub mod PlacedLexemes
 pub mod Names
 pub mod SetNames
 pub mod SpanWords

@@ -1,96 +1,84 @@
--- Reading a pattern from its last token to its first: then each item comes before those after it, as in the tree.
-use Rattle.std.specs.Prelude.{List, [], ◌∷◌, Option, Some, None}
+-- Reading a pattern from its first token to its last. What isn't complete is kept in pieces, the last one first.
+use Rattle.std.specs.Prelude.{Bool, true, false, Option, Some, None, List, [], ◌∷◌}
 use Rattle.ruleset_text.specs.declared.token.Token.{Token}
 use Rattle.ruleset_text.specs.declared.token.Token.TheVariants as token
-use Rattle.ruleset_text.specs.declared.reading.Suffix.{Suffix}
-use Rattle.ruleset_text.specs.declared.reading.Suffix.TheVariants.{Once, AtMostOnce, AnyNumber}
+use Rattle.ruleset_text.specs.Stops.{run}
 use Rattle.label_patterns.specs.Patterns.{Pattern, Point, Set, Any, Start, End, Anchor, Group, Optional, Many, Then, Either}
 
--- what was read of a group that isn't complete: the sign before which an atom has to stand; the items after it, of the branch
--- that is being read; the branches after that one
-pub record Frame : Type 0 where
-  pub suffix : Suffix
-  pub items : Option Pattern
-  pub branches : Option Pattern
+pub data Piece : Type 0 where
+  -- '('
+  Opening : Piece
+  -- a branch, and the '/' after it
+  Branched : Pattern → Piece
+  -- an item, and whether '?' or '*' may follow it
+  Part : Bool → Pattern → Piece
 
--- the group that is being read, and those around it
-pub record State : Type 0 where
-  pub inner : Frame
-  pub outer : List Frame
+-- the items with which pieces end, before p, and the pieces before them
+abbrev pub items : Pattern → List Piece → Pattern
+items p (Part b q ∷ s) = items (Then q p) s
+items p s = p
 
-abbrev pub nothing : Frame
-nothing = record { suffix = Once; items = None; branches = None }
+abbrev pub before_items : List Piece → List Piece
+before_items (Part b q ∷ s) = before_items s
+before_items s = s
 
-abbrev pub then_items : Pattern → Option Pattern → Pattern
-then_items p None = p
-then_items p (Some q) = Then p q
+-- the same of branches
+abbrev pub branches : Pattern → List Piece → Pattern
+branches p (Branched q ∷ s) = branches (Either q p) s
+branches p s = p
 
-abbrev pub or_branches : Pattern → Option Pattern → Pattern
-or_branches p None = p
-or_branches p (Some q) = Either p q
+abbrev pub before_branches : List Piece → List Piece
+before_branches (Branched q ∷ s) = before_branches s
+before_branches s = s
 
-abbrev pub with_suffix : Suffix → Pattern → Pattern
-with_suffix Once p = p
-with_suffix AtMostOnce p = Optional p
-with_suffix AnyNumber p = Many p
+-- what f makes of the whole pattern since the last '(', which ends in an item, and of the pieces before it
+abbrev pub ending : {X : Type 0} → (Pattern → List Piece → Option X) → List Piece → Option X
+ending f (Part b p ∷ s) = f (branches (items p s) (before_items s)) (before_branches (before_items s))
+ending f s = None
 
--- the frame with an atom, and with '^' or '$'
-abbrev pub with_atom : Pattern → Frame → Frame
-with_atom p f = record { suffix = Once; items = Some (then_items (with_suffix f.suffix p) f.items); branches = f.branches }
+-- '?' or '*' after an atom
+abbrev pub with_sign : (Pattern → Pattern) → List Piece → Option (List Piece)
+with_sign f (Part true p ∷ s) = Some (Part false (f p) ∷ s)
+with_sign f s = None
 
-abbrev pub with_end : Pattern → Suffix → Option Pattern → Option Pattern → List Frame → Option State
-with_end p Once items branches outer = Some (record { inner = record { suffix = Once; items = Some (then_items p items); branches = branches }; outer = outer })
-with_end p s items branches outer = None
+-- '/' after a branch
+abbrev pub with_bar : List Piece → Option (List Piece)
+with_bar (Part b p ∷ s) = Some (Branched (items p s) ∷ before_items s)
+with_bar s = None
 
-abbrev pub with_sign : Suffix → Suffix → Option Pattern → Option Pattern → List Frame → Option State
-with_sign new Once items branches outer = Some (record { inner = record { suffix = new; items = items; branches = branches }; outer = outer })
-with_sign new s items branches outer = None
+-- ')' after a whole pattern before which '(' stands
+abbrev pub with_close : Pattern → List Piece → Option (List Piece)
+with_close p (Opening ∷ s) = Some (Part true (Group p) ∷ s)
+with_close p s = None
 
--- the whole pattern of a frame, where it is complete
-abbrev pub closed : Suffix → Option Pattern → Option Pattern → Option Pattern
-closed Once (Some p) branches = Some (or_branches p branches)
-closed s items branches = None
+-- the pieces with a token more, if it may stand there
+abbrev pub step : List Piece → Token → Option (List Piece)
+step s (token.Point c) = Some (Part true (Point c) ∷ s)
+step s (token.Set n) = Some (Part true (Set n) ∷ s)
+step s token.Any = Some (Part true Any ∷ s)
+step s token.Start = Some (Part false Start ∷ s)
+step s token.End = Some (Part false End ∷ s)
+step s token.Anchor = Some (Part false Anchor ∷ s)
+step s token.Open = Some (Opening ∷ s)
+step s token.Close = ending with_close s
+step s token.Optional = with_sign Optional s
+step s token.Many = with_sign Many s
+step s token.Or = with_bar s
+step s token.Other = None
 
-abbrev pub with_bar : Option Pattern → List Frame → Option State
-with_bar (Some p) outer = Some (record { inner = record { suffix = Once; items = None; branches = Some p }; outer = outer })
-with_bar None outer = None
+-- a whole pattern before which nothing stands
+abbrev pub alone : Pattern → List Piece → Option Pattern
+alone p [] = Some p
+alone p (x ∷ s) = None
 
-abbrev pub with_open : Option Pattern → List Frame → Option State
-with_open (Some p) (f ∷ outer) = Some (record { inner = with_atom (Group p) f; outer = outer })
-with_open p outer = None
+-- the pattern that pieces are, if nothing is left open
+abbrev pub ended : List Piece → Option Pattern
+ended s = ending alone s
 
--- the state with a token before what was read
-abbrev pub step : Token → State → Option State
-step (token.Point c) s = Some (record { inner = with_atom (Point c) s.inner; outer = s.outer })
-step (token.Set n) s = Some (record { inner = with_atom (Set n) s.inner; outer = s.outer })
-step token.Any s = Some (record { inner = with_atom Any s.inner; outer = s.outer })
-step token.Start s = with_end Start s.inner.suffix s.inner.items s.inner.branches s.outer
-step token.End s = with_end End s.inner.suffix s.inner.items s.inner.branches s.outer
-step token.Anchor s = with_end Anchor s.inner.suffix s.inner.items s.inner.branches s.outer
-step token.Optional s = with_sign AtMostOnce s.inner.suffix s.inner.items s.inner.branches s.outer
-step token.Many s = with_sign AnyNumber s.inner.suffix s.inner.items s.inner.branches s.outer
-step token.Or s = with_bar (closed s.inner.suffix s.inner.items s.inner.branches) s.outer
-step token.Close s = Some (record { inner = nothing; outer = s.inner ∷ s.outer })
-step token.Open s = with_open (closed s.inner.suffix s.inner.items s.inner.branches) s.outer
-step token.Other s = None
-
-abbrev pub stepped : Token → Option State → Option State
-stepped t None = None
-stepped t (Some s) = step t s
-
--- the state after which nothing is left to read, and after these tokens
-abbrev pub state_of : List Token → Option State
-state_of [] = Some (record { inner = nothing; outer = [] })
-state_of (t ∷ ts) = stepped t (state_of ts)
-
-abbrev pub ended : Frame → List Frame → Option Pattern
-ended f [] = closed f.suffix f.items f.branches
-ended f (g ∷ outer) = None
-
-abbrev pub pattern_at : Option State → Option Pattern
+abbrev pub pattern_at : Option (List Piece) → Option Pattern
 pattern_at None = None
-pattern_at (Some s) = ended s.inner s.outer
+pattern_at (Some s) = ended s
 
 -- the pattern that tokens spell, if they spell one
 unfoldable pub pattern_of : List Token → Option Pattern
-pattern_of ts = pattern_at (state_of ts)
+pattern_of ts = pattern_at (run step (Some []) ts)

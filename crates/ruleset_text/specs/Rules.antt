@@ -1,7 +1,7 @@
 -- What a pattern needs to be one of a demand or the contexts of a rule.
 use Rattle.std.specs.Prelude.{Bool, true, false, ◌||◌, ◌&&◌, not, if◌then◌else◌}
-use Rattle.ruleset_text.specs.declared.rules.Sign.{Sign}
-use Rattle.ruleset_text.specs.declared.rules.Sign.TheVariants as sign
+use Rattle.ruleset_text.specs.Signs.{Sign}
+use Rattle.ruleset_text.specs.Signs as sign
 use Rattle.label_patterns.specs.Patterns.{Pattern, Point, Set, Any, Start, End, Anchor, Group, Optional, Many, Then, Either}
 
 abbrev pub is_end : Sign → Bool

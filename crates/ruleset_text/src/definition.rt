@@ -10,6 +10,7 @@ use crate::canonical::{push_byte, push_bytes, push_pattern, push_spans};
 use crate::classes::{has_bad_end, has_bad_point};
 use crate::limits::has_its_sets;
 use crate::names::Name;
+use idn_class::Properties;
 use label_patterns::{PatternTree, PointSet};
 use std::alloc::{AllocError, Global};
 
@@ -116,13 +117,17 @@ pub fn has_known_sets(definition: &Definition, count: usize) -> bool
 }
 
 /// Whether a code point is written in it whose class no label can have.
-pub fn has_bad_class(alloc: Global, definition: &Definition) -> Result<bool, AllocError>
-    ensures { IfOk result (λ bad. bad ≡ definitions.has_bad_class (trees.definition definition.now)) }
+pub fn has_bad_class(
+    alloc: Global,
+    definition: &Definition,
+    properties: Properties,
+) -> Result<bool, AllocError>
+    ensures { IfOk result (λ bad. bad ≡ definitions.has_bad_class properties (trees.definition definition.now)) }
 {
     match definition {
         Definition::Tag(_) => Ok(false),
-        Definition::Set(_, set) => has_bad_end(alloc, set),
-        Definition::Rule(_, contexts) => has_bad_point(alloc, contexts),
-        Definition::Demand(_, pattern) => has_bad_point(alloc, pattern),
+        Definition::Set(_, set) => has_bad_end(alloc, set, properties),
+        Definition::Rule(_, contexts) => has_bad_point(alloc, contexts, properties),
+        Definition::Demand(_, pattern) => has_bad_point(alloc, pattern, properties),
     }
 }

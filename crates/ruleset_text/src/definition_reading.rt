@@ -14,9 +14,7 @@ use crate::keyword::Keyword;
 use crate::lexemes::next_lexeme;
 use crate::names::{Name, is_name};
 use crate::reading::read_pattern;
-use crate::rules::{Sign, has, is_rule};
 use crate::spans::read_spans;
-use crate::tokens::read_tokens;
 use label_patterns::PatternTree;
 use std::alloc::{AllocError, Global};
 
@@ -114,15 +112,7 @@ pub fn read_demand(
 ) -> Result<Option<PatternTree>, AllocError>
     ensures { IfOk result (λ found. demand_of sets.now text.now ≡ option_map pattern found) }
 {
-    let tokens = read_tokens(alloc, sets, text)?;
-    let Some(tree) = read_pattern(alloc, &tokens)? else {
-        return Ok(None);
-    };
-    Ok(if has(Sign::Anchor, &tree) {
-        None
-    } else {
-        Some(tree)
-    })
+    Ok(read_pattern(alloc, false, sets, text)?.ok())
 }
 
 /// The contexts of a rule, which the text after its name spells, or none if it spells none.
@@ -133,9 +123,5 @@ pub fn read_contexts(
 ) -> Result<Option<PatternTree>, AllocError>
     ensures { IfOk result (λ found. contexts_of sets.now text.now ≡ option_map pattern found) }
 {
-    let tokens = read_tokens(alloc, sets, text)?;
-    let Some(tree) = read_pattern(alloc, &tokens)? else {
-        return Ok(None);
-    };
-    Ok(if is_rule(&tree) { Some(tree) } else { None })
+    Ok(read_pattern(alloc, true, sets, text)?.ok())
 }

@@ -25,6 +25,7 @@ use crate::limits::{
     is_within, without_atoms,
 };
 use crate::names::{Name, copied_names, is_one_of};
+use idn_class::Properties;
 use label_patterns::{PatternTree, PointSet};
 use std::alloc::{AllocError, Global};
 use std::marker::Model;
@@ -39,6 +40,8 @@ pub struct Demand {
 /// What the lines of a ruleset define so far. A set goes by its number, and so does a rule.
 #[derive(Drop)]
 pub struct Definitions {
+    /// Whose classes are asked.
+    properties: Properties,
     tags: Vec<Name>,
     set_names: Vec<Name>,
     sets: Vec<PointSet>,
@@ -68,10 +71,11 @@ impl Model for Definitions {
 
 impl Definitions {
     /// No definition yet.
-    pub fn new(alloc: Global) -> Self
-        ensures { result ≡ nothing_defined }
+    pub fn new(alloc: Global, properties: Properties) -> Self
+        ensures { result ≡ nothing_defined properties }
     {
         Definitions {
+            properties,
             tags: Vec::new(alloc),
             set_names: Vec::new(alloc),
             sets: Vec::new(alloc),
@@ -88,6 +92,7 @@ impl Definitions {
         ensures { IfOk result (λ copy. copy ≡ self.now) }
     {
         Ok(Definitions {
+            properties: self.properties,
             tags: copied_names(alloc, &self.tags)?,
             set_names: copied_names(alloc, &self.set_names)?,
             sets: copied_sets(alloc, &self.sets)?,
@@ -97,6 +102,13 @@ impl Definitions {
             atoms_left: self.atoms_left,
             written: self.written,
         })
+    }
+
+    /// Whose classes are asked.
+    pub fn properties(&self) -> Properties
+        ensures { result ≡ self.now.properties }
+    {
+        self.properties
     }
 
     /// The names of the tags.
@@ -193,7 +205,7 @@ impl Definitions {
         if !has_known_sets(&line.definition, self.sets().len()) {
             return Err(DefinitionFault::NoSuchName);
         }
-        if has_bad_class(alloc, &line.definition)? {
+        if has_bad_class(alloc, &line.definition, self.properties())? {
             return Err(DefinitionFault::BadClass);
         }
         if self.has_same_name(&line.definition) {

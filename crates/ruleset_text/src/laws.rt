@@ -25,6 +25,7 @@ ghost use Rattle.ruleset_text.specs.SpanWords.{SpellSet};
 ghost use Rattle.ruleset_text.specs.Spans.{span, spans_in, spans_of};
 ghost use Rattle.ruleset_text.specs.Tokens.{tokens_of};
 ghost use Rattle.ruleset_text.specs.WellFormed.{AreDefinitions};
+ghost use Rattle.idn_class.specs.declared.properties.Properties.TheVariants.{Profile};
 
 /// The function that reads a pattern tells exactly what the grammar says; so tokens spell one pattern at most.
 pub fn reading_a_pattern_is_exact()
@@ -58,14 +59,14 @@ pub fn canonical_text_is_read_back()
 
 /// What lines define has no fault: none is in what no line defines, and a line adds none.
 pub fn what_lines_define_has_no_fault()
-    ensures nothing { AreDefinitions nothing_defined }
+    ensures nothing { AreDefinitions (nothing_defined Profile) }
     ensures more { (d e : Definitions) (limit : ℕ) (keyword : Keyword) (words : List (List ℕ)) → AreDefinitions d → defined limit d keyword words ≡ Ok e → AreDefinitions e }
 {}
 
 /// Definitions without a fault are read back from their canonical lines, where the canonical text may have as many bytes
 /// as these.
 pub fn canonical_lines_are_read_back()
-    ensures { (d : Definitions) (limit : ℕ) → AreDefinitions d → canonical_size d ≤ limit → with_lines limit nothing_defined (canonical_lines d) ≡ Ok d }
+    ensures { (d : Definitions) (limit : ℕ) → AreDefinitions d → canonical_size d ≤ limit → with_lines limit (nothing_defined d.properties) (canonical_lines d) ≡ Ok d }
 {}
 
 /// Examples, which the definitions compute; one set is defined, with the name A.

@@ -18,9 +18,11 @@ mod laws;
 mod lexemes;
 mod limits;
 mod names;
+mod pieces;
+mod placed;
 mod reading;
-mod rules;
 mod set_names;
+mod signs;
 mod spans;
 mod token;
 mod tokens;
@@ -47,7 +49,9 @@ pub use limits::{
     is_within, without_atoms,
 };
 pub use names::{Name, is_name, is_one_of, number_of};
+pub use placed::PlacedLexemes;
 pub use set_names::set_name;
+pub use signs::Signs;
 pub use spans::{Held, SpanPart, part_of, read_spans};
 pub use token::Token;
 pub use tokens::{token_of, without_prefix};

@@ -1,230 +1,86 @@
-//! Reading patterns, from the last token to the first.
-ghost use Rattle.std.specs.Prelude.{◌≡◌, List, IfOk, MatchOption};
+//! Reading a pattern from its first lexeme to its last.
+ghost use Rattle.std.specs.Prelude.{◌≡◌, ◌+◌, ◌<◌, ◌≤◌, ◌^◌, true, IfOk, IfErr};
 ghost use Rattle.std.specs.Option.{option_map};
-ghost use Rattle.ruleset_text.specs.Reading as read;
-ghost use Rattle.ruleset_text.specs.Reading.{State, pattern_of};
-ghost use Rattle.label_patterns.specs.Patterns.{Pattern};
-ghost use Rattle.ruleset_text.specs.Grammar.{SpellsPattern};
 ghost use Rattle.label_patterns.specs.Trees.{pattern};
-ghost use Rattle.ruleset_text.specs.Frames.{frame, frames, state};
+ghost use Rattle.ruleset_text.specs.Grammar.{SpellsPattern};
+ghost use Rattle.ruleset_text.specs.Tokens.{tokens_of};
+ghost use Rattle.ruleset_text.specs.PatternPlaces.{IsPatternStop, is_used};
+ghost use Rattle.ruleset_text.specs.PatternSigns as words;
+ghost use Rattle.ruleset_text.specs.Pieces.{state, taken_as};
 
+use crate::names::Name;
+use crate::pieces::{Piece, ended, step};
+use crate::placed::PlacedLexemes;
+use crate::signs::Signs;
 use crate::token::Token;
+use crate::tokens::token_of;
 use label_patterns::PatternTree;
 use std::alloc::{AllocError, Global};
 
-/// `?`, `*` or nothing, where the atom before it isn't read yet.
-#[derive(Clone, Copy, Debug, PartialEq, Eq)]
-pub enum Suffix {
-    Once,
-    AtMostOnce,
-    AnyNumber,
-}
-
-/// What was read of a group that isn't complete.
-#[derive(Drop)]
-pub struct Frame {
-    suffix: Suffix,
-    items: Option<PatternTree>,
-    branches: Option<PatternTree>,
-}
-
-/// The pattern that tokens spell, if they spell one.
-pub fn read_pattern(alloc: Global, tokens: &[Token]) -> Result<Option<PatternTree>, AllocError>
-    ensures { IfOk result (λ found. pattern_of tokens.now ≡ option_map pattern found) }
-{
-    let mut inner = nothing();
-    let mut outer = Vec::new(alloc);
-    let mut place = tokens.len();
-    while place > 0 {
-        place -= 1;
-        let token = tokens[place];
-        let Some(next) = step(alloc, token, inner, &mut outer)? else {
-            return Ok(None);
-        };
-        inner = next;
-    }
-    ended(alloc, inner, &outer)
-}
-
-/// The pattern, if the state is one at the front of a whole pattern.
-fn ended(alloc: Global, inner: Frame, outer: &Vec<Frame>) -> Result<Option<PatternTree>, AllocError>
-    ensures { IfOk result (λ found. read.ended (frame inner) (frames outer.now.items) ≡ option_map pattern found) }
-{
-    if outer.is_empty() {
-        closed(alloc, inner)
-    } else {
-        Ok(None)
-    }
-}
-
-fn nothing() -> Frame
-    ensures { frame result ≡ read.nothing }
-{
-    Frame {
-        suffix: Suffix::Once,
-        items: None,
-        branches: None,
-    }
-}
-
-/// The state with a token before what was read.
-fn step(
+/// The pattern of a rule or of a demand that a line spells, or the byte at which it stops being one.
+pub fn read_pattern(
     alloc: Global,
+    is_rule: bool,
+    names: &[Name],
+    line: &[u8],
+) -> Result<Result<PatternTree, usize>, AllocError>
+    ensures pattern { IfOk result (λ read. IfOk read (λ tree. SpellsPattern (tokens_of names.now line.now) (pattern tree) × (is_used is_rule (pattern tree) ≡ true))) }
+    ensures place { IfOk result (λ read. IfErr read (IsPatternStop is_rule names.now line.now)) }
+{
+    let mut pieces = Vec::new(alloc);
+    let mut signs = Signs::new();
+    let mut lexemes = PlacedLexemes::new(line);
+    while let Some((place, lexeme)) = lexemes.next() {
+        if !take(
+            alloc,
+            is_rule,
+            &mut pieces,
+            &mut signs,
+            token_of(names, lexeme),
+        )? {
+            return Ok(Err(place));
+        }
+    }
+    match pattern_of(alloc, is_rule, pieces, signs)? {
+        Some(tree) => Ok(Ok(tree)),
+        None => Ok(Err(line.len())),
+    }
+}
+
+/// Adds a token, and answers whether it may stand there. If it may not, or memory was refused, what was read is of no use any
+/// more.
+fn take(
+    alloc: Global,
+    is_rule: bool,
+    pieces: &mut Vec<Piece>,
+    signs: &mut Signs,
     token: Token,
-    inner: Frame,
-    outer: &mut Vec<Frame>,
-) -> Result<Option<Frame>, AllocError>
-    ensures { IfOk result (λ found. read.step token (state inner outer.old.items) ≡ option_map (λ f. state f outer.new.items) found) }
+) -> Result<bool, AllocError>
+    requires few { signs.old.groups + 1 < 2 ^ 64 }
+    ensures state { IfOk result (λ taken. words.step_in is_rule (state pieces.old.items signs.old) token ≡ taken_as taken (state pieces.new.items signs.new)) }
+    ensures few { signs.new.groups ≤ signs.old.groups + 1 }
 {
-    match token {
-        Token::Point(point) => Ok(Some(with_atom(alloc, PatternTree::Point(point), inner)?)),
-        Token::Set(set) => Ok(Some(with_atom(alloc, PatternTree::Set(set), inner)?)),
-        Token::Any => Ok(Some(with_atom(alloc, PatternTree::Any, inner)?)),
-        Token::Start => with_end(alloc, PatternTree::Start, inner),
-        Token::End => with_end(alloc, PatternTree::End, inner),
-        Token::Anchor => with_end(alloc, PatternTree::Anchor, inner),
-        Token::Optional => Ok(with_sign(Suffix::AtMostOnce, inner)),
-        Token::Many => Ok(with_sign(Suffix::AnyNumber, inner)),
-        Token::Or => with_bar(alloc, inner),
-        Token::Close => {
-            outer.push(inner)?;
-            Ok(Some(nothing()))
-        }
-        Token::Open => with_open(alloc, inner, outer),
-        Token::Other => Ok(None),
+    if !signs.may_stand(is_rule, token) {
+        return Ok(false);
     }
+    if !step(alloc, pieces, token)? {
+        return Ok(false);
+    }
+    *signs = signs.after(token);
+    Ok(true)
 }
 
-fn then_items(
+/// The pattern, if nothing is left open, and no `_` is missing.
+fn pattern_of(
     alloc: Global,
-    item: PatternTree,
-    items: Option<PatternTree>,
-) -> Result<PatternTree, AllocError>
-    ensures { IfOk result (λ t. pattern t ≡ read.then_items (pattern item) (option_map pattern items)) }
+    is_rule: bool,
+    pieces: Vec<Piece>,
+    signs: Signs,
+) -> Result<Option<PatternTree>, AllocError>
+    ensures { IfOk result (λ found. words.ended_in is_rule (state pieces.items signs) ≡ option_map pattern found) }
 {
-    match items {
-        None => Ok(item),
-        Some(items) => Ok(PatternTree::Then(Box::new(alloc, item)?, Box::new(alloc, items)?)),
-    }
-}
-
-fn or_branches(
-    alloc: Global,
-    branch: PatternTree,
-    branches: Option<PatternTree>,
-) -> Result<PatternTree, AllocError>
-    ensures { IfOk result (λ t. pattern t ≡ read.or_branches (pattern branch) (option_map pattern branches)) }
-{
-    match branches {
-        None => Ok(branch),
-        Some(branches) => Ok(PatternTree::Either(
-            Box::new(alloc, branch)?,
-            Box::new(alloc, branches)?,
-        )),
-    }
-}
-
-fn with_suffix(alloc: Global, suffix: Suffix, atom: PatternTree) -> Result<PatternTree, AllocError>
-    ensures { IfOk result (λ t. pattern t ≡ read.with_suffix suffix (pattern atom)) }
-{
-    match suffix {
-        Suffix::Once => Ok(atom),
-        Suffix::AtMostOnce => Ok(PatternTree::Optional(Box::new(alloc, atom)?)),
-        Suffix::AnyNumber => Ok(PatternTree::Many(Box::new(alloc, atom)?)),
-    }
-}
-
-fn with_atom(alloc: Global, atom: PatternTree, inner: Frame) -> Result<Frame, AllocError>
-    ensures { IfOk result (λ f. frame f ≡ read.with_atom (pattern atom) (frame inner)) }
-{
-    let item = with_suffix(alloc, inner.suffix, atom)?;
-    let items = then_items(alloc, item, inner.items)?;
-    Ok(Frame {
-        suffix: Suffix::Once,
-        items: Some(items),
-        branches: inner.branches,
-    })
-}
-
-fn with_end(alloc: Global, item: PatternTree, inner: Frame) -> Result<Option<Frame>, AllocError>
-    ensures { IfOk result (λ found. (outer : List read.Frame) →
-        read.with_end (pattern item) inner.suffix (frame inner).items (frame inner).branches outer ≡ option_map (λ f. let s : State = record { inner = frame f; outer = outer } in s) found) }
-{
-    match inner.suffix {
-        Suffix::Once => {
-            let items = then_items(alloc, item, inner.items)?;
-            Ok(Some(Frame {
-                suffix: Suffix::Once,
-                items: Some(items),
-                branches: inner.branches,
-            }))
-        }
-        Suffix::AtMostOnce => Ok(None),
-        Suffix::AnyNumber => Ok(None),
-    }
-}
-
-fn with_sign(sign: Suffix, inner: Frame) -> Option<Frame>
-    ensures { (outer : List read.Frame) →
-        read.with_sign sign inner.suffix (frame inner).items (frame inner).branches outer ≡ option_map (λ f. let s : State = record { inner = frame f; outer = outer } in s) result }
-{
-    match inner.suffix {
-        Suffix::Once => Some(Frame {
-            suffix: sign,
-            items: inner.items,
-            branches: inner.branches,
-        }),
-        Suffix::AtMostOnce => None,
-        Suffix::AnyNumber => None,
-    }
-}
-
-fn closed(alloc: Global, inner: Frame) -> Result<Option<PatternTree>, AllocError>
-    ensures { IfOk result (λ found. read.closed inner.suffix (frame inner).items (frame inner).branches ≡ option_map pattern found) }
-{
-    let Frame {
-        suffix,
-        items,
-        branches,
-    } = inner;
-    match suffix {
-        Suffix::Once => match items {
-            None => Ok(None),
-            Some(items) => Ok(Some(or_branches(alloc, items, branches)?)),
-        },
-        Suffix::AtMostOnce => Ok(None),
-        Suffix::AnyNumber => Ok(None),
-    }
-}
-
-fn with_bar(alloc: Global, inner: Frame) -> Result<Option<Frame>, AllocError>
-    ensures { IfOk result (λ found. (outer : List read.Frame) →
-        read.with_bar (read.closed inner.suffix (frame inner).items (frame inner).branches) outer ≡ option_map (λ f. let s : State = record { inner = frame f; outer = outer } in s) found) }
-{
-    match closed(alloc, inner)? {
-        None => Ok(None),
-        Some(branches) => Ok(Some(Frame {
-            suffix: Suffix::Once,
-            items: None,
-            branches: Some(branches),
-        })),
-    }
-}
-
-fn with_open(
-    alloc: Global,
-    inner: Frame,
-    outer: &mut Vec<Frame>,
-) -> Result<Option<Frame>, AllocError>
-    ensures { IfOk result (λ found. read.with_open (read.closed inner.suffix (frame inner).items (frame inner).branches) (state inner outer.old.items).outer
-        ≡ option_map (λ f. state f outer.new.items) found) }
-{
-    let Some(whole) = closed(alloc, inner)? else {
+    if is_rule && !signs.passed {
         return Ok(None);
-    };
-    let Some(around) = outer.pop() else {
-        return Ok(None);
-    };
-    let group = PatternTree::Group(Box::new(alloc, whole)?);
-    Ok(Some(with_atom(alloc, group, around)?))
+    }
+    ended(alloc, pieces)
 }

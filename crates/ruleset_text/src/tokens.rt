@@ -1,26 +1,10 @@
-//! The tokens of a line, as a pattern has them.
-ghost use Rattle.std.specs.Prelude.{◌≡◌, List, ℕ, IfOk};
+//! The lexemes of a line as tokens of a pattern.
+ghost use Rattle.std.specs.Prelude.{◌≡◌, List, ℕ};
 ghost use Rattle.ruleset_text.specs.Tokens as tokens;
-ghost use Rattle.ruleset_text.specs.Tokens.{tokens_of};
 
-use crate::lexemes::next_lexeme;
 use crate::names::{Name, is_name, number_of};
 use crate::token::Token;
 use idn_text::hex_point;
-use std::alloc::{AllocError, Global};
-
-/// The tokens of a line, or of what is left of one. A set goes by its number among the names.
-pub fn read_tokens(alloc: Global, names: &[Name], line: &[u8]) -> Result<Vec<Token>, AllocError>
-    ensures { IfOk result (λ found. found.items ≡ tokens_of names.now line.now) }
-{
-    let mut found = Vec::new(alloc);
-    let mut rest = line;
-    while let Some((lexeme, others)) = next_lexeme(rest) {
-        found.push(token_of(names, lexeme))?;
-        rest = others;
-    }
-    Ok(found)
-}
 
 /// The token of a lexeme.
 pub fn token_of(names: &[Name], lexeme: &[u8]) -> Token

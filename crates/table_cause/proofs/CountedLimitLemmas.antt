@@ -34,11 +34,12 @@ use Rattle.table_cause.specs.DefinitionPlaces.{atoms_after, atoms_defined, count
 use Rattle.table_cause.specs.LineNames.{first_place, place_of}
 use Rattle.table_cause.specs.PastLimits.{is_definition_past, is_pattern_past}
 use Rattle.table_cause.specs.PatternLimits.{atoms_among, first_past, pattern_after, pattern_in}
-use Rattle.table_cause.specs.PlacedLexemes.{Placed, placed_lexemes, unplaced}
+use Rattle.ruleset_text.specs.PlacedLexemes.{Placed, placed_lexemes, unplaced}
 use Rattle.table_cause.specs.WrongDefinitions.{definition_by, definition_in}
 use Rattle.table_cause.proofs.PastLimitLemmas.{atoms_counted, some_past}
-use Rattle.table_cause.proofs.PlacedLemmas.{unplaced-from}
+use Rattle.ruleset_text.proofs.PlacedLemmas.{unplaced-from}
 use Rattle.table_cause.proofs.WrongPlaceLemmas.{none_some}
+use Rattle.idn_class.specs.declared.properties.Properties.{Properties}
 
 -- ---- what a definition is, by its keyword
 
@@ -158,7 +159,7 @@ pub found_added : (limit : ℕ) (d : Definitions) (names : List (List ℕ)) (o :
 unfolding with_definition
 found_added limit d names None e h = absurd (cc)
 found_added limit d names (Some x) e h =
-    let ok = if_not (has_same_name d x) _ _ e (if_not (has_bad_class x) _ _ e (if_not (not (has_known_sets (length d.sets) x)) _ _ e (if_not (is_over_limit limit d names x) _ _ e h))) in
+    let ok = if_not (has_same_name d x) _ _ e (if_not (has_bad_class d.properties x) _ _ e (if_not (not (has_known_sets (length d.sets) x)) _ _ e (if_not (is_over_limit limit d names x) _ _ e h))) in
     let same : added d x ≡ e = cc in (x, refl, same)
 
 abbrev keyword_at : Option (Keyword × List (List ℕ)) → Keyword
@@ -251,9 +252,10 @@ counted (line ∷ lines) t table v are (u, adds, rest) =
     let keeps = line_keeps (strip_carriage_return line) t u v are adds in
     counts_next line lines t.definitions u.definitions table.definitions keeps.adds (counted lines u table keeps.version keeps.are rest)
 
-no_atoms : all_atoms nothing_defined ≡ 0
-unfolding all_atoms
-no_atoms = refl
+module _ (properties : Properties) where
+  no_atoms : all_atoms (nothing_defined properties) ≡ 0
+  unfolding all_atoms
+  no_atoms = refl
 
 -- ---- the version line defines nothing
 
@@ -315,39 +317,40 @@ or_four false b c d = refl
 room_left : (a n all : ℕ) → all ≡ a → all ≤ 4096 → nat_lt (4096 - a) n ≡ nat_lt 4096 (all + n)
 room_left a n all same few = grind (arith, nat_tests)
 
-pattern_too_many : (before : List (List ℕ)) (d : Definitions) (k : Keyword) (p : Pattern) → most_defined k ≡ 256 → counted_with k before ≡ counted_with keyword.Rule before → Counts before nothing_defined d
-    → (has_most k before || is_pattern_past (atoms_after before) p) ≡ is_pattern_over_limit d p
-pattern_too_many before d k p most same c =
-    let n : counted_with k before ≡ length d.rules + length d.demands = omega (arith, same, c.patterns_all) in
-    let spare : all_atoms d ≡ atoms_defined before = omega (arith, c.atoms_all, no_atoms) in
-    ap (λ m. nat_le m (counted_with k before) || is_pattern_past (atoms_after before) p) most
-    ∙ ap (λ m. nat_le 256 m || is_pattern_past (atoms_after before) p) n
-    ∙ ap (λ b. nat_le 256 (length d.rules + length d.demands) || (nat_lt 8 (groups p) || nat_lt 2 (stars p) || b)) (room_left (atoms_defined before) (atoms p) (all_atoms d) spare c.without_fault.few_atoms)
-    ∙ or_four (nat_le 256 (length d.rules + length d.demands)) (nat_lt 8 (groups p)) (nat_lt 2 (stars p)) (nat_lt 4096 (all_atoms d + atoms p))
+module _ (properties : Properties) where
+  pattern_too_many : (before : List (List ℕ)) (d : Definitions) (k : Keyword) (p : Pattern) → most_defined k ≡ 256 → counted_with k before ≡ counted_with keyword.Rule before → Counts before (nothing_defined properties) d
+      → (has_most k before || is_pattern_past (atoms_after before) p) ≡ is_pattern_over_limit d p
+  pattern_too_many before d k p most same c =
+      let n : counted_with k before ≡ length d.rules + length d.demands = omega (arith, same, c.patterns_all) in
+      let spare : all_atoms d ≡ atoms_defined before = omega (arith, c.atoms_all, no_atoms properties) in
+      ap (λ m. nat_le m (counted_with k before) || is_pattern_past (atoms_after before) p) most
+      ∙ ap (λ m. nat_le 256 m || is_pattern_past (atoms_after before) p) n
+      ∙ ap (λ b. nat_le 256 (length d.rules + length d.demands) || (nat_lt 8 (groups p) || nat_lt 2 (stars p) || b)) (room_left (atoms_defined before) (atoms p) (all_atoms d) spare c.without_fault.few_atoms)
+      ∙ or_four (nat_le 256 (length d.rules + length d.demands)) (nat_lt 8 (groups p)) (nat_lt 2 (stars p)) (nat_lt 4096 (all_atoms d + atoms p))
 
-too_many : (before : List (List ℕ)) (d : Definitions) (k : Keyword) (x : Definition) → HasKind k x → Counts before nothing_defined d → (has_most k before || is_definition_past (atoms_after before) x) ≡ is_one_too_many d x
-too_many before d keyword.Tag (words.Tag name) kind c =
-    let n : counted_with keyword.Tag before ≡ length d.tags = omega (arith, c.tags_all) in or_none (has_most keyword.Tag before) ∙ ap (nat_le 8) n
-too_many before d keyword.Set (words.Set name spans) kind c =
-    let n : counted_with keyword.Set before ≡ length d.sets = omega (arith, c.sets_all) in or_none (has_most keyword.Set before) ∙ ap (nat_le 256) n
-too_many before d keyword.Rule (words.Rule name contexts) kind c = pattern_too_many before d keyword.Rule contexts refl refl c
-too_many before d keyword.Never (words.Demand kind p) is c = pattern_too_many before d keyword.Never p refl (counted_alike keyword.Never before never_rule) c
-too_many before d keyword.Always (words.Demand kind p) is c = pattern_too_many before d keyword.Always p refl (counted_alike keyword.Always before always_rule) c
-too_many before d keyword.Tag (words.Set name spans) kind c = absurd kind
-too_many before d keyword.Tag (words.Rule name contexts) kind c = absurd kind
-too_many before d keyword.Tag (words.Demand k p) kind c = absurd kind
-too_many before d keyword.Set (words.Tag name) kind c = absurd kind
-too_many before d keyword.Set (words.Rule name contexts) kind c = absurd kind
-too_many before d keyword.Set (words.Demand k p) kind c = absurd kind
-too_many before d keyword.Rule (words.Tag name) kind c = absurd kind
-too_many before d keyword.Rule (words.Set name spans) kind c = absurd kind
-too_many before d keyword.Rule (words.Demand k p) kind c = absurd kind
-too_many before d keyword.Never (words.Tag name) kind c = absurd kind
-too_many before d keyword.Never (words.Set name spans) kind c = absurd kind
-too_many before d keyword.Never (words.Rule name contexts) kind c = absurd kind
-too_many before d keyword.Always (words.Tag name) kind c = absurd kind
-too_many before d keyword.Always (words.Set name spans) kind c = absurd kind
-too_many before d keyword.Always (words.Rule name contexts) kind c = absurd kind
+  too_many : (before : List (List ℕ)) (d : Definitions) (k : Keyword) (x : Definition) → HasKind k x → Counts before (nothing_defined properties) d → (has_most k before || is_definition_past (atoms_after before) x) ≡ is_one_too_many d x
+  too_many before d keyword.Tag (words.Tag name) kind c =
+      let n : counted_with keyword.Tag before ≡ length d.tags = omega (arith, c.tags_all) in or_none (has_most keyword.Tag before) ∙ ap (nat_le 8) n
+  too_many before d keyword.Set (words.Set name spans) kind c =
+      let n : counted_with keyword.Set before ≡ length d.sets = omega (arith, c.sets_all) in or_none (has_most keyword.Set before) ∙ ap (nat_le 256) n
+  too_many before d keyword.Rule (words.Rule name contexts) kind c = pattern_too_many before d keyword.Rule contexts refl refl c
+  too_many before d keyword.Never (words.Demand kind p) is c = pattern_too_many before d keyword.Never p refl (counted_alike keyword.Never before never_rule) c
+  too_many before d keyword.Always (words.Demand kind p) is c = pattern_too_many before d keyword.Always p refl (counted_alike keyword.Always before always_rule) c
+  too_many before d keyword.Tag (words.Set name spans) kind c = absurd kind
+  too_many before d keyword.Tag (words.Rule name contexts) kind c = absurd kind
+  too_many before d keyword.Tag (words.Demand k p) kind c = absurd kind
+  too_many before d keyword.Set (words.Tag name) kind c = absurd kind
+  too_many before d keyword.Set (words.Rule name contexts) kind c = absurd kind
+  too_many before d keyword.Set (words.Demand k p) kind c = absurd kind
+  too_many before d keyword.Rule (words.Tag name) kind c = absurd kind
+  too_many before d keyword.Rule (words.Set name spans) kind c = absurd kind
+  too_many before d keyword.Rule (words.Demand k p) kind c = absurd kind
+  too_many before d keyword.Never (words.Tag name) kind c = absurd kind
+  too_many before d keyword.Never (words.Set name spans) kind c = absurd kind
+  too_many before d keyword.Never (words.Rule name contexts) kind c = absurd kind
+  too_many before d keyword.Always (words.Tag name) kind c = absurd kind
+  too_many before d keyword.Always (words.Set name spans) kind c = absurd kind
+  too_many before d keyword.Always (words.Rule name contexts) kind c = absurd kind
 
 keyword_of_line : (names ws : List (List ℕ)) (x : Definition) → definition_in names ws ≡ Some x → (k : Keyword) × (first_keyword ws ≡ Some k) × HasKind k x
 keyword_of_line names [] x e = none_some ((k : Keyword) × (first_keyword [] ≡ Some k) × HasKind k x) x e
@@ -357,15 +360,16 @@ keyword_of_line names (word ∷ rest) x e = by (keyword_of word) refl e
     by None at h = none_some ((k : Keyword) × (keyword_of word ≡ Some k) × HasKind k x) x h
     by (Some k) at h = (k, at, has_kind names k rest x h)
 
-pub limit_told : (head : List ℕ) (before : List (List ℕ)) (table : TableValue) (names : List (List ℕ)) (line : List ℕ) (x : Definition) → is_version_line Ruleset head ≡ true → LinesSpell (empty_table Three) before table
-    → definition_in names (lexemes line) ≡ Some x → is_some (definition_limit (head ∷ before) line) ≡ is_one_too_many table.definitions x
-limit_told head before table names line x is spelled e =
-    let key = keyword_of_line names (lexemes line) x e in
-    let counts = counts_headed head before nothing_defined table.definitions is (counted before (empty_table Three) table refl (empty_sound Three).without_fault spelled) in
-    limit_is (head ∷ before) line key.0 key.1
-    ∙ ap (λ b. has_most key.0 (head ∷ before) || b) (some_past names line (atoms_after (head ∷ before)) x e)
-    ∙ too_many (head ∷ before) table.definitions key.0 x key.2 counts
+module _ (properties : Properties) where
+  pub limit_told : (head : List ℕ) (before : List (List ℕ)) (table : TableValue) (names : List (List ℕ)) (line : List ℕ) (x : Definition) → is_version_line Ruleset head ≡ true → LinesSpell (empty_table properties Three) before table
+      → definition_in names (lexemes line) ≡ Some x → is_some (definition_limit (head ∷ before) line) ≡ is_one_too_many table.definitions x
+  limit_told head before table names line x is spelled e =
+      let key = keyword_of_line names (lexemes line) x e in
+      let counts = counts_headed head before (nothing_defined properties) table.definitions is (counted before (empty_table properties Three) table refl (empty_sound properties Three).without_fault spelled) in
+      limit_is (head ∷ before) line key.0 key.1
+      ∙ ap (λ b. has_most key.0 (head ∷ before) || b) (some_past names line (atoms_after (head ∷ before)) x e)
+      ∙ too_many properties (head ∷ before) table.definitions key.0 x key.2 counts
 
--- what the lines define has no fault
-pub spelled_sound : (before : List (List ℕ)) (table : TableValue) → LinesSpell (empty_table Three) before table → AreDefinitions table.definitions
-spelled_sound before table spelled = (counted before (empty_table Three) table refl (empty_sound Three).without_fault spelled).without_fault
+  -- what the lines define has no fault
+  pub spelled_sound : (before : List (List ℕ)) (table : TableValue) → LinesSpell (empty_table properties Three) before table → AreDefinitions table.definitions
+  spelled_sound before table spelled = (counted before (empty_table properties Three) table refl (empty_sound properties Three).without_fault spelled).without_fault

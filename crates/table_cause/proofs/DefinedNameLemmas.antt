@@ -27,6 +27,7 @@ use Rattle.variant_table.specs.Entries.{TableValue, empty_table}
 use Rattle.variant_table.specs.Texts.{LineAdds, LinesSpell}
 use Rattle.variant_table.specs.Versions.{is_version_line}
 use Rattle.variant_table.proofs.FormLemmas.{Spelling, none, some, form-no_definition, skipped-no_definition, spelling_of}
+use Rattle.idn_class.specs.declared.properties.Properties.{Properties}
 
 -- ---- the lexemes of a keyword
 
@@ -198,9 +199,10 @@ version_first head is =
     let same : strip_carriage_return head ≡ codes "%version 3" = (bytes_eq-Decides (strip_carriage_return head) (codes "%version 3")).0 is in
     ap (λ l. first_keyword (lexemes l)) same ∙ (let nothing : first_keyword (lexemes (codes "%version 3")) ≡ None = refl in nothing)
 
-pub names_are : (head : List ℕ) (before : List (List ℕ)) (table : TableValue) → is_version_line Ruleset head ≡ true → LinesSpell (empty_table Three) before table
-    → (names_defined keyword.Tag (head ∷ before) ≡ table.definitions.tags) × (names_defined keyword.Set (head ∷ before) ≡ table.definitions.set_names) × (names_defined keyword.Rule (head ∷ before) ≡ table.definitions.rule_names)
-names_are head before table is spelled =
-    let start = empty_table Three in
-    let all = names_next head before start.definitions start.definitions table.definitions (no_names (lexemes (strip_carriage_return head)) start.definitions (version_first head is)) (named_by before start table refl spelled) in
-    (sym all.tags_all, sym all.sets_all, sym all.rules_all)
+module _ (properties : Properties) where
+  pub names_are : (head : List ℕ) (before : List (List ℕ)) (table : TableValue) → is_version_line Ruleset head ≡ true → LinesSpell (empty_table properties Three) before table
+      → (names_defined keyword.Tag (head ∷ before) ≡ table.definitions.tags) × (names_defined keyword.Set (head ∷ before) ≡ table.definitions.set_names) × (names_defined keyword.Rule (head ∷ before) ≡ table.definitions.rule_names)
+  names_are head before table is spelled =
+      let start = empty_table properties Three in
+      let all = names_next head before start.definitions start.definitions table.definitions (no_names (lexemes (strip_carriage_return head)) start.definitions (version_first head is)) (named_by before start table refl spelled) in
+      (sym all.tags_all, sym all.sets_all, sym all.rules_all)

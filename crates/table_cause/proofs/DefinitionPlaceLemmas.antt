@@ -16,9 +16,7 @@ use Rattle.table_cause.specs.declared.entry_place.WrongPlace.{WrongPlace}
 use Rattle.table_cause.specs.declared.entry_place.WrongPlace.TheVariants.{Lexeme, End}
 use Rattle.ruleset_text.specs.declared.keyword.Keyword.{Keyword}
 use Rattle.ruleset_text.specs.declared.keyword.Keyword.TheVariants as keyword
-use Rattle.ruleset_text.specs.declared.reading.Suffix.{Suffix}
-use Rattle.ruleset_text.specs.declared.reading.Suffix.TheVariants.{Once, AtMostOnce, AnyNumber}
-use Rattle.ruleset_text.specs.declared.rules.Sign.TheVariants as sign
+use Rattle.ruleset_text.specs.Signs as sign
 use Rattle.ruleset_text.specs.declared.spans.Held.{Held}
 use Rattle.ruleset_text.specs.declared.spans.Held.TheVariants as held
 use Rattle.ruleset_text.specs.declared.spans.SpanPart.{SpanPart}
@@ -28,34 +26,27 @@ use Rattle.ruleset_text.specs.declared.token.Token.TheVariants as token
 use Rattle.label_patterns.specs.declared.span.Span.{Span}
 use Rattle.ruleset_text.specs.Definition as words
 use Rattle.ruleset_text.specs.Definition.{Definition, definition_of, keyword_of, if_such, demand_in, contexts_in, tag_in, set_in, rule_in}
-use Rattle.table_cause.specs.WrongDefinitions.{definition_by, definition_in, Define, Begins, IsWrongLexeme, IsWrongPlace}
+use Rattle.table_cause.specs.WrongDefinitions.{definition_by, definition_in, Define, IsWrongLexeme, IsWrongPlace}
 use Rattle.ruleset_text.specs.EntryWords.{point_of}
 use Rattle.ruleset_text.specs.Grammar.{Is, Atom, Item, Branch, Whole, tokens}
-use Rattle.table_cause.specs.DefinitionWrongSteps.{is_nothing, is_atom, no_pattern, with_last, opened, closed, with_anchor, branched, if_may, at_bar, pattern_step, is_pattern, held_step, are_spans, at_keyword, after_name, in_spans, in_pattern, step, is_whole, open_end, stopped_at, wrong_from, wrong_definition}
+use Rattle.table_cause.specs.DefinitionWrongSteps.{is_nothing, is_atom, no_pattern, if_may, last_step, with_token, pattern_step, is_pattern, held_step, are_spans, at_keyword, after_name, in_spans, in_pattern, step, is_whole, open_end, stopped_at, wrong_from, wrong_definition}
 use Rattle.ruleset_text.specs.Lexemes.{lexemes}
 use Rattle.ruleset_text.specs.Names.{is_name, number_of}
-use Rattle.table_cause.specs.PlacedLexemes.{Placed, placed_lexemes, unplaced}
+use Rattle.ruleset_text.specs.PlacedLexemes.{Placed, placed_lexemes, unplaced}
 use Rattle.ruleset_text.specs.Reading as read
-use Rattle.ruleset_text.specs.Reading.{Frame, State, state_of, stepped, pattern_at, pattern_of}
-use Rattle.ruleset_text.specs.Rules.{has, is_anchor, is_before, is_after, is_context, is_rule}
+use Rattle.ruleset_text.specs.Reading.{Piece, Opening, Branched, Part, items, before_items, branches, before_branches, pattern_at, pattern_of}
+use Rattle.ruleset_text.specs.PatternSigns.{may_stand, groups_after, passed_after}
+use Rattle.ruleset_text.specs.Rules.{has, is_rule}
 use Rattle.ruleset_text.specs.Spans as spans
 use Rattle.ruleset_text.specs.Spans.{part_of, spans_in, spans_at}
 use Rattle.ruleset_text.specs.Tokens.{token_of, tokens_in, word_token}
-use Rattle.ruleset_text.proofs.PatternLemmas.{read_spelled, item_is}
-use Rattle.table_cause.proofs.PlacedLemmas.{unplaced-from}
+use Rattle.ruleset_text.proofs.PatternLemmas.{read_spelled, AreGood, bar_holds, whole_folds}
+use Rattle.ruleset_text.proofs.SignLemmas.{signed, unanchored_tokens, demand_signs, unanchored_pattern, rule_signs, suc_zero, out_of, and_false, and_true}
+use Rattle.ruleset_text.proofs.StopLemmas.{run_none, run_append}
+use Rattle.ruleset_text.proofs.UseLemmas.{signed_next, opens, opens_items, opens_whole, less_one, IsCut, part_cut}
+use Rattle.ruleset_text.specs.Stops.{next, run, Begins}
+use Rattle.ruleset_text.proofs.PlacedLemmas.{unplaced-from}
 use Rattle.table_cause.proofs.WrongPlaceLemmas.{point_bound, none_some, same_place}
-
-and_false : (b : Bool) → false ≡ (b && false)
-and_false true = refl
-and_false false = refl
-
-and_true : (b : Bool) → b ≡ (b && true)
-and_true true = refl
-and_true false = refl
-
-and_first : (a b : Bool) → (a && b) ≡ true → a ≡ true
-and_first true b h = refl
-and_first false b h = h
 
 -- what f says of a state, if there is one
 abbrev if_some : {X : Type 0} → Option X → (X → Bool) → Bool
@@ -80,525 +71,145 @@ shaped d l (token.Many ∷ ts) = cond (is_atom l) (shaped d last.Item ts) false
 shaped d l (token.Or ∷ ts) = cond (not (is_nothing l)) (shaped d last.Nothing ts) false
 shaped d l (token.Other ∷ ts) = false
 
--- '_', '^' and '$' are, in a rule or in a demand
-abbrev signed : Bool → ℕ → Bool → List Token → Bool
-signed r d b [] = b || not r
-signed r d b (token.Point c ∷ ts) = signed r d b ts
-signed r d b (token.Set n ∷ ts) = signed r d b ts
-signed r d b (token.Any ∷ ts) = signed r d b ts
-signed r d b (token.Start ∷ ts) = cond (not r || not b) (signed r d b ts) false
-signed r d b (token.End ∷ ts) = cond (not r || b) (signed r d b ts) false
-signed r d b (token.Anchor ∷ ts) = cond (r && (d == 0) && not b) (signed r d true ts) false
-signed r d b (token.Open ∷ ts) = signed r (d + 1) b ts
-signed r d b (token.Close ∷ ts) = signed r (d - 1) b ts
-signed r d b (token.Optional ∷ ts) = signed r d b ts
-signed r d b (token.Many ∷ ts) = signed r d b ts
-signed r d b (token.Or ∷ ts) = cond (d == 0) (cond (b || not r) (signed r d false ts) false) (signed r d b ts)
-signed r d b (token.Other ∷ ts) = false
-
 -- each token may stand where it does, to the end of a pattern
 abbrev taken : PatternState → List Token → Bool
 taken p [] = is_pattern p
 taken p (t ∷ ts) = if_some (pattern_step p t) (λ q. taken q ts)
 
 abbrev parted : PatternState → List Token → Bool
-parted p ts = shaped p.groups p.last ts && signed p.is_rule p.groups p.passed ts
+parted p ts = shaped p.signs.groups p.last ts && signed p.is_rule p.signs.groups p.signs.passed ts
 
-of_may : (may : Bool) (p : PatternState) (f : PatternState → Bool) → if_some (if_may may p) f ≡ cond may (f p) false
-of_may true p f = refl
-of_may false p f = refl
+of_may : (may : Bool) (l : Last) (f : Last → Bool) → cond may (f l) false ≡ if_some (if_may may l) f
+of_may true l f = refl
+of_may false l f = refl
 
-may_second : (may a b : Bool) → cond may (a && b) false ≡ (a && cond may b false)
-may_second true a b = refl
-may_second false a b = and_false a
-
-may_first : (may a b : Bool) → cond may (a && b) false ≡ (cond may a false && b)
-may_first true a b = refl
-may_first false a b = refl
-
-bar_parts : (zero_ nothing may a b c : Bool) → cond zero_ (cond (not nothing && may) (a && b) false) (cond (not nothing) (a && c) false) ≡ (cond (not nothing) a false && cond zero_ (cond may b false) c)
-bar_parts true true may a b c = refl
-bar_parts true false true a b c = refl
-bar_parts true false false a b c = and_false a
-bar_parts false true may a b c = refl
-bar_parts false false may a b c = refl
+shaped_next : (d : ℕ) (l : Last) (t : Token) (ts : List Token) → shaped d l (t ∷ ts) ≡ if_some (last_step l d t) (λ k. shaped (groups_after d t) k ts)
+shaped_next d l (token.Point c) ts = refl
+shaped_next d l (token.Set n) ts = refl
+shaped_next d l token.Any ts = refl
+shaped_next d l token.Start ts = refl
+shaped_next d l token.End ts = refl
+shaped_next d l token.Anchor ts = refl
+shaped_next d l token.Open ts = refl
+shaped_next d l token.Close ts = of_may (not (d == 0) && not (is_nothing l)) last.Atom (λ k. shaped (d - 1) k ts)
+shaped_next d l token.Optional ts = of_may (is_atom l) last.Item (λ k. shaped d k ts)
+shaped_next d l token.Many ts = of_may (is_atom l) last.Item (λ k. shaped d k ts)
+shaped_next d l token.Or ts = of_may (not (is_nothing l)) last.Nothing (λ k. shaped d k ts)
+shaped_next d l token.Other ts = refl
 
 end_parts : (a b c : Bool) → (a && b && c) ≡ ((a && b) && c)
 end_parts true b c = refl
 end_parts false b c = refl
 
-at_bar_is : (p : PatternState) (f : PatternState → Bool) → if_some (at_bar p) f ≡ cond (p.groups == 0) (cond (not (is_nothing p.last) && (p.passed || not p.is_rule)) (f (branched p)) false) (cond (not (is_nothing p.last)) (f (with_last p last.Nothing)) false)
-at_bar_is p f = by (p.groups == 0)
-  where
-    by : (b : Bool) → if_some (cond b (if_may (not (is_nothing p.last) && (p.passed || not p.is_rule)) (branched p)) (if_may (not (is_nothing p.last)) (with_last p last.Nothing))) f
-        ≡ cond b (cond (not (is_nothing p.last) && (p.passed || not p.is_rule)) (f (branched p)) false) (cond (not (is_nothing p.last)) (f (with_last p last.Nothing)) false)
-    by true = of_may (not (is_nothing p.last) && (p.passed || not p.is_rule)) (branched p) f
-    by false = of_may (not (is_nothing p.last)) (with_last p last.Nothing) f
-
 taken_parts : (ts : List Token) (p : PatternState) → taken p ts ≡ parted p ts
-taken_parts [] p = end_parts (p.groups == 0) (not (is_nothing p.last)) (p.passed || not p.is_rule)
-taken_parts (token.Point c ∷ ts) p = taken_parts ts (with_last p last.Atom)
-taken_parts (token.Set n ∷ ts) p = taken_parts ts (with_last p last.Atom)
-taken_parts (token.Any ∷ ts) p = taken_parts ts (with_last p last.Atom)
-taken_parts (token.Start ∷ ts) p =
-    let may = not p.is_rule || not p.passed in
-    of_may may (with_last p last.Item) (λ q. taken q ts) ∙ ap (λ x. cond may x false) (taken_parts ts (with_last p last.Item))
-    ∙ may_second may (shaped p.groups last.Item ts) (signed p.is_rule p.groups p.passed ts)
-taken_parts (token.End ∷ ts) p =
-    let may = not p.is_rule || p.passed in
-    of_may may (with_last p last.Item) (λ q. taken q ts) ∙ ap (λ x. cond may x false) (taken_parts ts (with_last p last.Item))
-    ∙ may_second may (shaped p.groups last.Item ts) (signed p.is_rule p.groups p.passed ts)
-taken_parts (token.Anchor ∷ ts) p =
-    let may = p.is_rule && (p.groups == 0) && not p.passed in
-    of_may may (with_anchor p) (λ q. taken q ts) ∙ ap (λ x. cond may x false) (taken_parts ts (with_anchor p))
-    ∙ may_second may (shaped p.groups last.Item ts) (signed p.is_rule p.groups true ts)
-taken_parts (token.Open ∷ ts) p = taken_parts ts (opened p)
-taken_parts (token.Close ∷ ts) p =
-    let may = not (p.groups == 0) && not (is_nothing p.last) in
-    of_may may (closed p) (λ q. taken q ts) ∙ ap (λ x. cond may x false) (taken_parts ts (closed p))
-    ∙ may_first may (shaped (p.groups - 1) last.Atom ts) (signed p.is_rule (p.groups - 1) p.passed ts)
-taken_parts (token.Optional ∷ ts) p =
-    of_may (is_atom p.last) (with_last p last.Item) (λ q. taken q ts) ∙ ap (λ x. cond (is_atom p.last) x false) (taken_parts ts (with_last p last.Item))
-    ∙ may_first (is_atom p.last) (shaped p.groups last.Item ts) (signed p.is_rule p.groups p.passed ts)
-taken_parts (token.Many ∷ ts) p =
-    of_may (is_atom p.last) (with_last p last.Item) (λ q. taken q ts) ∙ ap (λ x. cond (is_atom p.last) x false) (taken_parts ts (with_last p last.Item))
-    ∙ may_first (is_atom p.last) (shaped p.groups last.Item ts) (signed p.is_rule p.groups p.passed ts)
-taken_parts (token.Or ∷ ts) p =
-    let may = p.passed || not p.is_rule in
-    at_bar_is p (λ q. taken q ts)
-    ∙ ap (λ x. cond (p.groups == 0) (cond (not (is_nothing p.last) && may) x false) (cond (not (is_nothing p.last)) (taken (with_last p last.Nothing) ts) false)) (taken_parts ts (branched p))
-    ∙ ap (λ x. cond (p.groups == 0) (cond (not (is_nothing p.last) && may) (parted (branched p) ts) false) (cond (not (is_nothing p.last)) x false)) (taken_parts ts (with_last p last.Nothing))
-    ∙ bar_parts (p.groups == 0) (is_nothing p.last) may (shaped p.groups last.Nothing ts) (signed p.is_rule p.groups false ts) (signed p.is_rule p.groups p.passed ts)
-taken_parts (token.Other ∷ ts) p = refl
+taken_parts [] p = end_parts (p.signs.groups == 0) (not (is_nothing p.last)) (p.signs.passed || not p.is_rule)
+taken_parts (t ∷ ts) p =
+    by (may_stand p.is_rule p.signs.groups p.signs.passed t) (last_step p.last p.signs.groups t) (λ q. taken_parts ts q)
+    ∙ ap (λ x. x && (may_stand p.is_rule p.signs.groups p.signs.passed t && rest)) (sym (shaped_next p.signs.groups p.last t ts))
+    ∙ ap (λ x. shaped p.signs.groups p.last (t ∷ ts) && x) (sym (signed_next p.is_rule p.signs.groups p.signs.passed t ts))
+  where
+    rest : Bool
+    rest = signed p.is_rule (groups_after p.signs.groups t) (passed_after p.signs.groups p.signs.passed t) ts
 
--- ---- the shape is that of the pattern that is read from the last token to the first
+    by : (may : Bool) (o : Option Last) → ((q : PatternState) → taken q ts ≡ parted q ts)
+        → if_some (cond may (option_map (with_token p t) o) None) (λ q. taken q ts) ≡ (if_some o (λ k. shaped (groups_after p.signs.groups t) k ts) && (may && rest))
+    by false o later = and_false (if_some o (λ k. shaped (groups_after p.signs.groups t) k ts))
+    by true None later = refl
+    by true (Some k) later = later (with_token p t k)
 
--- what stood before fits what was read after it
-abbrev fits : Last → Suffix → Bool → Bool
-fits last.Nothing Once items = items
-fits last.Nothing s items = false
-fits last.Atom s items = true
-fits last.Item Once items = true
-fits last.Item s items = false
+-- ---- the shape is that of the pieces
 
-abbrev fits_at : ℕ → Last → Option State → Bool
-fits_at d l None = false
-fits_at d l (Some s) = (d == length s.outer) && fits l s.inner.suffix (is_some s.inner.items)
+-- what stands last of pieces
+abbrev last_of : List Piece → Last
+last_of (Part true p ∷ s) = last.Atom
+last_of (Part false p ∷ s) = last.Item
+last_of s = last.Nothing
 
-fits_some : (l : Last) → fits l Once true ≡ true
-fits_some last.Nothing = refl
-fits_some last.Atom = refl
-fits_some last.Item = refl
-
-same_suc : (d n : ℕ) → (suc d == suc n) ≡ (d == n)
-same_suc d n = grind (arith, nat_tests)
-
-same_next : (d n : ℕ) → (d + 1 == suc n) ≡ (d == n)
-same_next d n = grind (arith, nat_tests)
+part_last : (b : Bool) (p : Pattern) (s : List Piece) → not (is_nothing (last_of (Part b p ∷ s))) ≡ true
+part_last true p s = refl
+part_last false p s = refl
 
 next_some : (d : ℕ) → (d + 1 == 0) ≡ false
 next_some d = grind (arith, nat_tests)
 
-zero_suc : (n : ℕ) → (0 == suc n) ≡ false
-zero_suc n = grind (arith, nat_tests)
+-- the shape of the tokens after pieces
+abbrev IsShape : List Token → List Piece → Type 0
+IsShape ts s = shaped (opens s) (last_of s) ts ≡ is_some (pattern_at (run read.step (Some s) ts))
 
-pub suc_zero : (n : ℕ) → (suc n == 0) ≡ false
-suc_zero n = grind (arith, nat_tests)
+no_shape : (ts : List Token) → false ≡ is_some (pattern_at (run read.step None ts))
+no_shape ts = ap (λ o. is_some (pattern_at o)) (sym (run_none read.step ts))
 
-atom_fits : (d : ℕ) (l : Last) (p : Pattern) (s : State) → fits_at d last.Atom (Some s) ≡ fits_at d l (Some (record { inner = read.with_atom p s.inner; outer = s.outer }))
-atom_fits d l p s = ap (λ b. (d == length s.outer) && b) (sym (fits_some l))
+end_shape : (s : List Piece) → AreGood s → IsShape [] s
+end_shape [] good = refl
+end_shape (Opening ∷ s) good = sym (and_false (opens s + 1 == 0))
+end_shape (Branched p ∷ s) good = sym (and_false (opens s == 0))
+end_shape (Part b p ∷ s) good =
+    ap (λ x. (opens s == 0) && x) (part_last b p s) ∙ sym (and_true (opens s == 0)) ∙ ap (λ n. n == 0) (sym (opens_whole s))
+    ∙ by (branches (items p s) (before_items s)) (before_branches (before_items s)) (part_cut b p s good)
+  where
+    by : (w : Pattern) (r : List Piece) → IsCut r → (opens r == 0) ≡ is_some (read.alone w r)
+    by w [] cut = refl
+    by w (Opening ∷ r) cut = next_some (opens r)
+    by w (Branched q ∷ r) cut = absurd cut
+    by w (Part b q ∷ r) cut = absurd cut
 
-end_fits : (d : ℕ) (l : Last) (p : Pattern) (x : Suffix) (items branches : Option Pattern) (outer : List Frame) → ((d == length outer) && fits last.Item x (is_some items)) ≡ fits_at d l (read.with_end p x items branches outer)
-end_fits d l p Once items branches outer = ap (λ b. (d == length outer) && b) (sym (fits_some l))
-end_fits d l p AtMostOnce items branches outer = sym (and_false (d == length outer))
-end_fits d l p AnyNumber items branches outer = sym (and_false (d == length outer))
+-- one token before others of which it is known
+sign_shape : (f : Pattern → Pattern) (ts : List Token) (s : List Piece) → AreGood s → ((p : Pattern) → Is Atom p → Is Item (f p)) → ((v : List Piece) → AreGood v → IsShape ts v)
+    → cond (is_atom (last_of s)) (shaped (opens s) last.Item ts) false ≡ is_some (pattern_at (run read.step (read.with_sign f s) ts))
+sign_shape f ts [] good is later = no_shape ts
+sign_shape f ts (Opening ∷ s) good is later = no_shape ts
+sign_shape f ts (Branched p ∷ s) good is later = no_shape ts
+sign_shape f ts (Part false p ∷ s) good is later = no_shape ts
+sign_shape f ts (Part true p ∷ s) good is later = later (Part false (f p) ∷ s) (is p good.0, good.1)
 
--- a sign that isn't Once
-abbrev IsSign : Suffix → Type 0
-IsSign Once = ⊥
-IsSign s = Unit {0}
+bar_shape : (ts : List Token) (s : List Piece) → AreGood s → ((v : List Piece) → AreGood v → IsShape ts v)
+    → cond (not (is_nothing (last_of s))) (shaped (opens s) last.Nothing ts) false ≡ is_some (pattern_at (run read.step (read.with_bar s) ts))
+bar_shape ts [] good later = no_shape ts
+bar_shape ts (Opening ∷ s) good later = no_shape ts
+bar_shape ts (Branched p ∷ s) good later = no_shape ts
+bar_shape ts (Part b p ∷ s) good later =
+    ap (λ x. cond x (shaped (opens s) last.Nothing ts) false) (part_last b p s) ∙ ap (λ n. shaped n last.Nothing ts) (sym (opens_items s))
+    ∙ later (Branched (items p s) ∷ before_items s) (bar_holds (Part b p ∷ s) good).0
 
-sign_fits : (d : ℕ) (l : Last) (new x : Suffix) (items branches : Option Pattern) (outer : List Frame) → IsSign new → cond (is_atom l) ((d == length outer) && fits last.Item x (is_some items)) false ≡ fits_at d l (read.with_sign new x items branches outer)
-sign_fits d l Once x items branches outer is = absurd is
-sign_fits d last.Nothing AtMostOnce Once items branches outer is = and_false (d == length outer)
-sign_fits d last.Atom AtMostOnce Once items branches outer is = refl
-sign_fits d last.Item AtMostOnce Once items branches outer is = and_false (d == length outer)
-sign_fits d last.Nothing AnyNumber Once items branches outer is = and_false (d == length outer)
-sign_fits d last.Atom AnyNumber Once items branches outer is = refl
-sign_fits d last.Item AnyNumber Once items branches outer is = and_false (d == length outer)
-sign_fits d last.Nothing new AtMostOnce items branches outer is = refl
-sign_fits d last.Atom new AtMostOnce items branches outer is = sym (and_false (d == length outer))
-sign_fits d last.Item new AtMostOnce items branches outer is = refl
-sign_fits d last.Nothing new AnyNumber items branches outer is = refl
-sign_fits d last.Atom new AnyNumber items branches outer is = sym (and_false (d == length outer))
-sign_fits d last.Item new AnyNumber items branches outer is = refl
+group_shape : (ts : List Token) (w : Pattern) (r : List Piece) → Is Whole w → AreGood r → IsCut r → ((v : List Piece) → AreGood v → IsShape ts v)
+    → cond (not (opens r == 0)) (shaped (opens r - 1) last.Atom ts) false ≡ is_some (pattern_at (run read.step (read.with_close w r) ts))
+group_shape ts w [] h good cut later = no_shape ts
+group_shape ts w (Branched p ∷ r) h good cut later = absurd cut
+group_shape ts w (Part b p ∷ r) h good cut later = absurd cut
+group_shape ts w (Opening ∷ r) h good cut later =
+    ap (λ x. cond (not x) (shaped (opens r + 1 - 1) last.Atom ts) false) (next_some (opens r)) ∙ ap (λ n. shaped n last.Atom ts) (sym (less_one (opens r)))
+    ∙ later (Part true (patterns.Group w) ∷ r) (h, good)
 
-bar_fits : (d : ℕ) (l : Last) (x : Suffix) (items branches : Option Pattern) (outer : List Frame) → cond (not (is_nothing l)) ((d == length outer) && fits last.Nothing x (is_some items)) false ≡ fits_at d l (read.with_bar (read.closed x items branches) outer)
-bar_fits d last.Nothing Once (Some p) branches outer = and_false (d == length outer)
-bar_fits d last.Atom Once (Some p) branches outer = refl
-bar_fits d last.Item Once (Some p) branches outer = refl
-bar_fits d last.Nothing Once None branches outer = refl
-bar_fits d last.Atom Once None branches outer = sym (and_false (d == length outer))
-bar_fits d last.Item Once None branches outer = sym (and_false (d == length outer))
-bar_fits d last.Nothing AtMostOnce items branches outer = refl
-bar_fits d last.Atom AtMostOnce items branches outer = sym (and_false (d == length outer))
-bar_fits d last.Item AtMostOnce items branches outer = sym (and_false (d == length outer))
-bar_fits d last.Nothing AnyNumber items branches outer = refl
-bar_fits d last.Atom AnyNumber items branches outer = sym (and_false (d == length outer))
-bar_fits d last.Item AnyNumber items branches outer = sym (and_false (d == length outer))
+close_shape : (ts : List Token) (s : List Piece) → AreGood s → ((v : List Piece) → AreGood v → IsShape ts v)
+    → cond (not (opens s == 0) && not (is_nothing (last_of s))) (shaped (opens s - 1) last.Atom ts) false ≡ is_some (pattern_at (run read.step (read.ending read.with_close s) ts))
+close_shape ts [] good later = no_shape ts
+close_shape ts (Opening ∷ s) good later = ap (λ x. cond x (shaped (opens s + 1 - 1) last.Atom ts) false) (sym (and_false (not (opens s + 1 == 0)))) ∙ no_shape ts
+close_shape ts (Branched p ∷ s) good later = ap (λ x. cond x (shaped (opens s - 1) last.Atom ts) false) (sym (and_false (not (opens s == 0)))) ∙ no_shape ts
+close_shape ts (Part b p ∷ s) good later =
+    let folded = whole_folds b p s good in
+    ap (λ x. cond (not (opens s == 0) && x) (shaped (opens s - 1) last.Atom ts) false) (part_last b p s)
+    ∙ ap (λ x. cond x (shaped (opens s - 1) last.Atom ts) false) (sym (and_true (not (opens s == 0))))
+    ∙ ap (λ n. cond (not (n == 0)) (shaped (n - 1) last.Atom ts) false) (sym (opens_whole s))
+    ∙ group_shape ts (branches (items p s) (before_items s)) (before_branches (before_items s)) folded.0 folded.1.1 (part_cut b p s good) later
 
-close_fits : (d : ℕ) (l : Last) (s : State) → cond (not (d == 0) && not (is_nothing l)) ((d - 1 == length s.outer) && true) false ≡ fits_at d l (Some (record { inner = read.nothing; outer = s.inner ∷ s.outer }))
-close_fits zero l s = ap (λ b. b && fits l Once false) (sym (zero_suc (length s.outer)))
-close_fits (suc d) l s =
-    ap (λ b. cond (not b && not (is_nothing l)) ((suc d - 1 == length s.outer) && true) false) (suc_zero d)
-    ∙ ap (λ n. cond (not (is_nothing l)) ((n == length s.outer) && true) false) (before d)
-    ∙ by l
-    ∙ ap (λ b. b && fits l Once false) (sym (same_suc d (length s.outer)))
-  where
-    before : (n : ℕ) → suc n - 1 ≡ n
-    before n = omega arith
-
-    by : (l : Last) → cond (not (is_nothing l)) ((d == length s.outer) && true) false ≡ ((d == length s.outer) && fits l Once false)
-    by last.Nothing = and_false (d == length s.outer)
-    by last.Atom = refl
-    by last.Item = refl
-
-open_fits : (d : ℕ) (l : Last) (x : Suffix) (items branches : Option Pattern) (outer : List Frame) → ((d + 1 == length outer) && fits last.Nothing x (is_some items)) ≡ fits_at d l (read.with_open (read.closed x items branches) outer)
-open_fits d l Once (Some p) branches [] = ap (λ b. b && true) (next_some d)
-open_fits d l Once (Some p) branches (f ∷ outer) = ap (λ b. b && true) (same_next d (length outer)) ∙ ap (λ b. (d == length outer) && b) (sym (fits_some l))
-open_fits d l Once None branches outer = sym (and_false (d + 1 == length outer))
-open_fits d l AtMostOnce items branches outer = sym (and_false (d + 1 == length outer))
-open_fits d l AnyNumber items branches outer = sym (and_false (d + 1 == length outer))
-
-abbrev none_if : (b : Bool) → cond b false false ≡ false
-none_if true = refl
-none_if false = refl
-
-shape_is : (ts : List Token) (d : ℕ) (l : Last) → shaped d l ts ≡ fits_at d l (state_of ts)
-shape_is [] d last.Nothing = refl
-shape_is [] d last.Atom = refl
-shape_is [] d last.Item = refl
-shape_is (token.Point c ∷ ts) d l = shape_is ts d last.Atom ∙ by (state_of ts)
-  where
-    by : (o : Option State) → fits_at d last.Atom o ≡ fits_at d l (stepped (token.Point c) o)
-    by None = refl
-    by (Some s) = atom_fits d l (patterns.Point c) s
-shape_is (token.Set n ∷ ts) d l = shape_is ts d last.Atom ∙ by (state_of ts)
-  where
-    by : (o : Option State) → fits_at d last.Atom o ≡ fits_at d l (stepped (token.Set n) o)
-    by None = refl
-    by (Some s) = atom_fits d l (patterns.Set n) s
-shape_is (token.Any ∷ ts) d l = shape_is ts d last.Atom ∙ by (state_of ts)
-  where
-    by : (o : Option State) → fits_at d last.Atom o ≡ fits_at d l (stepped token.Any o)
-    by None = refl
-    by (Some s) = atom_fits d l patterns.Any s
-shape_is (token.Start ∷ ts) d l = shape_is ts d last.Item ∙ by (state_of ts)
-  where
-    by : (o : Option State) → fits_at d last.Item o ≡ fits_at d l (stepped token.Start o)
-    by None = refl
-    by (Some s) = end_fits d l patterns.Start s.inner.suffix s.inner.items s.inner.branches s.outer
-shape_is (token.End ∷ ts) d l = shape_is ts d last.Item ∙ by (state_of ts)
-  where
-    by : (o : Option State) → fits_at d last.Item o ≡ fits_at d l (stepped token.End o)
-    by None = refl
-    by (Some s) = end_fits d l patterns.End s.inner.suffix s.inner.items s.inner.branches s.outer
-shape_is (token.Anchor ∷ ts) d l = shape_is ts d last.Item ∙ by (state_of ts)
-  where
-    by : (o : Option State) → fits_at d last.Item o ≡ fits_at d l (stepped token.Anchor o)
-    by None = refl
-    by (Some s) = end_fits d l patterns.Anchor s.inner.suffix s.inner.items s.inner.branches s.outer
-shape_is (token.Open ∷ ts) d l = shape_is ts (d + 1) last.Nothing ∙ by (state_of ts)
-  where
-    by : (o : Option State) → fits_at (d + 1) last.Nothing o ≡ fits_at d l (stepped token.Open o)
-    by None = refl
-    by (Some s) = open_fits d l s.inner.suffix s.inner.items s.inner.branches s.outer
-shape_is (token.Close ∷ ts) d l = ap (λ b. cond (not (d == 0) && not (is_nothing l)) b false) (shape_is ts (d - 1) last.Atom) ∙ by (state_of ts)
-  where
-    by : (o : Option State) → cond (not (d == 0) && not (is_nothing l)) (fits_at (d - 1) last.Atom o) false ≡ fits_at d l (stepped token.Close o)
-    by None = none_if (not (d == 0) && not (is_nothing l))
-    by (Some s) = close_fits d l s
-shape_is (token.Optional ∷ ts) d l = ap (λ b. cond (is_atom l) b false) (shape_is ts d last.Item) ∙ by (state_of ts)
-  where
-    by : (o : Option State) → cond (is_atom l) (fits_at d last.Item o) false ≡ fits_at d l (stepped token.Optional o)
-    by None = none_if (is_atom l)
-    by (Some s) = sign_fits d l AtMostOnce s.inner.suffix s.inner.items s.inner.branches s.outer tt
-shape_is (token.Many ∷ ts) d l = ap (λ b. cond (is_atom l) b false) (shape_is ts d last.Item) ∙ by (state_of ts)
-  where
-    by : (o : Option State) → cond (is_atom l) (fits_at d last.Item o) false ≡ fits_at d l (stepped token.Many o)
-    by None = none_if (is_atom l)
-    by (Some s) = sign_fits d l AnyNumber s.inner.suffix s.inner.items s.inner.branches s.outer tt
-shape_is (token.Or ∷ ts) d l = ap (λ b. cond (not (is_nothing l)) b false) (shape_is ts d last.Nothing) ∙ by (state_of ts)
-  where
-    by : (o : Option State) → cond (not (is_nothing l)) (fits_at d last.Nothing o) false ≡ fits_at d l (stepped token.Or o)
-    by None = none_if (not (is_nothing l))
-    by (Some s) = bar_fits d l s.inner.suffix s.inner.items s.inner.branches s.outer
-shape_is (token.Other ∷ ts) d l = by (state_of ts)
-  where
-    by : (o : Option State) → false ≡ fits_at d l (stepped token.Other o)
-    by None = refl
-    by (Some s) = refl
-
-ended_fits : (x : Suffix) (items branches : Option Pattern) (outer : List Frame) → ((0 == length outer) && fits last.Nothing x (is_some items)) ≡ is_some (read.ended (record { suffix = x; items = items; branches = branches }) outer)
-ended_fits Once (Some p) branches [] = refl
-ended_fits Once None branches [] = refl
-ended_fits AtMostOnce items branches [] = refl
-ended_fits AnyNumber items branches [] = refl
-ended_fits x items branches (f ∷ outer) = ap (λ b. b && fits last.Nothing x (is_some items)) (zero_suc (length outer))
+shape_is : (ts : List Token) (s : List Piece) → AreGood s → IsShape ts s
+shape_is [] s good = end_shape s good
+shape_is (token.Point c ∷ ts) s good = shape_is ts (Part true (patterns.Point c) ∷ s) (tt, good)
+shape_is (token.Set n ∷ ts) s good = shape_is ts (Part true (patterns.Set n) ∷ s) (tt, good)
+shape_is (token.Any ∷ ts) s good = shape_is ts (Part true patterns.Any ∷ s) (tt, good)
+shape_is (token.Start ∷ ts) s good = shape_is ts (Part false patterns.Start ∷ s) (tt, good)
+shape_is (token.End ∷ ts) s good = shape_is ts (Part false patterns.End ∷ s) (tt, good)
+shape_is (token.Anchor ∷ ts) s good = shape_is ts (Part false patterns.Anchor ∷ s) (tt, good)
+shape_is (token.Open ∷ ts) s good = shape_is ts (Opening ∷ s) good
+shape_is (token.Close ∷ ts) s good = close_shape ts s good (λ v g. shape_is ts v g)
+shape_is (token.Optional ∷ ts) s good = sign_shape patterns.Optional ts s good (λ p h. h) (λ v g. shape_is ts v g)
+shape_is (token.Many ∷ ts) s good = sign_shape patterns.Many ts s good (λ p h. h) (λ v g. shape_is ts v g)
+shape_is (token.Or ∷ ts) s good = bar_shape ts s good (λ v g. shape_is ts v g)
+shape_is (token.Other ∷ ts) s good = no_shape ts
 
 pub shaped_pattern : (ts : List Token) → shaped 0 last.Nothing ts ≡ is_some (pattern_of ts)
 unfolding pattern_of
-shaped_pattern ts = shape_is ts 0 last.Nothing ∙ by (state_of ts)
-  where
-    by : (o : Option State) → fits_at 0 last.Nothing o ≡ is_some (pattern_at o)
-    by None = refl
-    by (Some s) = ended_fits s.inner.suffix s.inner.items s.inner.branches s.outer
-
--- ---- in a demand no '_' stands
-
-abbrev unanchored_tokens : List Token → Bool
-unanchored_tokens [] = true
-unanchored_tokens (token.Anchor ∷ ts) = false
-unanchored_tokens (token.Other ∷ ts) = false
-unanchored_tokens (t ∷ ts) = unanchored_tokens ts
-
-demand_signs : (ts : List Token) (d : ℕ) (b : Bool) → signed false d b ts ≡ unanchored_tokens ts
-demand_signs [] d true = refl
-demand_signs [] d false = refl
-demand_signs (token.Point c ∷ ts) d b = demand_signs ts d b
-demand_signs (token.Set n ∷ ts) d b = demand_signs ts d b
-demand_signs (token.Any ∷ ts) d b = demand_signs ts d b
-demand_signs (token.Start ∷ ts) d b = demand_signs ts d b
-demand_signs (token.End ∷ ts) d b = demand_signs ts d b
-demand_signs (token.Anchor ∷ ts) d b = refl
-demand_signs (token.Open ∷ ts) d b = demand_signs ts (d + 1) b
-demand_signs (token.Close ∷ ts) d b = demand_signs ts (d - 1) b
-demand_signs (token.Optional ∷ ts) d b = demand_signs ts d b
-demand_signs (token.Many ∷ ts) d b = demand_signs ts d b
-demand_signs (token.Or ∷ ts) d true =
-    ap (λ x. cond (d == 0) x (signed false d true ts)) (demand_signs ts d false) ∙ ap (cond (d == 0) (unanchored_tokens ts)) (demand_signs ts d true) ∙ same_if (d == 0) (unanchored_tokens ts)
-  where
-    same_if : (b x : Bool) → cond b x x ≡ x
-    same_if true x = refl
-    same_if false x = refl
-demand_signs (token.Or ∷ ts) d false =
-    ap (λ x. cond (d == 0) x (signed false d false ts)) (demand_signs ts d false) ∙ ap (cond (d == 0) (unanchored_tokens ts)) (demand_signs ts d false) ∙ same_if (d == 0) (unanchored_tokens ts)
-  where
-    same_if : (b x : Bool) → cond b x x ≡ x
-    same_if true x = refl
-    same_if false x = refl
-demand_signs (token.Other ∷ ts) d b = refl
-
-not_or : (a b c : Bool) → (not a && (not b && c)) ≡ (not (a || b) && c)
-not_or true b c = refl
-not_or false b c = refl
-
-unanchored_pattern : (p : Pattern) (rest : List Token) → unanchored_tokens (tokens p ++ rest) ≡ (not (has sign.Anchor p) && unanchored_tokens rest)
-unanchored_pattern (patterns.Point c) rest = refl
-unanchored_pattern (patterns.Set n) rest = refl
-unanchored_pattern patterns.Any rest = refl
-unanchored_pattern patterns.Start rest = refl
-unanchored_pattern patterns.End rest = refl
-unanchored_pattern patterns.Anchor rest = refl
-unanchored_pattern (patterns.Group p) rest = ap unanchored_tokens (append_assoc (tokens p) (token.Close ∷ []) rest) ∙ unanchored_pattern p (token.Close ∷ rest)
-unanchored_pattern (patterns.Optional p) rest = ap unanchored_tokens (append_assoc (tokens p) (token.Optional ∷ []) rest) ∙ unanchored_pattern p (token.Optional ∷ rest)
-unanchored_pattern (patterns.Many p) rest = ap unanchored_tokens (append_assoc (tokens p) (token.Many ∷ []) rest) ∙ unanchored_pattern p (token.Many ∷ rest)
-unanchored_pattern (patterns.Then p q) rest =
-    ap unanchored_tokens (append_assoc (tokens p) (tokens q) rest) ∙ unanchored_pattern p (tokens q ++ rest)
-    ∙ ap (λ b. not (has sign.Anchor p) && b) (unanchored_pattern q rest) ∙ not_or (has sign.Anchor p) (has sign.Anchor q) (unanchored_tokens rest)
-unanchored_pattern (patterns.Either p q) rest =
-    ap unanchored_tokens (append_assoc (tokens p) (token.Or ∷ tokens q) rest) ∙ unanchored_pattern p (token.Or ∷ (tokens q ++ rest))
-    ∙ ap (λ b. not (has sign.Anchor p) && b) (unanchored_pattern q rest) ∙ not_or (has sign.Anchor p) (has sign.Anchor q) (unanchored_tokens rest)
-
--- ---- in a rule each branch has one '_', with '^' before it and '$' after it
-
--- what may stand before '_', and after it
-abbrev may : Bool → Pattern → Bool
-may false p = is_before p
-may true p = is_after p
-
-may_two : (b : Bool) (p q : Pattern) (x : Bool) → (may b p && (may b q && x)) ≡ ((not (has sign.Anchor p || has sign.Anchor q) && not (has (cond b sign.Start sign.End) p || has (cond b sign.Start sign.End) q)) && x)
-may_two true p q x = by (has sign.Anchor p) (has sign.Start p) (has sign.Anchor q) (has sign.Start q)
-  where
-    by : (a b c d : Bool) → ((not a && not b) && ((not c && not d) && x)) ≡ ((not (a || c) && not (b || d)) && x)
-    by true b c d = refl
-    by false true true d = refl
-    by false true false d = refl
-    by false false true d = refl
-    by false false false d = refl
-may_two false p q x = by (has sign.Anchor p) (has sign.End p) (has sign.Anchor q) (has sign.End q)
-  where
-    by : (a b c d : Bool) → ((not a && not b) && ((not c && not d) && x)) ≡ ((not (a || c) && not (b || d)) && x)
-    by true b c d = refl
-    by false true true d = refl
-    by false true false d = refl
-    by false false true d = refl
-    by false false false d = refl
-
-may_then : (b : Bool) (p q : Pattern) (x : Bool) → (may b p && (may b q && x)) ≡ (may b (patterns.Then p q) && x)
-may_then true p q x = may_two true p q x
-may_then false p q x = may_two false p q x
-
-may_either : (b : Bool) (p q : Pattern) (x : Bool) → (may b p && (may b q && x)) ≡ (may b (patterns.Either p q) && x)
-may_either true p q x = may_two true p q x
-may_either false p q x = may_two false p q x
-
-may_group : (b : Bool) (p : Pattern) → may b p ≡ may b (patterns.Group p)
-may_group true p = refl
-may_group false p = refl
-
-may_optional : (b : Bool) (p : Pattern) → may b p ≡ may b (patterns.Optional p)
-may_optional true p = refl
-may_optional false p = refl
-
-may_many : (b : Bool) (p : Pattern) → may b p ≡ may b (patterns.Many p)
-may_many true p = refl
-may_many false p = refl
-
-into : (d : ℕ) → d + 1 ≡ suc d
-into d = omega arith
-
-pub out_of : (d : ℕ) → suc d - 1 ≡ d
-out_of d = omega arith
-
--- within a group
-within : (p : Pattern) (d : ℕ) (b : Bool) (rest : List Token) → signed true (suc d) b (tokens p ++ rest) ≡ (may b p && signed true (suc d) b rest)
-within (patterns.Point c) d true rest = refl
-within (patterns.Point c) d false rest = refl
-within (patterns.Set n) d true rest = refl
-within (patterns.Set n) d false rest = refl
-within patterns.Any d true rest = refl
-within patterns.Any d false rest = refl
-within patterns.Start d true rest = refl
-within patterns.Start d false rest = refl
-within patterns.End d true rest = refl
-within patterns.End d false rest = refl
-within patterns.Anchor d true rest = ap (λ x. cond (x && false) (signed true (suc d) true rest) false) (suc_zero d)
-within patterns.Anchor d false rest = ap (λ x. cond (x && true) (signed true (suc d) true rest) false) (suc_zero d)
-within (patterns.Group p) d b rest =
-    ap (signed true (suc d + 1) b) (append_assoc (tokens p) (token.Close ∷ []) rest) ∙ ap (λ n. signed true n b (tokens p ++ token.Close ∷ rest)) (into (suc d))
-    ∙ within p (suc d) b (token.Close ∷ rest) ∙ ap (λ n. may b p && signed true n b rest) (out_of (suc d)) ∙ ap (λ x. x && signed true (suc d) b rest) (may_group b p)
-within (patterns.Optional p) d b rest =
-    ap (signed true (suc d) b) (append_assoc (tokens p) (token.Optional ∷ []) rest) ∙ within p d b (token.Optional ∷ rest) ∙ ap (λ x. x && signed true (suc d) b rest) (may_optional b p)
-within (patterns.Many p) d b rest =
-    ap (signed true (suc d) b) (append_assoc (tokens p) (token.Many ∷ []) rest) ∙ within p d b (token.Many ∷ rest) ∙ ap (λ x. x && signed true (suc d) b rest) (may_many b p)
-within (patterns.Then p q) d b rest =
-    ap (signed true (suc d) b) (append_assoc (tokens p) (tokens q) rest) ∙ within p d b (tokens q ++ rest)
-    ∙ ap (λ x. may b p && x) (within q d b rest) ∙ may_then b p q (signed true (suc d) b rest)
-within (patterns.Either p q) d b rest =
-    ap (signed true (suc d) b) (append_assoc (tokens p) (token.Or ∷ tokens q) rest) ∙ within p d b (token.Or ∷ (tokens q ++ rest))
-    ∙ ap (λ z. may b p && cond z (cond (b || false) (signed true (suc d) false (tokens q ++ rest)) false) (signed true (suc d) b (tokens q ++ rest))) (suc_zero d)
-    ∙ ap (λ x. may b p && x) (within q d b rest) ∙ may_either b p q (signed true (suc d) b rest)
-
--- an item of a branch that is in no group: '_', or something else
-abbrev item_leads : Bool → Pattern → List Token → Bool
-item_leads b p rest = cond (is_anchor p) (not b && signed true 0 true rest) (may b p && signed true 0 b rest)
-
-item_signs : (p : Pattern) (b : Bool) (rest : List Token) → Is Item p → signed true 0 b (tokens p ++ rest) ≡ item_leads b p rest
-item_signs (patterns.Point c) true rest is = refl
-item_signs (patterns.Point c) false rest is = refl
-item_signs (patterns.Set n) true rest is = refl
-item_signs (patterns.Set n) false rest is = refl
-item_signs patterns.Any true rest is = refl
-item_signs patterns.Any false rest is = refl
-item_signs patterns.Start true rest is = refl
-item_signs patterns.Start false rest is = refl
-item_signs patterns.End true rest is = refl
-item_signs patterns.End false rest is = refl
-item_signs patterns.Anchor true rest is = refl
-item_signs patterns.Anchor false rest is = refl
-item_signs (patterns.Group p) b rest is =
-    ap (signed true 1 b) (append_assoc (tokens p) (token.Close ∷ []) rest) ∙ within p 0 b (token.Close ∷ rest) ∙ ap (λ x. x && signed true 0 b rest) (may_group b p)
-item_signs (patterns.Optional p) b rest is =
-    ap (signed true 0 b) (append_assoc (tokens p) (token.Optional ∷ []) rest) ∙ item_signs p b (token.Optional ∷ rest) (item_is p is) ∙ by p is
-  where
-    by : (p : Pattern) → Is Atom p → item_leads b p (token.Optional ∷ rest) ≡ (may b (patterns.Optional p) && signed true 0 b rest)
-    by (patterns.Point c) is = ap (λ x. x && signed true 0 b rest) (may_optional b (patterns.Point c))
-    by (patterns.Set n) is = ap (λ x. x && signed true 0 b rest) (may_optional b (patterns.Set n))
-    by patterns.Any is = ap (λ x. x && signed true 0 b rest) (may_optional b patterns.Any)
-    by (patterns.Group q) is = ap (λ x. x && signed true 0 b rest) (may_optional b (patterns.Group q))
-    by q is = absurd is
-item_signs (patterns.Many p) b rest is =
-    ap (signed true 0 b) (append_assoc (tokens p) (token.Many ∷ []) rest) ∙ item_signs p b (token.Many ∷ rest) (item_is p is) ∙ by p is
-  where
-    by : (p : Pattern) → Is Atom p → item_leads b p (token.Many ∷ rest) ≡ (may b (patterns.Many p) && signed true 0 b rest)
-    by (patterns.Point c) is = ap (λ x. x && signed true 0 b rest) (may_many b (patterns.Point c))
-    by (patterns.Set n) is = ap (λ x. x && signed true 0 b rest) (may_many b (patterns.Set n))
-    by patterns.Any is = ap (λ x. x && signed true 0 b rest) (may_many b patterns.Any)
-    by (patterns.Group q) is = ap (λ x. x && signed true 0 b rest) (may_many b (patterns.Group q))
-    by q is = absurd is
-item_signs (patterns.Then p q) b rest is = absurd is
-item_signs (patterns.Either p q) b rest is = absurd is
-
--- after '_' an item is none
-after_item : (p : Pattern) (rest : List Token) → item_leads true p rest ≡ (is_after p && signed true 0 true rest)
-after_item (patterns.Point c) rest = refl
-after_item (patterns.Set n) rest = refl
-after_item patterns.Any rest = refl
-after_item patterns.Start rest = refl
-after_item patterns.End rest = refl
-after_item patterns.Anchor rest = refl
-after_item (patterns.Group p) rest = refl
-after_item (patterns.Optional p) rest = refl
-after_item (patterns.Many p) rest = refl
-after_item (patterns.Then p q) rest = refl
-after_item (patterns.Either p q) rest = refl
-
--- the items after '_'
-branch_after : (p : Pattern) (rest : List Token) → Is Branch p → signed true 0 true (tokens p ++ rest) ≡ (is_after p && signed true 0 true rest)
-branch_after (patterns.Then p q) rest is =
-    ap (signed true 0 true) (append_assoc (tokens p) (tokens q) rest) ∙ item_signs p true (tokens q ++ rest) is.0 ∙ after_item p (tokens q ++ rest)
-    ∙ ap (λ x. is_after p && x) (branch_after q rest is.1) ∙ may_then true p q (signed true 0 true rest)
-branch_after (patterns.Either p q) rest is = absurd is
-branch_after (patterns.Point c) rest is = item_signs (patterns.Point c) true rest is
-branch_after (patterns.Set n) rest is = item_signs (patterns.Set n) true rest is
-branch_after patterns.Any rest is = item_signs patterns.Any true rest is
-branch_after patterns.Start rest is = item_signs patterns.Start true rest is
-branch_after patterns.End rest is = item_signs patterns.End true rest is
-branch_after patterns.Anchor rest is = item_signs patterns.Anchor true rest is
-branch_after (patterns.Group p) rest is = item_signs (patterns.Group p) true rest is
-branch_after (patterns.Optional p) rest is = item_signs (patterns.Optional p) true rest is
-branch_after (patterns.Many p) rest is = item_signs (patterns.Many p) true rest is
-
-and_assoc : (a b c : Bool) → (a && (b && c)) ≡ ((a && b) && c)
-and_assoc true b c = refl
-and_assoc false b c = refl
-
--- a whole branch; what follows it can't be read before '_'
-branch_signs : (p : Pattern) (rest : List Token) → Is Branch p → signed true 0 false rest ≡ false → signed true 0 false (tokens p ++ rest) ≡ (is_context p && signed true 0 true rest)
-branch_signs (patterns.Then p q) rest is none =
-    ap (signed true 0 false) (append_assoc (tokens p) (tokens q) rest) ∙ item_signs p false (tokens q ++ rest) is.0 ∙ by (is_anchor p) (branch_signs q rest is.1 none)
-  where
-    by : (b : Bool) → signed true 0 false (tokens q ++ rest) ≡ (is_context q && signed true 0 true rest)
-        → cond b (true && signed true 0 true (tokens q ++ rest)) (is_before p && signed true 0 false (tokens q ++ rest)) ≡ (cond b (is_after q) (is_before p && is_context q) && signed true 0 true rest)
-    by true later = branch_after q rest is.1
-    by false later = ap (λ x. is_before p && x) later ∙ and_assoc (is_before p) (is_context q) (signed true 0 true rest)
-branch_signs (patterns.Either p q) rest is none = absurd is
-branch_signs (patterns.Point c) rest is none = item_signs (patterns.Point c) false rest is ∙ none
-branch_signs (patterns.Set n) rest is none = item_signs (patterns.Set n) false rest is ∙ none
-branch_signs patterns.Any rest is none = item_signs patterns.Any false rest is ∙ none
-branch_signs patterns.Start rest is none = item_signs patterns.Start false rest is ∙ none
-branch_signs patterns.End rest is none = item_signs patterns.End false rest is
-branch_signs patterns.Anchor rest is none = item_signs patterns.Anchor false rest is
-branch_signs (patterns.Group p) rest is none = item_signs (patterns.Group p) false rest is ∙ ap (λ x. is_before p && x) none ∙ sym (and_false (is_before p))
-branch_signs (patterns.Optional p) rest is none = item_signs (patterns.Optional p) false rest is ∙ ap (λ x. is_before p && x) none ∙ sym (and_false (is_before p))
-branch_signs (patterns.Many p) rest is none = item_signs (patterns.Many p) false rest is ∙ ap (λ x. is_before p && x) none ∙ sym (and_false (is_before p))
-
-rule_branch : (p : Pattern) → Is Branch p → is_context p ≡ is_rule p → signed true 0 false (tokens p) ≡ is_rule p
-rule_branch p is same = ap (signed true 0 false) (sym (append-nil (tokens p))) ∙ branch_signs p [] is refl ∙ sym (and_true (is_context p)) ∙ same
-
-rule_signs : (p : Pattern) → Is Whole p → signed true 0 false (tokens p) ≡ is_rule p
-rule_signs (patterns.Either p q) is = branch_signs p (token.Or ∷ tokens q) is.0 refl ∙ ap (λ x. is_context p && x) (rule_signs q is.1)
-rule_signs (patterns.Then p q) is = rule_branch (patterns.Then p q) is refl
-rule_signs (patterns.Point c) is = rule_branch (patterns.Point c) is refl
-rule_signs (patterns.Set n) is = rule_branch (patterns.Set n) is refl
-rule_signs patterns.Any is = rule_branch patterns.Any is refl
-rule_signs patterns.Start is = rule_branch patterns.Start is refl
-rule_signs patterns.End is = rule_branch patterns.End is refl
-rule_signs patterns.Anchor is = rule_branch patterns.Anchor is refl
-rule_signs (patterns.Group p) is = rule_branch (patterns.Group p) is refl
-rule_signs (patterns.Optional p) is = rule_branch (patterns.Optional p) is refl
-rule_signs (patterns.Many p) is = rule_branch (patterns.Many p) is refl
+shaped_pattern ts = shape_is ts [] tt
 
 -- ---- the patterns that are taken are those of rules and demands
 
@@ -845,41 +456,42 @@ step_good (InPattern p) t w e good = by (pattern_step p (token_of [] w)) e
 abbrev Completed : DefinitionState → Type 0
 Completed s = (more : List (List ℕ)) × (accepts s more ≡ true)
 
-after_anchor : (p : PatternState) → p.groups ≡ 0 → p.is_rule ≡ true → p.passed ≡ false → accepts (InPattern p) (codes "_" ∷ []) ≡ true
+after_anchor : (p : PatternState) → p.signs.groups ≡ 0 → p.is_rule ≡ true → p.signs.passed ≡ false → accepts (InPattern p) (codes "_" ∷ []) ≡ true
 after_anchor p closed_ rule before =
-    ap (λ b. if_some (in_pattern (if_may (b && (p.groups == 0) && not p.passed) (with_anchor p))) is_whole) rule
-    ∙ ap (λ n. if_some (in_pattern (if_may ((n == 0) && not p.passed) (with_anchor p))) is_whole) closed_
-    ∙ ap (λ b. if_some (in_pattern (if_may (not b) (with_anchor p))) is_whole) before
-    ∙ (let whole : is_pattern (with_anchor p) ≡ true = ap (λ n. (n == 0) && true && true) closed_ in whole)
+    ap (λ b. if_some (in_pattern (cond (b && (p.signs.groups == 0) && not p.signs.passed) (Some (with_token p token.Anchor last.Item)) None)) is_whole) rule
+    ∙ ap (λ n. if_some (in_pattern (cond ((n == 0) && not p.signs.passed) (Some (with_token p token.Anchor last.Item)) None)) is_whole) closed_
+    ∙ ap (λ b. if_some (in_pattern (cond (not b) (Some (with_token p token.Anchor last.Item)) None)) is_whole) before
+    ∙ (let whole : is_pattern (with_token p token.Anchor last.Item) ≡ true = ap (λ n. (n == 0) && true && true) closed_ in whole)
 
-all_closed : (p : PatternState) → p.groups ≡ 0 → is_nothing p.last ≡ false → Completed (InPattern p)
-all_closed p closed_ some = by p.is_rule p.passed refl refl
+all_closed : (p : PatternState) → p.signs.groups ≡ 0 → is_nothing p.last ≡ false → Completed (InPattern p)
+all_closed p closed_ some = by p.is_rule p.signs.passed refl refl
   where
-    whole : (p.passed || not p.is_rule) ≡ true → is_pattern p ≡ true
-    whole ends = ap (λ n. (n == 0) && not (is_nothing p.last) && (p.passed || not p.is_rule)) closed_ ∙ ap (λ b. not b && (p.passed || not p.is_rule)) some ∙ ends
+    whole : (p.signs.passed || not p.is_rule) ≡ true → is_pattern p ≡ true
+    whole ends =
+        ap (λ n. (n == 0) && not (is_nothing p.last) && (p.signs.passed || not p.is_rule)) closed_ ∙ ap (λ b. not b && (p.signs.passed || not p.is_rule)) some ∙ ends
 
-    by : (rule passed : Bool) → p.is_rule ≡ rule → p.passed ≡ passed → Completed (InPattern p)
+    by : (rule passed : Bool) → p.is_rule ≡ rule → p.signs.passed ≡ passed → Completed (InPattern p)
     by true false r b = (codes "_" ∷ [], after_anchor p closed_ r b)
     by true true r b = ([], whole (ap (λ x. x || not p.is_rule) b))
     by false true r b = ([], whole (ap (λ x. x || not p.is_rule) b))
     by false false r b = ([], whole (ap (λ x. x || not p.is_rule) b ∙ ap not r))
 
-groups_closed : (g : ℕ) (p : PatternState) → p.groups ≡ g → is_nothing p.last ≡ false → Completed (InPattern p)
+groups_closed : (g : ℕ) (p : PatternState) → p.signs.groups ≡ g → is_nothing p.last ≡ false → Completed (InPattern p)
 groups_closed zero p open_ some = all_closed p open_ some
 groups_closed (suc g) p open_ some =
-    let later = groups_closed g (closed p) (ap (λ n. n - 1) open_ ∙ out_of g) refl in (
+    let later = groups_closed g (with_token p token.Close last.Atom) (ap (λ n. n - 1) open_ ∙ out_of g) refl in (
       codes ")" ∷ later.0,
-      ap (λ n. if_some (in_pattern (if_may (not (n == 0) && not (is_nothing p.last)) (closed p))) (λ t. accepts t later.0)) open_
-          ∙ ap (λ b. if_some (in_pattern (if_may (not b && not (is_nothing p.last)) (closed p))) (λ t. accepts t later.0)) (suc_zero g)
-          ∙ ap (λ b. if_some (in_pattern (if_may (not b) (closed p))) (λ t. accepts t later.0)) some ∙ later.1,
+      ap (λ n. if_some (in_pattern (option_map (with_token p token.Close) (if_may (not (n == 0) && not (is_nothing p.last)) last.Atom))) (λ t. accepts t later.0)) open_
+          ∙ ap (λ b. if_some (in_pattern (option_map (with_token p token.Close) (if_may (not b && not (is_nothing p.last)) last.Atom))) (λ t. accepts t later.0)) (suc_zero g)
+          ∙ ap (λ b. if_some (in_pattern (option_map (with_token p token.Close) (if_may (not b) last.Atom))) (λ t. accepts t later.0)) some ∙ later.1,
     )
 
 pattern_completed : (p : PatternState) → Completed (InPattern p)
 pattern_completed p = by (is_nothing p.last) refl
   where
     by : (b : Bool) → is_nothing p.last ≡ b → Completed (InPattern p)
-    by false e = groups_closed p.groups p refl e
-    by true e = let later = groups_closed p.groups (with_last p last.Atom) refl refl in (codes "." ∷ later.0, later.1)
+    by false e = groups_closed p.signs.groups p refl e
+    by true e = let later = groups_closed p.signs.groups (with_token p token.Any last.Atom) refl refl in (codes "." ∷ later.0, later.1)
 
 a_part : part_of (codes "0061") ≡ part.Point 97
 unfolding point_of_hex
@@ -922,38 +534,21 @@ completed (InPattern p) good = pattern_completed p
 
 -- ---- what some definition begins with
 
-abbrev stepped_on : Option DefinitionState → List ℕ → Option DefinitionState
-stepped_on None w = None
-stepped_on (Some s) w = step s w
-
--- the state after lexemes, each of which may stand where it does
-abbrev run : Option DefinitionState → List (List ℕ) → Option DefinitionState
-run s [] = s
-run s (w ∷ ws) = run (stepped_on s w) ws
-
-run_none : (ws : List (List ℕ)) → run None ws ≡ None
-run_none [] = refl
-run_none (w ∷ ws) = run_none ws
-
-run_append : (ws vs : List (List ℕ)) (s : Option DefinitionState) → run s (ws ++ vs) ≡ run (run s ws) vs
-run_append [] vs s = refl
-run_append (w ∷ ws) vs s = run_append ws vs (stepped_on s w)
-
 -- whether they lead to what is whole, by the state that they lead to
-accepts_run : (ws more : List (List ℕ)) (s : DefinitionState) → accepts s (ws ++ more) ≡ if_some (run (Some s) ws) (λ t. accepts t more)
+accepts_run : (ws more : List (List ℕ)) (s : DefinitionState) → accepts s (ws ++ more) ≡ if_some (run step (Some s) ws) (λ t. accepts t more)
 accepts_run [] more s = refl
 accepts_run (w ∷ ws) more s = by (step s w) (λ t. accepts_run ws more t)
   where
-    by : (o : Option DefinitionState) → ((t : DefinitionState) → accepts t (ws ++ more) ≡ if_some (run (Some t) ws) (λ t. accepts t more)) → if_some o (λ t. accepts t (ws ++ more)) ≡ if_some (run o ws) (λ t. accepts t more)
-    by None later = ap (λ o. if_some o (λ t. accepts t more)) (sym (run_none ws))
+    by : (o : Option DefinitionState) → ((t : DefinitionState) → accepts t (ws ++ more) ≡ if_some (run step (Some t) ws) (λ t. accepts t more)) → if_some o (λ t. accepts t (ws ++ more)) ≡ if_some (run step o ws) (λ t. accepts t more)
+    by None later = ap (λ o. if_some o (λ t. accepts t more)) (sym (run_none step ws))
     by (Some t) later = later t
 
-run_good : (ws : List (List ℕ)) (s t : DefinitionState) → IsGood s → run (Some s) ws ≡ Some t → IsGood t
+run_good : (ws : List (List ℕ)) (s t : DefinitionState) → IsGood s → run step (Some s) ws ≡ Some t → IsGood t
 run_good [] s t good e = let same : s ≡ t = cc in subst IsGood same good
 run_good (w ∷ ws) s t good e = by (step s w) refl (λ u k h. run_good ws u t k h) e
   where
-    by : (o : Option DefinitionState) → step s w ≡ o → ((u : DefinitionState) → IsGood u → run (Some u) ws ≡ Some t → IsGood t) → run o ws ≡ Some t → IsGood t
-    by None at later e = none_some (IsGood t) t (sym (run_none ws) ∙ e)
+    by : (o : Option DefinitionState) → step s w ≡ o → ((u : DefinitionState) → IsGood u → run step (Some u) ws ≡ Some t → IsGood t) → run step o ws ≡ Some t → IsGood t
+    by None at later e = none_some (IsGood t) t (sym (run_none step ws) ∙ e)
     by (Some u) at later e = later u (step_good s u w at good) e
 
 pub some_is : {X : Type 0} (o : Option X) → is_some o ≡ true → (x : X) × (o ≡ Some x)
@@ -966,19 +561,19 @@ accepts_defined ws e = some_is (definition_in [] ws) (sym (accepts_is [] ws) ∙
 defined_accepts : (ws : List (List ℕ)) → Define ws → accepts Nothing ws ≡ true
 defined_accepts ws d = accepts_is [] ws ∙ ap is_some d.1
 
-begins_by_run : (ws : List (List ℕ)) (s : DefinitionState) → run (Some Nothing) ws ≡ Some s → Begins ws
+begins_by_run : (ws : List (List ℕ)) (s : DefinitionState) → run step (Some Nothing) ws ≡ Some s → Begins Define ws
 begins_by_run ws s e =
     let c = completed s (run_good ws Nothing s tt e) in
     (c.0, accepts_defined (ws ++ c.0) (accepts_run ws c.0 Nothing ∙ ap (λ o. if_some o (λ t. accepts t c.0)) e ∙ c.1))
 
-run_by_begins : (ws : List (List ℕ)) → Begins ws → (s : DefinitionState) × (run (Some Nothing) ws ≡ Some s)
-run_by_begins ws b = by (run (Some Nothing) ws) refl (sym (accepts_run ws b.0 Nothing) ∙ defined_accepts (ws ++ b.0) b.1)
+run_by_begins : (ws : List (List ℕ)) → Begins Define ws → (s : DefinitionState) × (run step (Some Nothing) ws ≡ Some s)
+run_by_begins ws b = by (run step (Some Nothing) ws) refl (sym (accepts_run ws b.0 Nothing) ∙ defined_accepts (ws ++ b.0) b.1)
   where
-    by : (o : Option DefinitionState) → run (Some Nothing) ws ≡ o → if_some o (λ t. accepts t b.0) ≡ true → (s : DefinitionState) × (run (Some Nothing) ws ≡ Some s)
+    by : (o : Option DefinitionState) → run step (Some Nothing) ws ≡ o → if_some o (λ t. accepts t b.0) ≡ true → (s : DefinitionState) × (run step (Some Nothing) ws ≡ Some s)
     by None at e = absurd (let clash : false ≡ true = e in cc)
     by (Some s) at e = (s, at)
 
-whole_by_run : (ws : List (List ℕ)) (s : DefinitionState) → run (Some Nothing) ws ≡ Some s → accepts Nothing ws ≡ is_whole s
+whole_by_run : (ws : List (List ℕ)) (s : DefinitionState) → run step (Some Nothing) ws ≡ Some s → accepts Nothing ws ≡ is_whole s
 whole_by_run ws s e = ap (accepts Nothing) (sym (append-nil ws)) ∙ accepts_run ws [] Nothing ∙ ap (λ o. if_some o (λ t. accepts t [])) e
 
 -- ---- the place
@@ -993,7 +588,7 @@ record Stuck (s : DefinitionState) (xs : List Placed) (place n : ℕ) : Type 0 w
   after : List Placed
   at : DefinitionState
   cut : xs ≡ before ++ w ∷ after
-  reached : run (Some s) (unplaced before) ≡ Some at
+  reached : run step (Some s) (unplaced before) ≡ Some at
   none : step at w.lexeme ≡ None
   is_anchor : w.place ≡ place
   is_len : length w.lexeme ≡ n
@@ -1015,7 +610,7 @@ stuck_next len place n s w ws (Some t) e rest found =
       after = r.after;
       at = r.at;
       cut = ap (λ l. w ∷ l) r.cut;
-      reached = ap (λ o. run o (unplaced r.before)) e ∙ r.reached;
+      reached = ap (λ o. run step o (unplaced r.before)) e ∙ r.reached;
       none = r.none;
       is_anchor = r.is_anchor;
       is_len = r.is_len;
@@ -1027,7 +622,7 @@ stuck len place n (w ∷ ws) s e = stuck_next len place n s w ws (step s w.lexem
 
 -- to the end of the lexemes
 abbrev Passed : ℕ → DefinitionState → List Placed → Option WrongPlace → Type 0
-Passed len s xs found = (t : DefinitionState) × (run (Some s) (unplaced xs) ≡ Some t) × (open_end len t ≡ found)
+Passed len s xs found = (t : DefinitionState) × (run step (Some s) (unplaced xs) ≡ Some t) × (open_end len t ≡ found)
 
 -- a place that is no lexeme, or none
 abbrev IsNoLexeme : Option WrongPlace → Type 0
@@ -1039,26 +634,26 @@ passed_next : (len : ℕ) (found : Option WrongPlace) (s : DefinitionState) (w :
     → ((t : DefinitionState) → wrong_from len t ws ≡ found → Passed len t ws found)
     → stopped_at w (λ t. wrong_from len t ws) o ≡ found → Passed len s (w ∷ ws) found
 passed_next len found s w ws None is e rest h = absurd (subst IsNoLexeme (sym h) is)
-passed_next len found s w ws (Some t) is e rest h = let r = rest t h in (r.0, ap (λ o. run o (unplaced ws)) e ∙ r.1, r.2)
+passed_next len found s w ws (Some t) is e rest h = let r = rest t h in (r.0, ap (λ o. run step o (unplaced ws)) e ∙ r.1, r.2)
 
 passed : (len : ℕ) (found : Option WrongPlace) (xs : List Placed) (s : DefinitionState) → IsNoLexeme found → wrong_from len s xs ≡ found → Passed len s xs found
 passed len found [] s is e = (s, refl, e)
 passed len found (w ∷ ws) s is e = passed_next len found s w ws (step s w.lexeme) is refl (λ t f. passed len found ws t is f) e
 
 -- what is found after lexemes that may stand
-found_after : (len : ℕ) (before ws : List Placed) (s t : DefinitionState) → run (Some s) (unplaced before) ≡ Some t → wrong_from len s (before ++ ws) ≡ wrong_from len t ws
+found_after : (len : ℕ) (before ws : List Placed) (s t : DefinitionState) → run step (Some s) (unplaced before) ≡ Some t → wrong_from len s (before ++ ws) ≡ wrong_from len t ws
 found_after len [] ws s t e = let same : s ≡ t = cc in ap (λ u. wrong_from len u ws) same
 found_after len (w ∷ before) ws s t e = by (step s w.lexeme) (λ u h. found_after len before ws u t h) e
   where
-    by : (o : Option DefinitionState) → ((u : DefinitionState) → run (Some u) (unplaced before) ≡ Some t → wrong_from len u (before ++ ws) ≡ wrong_from len t ws)
-        → run o (unplaced before) ≡ Some t → stopped_at w (λ u. wrong_from len u (before ++ ws)) o ≡ wrong_from len t ws
-    by None rest h = none_some (stopped_at w (λ u. wrong_from len u (before ++ ws)) None ≡ wrong_from len t ws) t (sym (run_none (unplaced before)) ∙ h)
+    by : (o : Option DefinitionState) → ((u : DefinitionState) → run step (Some u) (unplaced before) ≡ Some t → wrong_from len u (before ++ ws) ≡ wrong_from len t ws)
+        → run step o (unplaced before) ≡ Some t → stopped_at w (λ u. wrong_from len u (before ++ ws)) o ≡ wrong_from len t ws
+    by None rest h = none_some (stopped_at w (λ u. wrong_from len u (before ++ ws)) None ≡ wrong_from len t ws) t (sym (run_none step (unplaced before)) ∙ h)
     by (Some u) rest h = rest u h
 
-no_step : (before : List (List ℕ)) (w : List ℕ) (s : DefinitionState) → run (Some Nothing) before ≡ Some s → step s w ≡ None → Begins (before ++ w ∷ []) → ⊥
+no_step : (before : List (List ℕ)) (w : List ℕ) (s : DefinitionState) → run step (Some Nothing) before ≡ Some s → step s w ≡ None → Begins Define (before ++ w ∷ []) → ⊥
 no_step before w s e none b =
     let r = run_by_begins (before ++ w ∷ []) b in
-    none_some ⊥ r.0 (sym (run_append before (w ∷ []) (Some Nothing) ∙ ap (λ o. stepped_on o w) e ∙ none) ∙ r.1)
+    none_some ⊥ r.0 (sym (run_append step before (w ∷ []) (Some Nothing) ∙ ap (λ o. next step o w) e ∙ none) ∙ r.1)
 
 lexeme_found : (line : List ℕ) (place n : ℕ) → wrong_definition line ≡ Some (Lexeme place n) → IsWrongPlace line (Lexeme place n)
 unfolding wrong_definition
@@ -1080,8 +675,8 @@ open_place : (len place : ℕ) (b : Bool) → (let o : Option WrongPlace = cond 
 open_place len place true h = none_some ((true ≡ false) × (place ≡ len)) (End place) h
 open_place len place false h = (refl, cc)
 
-all_lexemes : (line : List ℕ) (s : Option DefinitionState) → run (Some Nothing) (unplaced (placed_lexemes line)) ≡ s → run (Some Nothing) (lexemes line) ≡ s
-all_lexemes line s e = subst (λ ws. run (Some Nothing) ws ≡ s) (unplaced-from 0 line) e
+all_lexemes : (line : List ℕ) (s : Option DefinitionState) → run step (Some Nothing) (unplaced (placed_lexemes line)) ≡ s → run step (Some Nothing) (lexemes line) ≡ s
+all_lexemes line s e = subst (λ ws. run step (Some Nothing) ws ≡ s) (unplaced-from 0 line) e
 
 end_found : (line : List ℕ) (place : ℕ) → wrong_definition line ≡ Some (End place) → IsWrongPlace line (End place)
 unfolding wrong_definition
@@ -1105,21 +700,21 @@ lexeme_is line w is =
     ap (wrong_from (length line) Nothing) is.cut ∙ found_after (length line) is.before (w ∷ is.after) Nothing r.0 r.1
     ∙ ap (stopped_at w (λ t. wrong_from (length line) t is.after)) (by r.0 r.1 (step r.0 w.lexeme) refl)
   where
-    by : (s : DefinitionState) → run (Some Nothing) (unplaced is.before) ≡ Some s → (o : Option DefinitionState) → step s w.lexeme ≡ o → step s w.lexeme ≡ None
+    by : (s : DefinitionState) → run step (Some Nothing) (unplaced is.before) ≡ Some s → (o : Option DefinitionState) → step s w.lexeme ≡ o → step s w.lexeme ≡ None
     by s e None h = h
     by s e (Some t) h =
         absurd (is.stuck (begins_by_run (unplaced is.before ++ w.lexeme ∷ []) t
-        (run_append (unplaced is.before) (w.lexeme ∷ []) (Some Nothing) ∙ ap (λ o. stepped_on o w.lexeme) e ∙ h)))
+        (run_append step (unplaced is.before) (w.lexeme ∷ []) (Some Nothing) ∙ ap (λ o. next step o w.lexeme) e ∙ h)))
 
 -- what is found where each lexeme may stand
-end_of : (line : List ℕ) (t : DefinitionState) → run (Some Nothing) (lexemes line) ≡ Some t → wrong_definition line ≡ open_end (length line) t
+end_of : (line : List ℕ) (t : DefinitionState) → run step (Some Nothing) (lexemes line) ≡ Some t → wrong_definition line ≡ open_end (length line) t
 unfolding wrong_definition
 end_of line t e =
     let xs = placed_lexemes line in
     ap (wrong_from (length line) Nothing) (sym (append-nil xs))
-    ∙ found_after (length line) xs [] Nothing t (subst (λ ws. run (Some Nothing) ws ≡ Some t) (sym (unplaced-from 0 line)) e)
+    ∙ found_after (length line) xs [] Nothing t (subst (λ ws. run step (Some Nothing) ws ≡ Some t) (sym (unplaced-from 0 line)) e)
 
-end_is : (line : List ℕ) → Begins (lexemes line) → (Define (lexemes line) → ⊥) → wrong_definition line ≡ Some (End (length line))
+end_is : (line : List ℕ) → Begins Define (lexemes line) → (Define (lexemes line) → ⊥) → wrong_definition line ≡ Some (End (length line))
 end_is line begins none =
     let r = run_by_begins (lexemes line) begins in
     end_of line r.0 r.1 ∙ by (is_whole r.0) (λ e. none (accepts_defined (lexemes line) (whole_by_run (lexemes line) r.0 r.1 ∙ e)))

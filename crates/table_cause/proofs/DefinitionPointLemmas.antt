@@ -48,13 +48,14 @@ use Rattle.table_cause.specs.ExpectedNames.{expected_after, without_names}
 use Rattle.table_cause.specs.FaultPlaces.{is_bad_point, point_place}
 use Rattle.table_cause.specs.LineNames.{after_keyword, after_name, definition_points}
 use Rattle.table_cause.specs.LinePoints.{and_point, is_separator, points_from, points_in}
-use Rattle.table_cause.specs.PlacedLexemes.{Placed, placed_lexemes, unplaced}
+use Rattle.ruleset_text.specs.PlacedLexemes.{Placed, placed_lexemes, unplaced}
 use Rattle.table_cause.specs.WrongDefinitions.{definition_by, definition_in}
 use Rattle.table_cause.proofs.FormPointLemmas.{NamesFit, points_at, points_spelled}
-use Rattle.table_cause.proofs.PlacedLemmas.{unplaced-from}
+use Rattle.ruleset_text.proofs.PlacedLemmas.{unplaced-from}
 use Rattle.table_cause.proofs.RefusedPlaceLemmas.{any_numbered, bad, found_any, or_false}
 use Rattle.table_cause.proofs.WrongPlaceLemmas.{none_some}
 use Rattle.variant_table.specs.WellFormed.{is_table_class}
+use Rattle.idn_class.specs.declared.properties.Properties.{Properties}
 
 -- ---- the classes
 
@@ -65,11 +66,12 @@ same_class Contextj = refl
 same_class Contexto = refl
 same_class Unassigned = refl
 
-same_bad : (c : ℕ) → is_bad_point c ≡ classes.is_bad_point c
-same_bad c = ap not (same_class (class_of c))
+module _ (properties : Properties) where
+  same_bad : (c : ℕ) → is_bad_point properties c ≡ classes.is_bad_point properties c
+  same_bad c = ap not (same_class (class_of properties c))
 
-abbrev bad_at : LinePoint → Bool
-bad_at p = is_bad_point p.point
+  abbrev bad_at : LinePoint → Bool
+  bad_at p = is_bad_point properties p.point
 
 -- ---- the tokens of a pattern
 
@@ -77,12 +79,13 @@ abbrev token_point : Token → Option ℕ
 token_point (token.Point c) = Some c
 token_point t = None
 
-abbrev bad_in : Option ℕ → Bool
-bad_in None = false
-bad_in (Some c) = is_bad_point c
+module _ (properties : Properties) where
+  abbrev bad_in : Option ℕ → Bool
+  bad_in None = false
+  bad_in (Some c) = is_bad_point properties c
 
-abbrev token_bad : Token → Bool
-token_bad t = bad_in (token_point t)
+  abbrev token_bad : Token → Bool
+  token_bad t = bad_in (token_point t)
 
 abbrev IsToken : Token → Type 0
 IsToken token.Other = ⊥
@@ -105,23 +108,24 @@ are_tokens (Many p) = tokens_append (tokens p) (token.Many ∷ []) (are_tokens p
 are_tokens (Then p q) = tokens_append (tokens p) (tokens q) (are_tokens p) (are_tokens q)
 are_tokens (Either p q) = tokens_append (tokens p) (token.Or ∷ tokens q) (are_tokens p) (tt, are_tokens q)
 
-and_mark : (p : Pattern) (t : Token) → token_bad t ≡ false → list_any token_bad (tokens p) ≡ classes.has_bad_point p → list_any token_bad (tokens p ++ t ∷ []) ≡ classes.has_bad_point p
-and_mark p t none e = list_any-append token_bad (tokens p) (t ∷ []) ∙ ap (λ b. list_any token_bad (tokens p) || (b || false)) none ∙ or_false (list_any token_bad (tokens p)) ∙ e
+module _ (properties : Properties) where
+  and_mark : (p : Pattern) (t : Token) → token_bad properties t ≡ false → list_any (token_bad properties) (tokens p) ≡ classes.has_bad_point properties p → list_any (token_bad properties) (tokens p ++ t ∷ []) ≡ classes.has_bad_point properties p
+  and_mark p t none e = list_any-append (token_bad properties) (tokens p) (t ∷ []) ∙ ap (λ b. list_any (token_bad properties) (tokens p) || (b || false)) none ∙ or_false (list_any (token_bad properties) (tokens p)) ∙ e
 
-tokens_bad : (p : Pattern) → list_any token_bad (tokens p) ≡ classes.has_bad_point p
-tokens_bad (patterns.Point c) = or_false (is_bad_point c) ∙ same_bad c
-tokens_bad (Set n) = refl
-tokens_bad Any = refl
-tokens_bad Start = refl
-tokens_bad End = refl
-tokens_bad Anchor = refl
-tokens_bad (Group p) = and_mark p token.Close refl (tokens_bad p)
-tokens_bad (Optional p) = and_mark p token.Optional refl (tokens_bad p)
-tokens_bad (Many p) = and_mark p token.Many refl (tokens_bad p)
-tokens_bad (Then p q) =
-    list_any-append token_bad (tokens p) (tokens q) ∙ ap (λ b. b || list_any token_bad (tokens q)) (tokens_bad p) ∙ ap (λ b. classes.has_bad_point p || b) (tokens_bad q)
-tokens_bad (Either p q) =
-    list_any-append token_bad (tokens p) (token.Or ∷ tokens q) ∙ ap (λ b. b || list_any token_bad (tokens q)) (tokens_bad p) ∙ ap (λ b. classes.has_bad_point p || b) (tokens_bad q)
+  tokens_bad : (p : Pattern) → list_any (token_bad properties) (tokens p) ≡ classes.has_bad_point properties p
+  tokens_bad (patterns.Point c) = or_false (is_bad_point properties c) ∙ same_bad properties c
+  tokens_bad (Set n) = refl
+  tokens_bad Any = refl
+  tokens_bad Start = refl
+  tokens_bad End = refl
+  tokens_bad Anchor = refl
+  tokens_bad (Group p) = and_mark p token.Close refl (tokens_bad p)
+  tokens_bad (Optional p) = and_mark p token.Optional refl (tokens_bad p)
+  tokens_bad (Many p) = and_mark p token.Many refl (tokens_bad p)
+  tokens_bad (Then p q) =
+      list_any-append (token_bad properties) (tokens p) (tokens q) ∙ ap (λ b. b || list_any (token_bad properties) (tokens q)) (tokens_bad p) ∙ ap (λ b. classes.has_bad_point properties p || b) (tokens_bad q)
+  tokens_bad (Either p q) =
+      list_any-append (token_bad properties) (tokens p) (token.Or ∷ tokens q) ∙ ap (λ b. b || list_any (token_bad properties) (tokens q)) (tokens_bad p) ∙ ap (λ b. classes.has_bad_point properties p || b) (tokens_bad q)
 
 -- ---- the lexeme of a token
 
@@ -194,30 +198,31 @@ lexeme_point names (c ∷ d ∷ cs) is = by (c == 64) refl
     by true e = ap (λ n. point_of (n ∷ d ∷ cs)) (is_at c e) ∙ at_none d cs ∙ sym (set_none (is_name (d ∷ cs)) (number_of names (d ∷ cs)))
     by false e = point_back (point_of (c ∷ d ∷ cs))
 
-token_step : (names : List (List ℕ)) (w : Placed) (ws : List Placed) (s i : ℕ) (rest : Bool) → IsToken (token_of names w.lexeme) → ((j : ℕ) → list_any bad_at (points_from s j (without_names expected.Nothing ws)) ≡ rest)
-    → list_any bad_at (points_from s i (without_names expected.Nothing (w ∷ ws))) ≡ (token_bad (token_of names w.lexeme) || rest)
-token_step names w ws s i rest is go =
-    ap (λ e. list_any bad_at (cond (is_separator w.lexeme) (points_from (s + 1) 0 (without_names e ws)) (and_point w.place s i (point_of w.lexeme) (λ n. points_from s n (without_names e ws))))) (no_name_after names w.lexeme (word_of w.lexeme) (spelled w.lexeme) is)
-    ∙ ap (λ b. list_any bad_at (cond b (points_from (s + 1) 0 others) (and_point w.place s i (point_of w.lexeme) (λ n. points_from s n others)))) (no_separator names w.lexeme is)
-    ∙ ap (λ o. list_any bad_at (and_point w.place s i o (λ n. points_from s n others))) (lexeme_point names w.lexeme is) ∙ by (token_point (token_of names w.lexeme))
-  where
-    others : List Placed
-    others = without_names expected.Nothing ws
+module _ (properties : Properties) where
+  token_step : (names : List (List ℕ)) (w : Placed) (ws : List Placed) (s i : ℕ) (rest : Bool) → IsToken (token_of names w.lexeme) → ((j : ℕ) → list_any (bad_at properties) (points_from s j (without_names expected.Nothing ws)) ≡ rest)
+      → list_any (bad_at properties) (points_from s i (without_names expected.Nothing (w ∷ ws))) ≡ (token_bad properties (token_of names w.lexeme) || rest)
+  token_step names w ws s i rest is go =
+      ap (λ e. list_any (bad_at properties) (cond (is_separator w.lexeme) (points_from (s + 1) 0 (without_names e ws)) (and_point w.place s i (point_of w.lexeme) (λ n. points_from s n (without_names e ws))))) (no_name_after names w.lexeme (word_of w.lexeme) (spelled w.lexeme) is)
+      ∙ ap (λ b. list_any (bad_at properties) (cond b (points_from (s + 1) 0 others) (and_point w.place s i (point_of w.lexeme) (λ n. points_from s n others)))) (no_separator names w.lexeme is)
+      ∙ ap (λ o. list_any (bad_at properties) (and_point w.place s i o (λ n. points_from s n others))) (lexeme_point names w.lexeme is) ∙ by (token_point (token_of names w.lexeme))
+    where
+      others : List Placed
+      others = without_names expected.Nothing ws
 
-    by : (o : Option ℕ) → list_any bad_at (and_point w.place s i o (λ n. points_from s n others)) ≡ (bad_in o || rest)
-    by None = go i
-    by (Some c) = ap (λ b. is_bad_point c || b) (go (i + 1))
+      by : (o : Option ℕ) → list_any (bad_at properties) (and_point w.place s i o (λ n. points_from s n others)) ≡ (bad_in properties o || rest)
+      by None = go i
+      by (Some c) = ap (λ b. is_bad_point properties c || b) (go (i + 1))
 
-tokens_told : (names : List (List ℕ)) (ws : List Placed) (s i : ℕ) → AllByRecursion IsToken (map (token_of names) (unplaced ws))
-    → list_any bad_at (points_from s i (without_names expected.Nothing ws)) ≡ list_any token_bad (map (token_of names) (unplaced ws))
-tokens_told names [] s i are = refl
-tokens_told names (w ∷ ws) s i are = token_step names w ws s i (list_any token_bad (map (token_of names) (unplaced ws))) are.0 (λ j. tokens_told names ws s j are.1)
+  tokens_told : (names : List (List ℕ)) (ws : List Placed) (s i : ℕ) → AllByRecursion IsToken (map (token_of names) (unplaced ws))
+      → list_any (bad_at properties) (points_from s i (without_names expected.Nothing ws)) ≡ list_any (token_bad properties) (map (token_of names) (unplaced ws))
+  tokens_told names [] s i are = refl
+  tokens_told names (w ∷ ws) s i are = token_step names w ws s i (list_any (token_bad properties) (map (token_of names) (unplaced ws))) are.0 (λ j. tokens_told names ws s j are.1)
 
-pattern_told : (names : List (List ℕ)) (ws : List Placed) (p : Pattern) → pattern_of (tokens_in names (unplaced ws)) ≡ Some p → list_any bad_at (points_in ws) ≡ classes.has_bad_point p
-unfolding tokens_in
-pattern_told names ws p e =
-    let s = read_spelled (map (token_of names) (unplaced ws)) p e in
-    tokens_told names ws 0 0 (subst (AllByRecursion IsToken) (sym s.1) (are_tokens p)) ∙ ap (list_any token_bad) s.1 ∙ tokens_bad p
+  pattern_told : (names : List (List ℕ)) (ws : List Placed) (p : Pattern) → pattern_of (tokens_in names (unplaced ws)) ≡ Some p → list_any (bad_at properties) (points_in ws) ≡ classes.has_bad_point properties p
+  unfolding tokens_in
+  pattern_told names ws p e =
+      let s = read_spelled (map (token_of names) (unplaced ws)) p e in
+      tokens_told names ws 0 0 (subst (AllByRecursion IsToken) (sym s.1) (are_tokens p)) ∙ ap (list_any (token_bad properties)) s.1 ∙ tokens_bad properties p
 
 -- ---- the spans of a set
 
@@ -227,11 +232,12 @@ are_append [] ys (v ∷ a) b h k = absurd h
 are_append (x ∷ xs) ys [] b h k = absurd h
 are_append (x ∷ xs) ys (v ∷ a) b h k = (h.0, are_append xs ys a b h.1 k)
 
-record SpanWordsOf (ws : List (List ℕ)) (spans : List Span) : Type 0 where
-  xs : List Word
-  are : AreWords xs ws
-  fit : NamesFit expected.Nothing xs
-  told : (i : ℕ) → list_any bad (points_at expected.Nothing 0 i xs) ≡ has_bad_end spans
+module _ (properties : Properties) where
+  record SpanWordsOf (ws : List (List ℕ)) (spans : List Span) : Type 0 where
+    xs : List Word
+    are : AreWords xs ws
+    fit : NamesFit expected.Nothing xs
+    told : (i : ℕ) → list_any (bad properties) (points_at expected.Nothing 0 i xs) ≡ has_bad_end properties spans
 
 twice : (b c : Bool) → (b || c) ≡ ((b || b) || c)
 twice true c = refl
@@ -241,33 +247,34 @@ both : (a b c : Bool) → (a || (b || c)) ≡ ((a || b) || c)
 both true b c = refl
 both false b c = refl
 
-one_span : (s : Span) (spans : List Span) (first rest : List (List ℕ)) → SpellsSpan first s → SpanWordsOf rest spans → SpanWordsOf (first ++ rest) (s ∷ spans)
-one_span s spans first rest (inl (same, h)) r = record {
-  xs = words.Point s.first ∷ r.xs;
-  are = are_append (words.Point s.first ∷ []) r.xs first rest h r.are;
-  fit = (tt, r.fit);
-  told = λ i.
-      ap (λ b. is_bad_point s.first || b) (r.told (i + 1)) ∙ ap (λ b. b || has_bad_end spans) (same_bad s.first) ∙ twice (classes.is_bad_point s.first) (has_bad_end spans)
-      ∙ ap (λ c. (classes.is_bad_point s.first || classes.is_bad_point c) || has_bad_end spans) same;
-}
-one_span s spans first rest (inr h) r = record {
-  xs = words.Point s.first ∷ words.Range ∷ words.Point s.last ∷ r.xs;
-  are = are_append (words.Point s.first ∷ words.Range ∷ words.Point s.last ∷ []) r.xs first rest h r.are;
-  fit = (tt, (tt, (tt, r.fit)));
-  told = λ i.
-      ap (λ b. is_bad_point s.first || (is_bad_point s.last || b)) (r.told (i + 1 + 1)) ∙ ap (λ b. b || (is_bad_point s.last || has_bad_end spans)) (same_bad s.first)
-      ∙ ap (λ b. classes.is_bad_point s.first || (b || has_bad_end spans)) (same_bad s.last) ∙ both (classes.is_bad_point s.first) (classes.is_bad_point s.last) (has_bad_end spans);
-}
+module _ (properties : Properties) where
+  one_span : (s : Span) (spans : List Span) (first rest : List (List ℕ)) → SpellsSpan first s → SpanWordsOf properties rest spans → SpanWordsOf properties (first ++ rest) (s ∷ spans)
+  one_span s spans first rest (inl (same, h)) r = record {
+    xs = words.Point s.first ∷ r.xs;
+    are = are_append (words.Point s.first ∷ []) r.xs first rest h r.are;
+    fit = (tt, r.fit);
+    told = λ i.
+        ap (λ b. is_bad_point properties s.first || b) (r.told (i + 1)) ∙ ap (λ b. b || has_bad_end properties spans) (same_bad properties s.first) ∙ twice (classes.is_bad_point properties s.first) (has_bad_end properties spans)
+        ∙ ap (λ c. (classes.is_bad_point properties s.first || classes.is_bad_point properties c) || has_bad_end properties spans) same;
+  }
+  one_span s spans first rest (inr h) r = record {
+    xs = words.Point s.first ∷ words.Range ∷ words.Point s.last ∷ r.xs;
+    are = are_append (words.Point s.first ∷ words.Range ∷ words.Point s.last ∷ []) r.xs first rest h r.are;
+    fit = (tt, (tt, (tt, r.fit)));
+    told = λ i.
+        ap (λ b. is_bad_point properties s.first || (is_bad_point properties s.last || b)) (r.told (i + 1 + 1)) ∙ ap (λ b. b || (is_bad_point properties s.last || has_bad_end properties spans)) (same_bad properties s.first)
+        ∙ ap (λ b. classes.is_bad_point properties s.first || (b || has_bad_end properties spans)) (same_bad properties s.last) ∙ both (classes.is_bad_point properties s.first) (classes.is_bad_point properties s.last) (has_bad_end properties spans);
+  }
 
-span_words : (ws : List (List ℕ)) (spans : List Span) → SpellSpans ws spans → SpanWordsOf ws spans
-span_words ws [] h = record { xs = []; are = subst (AreWords []) (sym h) tt; fit = tt; told = λ i. refl }
-span_words ws (s ∷ spans) (first, rest, cut, is, more) = subst (λ l. SpanWordsOf l (s ∷ spans)) (sym cut) (one_span s spans first rest is (span_words rest spans more))
+  span_words : (ws : List (List ℕ)) (spans : List Span) → SpellSpans ws spans → SpanWordsOf properties ws spans
+  span_words ws [] h = record { xs = []; are = subst (AreWords []) (sym h) tt; fit = tt; told = λ i. refl }
+  span_words ws (s ∷ spans) (first, rest, cut, is, more) = subst (λ l. SpanWordsOf properties l (s ∷ spans)) (sym cut) (one_span s spans first rest is (span_words rest spans more))
 
-set_told : (ws : List Placed) (spans : List Span) → spans_in (unplaced ws) ≡ Some spans → list_any bad_at (points_in ws) ≡ has_bad_end spans
-set_told ws spans e =
-    let s = set_spelled (unplaced ws) spans e in
-    let w = span_words (unplaced ws) spans s.2 in
-    any_numbered bad (points_in ws) ∙ ap (list_any bad) (points_spelled ws expected.Nothing 0 0 w.xs w.fit w.are) ∙ w.told 0
+  set_told : (ws : List Placed) (spans : List Span) → spans_in (unplaced ws) ≡ Some spans → list_any (bad_at properties) (points_in ws) ≡ has_bad_end properties spans
+  set_told ws spans e =
+      let s = set_spelled (unplaced ws) spans e in
+      let w = span_words (unplaced ws) spans s.2 in
+      any_numbered (bad properties) (points_in ws) ∙ ap (list_any (bad properties)) (points_spelled ws expected.Nothing 0 0 w.xs w.fit w.are) ∙ w.told 0
 
 -- ---- a definition
 
@@ -291,42 +298,43 @@ such_found test (Some q) p e = by (test q) e
     by true e = e
     by false e = none_some (Some q ≡ Some p) p e
 
-abbrev told_of : Option Keyword → List Placed → Bool
-told_of o ws = list_any bad_at (points_in (after_keyword o ws))
+module _ (properties : Properties) where
+  abbrev told_of : Option Keyword → List Placed → Bool
+  told_of o ws = list_any (bad_at properties) (points_in (after_keyword o ws))
 
-tag_points : (ws : List Placed) (x : Definition) → tag_in (unplaced ws) ≡ Some x → told_of (Some keyword.Tag) ws ≡ has_bad_class x
-tag_points [] x e = none_some (told_of (Some keyword.Tag) [] ≡ has_bad_class x) x e
-tag_points (name ∷ []) x e = ap has_bad_class (found_if (is_name name.lexeme) (definition.Tag name.lexeme) x e)
-tag_points (name ∷ w ∷ ws) x e = none_some (told_of (Some keyword.Tag) (name ∷ w ∷ ws) ≡ has_bad_class x) x e
+  tag_points : (ws : List Placed) (x : Definition) → tag_in (unplaced ws) ≡ Some x → told_of (Some keyword.Tag) ws ≡ has_bad_class properties x
+  tag_points [] x e = none_some (told_of (Some keyword.Tag) [] ≡ has_bad_class properties x) x e
+  tag_points (name ∷ []) x e = ap (has_bad_class properties) (found_if (is_name name.lexeme) (definition.Tag name.lexeme) x e)
+  tag_points (name ∷ w ∷ ws) x e = none_some (told_of (Some keyword.Tag) (name ∷ w ∷ ws) ≡ has_bad_class properties x) x e
 
-set_points : (ws : List Placed) (x : Definition) → set_in (unplaced ws) ≡ Some x → told_of (Some keyword.Set) ws ≡ has_bad_class x
-set_points [] x e = none_some (told_of (Some keyword.Set) [] ≡ has_bad_class x) x e
-set_points (name ∷ ws) x e =
-    let y = mapped_if (is_name name.lexeme) (definition.Set name.lexeme) (spans_in (unplaced ws)) x e in set_told ws y.0 y.1 ∙ ap has_bad_class y.2
+  set_points : (ws : List Placed) (x : Definition) → set_in (unplaced ws) ≡ Some x → told_of (Some keyword.Set) ws ≡ has_bad_class properties x
+  set_points [] x e = none_some (told_of (Some keyword.Set) [] ≡ has_bad_class properties x) x e
+  set_points (name ∷ ws) x e =
+      let y = mapped_if (is_name name.lexeme) (definition.Set name.lexeme) (spans_in (unplaced ws)) x e in set_told properties ws y.0 y.1 ∙ ap (has_bad_class properties) y.2
 
-rule_points : (names : List (List ℕ)) (ws : List Placed) (x : Definition) → rule_in names (unplaced ws) ≡ Some x → told_of (Some keyword.Rule) ws ≡ has_bad_class x
-rule_points names [] x e = none_some (told_of (Some keyword.Rule) [] ≡ has_bad_class x) x e
-rule_points names (name ∷ ws) x e =
-    let y = mapped_if (is_name name.lexeme) (definition.Rule name.lexeme) (contexts_in names (unplaced ws)) x e in
-    pattern_told names ws y.0 (such_found is_rule (pattern_of (tokens_in names (unplaced ws))) y.0 y.1) ∙ ap has_bad_class y.2
+  rule_points : (names : List (List ℕ)) (ws : List Placed) (x : Definition) → rule_in names (unplaced ws) ≡ Some x → told_of (Some keyword.Rule) ws ≡ has_bad_class properties x
+  rule_points names [] x e = none_some (told_of (Some keyword.Rule) [] ≡ has_bad_class properties x) x e
+  rule_points names (name ∷ ws) x e =
+      let y = mapped_if (is_name name.lexeme) (definition.Rule name.lexeme) (contexts_in names (unplaced ws)) x e in
+      pattern_told properties names ws y.0 (such_found is_rule (pattern_of (tokens_in names (unplaced ws))) y.0 y.1) ∙ ap (has_bad_class properties) y.2
 
-demand_points : (names : List (List ℕ)) (kind : DemandKind) (ws : List Placed) (x : Definition) → option_map (definition.Demand kind) (demand_in names (unplaced ws)) ≡ Some x → list_any bad_at (points_in ws) ≡ has_bad_class x
-demand_points names kind ws x e =
-    let y = mapped_found (definition.Demand kind) (demand_in names (unplaced ws)) x e in
-    pattern_told names ws y.0 (such_found _ (pattern_of (tokens_in names (unplaced ws))) y.0 y.1) ∙ ap has_bad_class y.2
+  demand_points : (names : List (List ℕ)) (kind : DemandKind) (ws : List Placed) (x : Definition) → option_map (definition.Demand kind) (demand_in names (unplaced ws)) ≡ Some x → list_any (bad_at properties) (points_in ws) ≡ has_bad_class properties x
+  demand_points names kind ws x e =
+      let y = mapped_found (definition.Demand kind) (demand_in names (unplaced ws)) x e in
+      pattern_told properties names ws y.0 (such_found _ (pattern_of (tokens_in names (unplaced ws))) y.0 y.1) ∙ ap (has_bad_class properties) y.2
 
-placed_points : (names : List (List ℕ)) (ws : List Placed) (x : Definition) → definition_in names (unplaced ws) ≡ Some x → list_any bad_at (points_in (after_name ws)) ≡ has_bad_class x
-placed_points names [] x e = none_some (list_any bad_at (points_in (after_name [])) ≡ has_bad_class x) x e
-placed_points names (w ∷ ws) x e = by (keyword_of w.lexeme) e
-  where
-    by : (o : Option Keyword) → definition_by names o (unplaced ws) ≡ Some x → told_of o ws ≡ has_bad_class x
-    by None e = none_some (told_of None ws ≡ has_bad_class x) x e
-    by (Some keyword.Tag) e = tag_points ws x e
-    by (Some keyword.Set) e = set_points ws x e
-    by (Some keyword.Rule) e = rule_points names ws x e
-    by (Some keyword.Never) e = demand_points names demand.Never ws x e
-    by (Some keyword.Always) e = demand_points names demand.Always ws x e
+  placed_points : (names : List (List ℕ)) (ws : List Placed) (x : Definition) → definition_in names (unplaced ws) ≡ Some x → list_any (bad_at properties) (points_in (after_name ws)) ≡ has_bad_class properties x
+  placed_points names [] x e = none_some (list_any (bad_at properties) (points_in (after_name [])) ≡ has_bad_class properties x) x e
+  placed_points names (w ∷ ws) x e = by (keyword_of w.lexeme) e
+    where
+      by : (o : Option Keyword) → definition_by names o (unplaced ws) ≡ Some x → told_of o ws ≡ has_bad_class properties x
+      by None e = none_some (told_of None ws ≡ has_bad_class properties x) x e
+      by (Some keyword.Tag) e = tag_points ws x e
+      by (Some keyword.Set) e = set_points ws x e
+      by (Some keyword.Rule) e = rule_points names ws x e
+      by (Some keyword.Never) e = demand_points names demand.Never ws x e
+      by (Some keyword.Always) e = demand_points names demand.Always ws x e
 
-pub points_refused : (names : List (List ℕ)) (line : List ℕ) (x : Definition) → definition_in names (lexemes line) ≡ Some x → is_some (point_place (definition_points line)) ≡ has_bad_class x
-points_refused names line x e =
-    found_any bad_at (λ p. Point p.place p.point) (definition_points line) ∙ placed_points names (placed_lexemes line) x (ap (definition_in names) (unplaced-from 0 line) ∙ e)
+  pub points_refused : (names : List (List ℕ)) (line : List ℕ) (x : Definition) → definition_in names (lexemes line) ≡ Some x → is_some (point_place properties (definition_points line)) ≡ has_bad_class properties x
+  points_refused names line x e =
+      found_any (bad_at properties) (λ p. Point p.place p.point) (definition_points line) ∙ placed_points names (placed_lexemes line) x (ap (definition_in names) (unplaced-from 0 line) ∙ e)

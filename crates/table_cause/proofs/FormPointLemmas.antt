@@ -22,9 +22,9 @@ use Rattle.table_cause.specs.declared.expected.Expected.TheVariants as expected
 use Rattle.table_cause.specs.declared.line_point.LinePoint.{LinePoint}
 use Rattle.table_cause.specs.ExpectedNames.{expected_after, without_names}
 use Rattle.table_cause.specs.LinePoints.{and_point, is_separator, line_points, points_from}
-use Rattle.table_cause.specs.PlacedLexemes.{Placed, placed_lexemes, unplaced}
+use Rattle.ruleset_text.specs.PlacedLexemes.{Placed, placed_lexemes, unplaced}
 use Rattle.table_cause.proofs.EntryPartLemmas.{IsNoWord, point_word}
-use Rattle.table_cause.proofs.PlacedLemmas.{unplaced-from}
+use Rattle.ruleset_text.proofs.PlacedLemmas.{unplaced-from}
 
 -- ---- code points without their places
 

@@ -1,5 +1,3 @@
--- Lexemes with their places.
-pub mod PlacedLemmas
 -- The parts that an entry has.
 pub mod EntryPartLemmas
 -- Where a line stops being an entry or a range.

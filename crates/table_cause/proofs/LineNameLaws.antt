@@ -6,7 +6,7 @@ use Rattle.table_cause.specs.declared.expected.Expected.{Expected}
 use Rattle.table_cause.specs.declared.expected.Expected.TheVariants.{Nothing}
 use Rattle.table_cause.specs.ExpectedNames.{expected_next}
 use Rattle.table_cause.specs.LineNames.{AreKnown, IsFirstLexeme, IsFirstUnknown, expected_after, is_unexpected, is_unknown, place_of, unknown_name, unknown_name_from, unknown_set}
-use Rattle.table_cause.specs.PlacedLexemes.{Placed}
+use Rattle.ruleset_text.specs.PlacedLexemes.{Placed}
 use Rattle.ruleset_text.specs.SetNames.{set_name}
 
 module _ (sets : List (List ℕ)) where

@@ -12,7 +12,7 @@ use Rattle.table_cause.specs.declared.definition_place.Last.TheVariants as last
 use Rattle.table_cause.specs.declared.entry_place.WrongPlace.{WrongPlace}
 use Rattle.ruleset_text.specs.declared.keyword.Keyword.{Keyword}
 use Rattle.ruleset_text.specs.declared.keyword.Keyword.TheVariants as keyword
-use Rattle.ruleset_text.specs.declared.rules.Sign.TheVariants as sign
+use Rattle.ruleset_text.specs.Signs as sign
 use Rattle.ruleset_text.specs.declared.token.Token.{Token}
 use Rattle.ruleset_text.specs.declared.token.Token.TheVariants as token
 use Rattle.ruleset_text.specs.Definition as words
@@ -31,10 +31,11 @@ use Rattle.table_cause.specs.DefinitionWrongSteps.{is_nothing, is_atom}
 use Rattle.table_cause.specs.LineNames.{place_of}
 use Rattle.table_cause.specs.PastLimits.{BeginsWithin, Fit, IsFirstPast, is_definition_past, is_pattern_past}
 use Rattle.table_cause.specs.PatternLimits.{Nesting, no_nesting, with_token, is_counted, atoms_at, atoms_among, is_too_deep, is_past, past_from, first_past, pattern_after, pattern_in}
-use Rattle.table_cause.specs.PlacedLexemes.{Placed, placed_lexemes, unplaced}
+use Rattle.ruleset_text.specs.PlacedLexemes.{Placed, placed_lexemes, unplaced}
 use Rattle.table_cause.specs.WrongDefinitions.{Define, definition_by, definition_in}
-use Rattle.table_cause.proofs.DefinitionPlaceLemmas.{shaped, shaped_pattern, some_is, suc_zero, out_of}
-use Rattle.table_cause.proofs.PlacedLemmas.{unplaced-from}
+use Rattle.table_cause.proofs.DefinitionPlaceLemmas.{shaped, shaped_pattern, some_is}
+use Rattle.ruleset_text.proofs.SignLemmas.{suc_zero, out_of}
+use Rattle.ruleset_text.proofs.PlacedLemmas.{unplaced-from}
 use Rattle.table_cause.proofs.WrongPlaceLemmas.{none_some}
 
 -- ---- tokens of which none is too deep

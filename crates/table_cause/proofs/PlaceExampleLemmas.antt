@@ -12,18 +12,19 @@ use Rattle.table_cause.specs.FaultPlaces.{fault_place, is_bad_point}
 use Rattle.variant_table.specs.declared.fault.TableFault.TheVariants as tables
 use Rattle.variant_table.specs.declared.version.Notation.TheVariants.{Ruleset, Table}
 use Rattle.variant_table.specs.WellFormed.{is_table_class}
+use Rattle.idn_class.specs.declared.properties.Properties.TheVariants.{Profile}
 
-good-61 : is_bad_point 0x61 ≡ false
+good-61 : is_bad_point Profile 0x61 ≡ false
 unfolding in_table
-good-61 = ap (λ c. not (is_table_class c)) (class_of-in_table 0x61 Pvalid refl)
+good-61 = ap (λ c. not (is_table_class c)) (class_of-in_table Profile 0x61 Pvalid refl)
 
-good-7A : is_bad_point 0x7A ≡ false
+good-7A : is_bad_point Profile 0x7A ≡ false
 unfolding in_table
-good-7A = ap (λ c. not (is_table_class c)) (class_of-in_table 0x7A Pvalid refl)
+good-7A = ap (λ c. not (is_table_class c)) (class_of-in_table Profile 0x7A Pvalid refl)
 
-bad-7B : is_bad_point 0x7B ≡ true
+bad-7B : is_bad_point Profile 0x7B ≡ true
 unfolding in_table
-bad-7B = ap (λ c. not (is_table_class c)) (class_of-in_table 0x7B Disallowed refl)
+bad-7B = ap (λ c. not (is_table_class c)) (class_of-in_table Profile 0x7B Disallowed refl)
 
 second_told : {X : Type 0} (test : X → Bool) (f : X → FaultPlace) (x y : X) (ys : List X) → test x ≡ false → test y ≡ true → option_map f (find test (x ∷ y ∷ ys)) ≡ Some (f y)
 second_told {X} test f x y ys good bad =
@@ -33,20 +34,20 @@ abbrev at_point : LinePoint → FaultPlace
 at_point p = Point p.place p.point
 
 abbrev bad_at : LinePoint → Bool
-bad_at p = is_bad_point p.point
+bad_at p = is_bad_point Profile p.point
 
-pub range_told : fault_place Table (codes "%version 2" ++ 10 ∷ codes "007A..007C") (tables.BadClass 2) ≡ Some (InRange 0 0x7B)
+pub range_told : fault_place Profile Table (codes "%version 2" ++ 10 ∷ codes "007A..007C") (tables.BadClass 2) ≡ Some (InRange 0 0x7B)
 unfolding point_of_hex entry_in fault_place
-range_told = second_told is_bad_point (InRange 0) 0x7A 0x7B (0x7C ∷ []) good-7A bad-7B
+range_told = second_told (is_bad_point Profile) (InRange 0) 0x7A 0x7B (0x7C ∷ []) good-7A bad-7B
 
-pub point_told : fault_place Table (codes "0061|007B:0041") (tables.BadClass 1) ≡ Some (Point 5 0x7B)
+pub point_told : fault_place Profile Table (codes "0061|007B:0041") (tables.BadClass 1) ≡ Some (Point 5 0x7B)
 unfolding point_of_hex entry_in fault_place
 point_told =
     let first : LinePoint = record { place = 0; point = 0x61; sequence = 0; index = 0 } in
     let second : LinePoint = record { place = 5; point = 0x7B; sequence = 1; index = 0 } in
     let third : LinePoint = record { place = 10; point = 0x41; sequence = 2; index = 0 } in second_told bad_at at_point first second (third ∷ []) good-61 bad-7B
 
-pub set_told : fault_place Ruleset (codes "%version 3" ++ 10 ∷ codes "%set FB1D 0061 007B") (tables.BadClass 2) ≡ Some (Point 15 0x7B)
+pub set_told : fault_place Profile Ruleset (codes "%version 3" ++ 10 ∷ codes "%set FB1D 0061 007B") (tables.BadClass 2) ≡ Some (Point 15 0x7B)
 unfolding point_of_hex entry_in fault_place
 set_told =
     let first : LinePoint = record { place = 10; point = 0x61; sequence = 0; index = 0 } in

@@ -20,6 +20,7 @@ use Rattle.variant_table.specs.declared.version.Version.TheVariants.{One, Two, T
 use Rattle.table_cause.specs.FaultPlaces.{as_fault, is_bad_point, defines, parts_of, point_place, syntax_place}
 use Rattle.variant_table.specs.Forms.{is_plain, is_bare, begins_marked, has_form}
 use Rattle.table_cause.specs.ToldPlaces.{IsFirstBad, IsFirstBadPoint, IsSyntaxPlace, IsWrongIn}
+use Rattle.idn_class.specs.declared.properties.Properties.{Properties}
 
 -- ---- the parts of a version
 
@@ -137,27 +138,28 @@ syntax_told version line place fits = (syntax_is version line place fits, is_syn
 abbrev at_point : LinePoint → FaultPlace
 at_point p = Point p.place p.point
 
-abbrev Told : List LinePoint → Option FaultPlace
-Told points = option_map at_point (find (λ p. is_bad_point p.point) points)
+module _ (properties : Properties) where
+  abbrev Told : List LinePoint → Option FaultPlace
+  Told points = option_map at_point (find (λ p. is_bad_point properties p.point) points)
 
-told_here : (p : LinePoint) (points : List LinePoint) (b : Bool) → is_bad_point p.point ≡ b → Told (p ∷ points) ≡ cond b (Some (at_point p)) (Told points)
-told_here p points true e = ap (λ b. option_map at_point (cond b (Some p) (find (λ p. is_bad_point p.point) points))) e
-told_here p points false e = ap (λ b. option_map at_point (cond b (Some p) (find (λ p. is_bad_point p.point) points))) e
+  told_here : (p : LinePoint) (points : List LinePoint) (b : Bool) → is_bad_point properties p.point ≡ b → Told (p ∷ points) ≡ cond b (Some (at_point p)) (Told points)
+  told_here p points true e = ap (λ b. option_map at_point (cond b (Some p) (find (λ p. is_bad_point properties p.point) points))) e
+  told_here p points false e = ap (λ b. option_map at_point (cond b (Some p) (find (λ p. is_bad_point properties p.point) points))) e
 
-first_step : (p : LinePoint) (points : List LinePoint) (place c : ℕ) (b : Bool) → is_bad_point p.point ≡ b → (Told points ≡ Some (Point place c) → IsFirstBadPoint points place c)
-    → cond b (Some (at_point p)) (Told points) ≡ Some (Point place c) → IsFirstBadPoint (p ∷ points) place c
-first_step p points place c true e rest h = record { before = []; p = p; after = points; cut = refl; good = tt; bad = e; is_place = cc; is_point = cc }
-first_step p points place c false e rest h =
-    let r = rest h in
-    record { before = p ∷ r.before; p = r.p; after = r.after; cut = ap (λ l. p ∷ l) r.cut; good = (e, r.good); bad = r.bad; is_place = r.is_place; is_point = r.is_point }
+  first_step : (p : LinePoint) (points : List LinePoint) (place c : ℕ) (b : Bool) → is_bad_point properties p.point ≡ b → (Told points ≡ Some (Point place c) → IsFirstBadPoint properties points place c)
+      → cond b (Some (at_point p)) (Told points) ≡ Some (Point place c) → IsFirstBadPoint properties (p ∷ points) place c
+  first_step p points place c true e rest h = record { before = []; p = p; after = points; cut = refl; good = tt; bad = e; is_place = cc; is_point = cc }
+  first_step p points place c false e rest h =
+      let r = rest h in
+      record { before = p ∷ r.before; p = r.p; after = r.after; cut = ap (λ l. p ∷ l) r.cut; good = (e, r.good); bad = r.bad; is_place = r.is_place; is_point = r.is_point }
 
-first_is : (points : List LinePoint) (place c : ℕ) → Told points ≡ Some (Point place c) → IsFirstBadPoint points place c
-first_is [] place c h = absurd cc
-first_is (p ∷ points) place c h = first_step p points place c (is_bad_point p.point) refl (first_is points place c) (sym (told_here p points (is_bad_point p.point) refl) ∙ h)
+  first_is : (points : List LinePoint) (place c : ℕ) → Told points ≡ Some (Point place c) → IsFirstBadPoint properties points place c
+  first_is [] place c h = absurd cc
+  first_is (p ∷ points) place c h = first_step p points place c (is_bad_point properties p.point) refl (first_is points place c) (sym (told_here p points (is_bad_point properties p.point) refl) ∙ h)
 
-is_first : (before after : List LinePoint) (p : LinePoint) → AllByRecursion (λ q. is_bad_point q.point ≡ false) before → is_bad_point p.point ≡ true → Told (before ++ p ∷ after) ≡ Some (at_point p)
-is_first [] after p good bad = told_here p after true bad
-is_first (q ∷ before) after p good bad = told_here q (before ++ p ∷ after) false good.0 ∙ is_first before after p good.1 bad
+  is_first : (before after : List LinePoint) (p : LinePoint) → AllByRecursion (λ q. is_bad_point properties q.point ≡ false) before → is_bad_point properties p.point ≡ true → Told (before ++ p ∷ after) ≡ Some (at_point p)
+  is_first [] after p good bad = told_here p after true bad
+  is_first (q ∷ before) after p good bad = told_here q (before ++ p ∷ after) false good.0 ∙ is_first before after p good.1 bad
 
 -- a place of another kind is told of no code point
 abbrev IsOfPoint : FaultPlace → Type 0
@@ -168,28 +170,29 @@ of_point : (place : FaultPlace) (o : Option LinePoint) → option_map at_point o
 of_point place None e = absurd cc
 of_point place (Some p) e = let same : Point p.place p.point ≡ place = cc in subst IsOfPoint same tt
 
-class_is : (points : List LinePoint) (place : FaultPlace) → Told points ≡ Some place → IsFirstBad points place
-class_is points (Point place c) e = first_is points place c e
-class_is points (Lexeme place n) e = of_point (Lexeme place n) (find (λ p. is_bad_point p.point) points) e
-class_is points (End place) e = of_point (End place) (find (λ p. is_bad_point p.point) points) e
-class_is points (InRange place c) e = of_point (InRange place c) (find (λ p. is_bad_point p.point) points) e
-class_is points (Variant place) e = of_point (Variant place) (find (λ p. is_bad_point p.point) points) e
-class_is points (Source place) e = of_point (Source place) (find (λ p. is_bad_point p.point) points) e
-class_is points (Byte place) e = of_point (Byte place) (find (λ p. is_bad_point p.point) points) e
-class_is points (NinthPoint place c) e = of_point (NinthPoint place c) (find (λ p. is_bad_point p.point) points) e
-class_is points (SeventeenthVariant place c) e = of_point (SeventeenthVariant place c) (find (λ p. is_bad_point p.point) points) e
+module _ (properties : Properties) where
+  class_is : (points : List LinePoint) (place : FaultPlace) → Told properties points ≡ Some place → IsFirstBad properties points place
+  class_is points (Point place c) e = first_is properties points place c e
+  class_is points (Lexeme place n) e = of_point (Lexeme place n) (find (λ p. is_bad_point properties p.point) points) e
+  class_is points (End place) e = of_point (End place) (find (λ p. is_bad_point properties p.point) points) e
+  class_is points (InRange place c) e = of_point (InRange place c) (find (λ p. is_bad_point properties p.point) points) e
+  class_is points (Variant place) e = of_point (Variant place) (find (λ p. is_bad_point properties p.point) points) e
+  class_is points (Source place) e = of_point (Source place) (find (λ p. is_bad_point properties p.point) points) e
+  class_is points (Byte place) e = of_point (Byte place) (find (λ p. is_bad_point properties p.point) points) e
+  class_is points (NinthPoint place c) e = of_point (NinthPoint place c) (find (λ p. is_bad_point properties p.point) points) e
+  class_is points (SeventeenthVariant place c) e = of_point (SeventeenthVariant place c) (find (λ p. is_bad_point properties p.point) points) e
 
-is_class : (points : List LinePoint) (place : FaultPlace) → IsFirstBad points place → Told points ≡ Some place
-is_class points (Point place c) is =
-    ap Told is.cut ∙ is_first is.before is.after is.p is.good is.bad ∙ ap (λ n. Some (Point n is.p.point)) is.is_place ∙ ap (λ n. Some (Point place n)) is.is_point
-is_class points (Lexeme place n) is = absurd is
-is_class points (End place) is = absurd is
-is_class points (InRange place c) is = absurd is
-is_class points (Variant place) is = absurd is
-is_class points (Source place) is = absurd is
-is_class points (Byte place) is = absurd is
-is_class points (NinthPoint place c) is = absurd is
-is_class points (SeventeenthVariant place c) is = absurd is
+  is_class : (points : List LinePoint) (place : FaultPlace) → IsFirstBad properties points place → Told properties points ≡ Some place
+  is_class points (Point place c) is =
+      ap (Told properties) is.cut ∙ is_first properties is.before is.after is.p is.good is.bad ∙ ap (λ n. Some (Point n is.p.point)) is.is_place ∙ ap (λ n. Some (Point place n)) is.is_point
+  is_class points (Lexeme place n) is = absurd is
+  is_class points (End place) is = absurd is
+  is_class points (InRange place c) is = absurd is
+  is_class points (Variant place) is = absurd is
+  is_class points (Source place) is = absurd is
+  is_class points (Byte place) is = absurd is
+  is_class points (NinthPoint place c) is = absurd is
+  is_class points (SeventeenthVariant place c) is = absurd is
 
-pub class_told : (points : List LinePoint) (place : FaultPlace) → (point_place points ≡ Some place) ↔ IsFirstBad points place
-class_told points place = (class_is points place, is_class points place)
+  pub class_told : (points : List LinePoint) (place : FaultPlace) → (point_place properties points ≡ Some place) ↔ IsFirstBad properties points place
+  class_told points place = (class_is points place, is_class points place)

@@ -6,7 +6,7 @@ use Rattle.table_cause.specs.LineNames.{defined_name}
 use Rattle.ruleset_text.specs.Lexemes.{lexemes}
 use Rattle.table_cause.specs.DefinitionPlaces.{and_name, names_defined, counted_with, first_keyword, is_counted_with, atoms_defined}
 use Rattle.table_cause.specs.PatternLimits.{atoms_among, pattern_in}
-use Rattle.table_cause.specs.PlacedLexemes.{placed_lexemes}
+use Rattle.ruleset_text.specs.PlacedLexemes.{placed_lexemes}
 
 -- the first of some lines, and those after it
 take-first : (line : List ℕ) (lines : List (List ℕ)) (left : ℕ) → 0 < left → take left (line ∷ lines) ≡ line ∷ take (left - 1) lines

@@ -19,6 +19,7 @@ use Rattle.variant_table.specs.Conditions.{has_bad_class, has_bad_point, is_too_
 use Rattle.variant_table.specs.Entries.{sequences_in}
 use Rattle.variant_table.specs.Forms.{entries_of, entry_of, variant_of, with_point, written_out, written_to}
 use Rattle.variant_table.specs.Ranges.{range_size}
+use Rattle.idn_class.specs.declared.properties.Properties.{Properties}
 
 -- ---- some of a list
 
@@ -128,52 +129,55 @@ limit_refused line form e =
 
 -- ---- classes
 
-abbrev pub bad : Numbered → Bool
-bad n = is_bad_point n.point
+module _ (properties : Properties) where
+  abbrev pub bad : Numbered → Bool
+  bad n = is_bad_point properties n.point
 
-sequence_bad : (cs : List ℕ) (s i : ℕ) → list_any bad (sequence_points s i cs) ≡ has_bad_point cs
-sequence_bad [] s i = refl
-sequence_bad (c ∷ cs) s i = ap (λ b. is_bad_point c || b) (sequence_bad cs s (i + 1))
+  sequence_bad : (cs : List ℕ) (s i : ℕ) → list_any bad (sequence_points s i cs) ≡ has_bad_point properties cs
+  sequence_bad [] s i = refl
+  sequence_bad (c ∷ cs) s i = ap (λ b. is_bad_point properties c || b) (sequence_bad cs s (i + 1))
 
-mapped_bad : (ms : List Mapped) (d : Definitions) (s : ℕ) → list_any bad (mapped_points s ms) ≡ list_any has_bad_point (sequences_in (map (variant_of d) ms))
-mapped_bad [] d s = refl
-mapped_bad (m ∷ ms) d s =
-    list_any-append bad (sequence_points s 0 m.points) (mapped_points (s + 1) ms) ∙ ap (λ b. b || list_any bad (mapped_points (s + 1) ms)) (sequence_bad m.points s 0)
-    ∙ ap (λ b. has_bad_point m.points || b) (mapped_bad ms d (s + 1))
+  mapped_bad : (ms : List Mapped) (d : Definitions) (s : ℕ) → list_any bad (mapped_points s ms) ≡ list_any (has_bad_point properties) (sequences_in (map (variant_of d) ms))
+  mapped_bad [] d s = refl
+  mapped_bad (m ∷ ms) d s =
+      list_any-append bad (sequence_points s 0 m.points) (mapped_points (s + 1) ms) ∙ ap (λ b. b || list_any bad (mapped_points (s + 1) ms)) (sequence_bad m.points s 0)
+      ∙ ap (λ b. has_bad_point properties m.points || b) (mapped_bad ms d (s + 1))
 
 one_bad : (b : Bool) → ((b || false) || false) ≡ b
 one_bad true = refl
 one_bad false = refl
 
-range_bad : (m : Mapped) (d : Definitions) (cs : List ℕ) → list_any is_bad_point cs ≡ list_any has_bad_class (map (entry_of d) (map (λ c. with_point m c ∷ []) cs))
-range_bad m d [] = refl
-range_bad m d (c ∷ cs) =
-    ap (λ b. b || list_any is_bad_point cs) (sym (one_bad (is_bad_point c))) ∙ ap (λ b. ((is_bad_point c || false) || false) || b) (range_bad m d cs)
+module _ (properties : Properties) where
+  range_bad : (m : Mapped) (d : Definitions) (cs : List ℕ) → list_any (is_bad_point properties) cs ≡ list_any (has_bad_class properties) (map (entry_of d) (map (λ c. with_point m c ∷ []) cs))
+  range_bad m d [] = refl
+  range_bad m d (c ∷ cs) =
+      ap (λ b. b || list_any (is_bad_point properties) cs) (sym (one_bad (is_bad_point properties c))) ∙ ap (λ b. ((is_bad_point properties c || false) || false) || b) (range_bad m d cs)
 
 abbrev range_of : ℕ → ℕ → List ℕ
 range_of first last = range_with_len first (range_size first last)
 
-range_told : (points : List LinePoint) (m : Mapped) (last first : ℕ) → m.points ≡ first ∷ [] → map numbered points ≡ form_points (Some last) (m ∷ []) → is_some (class_place (Some last) points) ≡ list_any is_bad_point (range_of (slice_index m.points 0) last)
-range_told [] m last first is e =
-    absurd (let bad : [] ≡ record { point = first; sequence = 0; index = 0 } ∷ record { point = last; sequence = 0; index = 1 } ∷ [] = e ∙ ap (λ points. sequence_points 0 0 points ++ record { point = last; sequence = 0; index = 1 } ∷ []) is in cc)
-range_told (p ∷ points) m last first is e =
-    let all : map numbered (p ∷ points) ≡ record { point = first; sequence = 0; index = 0 } ∷ record { point = last; sequence = 0; index = 1 } ∷ [] = e ∙ ap (λ points. sequence_points 0 0 points ++ record { point = last; sequence = 0; index = 1 } ∷ []) is in
-    let same : p.point ≡ first = ap first_point all in
-    found_any is_bad_point (InRange p.place) (range_of p.point last) ∙ ap (λ c. list_any is_bad_point (range_of c last)) (same ∙ sym (ap (λ points. slice_index points 0) is))
-  where
-    first_point : List Numbered → ℕ
-    first_point [] = 0
-    first_point (n ∷ ns) = n.point
+module _ (properties : Properties) where
+  range_told : (points : List LinePoint) (m : Mapped) (last first : ℕ) → m.points ≡ first ∷ [] → map numbered points ≡ form_points (Some last) (m ∷ []) → is_some (class_place properties (Some last) points) ≡ list_any (is_bad_point properties) (range_of (slice_index m.points 0) last)
+  range_told [] m last first is e =
+      absurd (let clash : [] ≡ record { point = first; sequence = 0; index = 0 } ∷ record { point = last; sequence = 0; index = 1 } ∷ [] = e ∙ ap (λ points. sequence_points 0 0 points ++ record { point = last; sequence = 0; index = 1 } ∷ []) is in cc)
+  range_told (p ∷ points) m last first is e =
+      let all : map numbered (p ∷ points) ≡ record { point = first; sequence = 0; index = 0 } ∷ record { point = last; sequence = 0; index = 1 } ∷ [] = e ∙ ap (λ points. sequence_points 0 0 points ++ record { point = last; sequence = 0; index = 1 } ∷ []) is in
+      let same : p.point ≡ first = ap first_point all in
+      found_any (is_bad_point properties) (InRange p.place) (range_of p.point last) ∙ ap (λ c. list_any (is_bad_point properties) (range_of c last)) (same ∙ sym (ap (λ points. slice_index points 0) is))
+    where
+      first_point : List Numbered → ℕ
+      first_point [] = 0
+      first_point (n ∷ ns) = n.point
 
-form_bad : (points : List LinePoint) (d : Definitions) (ms : List Mapped) (last : Option ℕ) → IsForm ms last → map numbered points ≡ form_points last ms
-    → is_some (class_place last points) ≡ list_any has_bad_class (map (entry_of d) (written_to last ms))
-form_bad points d [] last is e = absurd is
-form_bad points d (m ∷ ms) None is e =
-    found_any (λ p. is_bad_point p.point) (λ p. Point p.place p.point) points ∙ any_numbered bad points ∙ ap (list_any bad) e ∙ mapped_bad (m ∷ ms) d 0
-    ∙ sym (or_false (has_bad_class (entry_of d (m ∷ ms))))
-form_bad points d (m ∷ []) (Some last) is e =
-    range_told points m last is.2.0 is.2.1 e ∙ range_bad m d (range_of (slice_index m.points 0) last)
-form_bad points d (m ∷ n ∷ ms) (Some last) is e = absurd is
+  form_bad : (points : List LinePoint) (d : Definitions) (ms : List Mapped) (last : Option ℕ) → IsForm ms last → map numbered points ≡ form_points last ms
+      → is_some (class_place properties last points) ≡ list_any (has_bad_class properties) (map (entry_of d) (written_to last ms))
+  form_bad points d [] last is e = absurd is
+  form_bad points d (m ∷ ms) None is e =
+      found_any (λ p. is_bad_point properties p.point) (λ p. Point p.place p.point) points ∙ any_numbered (bad properties) points ∙ ap (list_any (bad properties)) e ∙ mapped_bad properties (m ∷ ms) d 0
+      ∙ sym (or_false (has_bad_class properties (entry_of d (m ∷ ms))))
+  form_bad points d (m ∷ []) (Some last) is e =
+      range_told points m last is.2.0 is.2.1 e ∙ range_bad properties m d (range_of (slice_index m.points 0) last)
+  form_bad points d (m ∷ n ∷ ms) (Some last) is e = absurd is
 
-pub class_refused : (definitions : Definitions) (line : List ℕ) (form : EntryForm) → entry_in (lexemes line) ≡ Some form → is_some (class_place form.last (line_points line)) ≡ list_any has_bad_class (entries_of definitions form)
-class_refused definitions line form e = let is = entry_points line form e in form_bad (line_points line) definitions form.mapped form.last is.0 is.1
+  pub class_refused : (definitions : Definitions) (line : List ℕ) (form : EntryForm) → entry_in (lexemes line) ≡ Some form → is_some (class_place properties form.last (line_points line)) ≡ list_any (has_bad_class properties) (entries_of definitions form)
+  class_refused definitions line form e = let is = entry_points line form e in form_bad (line_points line) definitions form.mapped form.last is.0 is.1

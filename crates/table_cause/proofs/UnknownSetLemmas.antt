@@ -33,12 +33,12 @@ use Rattle.ruleset_text.proofs.SpanExactLemmas.{set_spelled}
 use Rattle.table_cause.specs.DefinitionPlaces.{names_defined}
 use Rattle.table_cause.specs.FaultPlaces.{definition_place}
 use Rattle.table_cause.specs.LineNames.{is_unknown, place_of, unknown_set}
-use Rattle.table_cause.specs.PlacedLexemes.{Placed, placed_lexemes, unplaced}
+use Rattle.ruleset_text.specs.PlacedLexemes.{Placed, placed_lexemes, unplaced}
 use Rattle.table_cause.specs.WrongDefinitions.{definition_by, definition_in}
 use Rattle.table_cause.proofs.CountedLimitLemmas.{spelled_sound}
 use Rattle.table_cause.proofs.DefinedNameLemmas.{keyword_text, names_are, text_of}
 use Rattle.table_cause.proofs.DefinitionPointLemmas.{at_none, is_at, mapped_found, such_found}
-use Rattle.table_cause.proofs.PlacedLemmas.{unplaced-from}
+use Rattle.ruleset_text.proofs.PlacedLemmas.{unplaced-from}
 use Rattle.table_cause.proofs.RefusedPlaceLemmas.{or_false}
 use Rattle.table_cause.proofs.WholeLimitLemmas.{some_mapped}
 use Rattle.table_cause.proofs.WrongPlaceLemmas.{none_some}
@@ -48,6 +48,7 @@ use Rattle.variant_table.specs.declared.version.Version.TheVariants.{Three}
 use Rattle.variant_table.specs.Entries.{TableValue, empty_table}
 use Rattle.variant_table.specs.Texts.{LinesSpell}
 use Rattle.variant_table.specs.Versions.{is_version_line}
+use Rattle.idn_class.specs.declared.properties.Properties.{Properties}
 
 -- ---- the number of a name
 
@@ -281,12 +282,13 @@ any_told names (w ∷ ws) = by (unknown names w.lexeme) (any_told names ws)
     by true rest = refl
     by false rest = rest
 
-pub set_refused : (head : List ℕ) (before : List (List ℕ)) (table : TableValue) (number : ℕ) (line : List ℕ) (x : Definition) → is_version_line Ruleset head ≡ true → LinesSpell (empty_table Three) before table
-    → definition_in (names_on table.definitions.set_names (drop 1 (lexemes line))) (lexemes line) ≡ Some x
-    → is_some (definition_place (head ∷ before) (tables.NoSuchName number) line) ≡ not (has_known_sets (length table.definitions.sets) x)
-set_refused head before table number line x is spelled e =
-    let names = table.definitions.set_names in
-    some_mapped (unknown_set (names_defined keyword.Set (head ∷ before)) (placed_lexemes line))
-    ∙ ap (λ sets. is_some (unknown_set sets (placed_lexemes line))) (names_are head before table is spelled).1
-    ∙ any_told names (placed_lexemes line) ∙ ap (list_any (unknown names)) (unplaced-from 0 line) ∙ line_told names (lexemes line) x e
-    ∙ ap (λ n. not (has_known_sets n x)) (spelled_sound before table spelled).named_sets
+module _ (properties : Properties) where
+  pub set_refused : (head : List ℕ) (before : List (List ℕ)) (table : TableValue) (number : ℕ) (line : List ℕ) (x : Definition) → is_version_line Ruleset head ≡ true → LinesSpell (empty_table properties Three) before table
+      → definition_in (names_on table.definitions.set_names (drop 1 (lexemes line))) (lexemes line) ≡ Some x
+      → is_some (definition_place properties (head ∷ before) (tables.NoSuchName number) line) ≡ not (has_known_sets (length table.definitions.sets) x)
+  set_refused head before table number line x is spelled e =
+      let names = table.definitions.set_names in
+      some_mapped (unknown_set (names_defined keyword.Set (head ∷ before)) (placed_lexemes line))
+      ∙ ap (λ sets. is_some (unknown_set sets (placed_lexemes line))) (names_are properties head before table is spelled).1
+      ∙ any_told names (placed_lexemes line) ∙ ap (list_any (unknown names)) (unplaced-from 0 line) ∙ line_told names (lexemes line) x e
+      ∙ ap (λ n. not (has_known_sets n x)) (spelled_sound properties before table spelled).named_sets

@@ -22,7 +22,7 @@ use Rattle.ruleset_text.specs.EntrySteps.{State, start, word_of, marked, at_poin
 use Rattle.table_cause.specs.WrongSteps.{is_lacking, step_in, open_end, stopped_at, wrong_from, wrong_place}
 use Rattle.ruleset_text.specs.Lexemes.{is_blank, is_joined, lexemes}
 use Rattle.ruleset_text.specs.Names.{is_name, is_name_byte, is_one_of}
-use Rattle.table_cause.specs.PlacedLexemes.{Placed, onto_placed, placed_from, placed_lexemes, unplaced}
+use Rattle.ruleset_text.specs.PlacedLexemes.{Placed, onto_placed, placed_from, placed_lexemes, unplaced}
 use Rattle.ruleset_text.specs.Tokens.{without_prefix}
 use Rattle.table_cause.specs.WrongPlaces.{Begins, FitsNames, IsWhole, IsWrongLexeme, EndsEarly, IsWrongPlace}
 use Rattle.ruleset_text.proofs.EntryLemmas.{none_after}
@@ -30,7 +30,7 @@ use Rattle.table_cause.proofs.EntryPartLemmas.{AllHad, had_by_form, form_by_had}
 use Rattle.ruleset_text.proofs.EntryReadLemmas.{words_read}
 use Rattle.ruleset_text.proofs.EntrySpelledLemmas.{read_words}
 use Rattle.ruleset_text.proofs.HexLemmas.{hex_facts, scalar_below}
-use Rattle.table_cause.proofs.PlacedLemmas.{unplaced-from}
+use Rattle.ruleset_text.proofs.PlacedLemmas.{unplaced-from}
 
 equal : (a b : List ℕ) → bytes_eq a b ≡ true → a ≡ b
 equal a b e = (bytes_eq-Decides a b).0 e

@@ -8,7 +8,7 @@ use Rattle.ruleset_text.specs.Definition.{keyword_of}
 use Rattle.table_cause.specs.LineNames.{defined_name, first_place}
 use Rattle.ruleset_text.specs.Lexemes.{lexemes}
 use Rattle.table_cause.specs.PatternLimits.{atoms_among, first_past, pattern_in}
-use Rattle.table_cause.specs.PlacedLexemes.{placed_lexemes}
+use Rattle.ruleset_text.specs.PlacedLexemes.{placed_lexemes}
 
 -- ---- what the lines before define, as they stand in the text
 

@@ -1,5 +1,6 @@
 -- The first lexeme of a line that can't stand in a definition, lexeme by lexeme.
 use Rattle.std.specs.Prelude.{ℕ, ◌+◌, ◌-◌, nat_le, nat_lt, ◌==◌, Bool, true, false, ◌&&◌, ◌||◌, not, Option, Some, None, List, [], ◌∷◌, length, if◌then◌else◌}
+use Rattle.std.specs.Option.{option_map}
 use Rattle.table_cause.specs.declared.definition_place.DefinitionState.{DefinitionState}
 use Rattle.table_cause.specs.declared.definition_place.DefinitionState.TheVariants.{Nothing, Named, Tag, Spans, InPattern}
 use Rattle.table_cause.specs.declared.definition_place.Last.{Last}
@@ -17,7 +18,8 @@ use Rattle.ruleset_text.specs.declared.token.Token.{Token}
 use Rattle.ruleset_text.specs.declared.token.Token.TheVariants as token
 use Rattle.ruleset_text.specs.Definition.{keyword_of}
 use Rattle.ruleset_text.specs.Names.{is_name}
-use Rattle.table_cause.specs.PlacedLexemes.{Placed, placed_lexemes}
+use Rattle.ruleset_text.specs.PatternSigns.{may_stand, groups_after, passed_after}
+use Rattle.ruleset_text.specs.PlacedLexemes.{Placed, placed_lexemes}
 use Rattle.ruleset_text.specs.Spans.{part_of}
 use Rattle.ruleset_text.specs.Tokens.{token_of}
 
@@ -32,51 +34,34 @@ is_atom last.Atom = true
 is_atom other = false
 
 abbrev pub no_pattern : Bool → PatternState
-no_pattern is_rule = record { is_rule = is_rule; groups = 0; last = last.Nothing; passed = false }
+no_pattern is_rule = record { is_rule = is_rule; signs = record { groups = 0; passed = false }; last = last.Nothing }
 
-abbrev pub with_last : PatternState → Last → PatternState
-with_last p l = record p { last = l }
+abbrev pub if_may : Bool → Last → Option Last
+if_may may l = if may then Some l else None
 
-abbrev pub opened : PatternState → PatternState
-opened p = record p { groups = p.groups + 1; last = last.Nothing }
+-- what stands last with a token more, if groups, branches and '?' and '*' are where they may be
+abbrev pub last_step : Last → ℕ → Token → Option Last
+last_step l groups (token.Point c) = Some last.Atom
+last_step l groups (token.Set n) = Some last.Atom
+last_step l groups token.Any = Some last.Atom
+last_step l groups token.Start = Some last.Item
+last_step l groups token.End = Some last.Item
+last_step l groups token.Anchor = Some last.Item
+last_step l groups token.Open = Some last.Nothing
+last_step l groups token.Close = if_may (not (groups == 0) && not (is_nothing l)) last.Atom
+last_step l groups token.Optional = if_may (is_atom l) last.Item
+last_step l groups token.Many = if_may (is_atom l) last.Item
+last_step l groups token.Or = if_may (not (is_nothing l)) last.Nothing
+last_step l groups token.Other = None
 
-abbrev pub closed : PatternState → PatternState
-closed p = record p { groups = p.groups - 1; last = last.Atom }
+abbrev pub with_token : PatternState → Token → Last → PatternState
+with_token p t l = record { is_rule = p.is_rule; signs = record { groups = groups_after p.signs.groups t; passed = passed_after p.signs.groups p.signs.passed t }; last = l }
 
--- '_' in a branch of a rule, and a further branch
-abbrev pub with_anchor : PatternState → PatternState
-with_anchor p = record p { last = last.Item; passed = true }
-
-abbrev pub branched : PatternState → PatternState
-branched p = record p { last = last.Nothing; passed = false }
-
--- the state, if the token may stand there
-abbrev pub if_may : Bool → PatternState → Option PatternState
-if_may may p = if may then Some p else None
-
--- '/' within a group, or between the branches of the whole pattern
-abbrev pub at_bar : PatternState → Option PatternState
-at_bar p =
-    if p.groups == 0 then if_may (not (is_nothing p.last) && (p.passed || not p.is_rule)) (branched p)
-    else if_may (not (is_nothing p.last)) (with_last p last.Nothing)
-
--- in a rule '^' stands before '_' alone, and '$' after it; '_' stands once in each branch, in no group
 abbrev pub pattern_step : PatternState → Token → Option PatternState
-pattern_step p (token.Point c) = Some (with_last p last.Atom)
-pattern_step p (token.Set n) = Some (with_last p last.Atom)
-pattern_step p token.Any = Some (with_last p last.Atom)
-pattern_step p token.Start = if_may (not p.is_rule || not p.passed) (with_last p last.Item)
-pattern_step p token.End = if_may (not p.is_rule || p.passed) (with_last p last.Item)
-pattern_step p token.Anchor = if_may (p.is_rule && (p.groups == 0) && not p.passed) (with_anchor p)
-pattern_step p token.Open = Some (opened p)
-pattern_step p token.Close = if_may (not (p.groups == 0) && not (is_nothing p.last)) (closed p)
-pattern_step p token.Optional = if_may (is_atom p.last) (with_last p last.Item)
-pattern_step p token.Many = if_may (is_atom p.last) (with_last p last.Item)
-pattern_step p token.Or = at_bar p
-pattern_step p token.Other = None
+pattern_step p t = if may_stand p.is_rule p.signs.groups p.signs.passed t then option_map (with_token p t) (last_step p.last p.signs.groups t) else None
 
 abbrev pub is_pattern : PatternState → Bool
-is_pattern p = (p.groups == 0) && not (is_nothing p.last) && (p.passed || not p.is_rule)
+is_pattern p = (p.signs.groups == 0) && not (is_nothing p.last) && (p.signs.passed || not p.is_rule)
 
 -- ---- the spans of a set
 
@@ -160,5 +145,5 @@ wrong_definition line = wrong_from (length line) Nothing (placed_lexemes line)
 
 -- how many groups are open
 abbrev pub groups_in : DefinitionState → ℕ
-groups_in (InPattern p) = p.groups
+groups_in (InPattern p) = p.signs.groups
 groups_in other = 0

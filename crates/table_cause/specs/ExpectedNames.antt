@@ -5,7 +5,7 @@ use Rattle.ruleset_text.specs.declared.entry_reading.EntryWord.TheVariants as wo
 use Rattle.table_cause.specs.declared.expected.Expected.{Expected}
 use Rattle.table_cause.specs.declared.expected.Expected.TheVariants as expected
 use Rattle.ruleset_text.specs.EntrySteps.{word_of}
-use Rattle.table_cause.specs.PlacedLexemes.{Placed}
+use Rattle.ruleset_text.specs.PlacedLexemes.{Placed}
 
 -- what is named next: after 'as' and ',' a tag, after 'when' and 'unless' a rule
 abbrev pub expected_after : EntryWord → Expected

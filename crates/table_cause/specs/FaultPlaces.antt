@@ -18,7 +18,7 @@ use Rattle.table_cause.specs.WrongSteps.{wrong_place}
 use Rattle.ruleset_text.specs.Lexemes.{is_blank, lexemes}
 use Rattle.table_cause.specs.LineNames.{definition_points, second_place, unknown_name, unknown_set}
 use Rattle.table_cause.specs.LinePoints.{line_points}
-use Rattle.table_cause.specs.PlacedLexemes.{placed_lexemes}
+use Rattle.ruleset_text.specs.PlacedLexemes.{placed_lexemes}
 use Rattle.variant_table.specs.declared.fault.TableFault.{TableFault}
 use Rattle.variant_table.specs.declared.fault.TableFault.TheVariants as tables
 use Rattle.table_cause.specs.declared.place.FaultPlace.{FaultPlace}
@@ -32,6 +32,7 @@ use Rattle.variant_table.specs.Limits.{line_limit}
 use Rattle.variant_table.specs.Ranges.{range_size}
 use Rattle.variant_table.specs.Versions.{version_of}
 use Rattle.variant_table.specs.WellFormed.{is_table_class}
+use Rattle.idn_class.specs.declared.properties.Properties.{Properties}
 
 -- ---- syntax
 
@@ -62,21 +63,21 @@ syntax_place version line = option_map as_fault (if defines version line then wr
 
 -- ---- classes
 
-abbrev pub is_bad_point : ℕ → Bool
-is_bad_point c = not (is_table_class (class_of c))
+abbrev pub is_bad_point : Properties → ℕ → Bool
+is_bad_point properties c = not (is_table_class (class_of properties c))
 
 -- the first code point that is bad
-abbrev pub point_place : List LinePoint → Option FaultPlace
-point_place points = option_map (λ p. Point p.place p.point) (find (λ p. is_bad_point p.point) points)
+abbrev pub point_place : Properties → List LinePoint → Option FaultPlace
+point_place properties points = option_map (λ p. Point p.place p.point) (find (λ p. is_bad_point properties p.point) points)
 
 -- of a range, the first in it, told where the range begins
-abbrev pub range_place : List LinePoint → ℕ → Option FaultPlace
-range_place [] last = None
-range_place (p ∷ points) last = option_map (InRange p.place) (find is_bad_point (range_with_len p.point (range_size p.point last)))
+abbrev pub range_place : Properties → List LinePoint → ℕ → Option FaultPlace
+range_place properties [] last = None
+range_place properties (p ∷ points) last = option_map (InRange p.place) (find (is_bad_point properties) (range_with_len p.point (range_size p.point last)))
 
-abbrev pub class_place : Option ℕ → List LinePoint → Option FaultPlace
-class_place None points = point_place points
-class_place (Some last) points = range_place points last
+abbrev pub class_place : Properties → Option ℕ → List LinePoint → Option FaultPlace
+class_place properties None points = point_place properties points
+class_place properties (Some last) points = range_place properties points last
 
 -- ---- what is given twice
 
@@ -128,19 +129,19 @@ limit_place points = option_map past_place (find is_past points)
 -- ---- all faults
 
 -- of an entry or a range
-abbrev pub form_place : TableFault → Option EntryForm → List LinePoint → Option FaultPlace
-form_place fault None points = None
-form_place (tables.BadClass number) (Some form) points = class_place form.last points
-form_place (tables.SameVariant number) (Some form) points = variant_place form points
-form_place (tables.SameSource number) (Some form) points = source_place points
-form_place (tables.Limit number) (Some form) points = limit_place points
-form_place (tables.Syntax number) (Some form) points = None
-form_place (tables.NoSuchName number) (Some form) points = None
-form_place (tables.SameName number) (Some form) points = None
-form_place tables.Memory (Some form) points = None
+abbrev pub form_place : Properties → TableFault → Option EntryForm → List LinePoint → Option FaultPlace
+form_place properties fault None points = None
+form_place properties (tables.BadClass number) (Some form) points = class_place properties form.last points
+form_place properties (tables.SameVariant number) (Some form) points = variant_place form points
+form_place properties (tables.SameSource number) (Some form) points = source_place points
+form_place properties (tables.Limit number) (Some form) points = limit_place points
+form_place properties (tables.Syntax number) (Some form) points = None
+form_place properties (tables.NoSuchName number) (Some form) points = None
+form_place properties (tables.SameName number) (Some form) points = None
+form_place properties tables.Memory (Some form) points = None
 
-abbrev pub entry_place : TableFault → List ℕ → Option FaultPlace
-entry_place fault line = form_place fault (entry_in (lexemes line)) (line_points line)
+abbrev pub entry_place : Properties → TableFault → List ℕ → Option FaultPlace
+entry_place properties fault line = form_place properties fault (entry_in (lexemes line)) (line_points line)
 
 -- a tag or a rule of an entry that none of the lines before defines
 abbrev pub unknown_place : List (List ℕ) → List ℕ → Option FaultPlace
@@ -154,26 +155,26 @@ limit_if_whole None before line = definition_limit before line
 
 -- of a line that is to define something: the name that none of the lines before has, or that one has; the first code point that is
 -- bad; what is past a limit
-abbrev pub definition_place : List (List ℕ) → TableFault → List ℕ → Option FaultPlace
-definition_place before (tables.NoSuchName number) line = option_map as_fault (unknown_set (names_defined keyword.Set before) (placed_lexemes line))
-definition_place before (tables.SameName number) line = option_map as_fault (second_place (placed_lexemes line))
-definition_place before (tables.BadClass number) line = point_place (definition_points line)
-definition_place before (tables.Limit number) line = option_map as_fault (limit_if_whole (wrong_definition line) before line)
-definition_place before fault line = None
+abbrev pub definition_place : Properties → List (List ℕ) → TableFault → List ℕ → Option FaultPlace
+definition_place properties before (tables.NoSuchName number) line = option_map as_fault (unknown_set (names_defined keyword.Set before) (placed_lexemes line))
+definition_place properties before (tables.SameName number) line = option_map as_fault (second_place (placed_lexemes line))
+definition_place properties before (tables.BadClass number) line = point_place properties (definition_points line)
+definition_place properties before (tables.Limit number) line = option_map as_fault (limit_if_whole (wrong_definition line) before line)
+definition_place properties before fault line = None
 
 -- of an entry or a range
-abbrev pub other_place : List (List ℕ) → TableFault → List ℕ → Option FaultPlace
-other_place before (tables.NoSuchName number) line = unknown_place before line
-other_place before fault line = entry_place fault line
+abbrev pub other_place : Properties → List (List ℕ) → TableFault → List ℕ → Option FaultPlace
+other_place properties before (tables.NoSuchName number) line = unknown_place before line
+other_place properties before fault line = entry_place properties fault line
 
-abbrev pub body_place : Version → List (List ℕ) → TableFault → List ℕ → Option FaultPlace
-body_place version before (tables.Syntax number) line = syntax_place version line
-body_place version before fault line = if defines version line then definition_place before fault line else other_place before fault line
+abbrev pub body_place : Properties → Version → List (List ℕ) → TableFault → List ℕ → Option FaultPlace
+body_place properties version before (tables.Syntax number) line = syntax_place version line
+body_place properties version before fault line = if defines version line then definition_place properties before fault line else other_place properties before fault line
 
 -- of a line as it stands in the text: the first byte past its limit, or what is within it, less one carriage return at its end
-abbrev pub line_place : Version → List (List ℕ) → TableFault → List ℕ → Option FaultPlace
-line_place version before fault line =
-    if nat_lt (line_limit version) (length line) then Some (Byte (line_limit version)) else body_place version before fault (strip_carriage_return line)
+abbrev pub line_place : Properties → Version → List (List ℕ) → TableFault → List ℕ → Option FaultPlace
+line_place properties version before fault line =
+    if nat_lt (line_limit version) (length line) then Some (Byte (line_limit version)) else body_place properties version before fault (strip_carriage_return line)
 
 -- the line of a fault, from 1
 abbrev pub line_number : TableFault → Option ℕ
@@ -201,11 +202,11 @@ lines_before lines None = []
 lines_before lines (Some number) = take (number - 1) lines
 
 -- none of a text that lacks its version
-abbrev pub place_in : Option Version → List (List ℕ) → Option (List ℕ) → TableFault → Option FaultPlace
-place_in None before line fault = None
-place_in (Some version) before None fault = None
-place_in (Some version) before (Some line) fault = line_place version before fault line
+abbrev pub place_in : Properties → Option Version → List (List ℕ) → Option (List ℕ) → TableFault → Option FaultPlace
+place_in properties None before line fault = None
+place_in properties (Some version) before None fault = None
+place_in properties (Some version) before (Some line) fault = line_place properties version before fault line
 
 -- where the line of the fault has it, if a place is told
-unfoldable pub fault_place : Notation → List ℕ → TableFault → Option FaultPlace
-fault_place notation text fault = place_in (version_of notation (raw_lines text)) (lines_before (raw_lines text) (line_number fault)) (faulty_line text fault) fault
+unfoldable pub fault_place : Properties → Notation → List ℕ → TableFault → Option FaultPlace
+fault_place properties notation text fault = place_in properties (version_of notation (raw_lines text)) (lines_before (raw_lines text) (line_number fault)) (faulty_line text fault) fault

@@ -1,4 +1,4 @@
-pub mod PlacedLexemes
+-- The definitions that contracts cite.
 pub mod ExpectedNames
 pub mod LineNames
 pub mod LinePoints

@@ -12,7 +12,7 @@ use Rattle.ruleset_text.specs.Definition.{keyword_of}
 use Rattle.table_cause.specs.ExpectedNames.{expected_next}
 use Rattle.table_cause.specs.LinePoints.{points_in}
 use Rattle.ruleset_text.specs.Names.{is_one_of}
-use Rattle.table_cause.specs.PlacedLexemes.{Placed, placed_lexemes}
+use Rattle.ruleset_text.specs.PlacedLexemes.{Placed, placed_lexemes}
 use Rattle.ruleset_text.specs.SetNames.{set_name}
 
 -- there is a keyword, and it is this one

@@ -4,7 +4,7 @@ use Rattle.table_cause.specs.declared.line_point.LinePoint.{LinePoint}
 use Rattle.table_cause.specs.declared.expected.Expected.TheVariants.{Nothing}
 use Rattle.ruleset_text.specs.EntryWords.{point_of}
 use Rattle.table_cause.specs.ExpectedNames.{without_names}
-use Rattle.table_cause.specs.PlacedLexemes.{Placed, placed_lexemes}
+use Rattle.ruleset_text.specs.PlacedLexemes.{Placed, placed_lexemes}
 
 -- '|' or ':', after which a further sequence begins
 abbrev pub is_separator : List ℕ → Bool

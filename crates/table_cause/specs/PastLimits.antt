@@ -10,7 +10,7 @@ use Rattle.ruleset_text.specs.Limits.{IsWithin, atoms, groups, stars}
 use Rattle.ruleset_text.specs.Tokens.{tokens_in}
 use Rattle.table_cause.specs.LineNames.{place_of}
 use Rattle.table_cause.specs.PatternLimits.{atoms_among}
-use Rattle.table_cause.specs.PlacedLexemes.{Placed, unplaced}
+use Rattle.ruleset_text.specs.PlacedLexemes.{Placed, unplaced}
 
 -- some pattern with at most eight groups and at most two '*' within each other begins with these tokens
 abbrev pub BeginsWithin : List Token → Type 0

@@ -8,7 +8,7 @@ use Rattle.ruleset_text.specs.declared.token.Token.TheVariants as token
 use Rattle.ruleset_text.specs.Definition.{keyword_of}
 use Rattle.ruleset_text.specs.Tokens.{token_of}
 use Rattle.table_cause.specs.LineNames.{place_of}
-use Rattle.table_cause.specs.PlacedLexemes.{Placed}
+use Rattle.ruleset_text.specs.PlacedLexemes.{Placed}
 
 -- ---- the pattern of a line
 

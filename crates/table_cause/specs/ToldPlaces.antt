@@ -10,6 +10,7 @@ use Rattle.table_cause.specs.declared.place.FaultPlace.{FaultPlace}
 use Rattle.table_cause.specs.declared.place.FaultPlace.TheVariants.{Lexeme, End, Point}
 use Rattle.variant_table.specs.declared.version.Version.{Version}
 use Rattle.table_cause.specs.FaultPlaces.{defines, is_bad_point, parts_of}
+use Rattle.idn_class.specs.declared.properties.Properties.{Properties}
 
 -- no form of the version goes on with the lexeme, or no definition does; or each goes on, and the line ends
 abbrev pub IsWrongIn : Version → List ℕ → WrongPlace → Type 0
@@ -23,16 +24,16 @@ IsSyntaxPlace version line (End place) = IsWrongIn version line (wrong.End place
 IsSyntaxPlace version line other = ⊥
 
 -- a code point of the line is bad, and none before it is
-pub record IsFirstBadPoint (points : List LinePoint) (place c : ℕ) : Type 0 where
+pub record IsFirstBadPoint (properties : Properties) (points : List LinePoint) (place c : ℕ) : Type 0 where
   pub before : List LinePoint
   pub p : LinePoint
   pub after : List LinePoint
   pub cut : points ≡ before ++ p ∷ after
-  pub good : AllByRecursion (λ q. is_bad_point q.point ≡ false) before
-  pub bad : IsTrue (is_bad_point p.point)
+  pub good : AllByRecursion (λ q. is_bad_point properties q.point ≡ false) before
+  pub bad : IsTrue (is_bad_point properties p.point)
   pub is_place : p.place ≡ place
   pub is_point : p.point ≡ c
 
-abbrev pub IsFirstBad : List LinePoint → FaultPlace → Type 0
-IsFirstBad points (Point place c) = IsFirstBadPoint points place c
-IsFirstBad points other = ⊥
+abbrev pub IsFirstBad : Properties → List LinePoint → FaultPlace → Type 0
+IsFirstBad properties points (Point place c) = IsFirstBadPoint properties points place c
+IsFirstBad properties points other = ⊥

@@ -8,7 +8,7 @@ use Rattle.table_cause.specs.EntryParts.{has_parts}
 use Rattle.ruleset_text.specs.EntryText.{IsForm}
 use Rattle.ruleset_text.specs.EntryWords.{AreWords, entry_words, IsEntryLine}
 use Rattle.ruleset_text.specs.Lexemes.{lexemes}
-use Rattle.table_cause.specs.PlacedLexemes.{Placed, placed_lexemes, unplaced}
+use Rattle.ruleset_text.specs.PlacedLexemes.{Placed, placed_lexemes, unplaced}
 
 -- some entry or range with no other parts begins with these lexemes
 abbrev pub Begins : EntryParts → List (List ℕ) → Type 0

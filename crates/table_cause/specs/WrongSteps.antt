@@ -6,7 +6,7 @@ use Rattle.table_cause.specs.declared.entry_place.WrongPlace.TheVariants.{Lexeme
 use Rattle.ruleset_text.specs.declared.entry_reading.EntryWord.{EntryWord}
 use Rattle.ruleset_text.specs.declared.entry_reading.EntryWord.TheVariants as word
 use Rattle.ruleset_text.specs.EntrySteps.{State, start, step, word_of, is_complete}
-use Rattle.table_cause.specs.PlacedLexemes.{Placed, placed_lexemes}
+use Rattle.ruleset_text.specs.PlacedLexemes.{Placed, placed_lexemes}
 
 -- the word is of none of the parts: '!' before the source, which is the first lexeme, or before a variant; '..'; a word of tags
 -- or conditions

@@ -4,8 +4,9 @@ ghost use Rattle.table_cause.specs.DefinitionWrongSteps as steps;
 ghost use Rattle.table_cause.specs.DefinitionWrongSteps.{groups_in};
 
 use crate::entry_place::WrongPlace;
-use crate::placed::PlacedLexemes;
-use ruleset_text::{Held, Keyword, SpanPart, Token, is_name, keyword_of, part_of, token_of};
+use ruleset_text::{
+    Held, Keyword, PlacedLexemes, Signs, SpanPart, Token, is_name, keyword_of, part_of, token_of,
+};
 
 /// What was read last of a branch.
 #[derive(Clone, Copy, Debug, PartialEq, Eq)]
@@ -22,11 +23,8 @@ enum Last {
 struct PatternState {
     /// The pattern is that of a rule, so `_` stands once in each branch.
     is_rule: bool,
-    /// How many groups are open.
-    groups: usize,
+    signs: Signs,
     last: Last,
-    /// `_` was read in this branch.
-    passed: bool,
 }
 
 /// How far a line was read.
@@ -113,9 +111,8 @@ fn no_pattern(is_rule: bool) -> PatternState
 {
     PatternState {
         is_rule,
-        groups: 0,
+        signs: Signs::new(),
         last: Last::Nothing,
-        passed: false,
     }
 }
 
@@ -150,118 +147,36 @@ fn held_step(held: Held, part: SpanPart) -> Option<Held>
     }
 }
 
-/// The pattern with one token more, if it may stand there. In a rule `^` stands before `_` alone, and `$` after it.
+/// The pattern with one token more, if it may stand there.
 fn pattern_step(pattern: PatternState, token: Token) -> Option<PatternState>
-    requires few { pattern.groups + 1 < 2 ^ 64 }
+    requires few { pattern.signs.groups + 1 < 2 ^ 64 }
     ensures state { result ≡ steps.pattern_step pattern token }
-    ensures groups { IfSome result (λ next. next.groups ≤ pattern.groups + 1) }
+    ensures groups { IfSome result (λ next. next.signs.groups ≤ pattern.signs.groups + 1) }
 {
-    match token {
-        Token::Point(_) | Token::Set(_) | Token::Any => Some(with_last(pattern, Last::Atom)),
-        Token::Start => {
-            let may_stand = !pattern.is_rule || !pattern.passed;
-            if_may(may_stand, with_last(pattern, Last::Item))
-        }
-        Token::End => {
-            let may_stand = !pattern.is_rule || pattern.passed;
-            if_may(may_stand, with_last(pattern, Last::Item))
-        }
-        Token::Anchor => {
-            let may_stand = pattern.is_rule && pattern.groups == 0 && !pattern.passed;
-            if_may(may_stand, with_anchor(pattern))
-        }
-        Token::Open => Some(opened(pattern)),
-        Token::Close => {
-            let may_stand = pattern.groups != 0 && !is_nothing(pattern.last);
-            if_may(may_stand, closed(pattern))
-        }
-        Token::Optional | Token::Many => {
-            if_may(is_atom(pattern.last), with_last(pattern, Last::Item))
-        }
-        Token::Or => at_bar(pattern),
-        Token::Other => None,
+    if !pattern.signs.may_stand(pattern.is_rule, token) {
+        return None;
     }
-}
-
-/// The state, if what leads to it may stand there.
-fn if_may(may_stand: bool, pattern: PatternState) -> Option<PatternState>
-    ensures { result ≡ steps.if_may may_stand pattern }
-{
-    if may_stand { Some(pattern) } else { None }
-}
-
-fn with_last(pattern: PatternState, last: Last) -> PatternState
-    ensures { result ≡ steps.with_last pattern last }
-{
-    PatternState {
+    Some(PatternState {
         is_rule: pattern.is_rule,
-        groups: pattern.groups,
-        last,
-        passed: pattern.passed,
-    }
+        signs: pattern.signs.after(token),
+        last: last_step(pattern.last, pattern.signs.groups, token)?,
+    })
 }
 
-/// The pattern of a rule once `_` is read in a branch.
-fn with_anchor(pattern: PatternState) -> PatternState
-    ensures { result ≡ steps.with_anchor pattern }
+/// What stands last with one token more, if its groups, branches and `?` and `*` are where they may be.
+fn last_step(last: Last, groups: usize, token: Token) -> Option<Last>
+    ensures { result ≡ steps.last_step last groups token }
 {
-    PatternState {
-        is_rule: pattern.is_rule,
-        groups: pattern.groups,
-        last: Last::Item,
-        passed: true,
-    }
-}
-
-/// The pattern once a further group is open.
-fn opened(pattern: PatternState) -> PatternState
-    requires { pattern.groups + 1 < 2 ^ 64 }
-    ensures { result ≡ steps.opened pattern }
-{
-    PatternState {
-        is_rule: pattern.is_rule,
-        groups: pattern.groups + 1,
-        last: Last::Nothing,
-        passed: pattern.passed,
-    }
-}
-
-/// The pattern once the last group is closed.
-fn closed(pattern: PatternState) -> PatternState
-    ensures { result ≡ steps.closed pattern }
-{
-    PatternState {
-        is_rule: pattern.is_rule,
-        groups: pattern.groups.saturating_sub(1),
-        last: Last::Atom,
-        passed: pattern.passed,
-    }
-}
-
-/// The pattern once `/` is read, within a group or between the branches of the whole pattern, if it may stand there.
-fn at_bar(pattern: PatternState) -> Option<PatternState>
-    ensures state { result ≡ steps.at_bar pattern }
-    ensures groups { IfSome result (λ next. next.groups ≡ pattern.groups) }
-{
-    let may_end = !is_nothing(pattern.last);
-    if pattern.groups == 0 {
-        let may_stand = may_end && (pattern.passed || !pattern.is_rule);
-        if_may(may_stand, branched(pattern))
-    } else {
-        if_may(may_end, with_last(pattern, Last::Nothing))
-    }
-}
-
-/// The pattern once a further branch begins.
-fn branched(pattern: PatternState) -> PatternState
-    ensures { result ≡ steps.branched pattern }
-{
-    PatternState {
-        is_rule: pattern.is_rule,
-        groups: pattern.groups,
-        last: Last::Nothing,
-        passed: false,
-    }
+    let (may_stand, next) = match token {
+        Token::Point(_) | Token::Set(_) | Token::Any => (true, Last::Atom),
+        Token::Start | Token::End | Token::Anchor => (true, Last::Item),
+        Token::Open => (true, Last::Nothing),
+        Token::Close => (groups != 0 && !is_nothing(last), Last::Atom),
+        Token::Optional | Token::Many => (is_atom(last), Last::Item),
+        Token::Or => (!is_nothing(last), Last::Nothing),
+        Token::Other => (false, Last::Nothing),
+    };
+    if may_stand { Some(next) } else { None }
 }
 
 fn is_nothing(last: Last) -> bool
@@ -312,5 +227,7 @@ fn are_spans(held: Held) -> bool
 fn is_pattern(pattern: PatternState) -> bool
     ensures { result ≡ steps.is_pattern pattern }
 {
-    pattern.groups == 0 && !is_nothing(pattern.last) && (pattern.passed || !pattern.is_rule)
+    pattern.signs.groups == 0
+        && !is_nothing(pattern.last)
+        && (pattern.signs.passed || !pattern.is_rule)
 }

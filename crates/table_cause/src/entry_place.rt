@@ -4,8 +4,7 @@ ghost use Rattle.ruleset_text.specs.EntrySteps.{state as state_of, word_of as wo
 ghost use Rattle.ruleset_text.specs.inner.EntryTaken.{taken_as};
 ghost use Rattle.table_cause.specs.WrongSteps.{is_lacking as is_lacking_word, open_end as open_end_of, step_in, wrong_place as wrong_place_of};
 
-use crate::placed::PlacedLexemes;
-use ruleset_text::{EntryState, EntryWord, word_of};
+use ruleset_text::{EntryState, EntryWord, PlacedLexemes, word_of};
 use std::alloc::{AllocError, Global};
 
 /// The parts that entries and ranges may have besides their code points.

@@ -16,13 +16,14 @@ ghost use Rattle.table_cause.specs.DefinitionWrongSteps.{wrong_definition};
 ghost use Rattle.table_cause.specs.LineNames.{definition_points, IsFirstLexeme, IsFirstUnknown, is_unknown, unknown_name, unknown_set};
 ghost use Rattle.table_cause.specs.PastLimits.{IsFirstPast, is_definition_past};
 ghost use Rattle.table_cause.specs.PatternLimits.{atoms_among, first_past, pattern_in};
-ghost use Rattle.table_cause.specs.PlacedLexemes.{Placed, placed_lexemes};
+ghost use Rattle.ruleset_text.specs.PlacedLexemes.{Placed, placed_lexemes};
 ghost use Rattle.table_cause.specs.WrongDefinitions as definitions;
 ghost use Rattle.table_cause.specs.WrongDefinitions.{Define, definition_in};
 ghost use Rattle.table_cause.specs.WrongPlaces.{FitsNames, IsWhole, IsWrongPlace};
 ghost use Rattle.table_cause.specs.WrongSteps.{wrong_place};
 ghost use Rattle.table_cause.specs.declared.expected.Expected.TheVariants.{Nothing};
 ghost use Rattle.table_cause.specs.FaultPlaces.{class_place, definition_place, limit_place, parts_of, point_place, syntax_place, unknown_place, variant_place};
+ghost use Rattle.idn_class.specs.declared.properties.Properties.{Properties};
 ghost use Rattle.table_cause.specs.LinePoints.{line_points};
 ghost use Rattle.variant_table.specs.declared.fault.TableFault.TheVariants as tables;
 ghost use Rattle.variant_table.specs.declared.version.Notation.TheVariants.{Ruleset};
@@ -45,7 +46,7 @@ pub fn places_are_told()
     ensures parts { (version : Version) (form : EntryForm) → has_form version form ≡ has_parts (parts_of version) form }
     ensures syntax { (version : Version) (line : List ℕ) (place : FaultPlace) → FitsNames (parts_of version) line →
         (syntax_place version line ≡ Some place) ↔ IsSyntaxPlace version line place }
-    ensures class { (points : List LinePoint) (place : FaultPlace) → (point_place points ≡ Some place) ↔ IsFirstBad points place }
+    ensures class { (properties : Properties) (points : List LinePoint) (place : FaultPlace) → (point_place properties points ≡ Some place) ↔ IsFirstBad properties points place }
 {}
 
 /// Examples, which the definitions compute.
@@ -92,19 +93,19 @@ pub fn patterns_past_limits_are_told()
 /// their version line: if it is one of its kind too many, or its pattern has too many groups or `*` within each other, or too many
 /// atoms. So what is counted on the lines before is what reading has kept of them.
 pub fn definitions_past_limits_are_told()
-    ensures { (head : List ℕ) (before : List (List ℕ)) (table : TableValue) (names : List (List ℕ)) (line : List ℕ) (definition : Definition) →
-        is_version_line Ruleset head ≡ true → LinesSpell (empty_table Three) before table → definition_in names (lexemes line) ≡ Some definition →
+    ensures { (properties : Properties) (head : List ℕ) (before : List (List ℕ)) (table : TableValue) (names : List (List ℕ)) (line : List ℕ) (definition : Definition) →
+        is_version_line Ruleset head ≡ true → LinesSpell (empty_table properties Three) before table → definition_in names (lexemes line) ≡ Some definition →
         is_some (definition_limit (head ∷ before) line) ≡ is_one_too_many table.definitions definition }
 {}
 
 /// Past a limit a place is told only of a line that defines something, and then exactly if that is one too many for the table that
 /// the lines before it spell. Where a line defines nothing, the limit is that of the text, and no part of the line is told.
 pub fn limits_are_told_of_definitions()
-    ensures nothing { (before : List (List ℕ)) (number : ℕ) (names : List (List ℕ)) (line : List ℕ) → definition_in names (lexemes line) ≡ None →
-        definition_place before (tables.Limit number) line ≡ None }
-    ensures one_too_many { (head : List ℕ) (before : List (List ℕ)) (table : TableValue) (number : ℕ) (names : List (List ℕ)) (line : List ℕ) (definition : Definition) →
-        is_version_line Ruleset head ≡ true → LinesSpell (empty_table Three) before table → definition_in names (lexemes line) ≡ Some definition →
-        is_some (definition_place (head ∷ before) (tables.Limit number) line) ≡ is_one_too_many table.definitions definition }
+    ensures nothing { (properties : Properties) (before : List (List ℕ)) (number : ℕ) (names : List (List ℕ)) (line : List ℕ) → definition_in names (lexemes line) ≡ None →
+        definition_place properties before (tables.Limit number) line ≡ None }
+    ensures one_too_many { (properties : Properties) (head : List ℕ) (before : List (List ℕ)) (table : TableValue) (number : ℕ) (names : List (List ℕ)) (line : List ℕ) (definition : Definition) →
+        is_version_line Ruleset head ≡ true → LinesSpell (empty_table properties Three) before table → definition_in names (lexemes line) ≡ Some definition →
+        is_some (definition_place properties (head ∷ before) (tables.Limit number) line) ≡ is_one_too_many table.definitions definition }
 {}
 
 /// The names that the lines before define, after their version line, are those of the table that they spell. A place is told of an
@@ -113,25 +114,25 @@ pub fn limits_are_told_of_definitions()
 /// defined; and for a variant that is given again, if its names are defined, which reading tests before. One is told of a set or of a
 /// code point of a definition exactly if reading refuses the definition for one.
 pub fn places_are_told_where_reading_refuses()
-    ensures tags { (head : List ℕ) (before : List (List ℕ)) (table : TableValue) → is_version_line Ruleset head ≡ true → LinesSpell (empty_table Three) before table →
+    ensures tags { (properties : Properties) (head : List ℕ) (before : List (List ℕ)) (table : TableValue) → is_version_line Ruleset head ≡ true → LinesSpell (empty_table properties Three) before table →
         names_defined keywords.Tag (head ∷ before) ≡ table.definitions.tags }
-    ensures sets { (head : List ℕ) (before : List (List ℕ)) (table : TableValue) → is_version_line Ruleset head ≡ true → LinesSpell (empty_table Three) before table →
+    ensures sets { (properties : Properties) (head : List ℕ) (before : List (List ℕ)) (table : TableValue) → is_version_line Ruleset head ≡ true → LinesSpell (empty_table properties Three) before table →
         names_defined keywords.Set (head ∷ before) ≡ table.definitions.set_names }
-    ensures rules { (head : List ℕ) (before : List (List ℕ)) (table : TableValue) → is_version_line Ruleset head ≡ true → LinesSpell (empty_table Three) before table →
+    ensures rules { (properties : Properties) (head : List ℕ) (before : List (List ℕ)) (table : TableValue) → is_version_line Ruleset head ≡ true → LinesSpell (empty_table properties Three) before table →
         names_defined keywords.Rule (head ∷ before) ≡ table.definitions.rule_names }
-    ensures unknown { (head : List ℕ) (before : List (List ℕ)) (table : TableValue) (line : List ℕ) (form : EntryForm) →
-        is_version_line Ruleset head ≡ true → LinesSpell (empty_table Three) before table → entry_in (lexemes line) ≡ Some form →
+    ensures unknown { (properties : Properties) (head : List ℕ) (before : List (List ℕ)) (table : TableValue) (line : List ℕ) (form : EntryForm) →
+        is_version_line Ruleset head ≡ true → LinesSpell (empty_table properties Three) before table → entry_in (lexemes line) ≡ Some form →
         is_some (unknown_place (head ∷ before) line) ≡ not (knows_all table.definitions form.mapped) }
-    ensures unknown_set { (head : List ℕ) (before : List (List ℕ)) (table : TableValue) (number : ℕ) (line : List ℕ) (definition : Definition) →
-        is_version_line Ruleset head ≡ true → LinesSpell (empty_table Three) before table →
+    ensures unknown_set { (properties : Properties) (head : List ℕ) (before : List (List ℕ)) (table : TableValue) (number : ℕ) (line : List ℕ) (definition : Definition) →
+        is_version_line Ruleset head ≡ true → LinesSpell (empty_table properties Three) before table →
         definition_in (names_on table.definitions.set_names (drop 1 (lexemes line))) (lexemes line) ≡ Some definition →
-        is_some (definition_place (head ∷ before) (tables.NoSuchName number) line) ≡ not (has_known_sets (length table.definitions.sets) definition) }
+        is_some (definition_place properties (head ∷ before) (tables.NoSuchName number) line) ≡ not (has_known_sets (length table.definitions.sets) definition) }
     ensures limit { (line : List ℕ) (form : EntryForm) → entry_in (lexemes line) ≡ Some form →
         is_some (limit_place (line_points line)) ≡ list_any is_too_large (written_out form) }
-    ensures class { (definitions : Definitions) (line : List ℕ) (form : EntryForm) → entry_in (lexemes line) ≡ Some form →
-        is_some (class_place form.last (line_points line)) ≡ list_any has_bad_class (entries_of definitions form) }
+    ensures class { (properties : Properties) (definitions : Definitions) (line : List ℕ) (form : EntryForm) → entry_in (lexemes line) ≡ Some form →
+        is_some (class_place properties form.last (line_points line)) ≡ list_any (has_bad_class properties) (entries_of definitions form) }
     ensures again { (definitions : Definitions) (line : List ℕ) (form : EntryForm) → entry_in (lexemes line) ≡ Some form → knows_all definitions form.mapped ≡ true →
         is_some (variant_place form (line_points line)) ≡ list_any has_repeat (entries_of definitions form) }
-    ensures points { (names : List (List ℕ)) (line : List ℕ) (definition : Definition) → definition_in names (lexemes line) ≡ Some definition →
-        is_some (point_place (definition_points line)) ≡ defined.has_bad_class definition }
+    ensures points { (properties : Properties) (names : List (List ℕ)) (line : List ℕ) (definition : Definition) → definition_in names (lexemes line) ≡ Some definition →
+        is_some (point_place properties (definition_points line)) ≡ defined.has_bad_class properties definition }
 {}

@@ -11,7 +11,6 @@ mod line_point;
 mod lines_before;
 mod pattern_limit;
 mod place;
-mod placed;
 
 pub use definition_place::wrong_definition;
 pub use entry_place::{EntryParts, WrongPlace, wrong_place};

@@ -4,13 +4,12 @@ ghost use Rattle.std.specs.Prelude.{◌≡◌};
 ghost use Rattle.std.specs.Option.{option_copied};
 ghost use Rattle.ruleset_text.specs.Lexemes.{lexemes};
 ghost use Rattle.table_cause.specs.LineNames as lines;
-ghost use Rattle.table_cause.specs.PlacedLexemes.{placed_lexemes};
+ghost use Rattle.ruleset_text.specs.PlacedLexemes.{placed_lexemes};
 ghost use Rattle.ruleset_text.specs.SetNames.{set_name as set_name_of};
 
 use crate::entry_place::WrongPlace;
 use crate::expected::{Expected, expected_next};
-use crate::placed::PlacedLexemes;
-use ruleset_text::{Keyword, Name, is_one_of, keyword_of, next_lexeme, set_name};
+use ruleset_text::{Keyword, Name, PlacedLexemes, is_one_of, keyword_of, next_lexeme, set_name};
 
 /// The name that a line defines by a keyword, if it begins with it.
 pub fn defined_name(keyword: Keyword, line: &[u8]) -> Option<&[u8]>

@@ -3,12 +3,11 @@ ghost use Rattle.std.specs.Prelude.{◌≡◌, ◌+◌, ◌<◌, ◌≤◌, ◌^
 ghost use Rattle.table_cause.specs.LinePoints.{is_separator as is_separator_of, line_points as line_points_of, points_from, points_in};
 ghost use Rattle.table_cause.specs.ExpectedNames.{without_names};
 ghost use Rattle.table_cause.specs.LineNames.{definition_points as definition_points_of};
-ghost use Rattle.table_cause.specs.PlacedLexemes.{Placed};
+ghost use Rattle.ruleset_text.specs.PlacedLexemes.{Placed};
 
 use crate::expected::{Expected, expected_next};
-use crate::placed::PlacedLexemes;
 use idn_text::hex_point;
-use ruleset_text::{Keyword, keyword_of, without_prefix};
+use ruleset_text::{Keyword, PlacedLexemes, keyword_of, without_prefix};
 use std::alloc::{AllocError, Global};
 
 /// A code point that a line names. All is counted from 0.

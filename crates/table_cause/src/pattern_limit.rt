@@ -2,13 +2,12 @@
 ghost use Rattle.std.specs.Prelude.{◌≡◌, ◌-◌, false, [], MatchOption};
 ghost use Rattle.table_cause.specs.PatternLimits as limits;
 ghost use Rattle.table_cause.specs.PatternLimits.{is_too_deep as too_deep, no_nesting, with_token as with_token_of};
-ghost use Rattle.table_cause.specs.PlacedLexemes.{placed_lexemes};
+ghost use Rattle.ruleset_text.specs.PlacedLexemes.{placed_lexemes};
 ghost use Rattle.table_cause.specs.inner.NestingSteps.{nesting_of};
 
 use crate::entry_place::WrongPlace;
-use crate::placed::PlacedLexemes;
 use arrayvec::ArrayVec;
-use ruleset_text::{GROUP_LIMIT, Keyword, STAR_LIMIT, Token, keyword_of, token_of};
+use ruleset_text::{GROUP_LIMIT, Keyword, PlacedLexemes, STAR_LIMIT, Token, keyword_of, token_of};
 
 /// How many `*` stand within each other in a pattern, as far as it was read.
 #[derive(Drop)]

@@ -17,7 +17,7 @@ use crate::entry_place::{EntryParts, WrongPlace, wrong_place};
 use crate::line_names::{name_place, unknown_name, unknown_set};
 use crate::line_point::{LinePoint, definition_points, line_points};
 use crate::lines_before::LinesBefore;
-use idn_class::{Class, class_of};
+use idn_class::{Class, Properties, class_of_by};
 use idn_text::{TextLines, without_carriage_return};
 use ruleset_text::{EntryForm, Keyword, Mapped, NamedCondition, read_entry, without_blanks};
 use std::alloc::{AllocError, Global};
@@ -54,14 +54,22 @@ pub fn fault_place(
     notation: Notation,
     text: &[u8],
     fault: TableFault,
+    properties: Properties,
 ) -> Result<Option<FaultPlace>, AllocError>
-    ensures { IfOk result (λ place. place ≡ places.fault_place notation text.now fault) }
+    ensures { IfOk result (λ place. place ≡ places.fault_place properties notation text.now fault) }
 {
     let Some(head) = head_of(notation, text) else {
         return Ok(None);
     };
     match faulty_line(text, fault) {
-        Some(line) => line_place(alloc, head.version, &before_fault(text, fault), fault, line),
+        Some(line) => line_place(
+            alloc,
+            head.version,
+            &before_fault(text, fault),
+            fault,
+            line,
+            properties,
+        ),
         None => Ok(None),
     }
 }
@@ -115,13 +123,21 @@ fn line_place(
     before: &LinesBefore<'_>,
     fault: TableFault,
     line: &[u8],
+    properties: Properties,
 ) -> Result<Option<FaultPlace>, AllocError>
-    ensures { IfOk result (λ place. place ≡ places.line_place version (lines_of before.now) fault line.now) }
+    ensures { IfOk result (λ place. place ≡ places.line_place properties version (lines_of before.now) fault line.now) }
 {
     if line.len() > version.line_limit() {
         return Ok(Some(FaultPlace::Byte(version.line_limit())));
     }
-    body_place(alloc, version, before, fault, without_carriage_return(line))
+    body_place(
+        alloc,
+        version,
+        before,
+        fault,
+        without_carriage_return(line),
+        properties,
+    )
 }
 
 fn body_place(
@@ -130,16 +146,17 @@ fn body_place(
     before: &LinesBefore<'_>,
     fault: TableFault,
     line: &[u8],
+    properties: Properties,
 ) -> Result<Option<FaultPlace>, AllocError>
-    ensures { IfOk result (λ place. place ≡ places.body_place version (lines_of before.now) fault line.now) }
+    ensures { IfOk result (λ place. place ≡ places.body_place properties version (lines_of before.now) fault line.now) }
 {
     match fault {
         TableFault::Syntax { line: _ } => syntax_place(alloc, version, line),
         _ => {
             if defines(version, line) {
-                definition_place(alloc, before, fault, line)
+                definition_place(alloc, before, fault, line, properties)
             } else {
-                other_place(alloc, before, fault, line)
+                other_place(alloc, before, fault, line, properties)
             }
         }
     }
@@ -166,8 +183,9 @@ fn definition_place(
     before: &LinesBefore<'_>,
     fault: TableFault,
     line: &[u8],
+    properties: Properties,
 ) -> Result<Option<FaultPlace>, AllocError>
-    ensures { IfOk result (λ place. place ≡ places.definition_place (lines_of before.now) fault line.now) }
+    ensures { IfOk result (λ place. place ≡ places.definition_place properties (lines_of before.now) fault line.now) }
 {
     match fault {
         TableFault::NoSuchName { line: _ } => {
@@ -175,7 +193,11 @@ fn definition_place(
             Ok(as_fault(unknown_set(&sets, line)))
         }
         TableFault::SameName { line: _ } => Ok(as_fault(name_place(line))),
-        TableFault::BadClass { line: _ } => point_place(alloc, &definition_points(alloc, line)?),
+        TableFault::BadClass { line: _ } => point_place(
+            alloc,
+            &definition_points(alloc, line)?,
+            properties,
+        ),
         TableFault::Limit { line: _ } => Ok(as_fault(limit_if_whole(before, line))),
         _ => Ok(None),
     }
@@ -197,8 +219,9 @@ fn other_place(
     before: &LinesBefore<'_>,
     fault: TableFault,
     line: &[u8],
+    properties: Properties,
 ) -> Result<Option<FaultPlace>, AllocError>
-    ensures { IfOk result (λ place. place ≡ places.other_place (lines_of before.now) fault line.now) }
+    ensures { IfOk result (λ place. place ≡ places.other_place properties (lines_of before.now) fault line.now) }
 {
     match fault {
         TableFault::NoSuchName { line: _ } => {
@@ -206,7 +229,7 @@ fn other_place(
             let rules = before.names_defined(alloc, Keyword::Rule)?;
             Ok(as_fault(unknown_name(&tags, &rules, line)))
         }
-        _ => entry_place(alloc, fault, line),
+        _ => entry_place(alloc, fault, line, properties),
     }
 }
 
@@ -261,13 +284,14 @@ fn entry_place(
     alloc: Global,
     fault: TableFault,
     line: &[u8],
+    properties: Properties,
 ) -> Result<Option<FaultPlace>, AllocError>
-    ensures { IfOk result (λ place. place ≡ places.entry_place fault line.now) }
+    ensures { IfOk result (λ place. place ≡ places.entry_place properties fault line.now) }
 {
     let form = read_entry(alloc, line)?;
     let points = line_points(alloc, line)?;
     match form {
-        Some(form) => form_place(alloc, fault, &form, &points),
+        Some(form) => form_place(alloc, fault, &form, &points, properties),
         None => Ok(None),
     }
 }
@@ -277,11 +301,12 @@ fn form_place(
     fault: TableFault,
     form: &EntryForm,
     points: &[LinePoint],
+    properties: Properties,
 ) -> Result<Option<FaultPlace>, AllocError>
-    ensures { IfOk result (λ place. place ≡ places.form_place fault (Some (entry_form form.now)) points.now) }
+    ensures { IfOk result (λ place. place ≡ places.form_place properties fault (Some (entry_form form.now)) points.now) }
 {
     match fault {
-        TableFault::BadClass { line: _ } => class_place(alloc, form.last, points),
+        TableFault::BadClass { line: _ } => class_place(alloc, form.last, points, properties),
         TableFault::SameVariant { line: _ } => {
             Ok(sequence_place(points, first_again(&form.mapped)))
         }
@@ -296,20 +321,25 @@ fn class_place(
     alloc: Global,
     last: Option<u32>,
     points: &[LinePoint],
+    properties: Properties,
 ) -> Result<Option<FaultPlace>, AllocError>
-    ensures { IfOk result (λ place. place ≡ places.class_place last points.now) }
+    ensures { IfOk result (λ place. place ≡ places.class_place properties last points.now) }
 {
     match last {
-        None => point_place(alloc, points),
-        Some(last) => range_place(alloc, points, last),
+        None => point_place(alloc, points, properties),
+        Some(last) => range_place(alloc, points, last, properties),
     }
 }
 
-fn point_place(alloc: Global, points: &[LinePoint]) -> Result<Option<FaultPlace>, AllocError>
-    ensures { IfOk result (λ place. place ≡ places.point_place points.now) }
+fn point_place(
+    alloc: Global,
+    points: &[LinePoint],
+    properties: Properties,
+) -> Result<Option<FaultPlace>, AllocError>
+    ensures { IfOk result (λ place. place ≡ places.point_place properties points.now) }
 {
     for p in points {
-        if is_bad_point(alloc, p.point)? {
+        if is_bad_point(alloc, p.point, properties)? {
             return Ok(Some(FaultPlace::Point(p.place, p.point)));
         }
     }
@@ -320,26 +350,32 @@ fn range_place(
     alloc: Global,
     points: &[LinePoint],
     last: u32,
+    properties: Properties,
 ) -> Result<Option<FaultPlace>, AllocError>
-    ensures { IfOk result (λ place. place ≡ places.range_place points.now last) }
+    ensures { IfOk result (λ place. place ≡ places.range_place properties points.now last) }
 {
     let Some(first) = points.first() else {
         return Ok(None);
     };
-    match bad_in_range(alloc, first.point, last)? {
+    match bad_in_range(alloc, first.point, last, properties)? {
         Some(point) => Ok(Some(FaultPlace::InRange(first.place, point))),
         None => Ok(None),
     }
 }
 
 /// The first code point of a range that no table may hold.
-fn bad_in_range(alloc: Global, first: u32, last: u32) -> Result<Option<u32>, AllocError>
-    ensures { IfOk result (λ point. point ≡ find is_bad (range_with_len first (range_size first last))) }
+fn bad_in_range(
+    alloc: Global,
+    first: u32,
+    last: u32,
+    properties: Properties,
+) -> Result<Option<u32>, AllocError>
+    ensures { IfOk result (λ point. point ≡ find (is_bad properties) (range_with_len first (range_size first last))) }
 {
     let count = (u64::from(last) + 1).saturating_sub(u64::from(first));
     for offset in 0..count {
         let point = first + offset as u32;
-        if is_bad_point(alloc, point)? {
+        if is_bad_point(alloc, point, properties)? {
             return Ok(Some(point));
         }
     }
@@ -347,10 +383,10 @@ fn bad_in_range(alloc: Global, first: u32, last: u32) -> Result<Option<u32>, All
 }
 
 /// Whether the class of a code point is one that no table may hold.
-fn is_bad_point(alloc: Global, point: u32) -> Result<bool, AllocError>
-    ensures { IfOk result (λ bad. bad ≡ is_bad point) }
+fn is_bad_point(alloc: Global, point: u32, properties: Properties) -> Result<bool, AllocError>
+    ensures { IfOk result (λ bad. bad ≡ is_bad properties point) }
 {
-    let class = class_of(alloc, point)?;
+    let class = class_of_by(alloc, point, properties)?;
     Ok(!matches!(class, Class::Pvalid | Class::Contextj | Class::Contexto))
 }
 

@@ -7,10 +7,11 @@ use Rattle.label_patterns.specs.Laws.{IgnoresEnd, IgnoresEndBefore}
 use Rattle.label_patterns.specs.Patterns.{Pattern, Point, Set, Any, Start, End, Anchor, Group, Optional, Many, Then, Either}
 use Rattle.label_patterns.specs.Rules as rules
 use Rattle.label_patterns.specs.Rules.{branches}
-use Rattle.ruleset_text.specs.declared.rules.Sign.TheVariants as sign
+use Rattle.ruleset_text.specs.Signs as sign
 use Rattle.ruleset_text.specs.Definition as definition
 use Rattle.ruleset_text.specs.Definitions.{Definitions, named}
 use Rattle.ruleset_text.specs.Rules.{has, is_anchor, is_before, is_after, is_context, is_rule}
+use Rattle.idn_class.specs.declared.properties.Properties.{Properties}
 use Rattle.ruleset_text.specs.WellFormed.{IsDefinition, AreDefinitions}
 use Rattle.ruleset_text.proofs.KnownPatternLemmas.{all_before, rules_in, demands_in, patterns}
 use Rattle.valid_labels.proofs.ListLemmas.{not-true}
@@ -83,12 +84,12 @@ rule-before (Many p) h = (tt, tt)
 rule-before (Then p q) h = (item-before p q (context-before q) h, tt)
 rule-before (Either p q) h = let two = (and-both (is_context p) (is_rule q)).0 h in (context-before p two.0, rule-before q two.1)
 
-rules-from : (sets names : List (List ℕ)) (rules : List Pattern) → length names ≡ length rules → AllByRecursion (IsDefinition sets) (named definition.Rule names rules)
+rules-from : (properties : Properties) (sets names : List (List ℕ)) (rules : List Pattern) → length names ≡ length rules → AllByRecursion (IsDefinition properties sets) (named definition.Rule names rules)
     → AllByRecursion (λ rule. AllByRecursion IgnoresEndBefore (branches rule)) rules
-rules-from sets [] [] same all = tt
-rules-from sets [] (p ∷ rules) same all = absurd (omega (arith, same))
-rules-from sets (name ∷ names) [] same all = tt
-rules-from sets (name ∷ names) (p ∷ rules) same all = (rule-before p all.0.parts.1, rules-from sets names rules (omega (arith, same)) all.1)
+rules-from properties sets [] [] same all = tt
+rules-from properties sets [] (p ∷ rules) same all = absurd (omega (arith, same))
+rules-from properties sets (name ∷ names) [] same all = tt
+rules-from properties sets (name ∷ names) (p ∷ rules) same all = (rule-before p all.0.parts.1, rules-from properties sets names rules (omega (arith, same)) all.1)
 
 pub rules-before : (d : Definitions) → AreDefinitions d → AllByRecursion (λ rule. AllByRecursion IgnoresEndBefore (branches rule)) d.rules
-rules-before d are = rules-from d.set_names d.rule_names d.rules are.named_rules (all_before (IsDefinition d.set_names) (rules_in d) (demands_in d) (patterns d are))
+rules-before d are = rules-from d.properties d.set_names d.rule_names d.rules are.named_rules (all_before (IsDefinition d.properties d.set_names) (rules_in d) (demands_in d) (patterns d are))

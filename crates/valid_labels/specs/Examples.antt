@@ -9,10 +9,11 @@ use Rattle.ruleset_text.specs.Definitions.{Demand, nothing_defined}
 use Rattle.variant_table.specs.declared.version.Version.TheVariants.{Three}
 use Rattle.variant_table.specs.Entries.{Entry, TableValue, table_of, plain_variant}
 use Rattle.valid_labels.specs.Tests.{is_made_of_sources, has_segmentation, is_admitted, is_valid, is_lost}
+use Rattle.idn_class.specs.declared.properties.Properties.TheVariants.{Profile}
 
 -- a ruleset of these sets, rules and demands
 abbrev pub table_with : List (List Span) → List Pattern → List Demand → List Entry → TableValue
-table_with sets rules demands entries = table_of Three (record nothing_defined { sets = sets; rules = rules; demands = demands }) entries
+table_with sets rules demands entries = table_of Three (record (nothing_defined Profile) { sets = sets; rules = rules; demands = demands }) entries
 
 abbrev pub never : Pattern → Demand
 never p = record { kind = Never; pattern = p }

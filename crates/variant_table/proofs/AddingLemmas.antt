@@ -122,15 +122,15 @@ module _ (v : Version) (d : Definitions) (t : List Entry) (ms : List Mapped) (le
     entry_unnamed k = with_form-unnamed v d t entry_form fits k
 
     module _ (known : knows_all d ms ≡ true) where
-      pub entry_bad : has_bad_class (entry_of d ms) ≡ true → with_form v d t entry_form ≡ Err BadClass
-      entry_bad b = with_form-entries v d t entry_form fits known ∙ entries-bad t (entry_of d ms ∷ []) (ap (λ x. x || false) b)
+      pub entry_bad : has_bad_class d.properties (entry_of d ms) ≡ true → with_form v d t entry_form ≡ Err BadClass
+      entry_bad b = with_form-entries v d t entry_form fits known ∙ entries-bad d.properties t (entry_of d ms ∷ []) (ap (λ x. x || false) b)
 
-      pub entry_again : has_bad_class (entry_of d ms) ≡ false → has_repeat (entry_of d ms) ≡ true → with_form v d t entry_form ≡ Err SameVariant
-      entry_again b r = with_form-entries v d t entry_form fits known ∙ entries-again t (entry_of d ms ∷ []) (ap (λ x. x || false) b) (ap (λ x. x || false) r)
+      pub entry_again : has_bad_class d.properties (entry_of d ms) ≡ false → has_repeat (entry_of d ms) ≡ true → with_form v d t entry_form ≡ Err SameVariant
+      entry_again b r = with_form-entries v d t entry_form fits known ∙ entries-again d.properties t (entry_of d ms ∷ []) (ap (λ x. x || false) b) (ap (λ x. x || false) r)
 
-      pub entry_new : has_bad_class (entry_of d ms) ≡ false → has_repeat (entry_of d ms) ≡ false → with_form v d t entry_form ≡ with_new_source t (entry_of d ms)
+      pub entry_new : has_bad_class d.properties (entry_of d ms) ≡ false → has_repeat (entry_of d ms) ≡ false → with_form v d t entry_form ≡ with_new_source t (entry_of d ms)
       entry_new b r =
-          with_form-entries v d t entry_form fits known ∙ entries-new t (entry_of d ms ∷ []) (ap (λ x. x || false) b) (ap (λ x. x || false) r)
+          with_form-entries v d t entry_form fits known ∙ entries-new d.properties t (entry_of d ms ∷ []) (ap (λ x. x || false) b) (ap (λ x. x || false) r)
           ∙ ap (λ x. cond x (Err SameSource) (Ok (t ++ entry_of d ms ∷ []))) (or-false (has_source_in t (entry_of d ms)))
 
       pub entry_counted : (t' : List Entry) → with_new_source t (entry_of d ms) ≡ Ok t' → IsCounted v d rest t'
@@ -174,14 +174,14 @@ module _ (v : Version) (d : Definitions) (t : List Entry) (m : Mapped) (first la
       unfolding es
       es-are = ap (map (entry_of d)) lines ∙ points_are d m (range_with_len first count)
 
-      pub range_bad : list_any has_bad_class (points_from (variant_of d m) first count) ≡ true → with_form v d t range_form ≡ Err BadClass
+      pub range_bad : list_any (has_bad_class d.properties) (points_from (variant_of d m) first count) ≡ true → with_form v d t range_form ≡ Err BadClass
       unfolding es
-      range_bad b = with_form-entries v d t range_form range_fits known ∙ ap (with_entries t) es-are ∙ entries-bad t es b
+      range_bad b = with_form-entries v d t range_form range_fits known ∙ ap (with_entries d.properties t) es-are ∙ entries-bad d.properties t es b
 
-      pub range_good : list_any has_bad_class (points_from (variant_of d m) first count) ≡ false → with_form v d t range_form ≡ with_new_sources t (points_from (variant_of d m) first count)
+      pub range_good : list_any (has_bad_class d.properties) (points_from (variant_of d m) first count) ≡ false → with_form v d t range_form ≡ with_new_sources t (points_from (variant_of d m) first count)
       unfolding es
       range_good b =
-          with_form-entries v d t range_form range_fits known ∙ ap (with_entries t) es-are ∙ entries-new t es b (range_single (variant_of d m) first count)
+          with_form-entries v d t range_form range_fits known ∙ ap (with_entries d.properties t) es-are ∙ entries-new d.properties t es b (range_single (variant_of d m) first count)
           ∙ sym (with_range (variant_of d m) t first count)
 
       pub range_counted : (t' : List Entry) → with_new_sources t (points_from (variant_of d m) first count) ≡ Ok t' → IsCounted v d rest t'

@@ -51,6 +51,7 @@ use Rattle.variant_table.proofs.LengthLemmas.{names_size, length-tags_text, piec
 use Rattle.variant_table.proofs.NumberLemmas.{number_back, numbers_back, is_name-at, one_of-at, few_numbers, names-front, names-after, pairs_head, pairs_tail}
 use Rattle.variant_table.proofs.SizeLemmas.{size_of-cons}
 use Rattle.variant_table.proofs.WritingLemmas.{further_text, sequence_text-is, length-sequence_text, piece_text, further_pieces, pieces_text, canonical_line-is}
+use Rattle.idn_class.specs.declared.properties.Properties.{Properties}
 
 -- ---- the form of an entry
 
@@ -429,11 +430,11 @@ lines_define d e (line ∷ lines) own h =
       lines_define first.0 e lines own.1 first.2,
     )
 
-definitions_spell : (v : Version) (d : Definitions) → AreOfVersion v d → AreDefinitions d → length (table_text v d []) ≤ text_limit v → LinesSpell (empty_table v) (canonical_lines d) (table_of v d [])
-definitions_spell One d of are l = subst (λ x. LinesSpell (empty_table One) (canonical_lines x) (table_of One x [])) (sym of) refl
-definitions_spell Two d of are l = subst (λ x. LinesSpell (empty_table Two) (canonical_lines x) (table_of Two x [])) (sym of) refl
+definitions_spell : (v : Version) (d : Definitions) → AreOfVersion v d → AreDefinitions d → length (table_text v d []) ≤ text_limit v → LinesSpell (empty_table d.properties v) (canonical_lines d) (table_of v d [])
+definitions_spell One d of are l = subst (λ x. LinesSpell (empty_table d.properties One) (canonical_lines x) (table_of One x [])) (sym of) refl
+definitions_spell Two d of are l = subst (λ x. LinesSpell (empty_table d.properties Two) (canonical_lines x) (table_of Two x [])) (sym of) refl
 definitions_spell Three d of are l =
-    lines_define nothing_defined d (canonical_lines d) (lines_in_line d are)
+    lines_define (nothing_defined d.properties) d (canonical_lines d) (lines_in_line d are)
     (definitions_back d (8388608 - length (head_text Three ++ [])) are
     (omega (arith, l, length-append (head_text Three) (definitions_text d ++ []), length-append (definitions_text d) [], definitions_text-length d, length-append (head_text Three) [])))
 
@@ -441,10 +442,10 @@ after_one_another : (t m u : TableValue) (a b : List (List ℕ)) → LinesSpell 
 after_one_another t m u [] b h k = subst (λ x. LinesSpell x b u) h k
 after_one_another t m u (line ∷ a) b (n, adds, rest) k = (n, adds, after_one_another n m u a b rest k)
 
-table_spelled : (v : Version) (d : Definitions) (table : List Entry) → IsTable (table_of v d table) → LinesSpell (empty_table v) (table_lines d table) (table_of v d table)
+table_spelled : (v : Version) (d : Definitions) (table : List Entry) → IsTable (table_of v d table) → LinesSpell (empty_table d.properties v) (table_lines d table) (table_of v d table)
 unfolding table_lines
 table_spelled v d table h =
-    after_one_another (empty_table v) (table_of v d []) (table_of v d table) (canonical_lines d) (map (canonical_line d) table)
+    after_one_another (empty_table d.properties v) (table_of v d []) (table_of v d table) (canonical_lines d) (map (canonical_line d) table)
     (definitions_spell v d h.defined h.without_fault (omega (
       arith,
       h.short,
@@ -475,9 +476,9 @@ unfolding table_lines
 size_of-table d table =
     omega (arith, size_of-append (canonical_lines d) (map (canonical_line d) table), size_of-lines (canonical_lines d), size_of-lines (map (canonical_line d) table), ap length (text_of_lines d table))
 
-short_definitions : (names : List (List ℕ)) (xs : List Definition) → AllByRecursion (IsDefinition names) xs → AllByRecursion (λ line. length line ≤ 8192) (map (definition_text names) xs)
-short_definitions names [] h = tt
-short_definitions names (x ∷ xs) h = (h.0.short, short_definitions names xs h.1)
+short_definitions : (properties : Properties) (names : List (List ℕ)) (xs : List Definition) → AllByRecursion (IsDefinition properties names) xs → AllByRecursion (λ line. length line ≤ 8192) (map (definition_text names) xs)
+short_definitions properties names [] h = tt
+short_definitions properties names (x ∷ xs) h = (h.0.short, short_definitions properties names xs h.1)
 
 all_short : (P : List ℕ → Type 0) (a b : List (List ℕ)) → AllByRecursion P a → AllByRecursion P b → AllByRecursion P (a ++ b)
 all_short P [] b h k = k
@@ -491,7 +492,7 @@ short_lines v d table of are h n each = all_short (λ line. length line ≤ line
     by_version : (w : Version) → AreOfVersion w d → AllByRecursion (λ line. length line ≤ line_limit w) (canonical_lines d)
     by_version One of = subst (λ x. AllByRecursion (λ line. length line ≤ 1024) (canonical_lines x)) (sym of) tt
     by_version Two of = subst (λ x. AllByRecursion (λ line. length line ≤ 1024) (canonical_lines x)) (sym of) tt
-    by_version Three of = short_definitions d.set_names (all_definitions d) are.each
+    by_version Three of = short_definitions d.properties d.set_names (all_definitions d) are.each
 
 -- the lines of a table
 lines_of_table : (head : List (List ℕ)) (v : Version) (d : Definitions) (entries : List Entry) → IsTable (table_of v d entries) → size_of head + (length (definitions_text d) + length (canonical_text d entries)) ≤ text_limit v
@@ -559,20 +560,21 @@ body_alone d (e ∷ table) are h n =
       body = ap (λ b. cond b lines (line ∷ lines)) none;
     }
 
-no_definitions : (entries : List Entry) → table_lines nothing_defined entries ≡ map (canonical_line nothing_defined) entries
+no_definitions : (properties : Properties) (entries : List Entry) → table_lines (nothing_defined properties) entries ≡ map (canonical_line (nothing_defined properties)) entries
 unfolding table_lines
-no_definitions entries = refl
+no_definitions properties entries = refl
 
-spelled_one : (entries : List Entry) → IsTable (table_of One nothing_defined entries) → IsTextOf Table (table_text One nothing_defined entries) (table_of One nothing_defined entries)
-spelled_one entries h =
-    let table : TableValue = table_of One nothing_defined entries in
-    let d : Definitions = nothing_defined in
+spelled_one : (properties : Properties) (entries : List Entry) → IsTable (table_of One (nothing_defined properties) entries) → IsTextOf properties Table (table_text One (nothing_defined properties) entries) (table_of One (nothing_defined properties) entries)
+spelled_one properties entries h =
+    let table : TableValue = table_of One (nothing_defined properties) entries in
+    let d : Definitions = nothing_defined properties in
     let sound = recursion_from_All IsEntry entries h.well_formed.entries in
     let named = recursion_from_All (IsNamed d) entries h.named in
     let cut : raw_lines (canonical_text d entries) ≡ map (canonical_line d) entries = raw_lines-canonical d entries h.without_fault sound named in
     let alone = body_alone d entries h.without_fault sound named in
-    let lines : AreLinesOf [] (map (canonical_line d) entries) table = subst (λ ls. AreLinesOf [] ls table) (no_definitions entries) (lines_of_table [] One nothing_defined entries h (omega (arith, h.short))) in
+    let lines : AreLinesOf [] (map (canonical_line d) entries) table = subst (λ ls. AreLinesOf [] ls table) (no_definitions properties entries) (lines_of_table [] One (nothing_defined properties) entries h (omega (arith, h.short))) in
     record {
+      by_these = refl;
       version = ap (version_of Table) cut ∙ alone.version;
       lines = subst (λ ls. AreLinesOf (head_of Table ls) (body_of Table ls) table) (sym cut)
           (subst (λ b. AreLinesOf (head_of Table (map (canonical_line d) entries)) b table) (sym alone.body) (subst (λ x. AreLinesOf x (map (canonical_line d) entries) table) (sym alone.head) lines));
@@ -584,33 +586,35 @@ cut_head Table rest = refl
 cut_head Ruleset rest = refl
 
 module _ (d : Definitions) (entries : List Entry) where
-  spelled_two : IsTable (table_of Two d entries) → IsTextOf Table (table_text Two d entries) (table_of Two d entries)
+  spelled_two : IsTable (table_of Two d entries) → IsTextOf d.properties Table (table_text Two d entries) (table_of Two d entries)
   spelled_two h =
       let table : TableValue = table_of Two d entries in
       let cut : raw_lines (table_text Two d entries) ≡ version_line Table ∷ table_lines d entries =
       cut_head Table (definitions_text d ++ canonical_text d entries) ∙ ap (λ ls. version_line Table ∷ ls) (raw_lines-table d entries h.without_fault (recursion_from_All IsEntry entries h.well_formed.entries) (recursion_from_All (IsNamed d) entries h.named)) in
       record {
+        by_these = refl;
         version = ap (version_of Table) cut;
         lines = subst (λ ls. AreLinesOf (head_of Table ls) (body_of Table ls) table) (sym cut)
             (lines_of_table (version_line Table ∷ []) Two d entries h (omega (arith, h.short, length-append (head_text Two) (definitions_text d ++ canonical_text d entries), length-append (definitions_text d) (canonical_text d entries), size_of-cons (version_line Table) [])));
       }
 
-  spelled_three : IsTable (table_of Three d entries) → IsTextOf Ruleset (table_text Three d entries) (table_of Three d entries)
+  spelled_three : IsTable (table_of Three d entries) → IsTextOf d.properties Ruleset (table_text Three d entries) (table_of Three d entries)
   spelled_three h =
       let table : TableValue = table_of Three d entries in
       let cut : raw_lines (table_text Three d entries) ≡ version_line Ruleset ∷ table_lines d entries =
       cut_head Ruleset (definitions_text d ++ canonical_text d entries) ∙ ap (λ ls. version_line Ruleset ∷ ls) (raw_lines-table d entries h.without_fault (recursion_from_All IsEntry entries h.well_formed.entries) (recursion_from_All (IsNamed d) entries h.named)) in
       record {
+        by_these = refl;
         version = ap (version_of Ruleset) cut;
         lines = subst (λ ls. AreLinesOf (head_of Ruleset ls) (body_of Ruleset ls) table) (sym cut)
             (lines_of_table (version_line Ruleset ∷ []) Three d entries h (omega (arith, h.short, length-append (head_text Three) (definitions_text d ++ canonical_text d entries), length-append (definitions_text d) (canonical_text d entries), size_of-cons (version_line Ruleset) [])));
       }
 
-spelled_by : (v : Version) (d : Definitions) (entries : List Entry) → IsTable (table_of v d entries) → IsTextOf (notation_of v) (table_text v d entries) (table_of v d entries)
+spelled_by : (v : Version) (d : Definitions) (entries : List Entry) → IsTable (table_of v d entries) → IsTextOf d.properties (notation_of v) (table_text v d entries) (table_of v d entries)
 spelled_by One d entries h =
-    subst (λ x. IsTextOf Table (table_text One x entries) (table_of One x entries)) (sym h.defined) (spelled_one entries (subst (λ x. IsTable (table_of One x entries)) h.defined h))
+    subst (λ x. IsTextOf d.properties Table (table_text One x entries) (table_of One x entries)) (sym h.defined) (spelled_one d.properties entries (subst (λ x. IsTable (table_of One x entries)) h.defined h))
 spelled_by Two d entries h = spelled_two d entries h
 spelled_by Three d entries h = spelled_three d entries h
 
-pub canonical_spelled : (table : TableValue) → IsTable table → IsTextOf (notation_of table.version) (table_text table.version table.definitions table.entries) table
+pub canonical_spelled : (table : TableValue) → IsTable table → IsTextOf table.definitions.properties (notation_of table.version) (table_text table.version table.definitions table.entries) table
 canonical_spelled table h = spelled_by table.version table.definitions table.entries h

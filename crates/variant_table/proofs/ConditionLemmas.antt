@@ -12,8 +12,12 @@ use Rattle.std.proofs.lemmas.List.Folds.{list_any_none}
 use Rattle.std.proofs.lemmas.List.Quantifiers.{all_pairs_push}
 use Rattle.std.proofs.lemmas.Slice.Eq.{bytes_eq-Decides}
 use Rattle.idn_text.specs.Points.{is_scalar_value}
-use Rattle.variant_table.specs.WellFormed.{is_table_class, IsTablePoint, IsSequence as IsTableSequence, IsEntry}
+use Rattle.variant_table.specs.WellFormed.{is_table_class, IsPointBy, HasPointsBy, IsTablePoint, IsSequence as IsTableSequence, IsEntry}
 use Rattle.idn_class.specs.Class.{class_of, is_scalar}
+use Rattle.idn_class.specs.declared.class.Class.{Class}
+use Rattle.idn_class.specs.declared.class.Class.TheVariants as classes
+use Rattle.idn_class.specs.Facts.{is_barred_class}
+use Rattle.idn_class.proofs.FactLabels.{unbarred_by}
 use Rattle.idn_class.proofs.ClassNumbers.{class_of-no_scalar, is_scalar-out}
 use Rattle.std.proofs.lemmas.List.{length-map}
 use Rattle.std.proofs.lemmas.List.Concat.{flat_map-append}
@@ -38,6 +42,8 @@ use Rattle.variant_table.proofs.FormSteps.{tags_named}
 use Rattle.variant_table.proofs.NumberLemmas.{all_back, number_below, numbers_below, numbers_apart}
 use Rattle.variant_table.proofs.RepeatLemmas.{distinct_from, no_repeats}
 use Rattle.variant_table.proofs.TestLemmas.{told_by, with_form-by}
+use Rattle.idn_class.specs.declared.properties.Properties.{Properties}
+use Rattle.idn_class.specs.declared.properties.Properties.TheVariants.{Profile, Unicode}
 
 -- ---- scalar values
 
@@ -50,40 +56,80 @@ AreScalars s = AllByRecursion (λ c. is_scalar_value c ≡ true) s
 no_scalar : (c : ℕ) → is_scalar_value c ≡ false → is_scalar c ≡ false
 no_scalar c h = is_scalar-out c (grind (arith, nat_tests))
 
-scalar_of_class : (c : ℕ) → is_table_class (class_of c) ≡ true → is_scalar_value c ≡ true
-scalar_of_class c h = by_cases (is_scalar_value c) refl
+scalar_of_class : (p : Properties) (c : ℕ) → is_table_class (class_of p c) ≡ true → is_scalar_value c ≡ true
+scalar_of_class p c h = by_cases (is_scalar_value c) refl
   where
     by_cases : (b : Bool) → is_scalar_value c ≡ b → is_scalar_value c ≡ true
     by_cases true e = e
-    by_cases false e = (let f : true ≡ false = sym h ∙ ap is_table_class (class_of-no_scalar c (no_scalar c e)) in absurd cc)
+    by_cases false e = (let f : true ≡ false = sym h ∙ ap is_table_class (class_of-no_scalar p c (no_scalar c e)) in absurd cc)
 
-points_table : (s : List ℕ) → has_bad_point s ≡ false → AllByRecursion IsTablePoint s
-points_table [] k = tt
-points_table (c ∷ s) k =
-    let p = or_parts (not (is_table_class (class_of c))) (has_bad_point s) k in
-    let class : is_table_class (class_of c) ≡ true = not-false (is_table_class (class_of c)) p.0 in
-    (record { scalar_value = scalar_of_class c class; class = class }, points_table s p.1)
+-- what the profile lets a table hold the standard does, too
+table_free : (class : Class) → is_table_class class ≡ true → is_barred_class class ≡ false
+table_free classes.Disallowed h = cc
+table_free classes.Unassigned h = cc
+table_free classes.Pvalid h = refl
+table_free classes.Contextj h = refl
+table_free classes.Contexto h = refl
 
-points_good : (s : List ℕ) → AllByRecursion IsTablePoint s → has_bad_point s ≡ false
-points_good [] h = refl
-points_good (c ∷ s) h = or_from (not (is_table_class (class_of c))) (has_bad_point s) (not_from_true (is_table_class (class_of c)) h.0.class) (points_good s h.1)
+free_table : (class : Class) → is_barred_class class ≡ false → is_table_class class ≡ true
+free_table classes.Disallowed h = cc
+free_table classes.Unassigned h = cc
+free_table classes.Pvalid h = refl
+free_table classes.Contextj h = refl
+free_table classes.Contexto h = refl
+
+standard_table : (p : Properties) (c : ℕ) → is_table_class (class_of p c) ≡ true → is_table_class (class_of Unicode c) ≡ true
+standard_table Profile c h = free_table (class_of Unicode c) (unbarred_by Unicode c (table_free (class_of Profile c) h))
+standard_table Unicode c h = h
+
+points_table : (p : Properties) (s : List ℕ) → has_bad_point p s ≡ false → AllByRecursion IsTablePoint s
+points_table p [] k = tt
+points_table p (c ∷ s) k =
+    let q = or_parts (not (is_table_class (class_of p c))) (has_bad_point p s) k in
+    let class : is_table_class (class_of p c) ≡ true = not-false (is_table_class (class_of p c)) q.0 in
+    (record { scalar_value = scalar_of_class p c class; class = standard_table p c class }, points_table p s q.1)
+
+points_by : (p : Properties) (s : List ℕ) → has_bad_point p s ≡ false → AllByRecursion (IsPointBy p) s
+points_by p [] k = tt
+points_by p (c ∷ s) k =
+    let q = or_parts (not (is_table_class (class_of p c))) (has_bad_point p s) k in (not-false (is_table_class (class_of p c)) q.0, points_by p s q.1)
+
+points_good : (p : Properties) (s : List ℕ) → AllByRecursion (IsPointBy p) s → has_bad_point p s ≡ false
+points_good p [] h = refl
+points_good p (c ∷ s) h = or_from (not (is_table_class (class_of p c))) (has_bad_point p s) (not_from_true (is_table_class (class_of p c)) h.0) (points_good p s h.1)
 
 -- ---- one entry
 
-sequences_table : (ss : List (List ℕ)) → AllByRecursion (λ s. 0 < length s) ss → list_any (λ s. nat_lt 8 (length s)) ss ≡ false → list_any has_bad_point ss ≡ false → AllByRecursion IsTableSequence ss
-sequences_table [] f l k = tt
-sequences_table (s ∷ ss) f l k =
-    let p = or_parts (nat_lt 8 (length s)) (list_any (λ s. nat_lt 8 (length s)) ss) l in
-    let q = or_parts (has_bad_point s) (list_any has_bad_point ss) k in
-    (record { filled = omega (arith, f.0); short = ltb-false 8 (length s) p.0; points = All-from_recursion IsTablePoint s (points_table s q.0) }, sequences_table ss f.1 p.1 q.1)
+sequences_table : (p : Properties) (ss : List (List ℕ)) → AllByRecursion (λ s. 0 < length s) ss → list_any (λ s. nat_lt 8 (length s)) ss ≡ false → list_any (has_bad_point p) ss ≡ false → AllByRecursion IsTableSequence ss
+sequences_table p [] f l k = tt
+sequences_table p (s ∷ ss) f l k =
+    let r = or_parts (nat_lt 8 (length s)) (list_any (λ s. nat_lt 8 (length s)) ss) l in
+    let q = or_parts (has_bad_point p s) (list_any (has_bad_point p) ss) k in
+    (record { filled = omega (arith, f.0); short = ltb-false 8 (length s) r.0; points = All-from_recursion IsTablePoint s (points_table p s q.0) }, sequences_table p ss f.1 r.1 q.1)
 
 sequences_short : (ss : List (List ℕ)) → AllByRecursion IsTableSequence ss → list_any (λ s. nat_lt 8 (length s)) ss ≡ false
 sequences_short [] h = refl
 sequences_short (s ∷ ss) h = or_from (nat_lt 8 (length s)) (list_any (λ s. nat_lt 8 (length s)) ss) (le-ltb 8 (length s) h.0.short) (sequences_short ss h.1)
 
-sequences_good : (ss : List (List ℕ)) → AllByRecursion IsTableSequence ss → list_any has_bad_point ss ≡ false
-sequences_good [] h = refl
-sequences_good (s ∷ ss) h = or_from (has_bad_point s) (list_any has_bad_point ss) (points_good s (recursion_from_All IsTablePoint s h.0.points)) (sequences_good ss h.1)
+sequences_by : (p : Properties) (ss : List (List ℕ)) → list_any (has_bad_point p) ss ≡ false → AllByRecursion (λ s. All (IsPointBy p) s) ss
+sequences_by p [] k = tt
+sequences_by p (s ∷ ss) k =
+    let q = or_parts (has_bad_point p s) (list_any (has_bad_point p) ss) k in (All-from_recursion (IsPointBy p) s (points_by p s q.0), sequences_by p ss q.1)
+
+sequences_good : (p : Properties) (ss : List (List ℕ)) → AllByRecursion (λ s. All (IsPointBy p) s) ss → list_any (has_bad_point p) ss ≡ false
+sequences_good p [] h = refl
+sequences_good p (s ∷ ss) h = or_from (has_bad_point p s) (list_any (has_bad_point p) ss) (points_good p s (recursion_from_All (IsPointBy p) s h.0)) (sequences_good p ss h.1)
+
+pub entries_by : (p : Properties) (es : List Entry) → list_any (has_bad_class p) es ≡ false → AllByRecursion (HasPointsBy p) es
+entries_by p [] k = tt
+entries_by p (e ∷ es) k =
+    let q = or_parts (has_bad_class p e) (list_any (has_bad_class p) es) k in
+    (All-from_recursion (λ s. All (IsPointBy p) s) (replacements e) (sequences_by p (replacements e) q.0), entries_by p es q.1)
+
+pub entries_good : (p : Properties) (es : List Entry) → AllByRecursion (HasPointsBy p) es → list_any (has_bad_class p) es ≡ false
+entries_good p [] h = refl
+entries_good p (e ∷ es) h =
+    or_from (has_bad_class p e) (list_any (has_bad_class p) es) (sequences_good p (replacements e) (recursion_from_All (λ s. All (IsPointBy p) s) (replacements e) h.0)) (entries_good p es h.1)
 
 pub sequences_filled : (ss : List (List ℕ)) → AllByRecursion IsTableSequence ss → AllByRecursion (λ s. 0 < length s) ss
 sequences_filled [] h = tt
@@ -108,13 +154,13 @@ short_of d [] = refl
 short_of d (m ∷ ms) = ap (λ b. nat_lt 8 (length m.points) || b) (short_of d ms)
 
 -- an entry without a fault of its own
-pub entry_from_tests : (d : Definitions) (ms : List Mapped) → 0 < length ms → HasNoEmptySequence ms → is_too_large ms ≡ false → has_bad_class (entry_of d ms) ≡ false → has_repeat (entry_of d ms) ≡ false → IsEntry (entry_of d ms)
+pub entry_from_tests : (d : Definitions) (ms : List Mapped) → 0 < length ms → HasNoEmptySequence ms → is_too_large ms ≡ false → has_bad_class d.properties (entry_of d ms) ≡ false → has_repeat (entry_of d ms) ≡ false → IsEntry (entry_of d ms)
 entry_from_tests d [] l h a b r = absurd (omega (arith, l))
 entry_from_tests d (m ∷ ms) l h a b r =
     let e : Entry = entry_of d (m ∷ ms) in
     let p = or_parts (nat_lt 17 (length (m ∷ ms))) (list_any (λ n. nat_lt 8 (length n.points)) (m ∷ ms)) a in
     record {
-      sequences = All-from_recursion IsTableSequence (replacements e) (sequences_table (replacements e) (filled_of d (m ∷ ms) h) (sym (short_of d (m ∷ ms)) ∙ p.1) b);
+      sequences = All-from_recursion IsTableSequence (replacements e) (sequences_table d.properties (replacements e) (filled_of d (m ∷ ms) h) (sym (short_of d (m ∷ ms)) ∙ p.1) b);
       few = omega (arith, ltb-false 17 (length (m ∷ ms)) p.0, length-map ms (variant_of d));
       distinct = distinct_from (itself e ∷ e.variants) r;
     }
@@ -124,9 +170,6 @@ small_from_entry d [] l h = absurd (omega (arith, l))
 small_from_entry d (m ∷ ms) l h =
     or_from (nat_lt 17 (length (m ∷ ms))) (list_any (λ n. nat_lt 8 (length n.points)) (m ∷ ms)) (le-ltb 17 (length (m ∷ ms)) (omega (arith, h.few, length-map ms (variant_of d))))
     (short_of d (m ∷ ms) ∙ sequences_short (replacements (entry_of d (m ∷ ms))) (recursion_from_All IsTableSequence (replacements (entry_of d (m ∷ ms))) h.sequences))
-
-pub good_from_entry : (e : Entry) → IsEntry e → has_bad_class e ≡ false
-good_from_entry e h = sequences_good (replacements e) (recursion_from_All IsTableSequence (replacements e) h.sequences)
 
 pub single_from_entry : (e : Entry) → IsEntry e → has_repeat e ≡ false
 single_from_entry e h = no_repeats (itself e ∷ e.variants) h.distinct
@@ -346,11 +389,11 @@ named_spelled v d line es h = subst (AllByRecursion (IsNamed d)) (sym h.3) (name
 -- ---- the entries of a line
 
 entries_from_tests : (d : Definitions) (es : List (List Mapped)) → AllByRecursion (λ ms. 0 < length ms) es → AllByRecursion HasNoEmptySequence es → list_any is_too_large es ≡ false
-    → list_any has_bad_class (map (entry_of d) es) ≡ false → list_any has_repeat (map (entry_of d) es) ≡ false → AllByRecursion IsEntry (map (entry_of d) es)
+    → list_any (has_bad_class d.properties) (map (entry_of d) es) ≡ false → list_any has_repeat (map (entry_of d) es) ≡ false → AllByRecursion IsEntry (map (entry_of d) es)
 entries_from_tests d [] l h a b r = tt
 entries_from_tests d (ms ∷ es) l h a b r =
     let p = or_parts (is_too_large ms) (list_any is_too_large es) a in
-    let q = or_parts (has_bad_class (entry_of d ms)) (list_any has_bad_class (map (entry_of d) es)) b in
+    let q = or_parts (has_bad_class d.properties (entry_of d ms)) (list_any (has_bad_class d.properties) (map (entry_of d) es)) b in
     let s = or_parts (has_repeat (entry_of d ms)) (list_any has_repeat (map (entry_of d) es)) r in
     (entry_from_tests d ms l.0 h.0 p.0 q.0 s.0, entries_from_tests d es l.1 h.1 p.1 q.1 s.1)
 
@@ -407,6 +450,7 @@ pub record Sound (v : Version) (d : Definitions) (t t' : List Entry) (form : Ent
   pub is : t' ≡ t ++ entries_of d form
   pub known : knows_all d form.mapped ≡ true
   pub sound : AllByRecursion IsEntry (entries_of d form)
+  pub points : AllByRecursion (HasPointsBy d.properties) (entries_of d form)
   pub of_version : AllByRecursion (IsOfVersion v) (entries_of d form)
   pub named : AllByRecursion (IsNamed d) (entries_of d form)
   pub new : AreNewSources t (entries_of d form)
@@ -423,7 +467,7 @@ text_with v d t es h =
 pub sound_spelled : (v : Version) (d : Definitions) (t t' : List Entry) (line : List ℕ) (form : EntryForm) → HasForm v line form → with_form v d t form ≡ Ok t' → Sound v d t t' form
 sound_spelled v d t t' line form h e = by_cases _ _ _ _ _ refl refl refl refl refl (sym (with_form-by v d t form _ _ _ _ _ refl refl refl refl refl) ∙ e)
   where
-    by_cases : (o k b r s : Bool) → is_over_limit v d t (written_out form) ≡ o → knows_all d form.mapped ≡ k → list_any has_bad_class (entries_of d form) ≡ b → list_any has_repeat (entries_of d form) ≡ r
+    by_cases : (o k b r s : Bool) → is_over_limit v d t (written_out form) ≡ o → knows_all d form.mapped ≡ k → list_any (has_bad_class d.properties) (entries_of d form) ≡ b → list_any has_repeat (entries_of d form) ≡ r
         → list_any (has_source_in t) (entries_of d form) ≡ s → told_by t (entries_of d form) o k b r s ≡ Ok t' → Sound v d t t' form
     by_cases true k b r s f n g i j is = absurd cc
     by_cases false false b r s f n g i j is = absurd cc
@@ -439,6 +483,7 @@ sound_spelled v d t t' line form h e = by_cases _ _ _ _ _ refl refl refl refl re
           is = cc;
           known = n;
           sound = entries_from_tests d es (some_of d es known) (filled_form form.last form.mapped h.0.0) q.1 g i;
+          points = entries_by d.properties (entries_of d form) g;
           of_version = version_form v d form.last form.mapped h.1;
           named = named_form d form.last form.mapped h.0.0 n;
           new = new_form d t form.last form.mapped j;

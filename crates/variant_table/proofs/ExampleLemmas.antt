@@ -14,48 +14,49 @@ use Rattle.variant_table.specs.Ranges.{point_entry, range_entries, point_variant
 use Rattle.variant_table.specs.Conditions.{has_bad_class, has_bad_point}
 use Rattle.variant_table.specs.Reading.{with_form}
 use Rattle.variant_table.proofs.TestLemmas.{with_form-by}
+use Rattle.idn_class.specs.declared.properties.Properties.TheVariants.{Profile}
 
 -- the entry of a and these variants
 abbrev pub letter : List Variant → Entry
 letter variants = entry_from (point_variant false 0x61 ∷ variants)
 
-pvalid : (c : ℕ) → class_of c ≡ Pvalid → has_bad_point (c ∷ []) ≡ false
+pvalid : (c : ℕ) → class_of Profile c ≡ Pvalid → has_bad_point Profile (c ∷ []) ≡ false
 pvalid c e = rw e
 
-disallowed : (c : ℕ) → class_of c ≡ Disallowed → has_bad_point (c ∷ []) ≡ true
+disallowed : (c : ℕ) → class_of Profile c ≡ Disallowed → has_bad_point Profile (c ∷ []) ≡ true
 disallowed c e = rw e
 
-good-61 : has_bad_point (0x61 ∷ []) ≡ false
+good-61 : has_bad_point Profile (0x61 ∷ []) ≡ false
 unfolding in_table
-good-61 = pvalid 0x61 (class_of-in_table 0x61 Pvalid refl)
+good-61 = pvalid 0x61 (class_of-in_table Profile 0x61 Pvalid refl)
 
-good-62 : has_bad_point (0x62 ∷ []) ≡ false
+good-62 : has_bad_point Profile (0x62 ∷ []) ≡ false
 unfolding in_table
-good-62 = pvalid 0x62 (class_of-in_table 0x62 Pvalid refl)
+good-62 = pvalid 0x62 (class_of-in_table Profile 0x62 Pvalid refl)
 
-good-63 : has_bad_point (0x63 ∷ []) ≡ false
+good-63 : has_bad_point Profile (0x63 ∷ []) ≡ false
 unfolding in_table
-good-63 = pvalid 0x63 (class_of-in_table 0x63 Pvalid refl)
+good-63 = pvalid 0x63 (class_of-in_table Profile 0x63 Pvalid refl)
 
-good-78 : has_bad_point (0x78 ∷ []) ≡ false
+good-78 : has_bad_point Profile (0x78 ∷ []) ≡ false
 unfolding in_table
-good-78 = pvalid 0x78 (class_of-in_table 0x78 Pvalid refl)
+good-78 = pvalid 0x78 (class_of-in_table Profile 0x78 Pvalid refl)
 
-good-79 : has_bad_point (0x79 ∷ []) ≡ false
+good-79 : has_bad_point Profile (0x79 ∷ []) ≡ false
 unfolding in_table
-good-79 = pvalid 0x79 (class_of-in_table 0x79 Pvalid refl)
+good-79 = pvalid 0x79 (class_of-in_table Profile 0x79 Pvalid refl)
 
-good-7A : has_bad_point (0x7A ∷ []) ≡ false
+good-7A : has_bad_point Profile (0x7A ∷ []) ≡ false
 unfolding in_table
-good-7A = pvalid 0x7A (class_of-in_table 0x7A Pvalid refl)
+good-7A = pvalid 0x7A (class_of-in_table Profile 0x7A Pvalid refl)
 
-bad-41 : has_bad_point (0x41 ∷ []) ≡ true
+bad-41 : has_bad_point Profile (0x41 ∷ []) ≡ true
 unfolding in_table
-bad-41 = disallowed 0x41 (class_of-in_table 0x41 Disallowed refl)
+bad-41 = disallowed 0x41 (class_of-in_table Profile 0x41 Disallowed refl)
 
-bad-5A : has_bad_point (0x5A ∷ []) ≡ true
+bad-5A : has_bad_point Profile (0x5A ∷ []) ≡ true
 unfolding in_table
-bad-5A = disallowed 0x5A (class_of-in_table 0x5A Disallowed refl)
+bad-5A = disallowed 0x5A (class_of-in_table Profile 0x5A Disallowed refl)
 
 -- ---- version 1
 
@@ -69,18 +70,18 @@ entry_form mapped = record { mapped = mapped; last = None }
 abbrev pub range_form : ℕ → ℕ → EntryForm
 range_form first last = record { mapped = written false first ∷ []; last = Some last }
 
-pub with_form-capital : with_form One nothing_defined [] (entry_form (written false 0x41 ∷ [])) ≡ Err BadClass
+pub with_form-capital : with_form One (nothing_defined Profile) [] (entry_form (written false 0x41 ∷ [])) ≡ Err BadClass
 unfolding point_text
-with_form-capital = with_form-by One nothing_defined [] (entry_form (written false 0x41 ∷ [])) false true true false false refl refl (rw bad-41) refl refl
+with_form-capital = with_form-by One (nothing_defined Profile) [] (entry_form (written false 0x41 ∷ [])) false true true false false refl refl (rw bad-41) refl refl
 
-pub with_form-own_variant : with_form One nothing_defined [] (entry_form (written false 0x61 ∷ written false 0x61 ∷ [])) ≡ Err SameVariant
-with_form-own_variant = with_form-by One nothing_defined [] (entry_form (written false 0x61 ∷ written false 0x61 ∷ [])) false true false true false refl refl (rw good-61) refl refl
+pub with_form-own_variant : with_form One (nothing_defined Profile) [] (entry_form (written false 0x61 ∷ written false 0x61 ∷ [])) ≡ Err SameVariant
+with_form-own_variant = with_form-by One (nothing_defined Profile) [] (entry_form (written false 0x61 ∷ written false 0x61 ∷ [])) false true false true false refl refl (rw good-61) refl refl
 
-pub with_form-letter : with_form One nothing_defined [] (entry_form (written false 0x61 ∷ [])) ≡ Ok (letter [] ∷ [])
-with_form-letter = with_form-by One nothing_defined [] (entry_form (written false 0x61 ∷ [])) false true false false false refl refl (rw good-61) refl refl
+pub with_form-letter : with_form One (nothing_defined Profile) [] (entry_form (written false 0x61 ∷ [])) ≡ Ok (letter [] ∷ [])
+with_form-letter = with_form-by One (nothing_defined Profile) [] (entry_form (written false 0x61 ∷ [])) false true false false false refl refl (rw good-61) refl refl
 
-pub with_form-letter_again : with_form One nothing_defined (letter [] ∷ []) (entry_form (written false 0x61 ∷ [])) ≡ Err SameSource
-with_form-letter_again = with_form-by One nothing_defined (letter [] ∷ []) (entry_form (written false 0x61 ∷ [])) false true false false true refl refl (rw good-61) refl refl
+pub with_form-letter_again : with_form One (nothing_defined Profile) (letter [] ∷ []) (entry_form (written false 0x61 ∷ [])) ≡ Err SameSource
+with_form-letter_again = with_form-by One (nothing_defined Profile) (letter [] ∷ []) (entry_form (written false 0x61 ∷ [])) false true false false true refl refl (rw good-61) refl refl
 
 -- ---- version 2
 
@@ -91,29 +92,29 @@ three = range_entries false 0x61 0x63
 abbrev pub last_letter : Entry
 last_letter = entry_from (point_variant false 0x78 ∷ point_variant true 0x79 ∷ point_variant false 0x7A ∷ [])
 
-good-three : list_any has_bad_class three ≡ false
+good-three : list_any (has_bad_class Profile) three ≡ false
 good-three = rw good-61 (rw good-62 (rw good-63 refl))
 
-pub with_form-range : with_form Two nothing_defined [] (range_form 0x61 0x63) ≡ Ok three
+pub with_form-range : with_form Two (nothing_defined Profile) [] (range_form 0x61 0x63) ≡ Ok three
 unfolding point_text
-with_form-range = with_form-by Two nothing_defined [] (range_form 0x61 0x63) false true false false false refl refl good-three refl refl
+with_form-range = with_form-by Two (nothing_defined Profile) [] (range_form 0x61 0x63) false true false false false refl refl good-three refl refl
 
-pub with_form-blocked : with_form Two nothing_defined three (entry_form (written false 0x78 ∷ written true 0x79 ∷ written false 0x7A ∷ [])) ≡ Ok (three ++ last_letter ∷ [])
+pub with_form-blocked : with_form Two (nothing_defined Profile) three (entry_form (written false 0x78 ∷ written true 0x79 ∷ written false 0x7A ∷ [])) ≡ Ok (three ++ last_letter ∷ [])
 unfolding point_text
-with_form-blocked = with_form-by Two nothing_defined three (entry_form (written false 0x78 ∷ written true 0x79 ∷ written false 0x7A ∷ [])) false true false false false refl refl (rw good-78 (rw good-79 (rw good-7A refl))) refl refl
+with_form-blocked = with_form-by Two (nothing_defined Profile) three (entry_form (written false 0x78 ∷ written true 0x79 ∷ written false 0x7A ∷ [])) false true false false false refl refl (rw good-78 (rw good-79 (rw good-7A refl))) refl refl
 
-pub with_form-marked_twice : with_form Two nothing_defined [] (entry_form (written false 0x61 ∷ written false 0x62 ∷ written true 0x62 ∷ [])) ≡ Err SameVariant
+pub with_form-marked_twice : with_form Two (nothing_defined Profile) [] (entry_form (written false 0x61 ∷ written false 0x62 ∷ written true 0x62 ∷ [])) ≡ Err SameVariant
 unfolding point_text
-with_form-marked_twice = with_form-by Two nothing_defined [] (entry_form (written false 0x61 ∷ written false 0x62 ∷ written true 0x62 ∷ [])) false true false true false refl refl (rw good-61 (rw good-62 refl)) refl refl
+with_form-marked_twice = with_form-by Two (nothing_defined Profile) [] (entry_form (written false 0x61 ∷ written false 0x62 ∷ written true 0x62 ∷ [])) false true false true false refl refl (rw good-61 (rw good-62 refl)) refl refl
 
-pub with_form-from_capital : with_form Two nothing_defined [] (range_form 0x5A 0x61) ≡ Err BadClass
+pub with_form-from_capital : with_form Two (nothing_defined Profile) [] (range_form 0x5A 0x61) ≡ Err BadClass
 unfolding point_text
-with_form-from_capital = with_form-by Two nothing_defined [] (range_form 0x5A 0x61) false true true false false refl refl (rw bad-5A) refl refl
+with_form-from_capital = with_form-by Two (nothing_defined Profile) [] (range_form 0x5A 0x61) false true true false false refl refl (rw bad-5A) refl refl
 
-pub with_form-b : with_form Two nothing_defined [] (entry_form (written false 0x62 ∷ [])) ≡ Ok (point_entry false 0x62 ∷ [])
+pub with_form-b : with_form Two (nothing_defined Profile) [] (entry_form (written false 0x62 ∷ [])) ≡ Ok (point_entry false 0x62 ∷ [])
 unfolding point_text
-with_form-b = with_form-by Two nothing_defined [] (entry_form (written false 0x62 ∷ [])) false true false false false refl refl (rw good-62) refl refl
+with_form-b = with_form-by Two (nothing_defined Profile) [] (entry_form (written false 0x62 ∷ [])) false true false false false refl refl (rw good-62) refl refl
 
-pub with_form-b_again : with_form Two nothing_defined (point_entry false 0x62 ∷ []) (range_form 0x61 0x63) ≡ Err SameSource
+pub with_form-b_again : with_form Two (nothing_defined Profile) (point_entry false 0x62 ∷ []) (range_form 0x61 0x63) ≡ Err SameSource
 unfolding point_text
-with_form-b_again = with_form-by Two nothing_defined (point_entry false 0x62 ∷ []) (range_form 0x61 0x63) false true false false true refl refl good-three refl refl
+with_form-b_again = with_form-by Two (nothing_defined Profile) (point_entry false 0x62 ∷ []) (range_form 0x61 0x63) false true false false true refl refl good-three refl refl

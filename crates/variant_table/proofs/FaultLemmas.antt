@@ -40,7 +40,7 @@ module _ (bytes : ℕ) (table : TableValue) (line : List ℕ) where
   unnamed = (λ f. not (knows_all table.definitions f.mapped))
 
   abbrev bad : EntryForm → Bool
-  bad = (λ f. list_any has_bad_class (entries_of table.definitions f))
+  bad = (λ f. list_any (has_bad_class table.definitions.properties) (entries_of table.definitions f))
 
   abbrev again : EntryForm → Bool
   again = (λ f. list_any has_repeat (entries_of table.definitions f))

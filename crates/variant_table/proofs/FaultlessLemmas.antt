@@ -29,17 +29,18 @@ use Rattle.variant_table.specs.Entries.{Entry, IsOfVersion, TableValue, empty_ta
 use Rattle.variant_table.specs.Canonical.{canonical_line, canonical_text, head_text, table_text, version_line, written_text}
 use Rattle.variant_table.specs.Limits.{line_limit, text_limit, entry_limit}
 use Rattle.variant_table.specs.Versions.{version_of, head_of, body_of, size_of, is_version_line}
-use Rattle.variant_table.specs.WellFormed.{AreOfVersion, IsEntry, IsNamed, IsTable}
-use Rattle.variant_table.specs.Conditions.{is_too_long, is_too_large, is_text_too_long, has_bad_class, has_repeat, has_source_in}
+use Rattle.variant_table.specs.WellFormed.{AreOfVersion, HasPointsBy, IsEntry, IsNamed, IsTable}
+use Rattle.variant_table.specs.Conditions.{is_too_long, is_too_large, is_text_too_long, has_repeat, has_source_in}
 use Rattle.variant_table.specs.Forms.{HasForm, written_out, knows_all, entry_of, entries_of}
 use Rattle.variant_table.specs.Texts.{LineSpells, LineAdds, LinesSpell, AreLinesOf, IsTextOf}
 use Rattle.variant_table.specs.Reading.{◌>>=◌, is_skipped, in_line, defining, with_definition, with_form, with_form_of, with_line, with_raw_line, with_lines, table_in, table_of_lines, table_of_text}
 use Rattle.variant_table.proofs.FormLemmas.{skipped, defines, of_entries, formless, form_of, with_line-skipped, with_line-defines, with_line-form, with_line-formless, skipped-no_definition, LineSpells-skipped, none, some, spelling_of}
-use Rattle.variant_table.proofs.ConditionLemmas.{good_from_entry, single_from_entry, small_entries, IsKnown, known_form, text_with, named_spelled, AreNewSources, distinct_sources, new_sources, no_sources, sound_spelled}
+use Rattle.variant_table.proofs.ConditionLemmas.{entries_good, single_from_entry, small_entries, IsKnown, known_form, text_with, named_spelled, AreNewSources, distinct_sources, new_sources, no_sources, sound_spelled}
 use Rattle.variant_table.proofs.GrownLemmas.{named_on, text_stays}
 use Rattle.variant_table.proofs.TestLemmas.{with_form-by}
 use Rattle.variant_table.proofs.LimitLemmas.{text_limit-least, entry_limit-most}
 use Rattle.variant_table.proofs.SizeLemmas.{length-stripped, adds_version, canonical_text_long, length-one, size_of-cons}
+use Rattle.idn_class.specs.declared.properties.Properties.{Properties}
 
 abbrev pub WholeTable : Type 0
 WholeTable = Result TableValue (ℕ × LineFault)
@@ -66,10 +67,10 @@ fits_within One text l = refl
 fits_within Two text l = le-ltb 1048576 (length text) l
 fits_within Three text l = le-ltb 8388608 (length text) l
 
-fits_none : (v : Version) → is_text_too_long v (table_text v nothing_defined []) ≡ false
-fits_none One = refl
-fits_none Two = refl
-fits_none Three = refl
+fits_none : (properties : Properties) (v : Version) → is_text_too_long v (table_text v (nothing_defined properties) []) ≡ false
+fits_none properties One = refl
+fits_none properties Two = refl
+fits_none properties Three = refl
 
 -- ---- entries one after the other
 
@@ -93,10 +94,6 @@ all-join P (e ∷ a) b h k = (h.0, all-join P a b h.1 k)
 
 -- ---- entries without a fault
 
-all_good : (es : List Entry) → AllByRecursion IsEntry es → list_any has_bad_class es ≡ false
-all_good [] h = refl
-all_good (e ∷ es) h = or_from (has_bad_class e) (list_any has_bad_class es) (good_from_entry e h.0) (all_good es h.1)
-
 all_single : (es : List Entry) → AllByRecursion IsEntry es → list_any has_repeat es ≡ false
 all_single [] h = refl
 all_single (e ∷ es) h = or_from (has_repeat e) (list_any has_repeat es) (single_from_entry e h.0) (all_single es h.1)
@@ -114,22 +111,23 @@ new_any t u (e ∷ es) h =
     or_from (has_source_in t e) (list_any (has_source_in t) es) (source_front t u e h.0)
     (new_any t (u ++ e ∷ []) es (subst (λ x. AreNewSources x es) (append_assoc t u (e ∷ [])) h.1))
 
-entries_added : (v : Version) (d : Definitions) (t : List Entry) (form : EntryForm) → IsForm form.mapped form.last → knows_all d form.mapped ≡ true → AllByRecursion IsEntry (entries_of d form) → AreNewSources t (entries_of d form)
+entries_added : (v : Version) (d : Definitions) (t : List Entry) (form : EntryForm) → IsForm form.mapped form.last → knows_all d form.mapped ≡ true → AllByRecursion IsEntry (entries_of d form) → AllByRecursion (HasPointsBy d.properties) (entries_of d form) → AreNewSources t (entries_of d form)
     → length t + length (entries_of d form) ≤ entry_limit v → is_text_too_long v (table_text v d (t ++ entries_of d form)) ≡ false → with_form v d t form ≡ Ok (t ++ entries_of d form)
-entries_added v d t form is known sound new few fits =
+entries_added v d t form is known sound points new few fits =
     let es : List (List Mapped) = written_out form in
     let all : AllByRecursion (IsKnown d) es = known_form d form.last form.mapped is known in
     with_form-by v d t form false true false false false
     (or_from (nat_lt (entry_limit v) (length t + length es) || list_any is_too_large es) (is_text_too_long v (table_text v d t ++ written_text es))
     (or_from (nat_lt (entry_limit v) (length t + length es)) (list_any is_too_large es) (le-ltb (entry_limit v) (length t + length es) (omega (arith, few, length-map es (entry_of d)))) (small_entries d es all sound))
     (ap (is_text_too_long v) (sym (text_with v d t es all)) ∙ fits))
-    known (all_good (entries_of d form) sound) (all_single (entries_of d form) sound) (new_any t [] (entries_of d form) (subst (λ x. AreNewSources x (entries_of d form)) (sym (append-nil t)) new))
+    known (entries_good d.properties (entries_of d form) points) (all_single (entries_of d form) sound) (new_any t [] (entries_of d form) (subst (λ x. AreNewSources x (entries_of d form)) (sym (append-nil t)) new))
 
 -- ---- the table so far
 
 -- its entries have no fault, and there is room for them
 pub record HasSoundEntries (t : TableValue) : Type 0 where
   pub sound : AllByRecursion IsEntry t.entries
+  pub points : AllByRecursion (HasPointsBy t.definitions.properties) t.entries
   pub new : AreNewSources [] t.entries
   pub few : length t.entries ≤ entry_limit t.version
   pub fits : is_text_too_long t.version (table_text t.version t.definitions t.entries) ≡ false
@@ -141,18 +139,18 @@ pub record IsSound (t : TableValue) : Type 0 where
   pub named : AllByRecursion (IsNamed t.definitions) t.entries
   pub entries : HasSoundEntries t
 
-nothing_of : (v : Version) → AreOfVersion v nothing_defined
-nothing_of One = refl
-nothing_of Two = refl
-nothing_of Three = tt
+nothing_of : (properties : Properties) (v : Version) → AreOfVersion v (nothing_defined properties)
+nothing_of properties One = refl
+nothing_of properties Two = refl
+nothing_of properties Three = tt
 
-pub empty_sound : (v : Version) → IsSound (empty_table v)
-empty_sound v = record {
-  without_fault = nothing_counted.without_fault;
-  defined = nothing_of v;
+pub empty_sound : (properties : Properties) (v : Version) → IsSound (empty_table properties v)
+empty_sound properties v = record {
+  without_fault = (nothing_counted properties).without_fault;
+  defined = nothing_of properties v;
   of_version = tt;
   named = tt;
-  entries = record { sound = tt; new = tt; few = omega arith; fits = fits_none v };
+  entries = record { sound = tt; points = tt; new = tt; few = omega arith; fits = fits_none properties v };
 }
 
 -- ---- definitions
@@ -190,6 +188,7 @@ defined_sound t k words after d h n e =
       named = named_on t.definitions d t.entries stay h.named;
       entries = record {
         sound = h.entries.sound;
+        points = subst (λ p. AllByRecursion (HasPointsBy p) t.entries) (sym stay.properties) h.entries.points;
         new = h.entries.new;
         few = h.entries.few;
         fits = fits_defined t.version t.definitions d t.entries three h.entries.fits g (text_stays t.definitions d t.entries stay h.named);
@@ -271,6 +270,7 @@ module _ (bytes : ℕ) (t u : TableValue) (line : List ℕ) (h : IsSound t) (l :
           named = all-join (IsNamed t.definitions) t.entries es h.named r.named;
           entries = record {
             sound = all-join IsEntry t.entries es h.entries.sound r.sound;
+            points = all-join (HasPointsBy t.definitions.properties) t.entries es h.entries.points r.points;
             new = new-join [] t.entries es h.entries.new r.new;
             few = omega (arith, length-append t.entries es, r.few);
             fits = r.fits;
@@ -308,7 +308,7 @@ spelled_read t line form es s known is h =
     let new = new-append [] t.entries (entries_of t.definitions form) k.new in
     with_line-form t line form s
     ∙ ap (λ r. r >>= λ all. Ok (record t { entries = all }))
-    (entries_added t.version t.definitions t.entries form s.0.0 known (all-append IsEntry t.entries (entries_of t.definitions form) k.sound).1 new.1
+    (entries_added t.version t.definitions t.entries form s.0.0 known (all-append IsEntry t.entries (entries_of t.definitions form) k.sound).1 (all-append (HasPointsBy t.definitions.properties) t.entries (entries_of t.definitions form) k.points).1 new.1
     (omega (arith, k.few, length-append t.entries (entries_of t.definitions form))) k.fits)
     ∙ ap (λ x. Ok (record t { entries = t.entries ++ x })) (sym is)
 
@@ -360,14 +360,16 @@ adds_kept t u line (inr (d, (k, after, n, e), is)) h =
 without_entries : (t : TableValue) (es : List Entry) → HasSoundEntries (record t { entries = t.entries ++ es }) → HasSoundEntries t
 without_entries t es h = record {
   sound = (all-append IsEntry t.entries es h.sound).0;
+  points = (all-append (HasPointsBy t.definitions.properties) t.entries es h.points).0;
   new = (new-append [] t.entries es h.new).0;
   few = omega (arith, h.few, length-append t.entries es);
   fits = fits_shorter t.version (table_text t.version t.definitions t.entries) (table_text t.version t.definitions (t.entries ++ es)) (omega (arith, length-more t.version t.definitions t.entries es)) h.fits;
 }
 
-without_definition : (t : TableValue) (d : Definitions) → canonical_size t.definitions ≤ canonical_size d → canonical_text d t.entries ≡ canonical_text t.definitions t.entries → HasSoundEntries (record t { definitions = d }) → HasSoundEntries t
-without_definition t d l same h = record {
+without_definition : (t : TableValue) (d : Definitions) → canonical_size t.definitions ≤ canonical_size d → canonical_text d t.entries ≡ canonical_text t.definitions t.entries → d.properties ≡ t.definitions.properties → HasSoundEntries (record t { definitions = d }) → HasSoundEntries t
+without_definition t d l same kept h = record {
   sound = h.sound;
+  points = subst (λ p. AllByRecursion (HasPointsBy p) t.entries) kept h.points;
   new = h.new;
   few = h.few;
   fits = fits_shorter t.version (table_text t.version t.definitions t.entries) (table_text t.version d t.entries)
@@ -378,7 +380,7 @@ sound_before : (t u : TableValue) (line : List ℕ) → LineAdds t line u → Is
 sound_before t u line (inl (es, s, is)) a h = without_entries t es (subst HasSoundEntries is h)
 sound_before t u line (inr (d, (k, after, n, e), is)) a h =
     without_definition t d (defined_grows (room_for_definitions t) t.definitions d k after a.without_fault e).longer
-    (text_stays t.definitions d t.entries (names_stay (room_for_definitions t) t.definitions d k after e) a.named) (subst HasSoundEntries is h)
+    (text_stays t.definitions d t.entries (names_stay (room_for_definitions t) t.definitions d k after e) a.named) (names_stay (room_for_definitions t) t.definitions d k after e).properties (subst HasSoundEntries is h)
 
 sound_at : (t u : TableValue) (lines : List (List ℕ)) → LinesSpell t lines u → IsKept t → HasSoundEntries u → HasSoundEntries t
 sound_at t u [] s a h = subst HasSoundEntries s h
@@ -520,30 +522,41 @@ head_within n v lines = omega (arith, head_small n lines, text_limit-least v)
 
 -- ---- the whole text
 
-short_text : (v : Version) (lines : List (List ℕ)) (u : TableValue) → u.version ≡ v → LinesSpell (empty_table v) lines u → size_of lines ≤ text_limit v → IsSound u → length (table_text u.version u.definitions u.entries) ≤ text_limit u.version
-short_text One lines u is s size h =
+short_text : (properties : Properties) (v : Version) (lines : List (List ℕ)) (u : TableValue) → u.version ≡ v → LinesSpell (empty_table properties v) lines u → size_of lines ≤ text_limit v → IsSound u → length (table_text u.version u.definitions u.entries) ≤ text_limit u.version
+short_text properties One lines u is s size h =
     subst (λ w. length (table_text u.version u.definitions u.entries) ≤ text_limit w) (sym is)
-    (omega (arith, size, length-one u is h.defined, canonical_text_long lines (empty_table One) u refl s))
-short_text Two lines u is s size h = within u.version is h.entries.fits
+    (omega (arith, size, length-one u is h.defined, canonical_text_long lines (empty_table properties One) u refl s))
+short_text properties Two lines u is s size h = within u.version is h.entries.fits
   where
     within : (w : Version) → w ≡ Two → is_text_too_long w (table_text w u.definitions u.entries) ≡ false → length (table_text w u.definitions u.entries) ≤ text_limit w
     within One e f = absurd cc
     within Two e f = ltb-false 1048576 (length (table_text Two u.definitions u.entries)) f
     within Three e f = absurd cc
-short_text Three lines u is s size h = within u.version is h.entries.fits
+short_text properties Three lines u is s size h = within u.version is h.entries.fits
   where
     within : (w : Version) → w ≡ Three → is_text_too_long w (table_text w u.definitions u.entries) ≡ false → length (table_text w u.definitions u.entries) ≤ text_limit w
     within One e f = absurd cc
     within Two e f = absurd cc
     within Three e f = ltb-false 8388608 (length (table_text Three u.definitions u.entries)) f
 
-pub well_formed_lines : (v : Version) (head lines : List (List ℕ)) (u : TableValue) → size_of head ≤ text_limit v → AddedLines (size_of head) (empty_table v) lines u → AreLinesOf head lines u
-well_formed_lines v head lines u small h =
+-- what lines spell is by the same properties
+adds_properties : (t u : TableValue) (line : List ℕ) → LineAdds t line u → u.definitions.properties ≡ t.definitions.properties
+adds_properties t u line (inl (es, s, is)) = ap (λ (x : TableValue). x.definitions.properties) is
+adds_properties t u line (inr (d, (k, after, n, e), is)) =
+    ap (λ (x : TableValue). x.definitions.properties) is ∙ (names_stay (room_for_definitions t) t.definitions d k after e).properties
+
+pub spells_properties : (lines : List (List ℕ)) (t u : TableValue) → LinesSpell t lines u → u.definitions.properties ≡ t.definitions.properties
+spells_properties [] t u is = ap (λ (x : TableValue). x.definitions.properties) is
+spells_properties (line ∷ lines) t u (m, adds, rest) = spells_properties lines m u rest ∙ adds_properties t m (strip_carriage_return line) adds
+
+pub well_formed_lines : (properties : Properties) (v : Version) (head lines : List (List ℕ)) (u : TableValue) → size_of head ≤ text_limit v → AddedLines (size_of head) (empty_table properties v) lines u → AreLinesOf head lines u
+well_formed_lines properties v head lines u small h =
+    let kept : u.definitions.properties ≡ properties = spells_properties lines (empty_table properties v) u h.spelled in
     let size : size_of head + size_of lines ≤ text_limit v = h.within small in
-    let short : length (table_text u.version u.definitions u.entries) ≤ text_limit u.version = short_text v lines u h.version h.spelled (omega (arith, size)) h.sound in
+    let short : length (table_text u.version u.definitions u.entries) ≤ text_limit u.version = short_text properties v lines u h.version h.spelled (omega (arith, size)) h.sound in
     let k = h.sound.entries in
     record {
-      spelled = subst (λ w. LinesSpell (empty_table w) lines u) (sym h.version) h.spelled;
+      spelled = subst (λ w. LinesSpell (empty_table u.definitions.properties w) lines u) (sym h.version) (subst (λ p. LinesSpell (empty_table p v) lines u) (sym kept) h.spelled);
       short = subst (λ w. All (λ line. length line ≤ line_limit w) lines) (sym h.version) (All-from_recursion (λ line. length line ≤ line_limit v) lines h.short);
       size = subst (λ w. size_of head + size_of lines ≤ text_limit w) (sym h.version) size;
       well_formed = record {
@@ -554,6 +567,7 @@ well_formed_lines v head lines u small h =
           sources = distinct_sources [] u.entries no_sources k.new;
           few = omega (arith, k.few, entry_limit-most u.version);
         };
+        points = All-from_recursion (HasPointsBy u.definitions.properties) u.entries k.points;
         of_version = All-from_recursion (IsOfVersion u.version) u.entries h.sound.of_version;
         named = All-from_recursion (IsNamed u.definitions) u.entries h.sound.named;
         few = k.few;
@@ -564,6 +578,7 @@ well_formed_lines v head lines u small h =
 sound_table : (table : TableValue) → IsTable table → HasSoundEntries table
 sound_table table h = record {
   sound = recursion_from_All IsEntry table.entries h.well_formed.entries;
+  points = recursion_from_All (HasPointsBy table.definitions.properties) table.entries h.points;
   new = new_sources [] table.entries h.well_formed.sources;
   few = h.few;
   fits = fits_within table.version (table_text table.version table.definitions table.entries) h.short;
@@ -571,22 +586,23 @@ sound_table table h = record {
 
 -- faultless lines are read
 pub lines_read : (n : ℕ) (head lines after : List (List ℕ)) (table : TableValue) → AreLinesOf head lines table
-    → with_lines n (size_of head) (empty_table table.version) (lines ++ after) ≡ with_lines (n + length lines) (size_of head + size_of lines) table after
+    → with_lines n (size_of head) (empty_table table.definitions.properties table.version) (lines ++ after) ≡ with_lines (n + length lines) (size_of head + size_of lines) table after
 lines_read n head lines after table h =
-    lines_on table.version n (size_of head) (empty_table table.version) table lines after refl h.spelled (recursion_from_All (λ line. length line ≤ line_limit table.version) lines h.short) h.size
-    (record { without_fault = nothing_counted.without_fault; named = tt }) (sound_table table h.well_formed)
+    lines_on table.version n (size_of head) (empty_table table.definitions.properties table.version) table lines after refl h.spelled (recursion_from_All (λ line. length line ≤ line_limit table.version) lines h.short) h.size
+    (record { without_fault = (nothing_counted table.definitions.properties).without_fault; named = tt }) (sound_table table h.well_formed)
 
-pub read_by : (n : Notation) (lines : List (List ℕ)) (o : Option Version) → version_of n lines ≡ o → table_of_lines n lines ≡ table_in o (head_of n lines) (body_of n lines)
+pub read_by : (properties : Properties) (n : Notation) (lines : List (List ℕ)) (o : Option Version) → version_of n lines ≡ o → table_of_lines properties n lines ≡ table_in properties o (head_of n lines) (body_of n lines)
 unfolding table_of_lines
-read_by n lines o e = ap (λ o. table_in o (head_of n lines) (body_of n lines)) e
+read_by properties n lines o e = ap (λ o. table_in properties o (head_of n lines) (body_of n lines)) e
 
-pub text_read : (n : Notation) (text : List ℕ) (table : TableValue) → IsTextOf n text table → table_of_text n text ≡ Ok table
-text_read n text table h =
+pub text_read : (properties : Properties) (n : Notation) (text : List ℕ) (table : TableValue) → IsTextOf properties n text table → table_of_text properties n text ≡ Ok table
+text_read properties n text table h =
     let head : List (List ℕ) = head_of n (raw_lines text) in
     let body : List (List ℕ) = body_of n (raw_lines text) in
     let k : ℕ = length head + 1 in
-    read_by n (raw_lines text) (Some table.version) h.version
-    ∙ ap (with_lines k (size_of head) (empty_table table.version)) (sym (append-nil body))
+    read_by properties n (raw_lines text) (Some table.version) h.version
+    ∙ ap (λ p. with_lines k (size_of head) (empty_table p table.version) body) (sym h.by_these)
+    ∙ ap (with_lines k (size_of head) (empty_table table.definitions.properties table.version)) (sym (append-nil body))
     ∙ lines_read k head body [] table h.lines ∙ no_lines (k + length body) (size_of head + size_of body) table
 
 pub whole_ok : (a b : TableValue) (r : WholeTable) → r ≡ Ok a → r ≡ Ok b → a ≡ b
@@ -604,19 +620,20 @@ whole_err n m f g r e h =
     let p : a ≡ b = cc in
     (ap (λ (x : ℕ × LineFault). x.0) p, ap (λ (x : ℕ × LineFault). x.1) p)
 
-read_with : (n : Notation) (text : List ℕ) (table : TableValue) (o : Option Version) → version_of n (raw_lines text) ≡ o → table_of_text n text ≡ Ok table → IsTextOf n text table
-read_with n text table None is e = whole_no table (1, Syntax) (table_of_text n text) e (read_by n (raw_lines text) None is)
-read_with n text table (Some v) is e =
+read_with : (properties : Properties) (n : Notation) (text : List ℕ) (table : TableValue) (o : Option Version) → version_of n (raw_lines text) ≡ o → table_of_text properties n text ≡ Ok table → IsTextOf properties n text table
+read_with properties n text table None is e = whole_no table (1, Syntax) (table_of_text properties n text) e (read_by properties n (raw_lines text) None is)
+read_with properties n text table (Some v) is e =
     let head : List (List ℕ) = head_of n (raw_lines text) in
     let body : List (List ℕ) = body_of n (raw_lines text) in
-    let read = read_by n (raw_lines text) (Some v) is in
-    elim (outcome body (length head + 1) (size_of head) (empty_table v) (empty_sound v)) [
-      | inl d ↦ subst (λ t. IsTextOf n text t) (whole_ok d.table table (table_of_text n text) (read ∙ d.is) e) (record {
+    let read = read_by properties n (raw_lines text) (Some v) is in
+    elim (outcome body (length head + 1) (size_of head) (empty_table properties v) (empty_sound properties v)) [
+      | inl d ↦ subst (λ t. IsTextOf properties n text t) (whole_ok d.table table (table_of_text properties n text) (read ∙ d.is) e) (record {
+        by_these = spells_properties body (empty_table properties v) d.table d.added.spelled;
         version = is ∙ ap (λ w. Some w) (sym d.added.version);
-        lines = well_formed_lines v head body d.table (head_within n v (raw_lines text)) d.added;
+        lines = well_formed_lines properties v head body d.table (head_within n v (raw_lines text)) d.added;
       })
-      | inr f ↦ whole_no table (length head + 1 + length f.before, f.kind) (table_of_text n text) e (read ∙ f.is)
+      | inr f ↦ whole_no table (length head + 1 + length f.before, f.kind) (table_of_text properties n text) e (read ∙ f.is)
     ]
 
-pub read_text : (n : Notation) (text : List ℕ) (table : TableValue) → table_of_text n text ≡ Ok table → IsTextOf n text table
-read_text n text table e = read_with n text table (version_of n (raw_lines text)) refl e
+pub read_text : (properties : Properties) (n : Notation) (text : List ℕ) (table : TableValue) → table_of_text properties n text ≡ Ok table → IsTextOf properties n text table
+read_text properties n text table e = read_with properties n text table (version_of n (raw_lines text)) refl e

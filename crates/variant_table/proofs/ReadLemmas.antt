@@ -12,6 +12,7 @@ use Rattle.variant_table.specs.Reading.{◌>>=◌, in_line, with_raw_line, with_
 use Rattle.variant_table.specs.inner.ReadingSteps.{Fails, FailsIn}
 use Rattle.variant_table.proofs.FaultlessLemmas.{read_by}
 use Rattle.variant_table.proofs.SizeLemmas.{size_of-cons}
+use Rattle.idn_class.specs.declared.properties.Properties.{Properties}
 
 abbrev WholeTable : Type 0
 WholeTable = Result TableValue (ℕ × LineFault)
@@ -46,18 +47,18 @@ unfolding with_lines
 lines_end n b t rest total e so_far = sym so_far ∙ ap (λ ls. with_lines n b t ls) e
 
 -- reading begins after the version line
-pub lines_begin : (m : Notation) (lines : List (List ℕ)) (v : Version) (n b : ℕ) (d : Definitions) (t : List Entry) (rest : List (List ℕ)) → version_of m lines ≡ Some v → n ≡ length (head_of m lines) → b ≡ size_of (head_of m lines)
-    → d ≡ nothing_defined → t ≡ [] → rest ≡ body_of m lines → with_lines (n + 1) b (table_of v d t) rest ≡ table_of_lines m lines
-lines_begin m lines v n b d t rest e f g k h i =
+pub lines_begin : (properties : Properties) (m : Notation) (lines : List (List ℕ)) (v : Version) (n b : ℕ) (d : Definitions) (t : List Entry) (rest : List (List ℕ)) → version_of m lines ≡ Some v → n ≡ length (head_of m lines) → b ≡ size_of (head_of m lines)
+    → d ≡ nothing_defined properties → t ≡ [] → rest ≡ body_of m lines → with_lines (n + 1) b (table_of v d t) rest ≡ table_of_lines properties m lines
+lines_begin properties m lines v n b d t rest e f g k h i =
     ap (λ x. with_lines (x + 1) b (table_of v d t) rest) f
     ∙ ap (λ x. with_lines (length (head_of m lines) + 1) x (table_of v d t) rest) g
     ∙ ap (λ x. with_lines (length (head_of m lines) + 1) (size_of (head_of m lines)) (table_of v x t) rest) k
-    ∙ ap (λ x. with_lines (length (head_of m lines) + 1) (size_of (head_of m lines)) (table_of v nothing_defined x) rest) h
-    ∙ ap (λ x. with_lines (length (head_of m lines) + 1) (size_of (head_of m lines)) (empty_table v) x) i ∙ sym (read_by m lines (Some v) e)
+    ∙ ap (λ x. with_lines (length (head_of m lines) + 1) (size_of (head_of m lines)) (table_of v (nothing_defined properties) x) rest) h
+    ∙ ap (λ x. with_lines (length (head_of m lines) + 1) (size_of (head_of m lines)) (empty_table properties v) x) i ∙ sym (read_by properties m lines (Some v) e)
 
 -- a text that lacks its version is refused in its first line
-pub lines_lack : (m : Notation) (lines : List (List ℕ)) → version_of m lines ≡ None → FailsIn (tables.Syntax 1) (table_of_lines m lines)
-lines_lack m lines e = inr (1, Syntax, refl, read_by m lines None e)
+pub lines_lack : (properties : Properties) (m : Notation) (lines : List (List ℕ)) → version_of m lines ≡ None → FailsIn (tables.Syntax 1) (table_of_lines properties m lines)
+lines_lack properties m lines e = inr (1, Syntax, refl, read_by properties m lines None e)
 
 pub lines_counted : (lines : List (List ℕ)) → length lines ≤ size_of lines
 lines_counted [] = omega arith

@@ -272,9 +272,9 @@ length-one u is of = by_version u.version is of
     by_version Two is of = absurd cc
     by_version Three is of = absurd cc
 
-table_text_long : (lines : List (List ℕ)) (u : TableValue) → u.version ≡ One → AreOfVersion u.version u.definitions → LinesSpell (empty_table u.version) lines u → length (table_text u.version u.definitions u.entries) ≤ size_of lines
+table_text_long : (lines : List (List ℕ)) (u : TableValue) → u.version ≡ One → AreOfVersion u.version u.definitions → LinesSpell (empty_table u.definitions.properties u.version) lines u → length (table_text u.version u.definitions u.entries) ≤ size_of lines
 table_text_long lines u one of s =
-    omega (arith, length-one u one of, canonical_text_long lines (empty_table u.version) u one s)
+    omega (arith, length-one u one of, canonical_text_long lines (empty_table u.definitions.properties u.version) u one s)
 
 body_shorter : (n : Notation) (lines : List (List ℕ)) → size_of (body_of n lines) ≤ size_of lines
 body_shorter n [] = omega arith
@@ -285,7 +285,7 @@ body_shorter n (line ∷ lines) = by_cases (is_version_line n line)
     by_cases false = omega arith
 
 -- in version 1 canonical text is at most as long as the text that was read
-pub never_longer : (n : Notation) (lines : List (List ℕ)) (u : TableValue) → u.version ≡ One → AreOfVersion u.version u.definitions → LinesSpell (empty_table u.version) (body_of n lines) u
+pub never_longer : (n : Notation) (lines : List (List ℕ)) (u : TableValue) → u.version ≡ One → AreOfVersion u.version u.definitions → LinesSpell (empty_table u.definitions.properties u.version) (body_of n lines) u
     → length (table_text u.version u.definitions u.entries) ≤ size_of lines
 never_longer n lines u one of s = omega (arith, table_text_long (body_of n lines) u one of s, body_shorter n lines)
 

@@ -16,12 +16,13 @@ use Rattle.ruleset_text.specs.Definitions.{Definitions, definitions_text}
 use Rattle.variant_table.specs.Entries.{Variant, Entry, IsOfVersion, IsPlain, table_of, sequences_in, replacements, unblocked_entry, unblocked, has_blocked, entry_from, itself, source_of, whole}
 use Rattle.variant_table.specs.inner.Order.{IsOrderOf}
 use Rattle.variant_table.specs.Forms.{mapped_of}
-use Rattle.variant_table.specs.WellFormed.{IsSequence, IsEntry, HasItsNames, IsNamed, IsTable}
+use Rattle.variant_table.specs.WellFormed.{IsPointBy, HasPointsBy, IsSequence, IsEntry, HasItsNames, IsNamed, IsTable}
 use Rattle.variant_table.proofs.ConditionLemmas.{AreNewSources, distinct_sources, new_sources, no_sources}
 use Rattle.variant_table.proofs.RepeatLemmas.{distinct_from, no_repeats}
 use Rattle.variant_table.proofs.ListLemmas.{take_next}
 use Rattle.variant_table.proofs.EntryLemmas.{variant_marked}
 use Rattle.variant_table.proofs.LengthLemmas.{pieces_size, length-entry_text}
+use Rattle.idn_class.specs.declared.properties.Properties.{Properties}
 
 -- the variants that are not blocked
 abbrev pub free : List Variant → List Variant
@@ -157,6 +158,12 @@ version_kept One (e ∷ t) h =
 version_kept Two (e ∷ t) h = ((h.0.0, plain_free e h.0.1), version_kept Two t h.1)
 version_kept Three (e ∷ t) h = (tt, version_kept Three t h.1)
 
+points_free : (p : Properties) (t : List Entry) → AllByRecursion (HasPointsBy p) t → AllByRecursion (HasPointsBy p) (unblocked t)
+points_free p [] h = tt
+points_free p (e ∷ t) h =
+    let all = recursion_from_All (λ s. All (IsPointBy p) s) (replacements e) h.0 in
+    (All-from_recursion (λ s. All (IsPointBy p) s) (replacements (unblocked_entry e)) (all.0, all_free (λ s. All (IsPointBy p) s) e.variants all.1), points_free p t h.1)
+
 -- ---- sources
 
 has_kept : (t : List Entry) (e : Entry) → has_source_in (unblocked t) (unblocked_entry e) ≡ has_source_in t e
@@ -213,6 +220,7 @@ table_kept version d t h =
         sources = distinct_sources [] (unblocked t) no_sources (new_kept [] t (new_sources [] t well.sources));
         few = omega (arith, well.few, length-map t unblocked_entry);
       };
+      points = All-from_recursion (HasPointsBy d.properties) (unblocked t) (points_free d.properties t (recursion_from_All (HasPointsBy d.properties) t h.points));
       of_version = All-from_recursion (IsOfVersion version) (unblocked t) (version_kept version t (recursion_from_All (IsOfVersion version) t h.of_version));
       named = All-from_recursion (IsNamed d) (unblocked t) (named_free d t (recursion_from_All (IsNamed d) t h.named));
       few = omega (arith, h.few, length-map t unblocked_entry);

@@ -13,6 +13,7 @@ use Rattle.variant_table.specs.Entries.{Variant, Entry, replacements, itself}
 use Rattle.variant_table.specs.Canonical.{table_text, written_text}
 use Rattle.variant_table.specs.Limits.{line_limit, text_limit, entry_limit}
 use Rattle.variant_table.specs.WellFormed.{is_table_class}
+use Rattle.idn_class.specs.declared.properties.Properties.{Properties}
 
 -- a line that is too long, or one that ends, with its line feed, past the limit of the text, where it comes after so many bytes
 abbrev pub is_too_long : Version → ℕ → List ℕ → Bool
@@ -35,12 +36,12 @@ is_over_limit version definitions table entries =
     || is_text_too_long version (table_text version definitions table ++ written_text entries)
 
 -- a code point of another class than PVALID, CONTEXTJ and CONTEXTO
-abbrev pub has_bad_point : List ℕ → Bool
-has_bad_point s = list_any (λ c. not (is_table_class (class_of c))) s
+abbrev pub has_bad_point : Properties → List ℕ → Bool
+has_bad_point properties s = list_any (λ c. not (is_table_class (class_of properties c))) s
 
 -- such a code point in the source or in a variant
-abbrev pub has_bad_class : Entry → Bool
-has_bad_class e = list_any has_bad_point (replacements e)
+abbrev pub has_bad_class : Properties → Entry → Bool
+has_bad_class properties e = list_any (has_bad_point properties) (replacements e)
 
 -- the same is asked of a rule
 abbrev pub is_same_kind : ConditionKind → ConditionKind → Bool

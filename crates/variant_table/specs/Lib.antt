@@ -1,3 +1,4 @@
+-- The definitions that contracts cite.
 pub mod Entries
 pub mod Canonical
 pub mod WellFormed

@@ -17,6 +17,7 @@ use Rattle.variant_table.specs.Faults.{LineFault, Limit, Syntax, BadClass, SameV
 use Rattle.variant_table.specs.Forms.{has_form, written_out, knows_all, entries_of}
 use Rattle.variant_table.specs.Versions.{version_of, head_of, body_of, size_of}
 use Rattle.variant_table.specs.Conditions.{is_too_long, is_over_limit, has_bad_class, has_repeat, has_source_in}
+use Rattle.idn_class.specs.declared.properties.Properties.{Properties}
 
 -- ---- answers
 
@@ -49,9 +50,9 @@ named_entries definitions form = if knows_all definitions form.mapped then Ok (e
 -- ---- the table so far
 
 -- the entries of a table with further ones
-unfoldable pub with_entries : List Entry → List Entry → Result (List Entry) LineFault
-with_entries table entries =
-    if list_any has_bad_class entries then Err BadClass else
+unfoldable pub with_entries : Properties → List Entry → List Entry → Result (List Entry) LineFault
+with_entries properties table entries =
+    if list_any (has_bad_class properties) entries then Err BadClass else
     if list_any has_repeat entries then Err SameVariant else
     if list_any (has_source_in table) entries then Err SameSource else
     Ok (table ++ entries)
@@ -60,7 +61,7 @@ with_entries table entries =
 unfoldable pub with_form : Version → Definitions → List Entry → EntryForm → Result (List Entry) LineFault
 with_form version definitions table form =
     if is_over_limit version definitions table (written_out form) then Err Limit else
-    named_entries definitions form >>= with_entries table
+    named_entries definitions form >>= with_entries definitions.properties table
 
 -- the same with those of a line's lexemes
 abbrev pub with_entry_words : Version → Definitions → List Entry → List (List ℕ) → Result (List Entry) LineFault
@@ -103,14 +104,14 @@ with_lines number bytes table (line ∷ lines) =
     in_line number (with_raw_line bytes table line) >>= λ t. with_lines (number + 1) (bytes + length line + 1) t lines
 
 -- the table that lines spell after their version line, if they have a version
-abbrev pub table_in : Option Version → List (List ℕ) → List (List ℕ) → Result TableValue (ℕ × LineFault)
-table_in None head body = Err (1, Syntax)
-table_in (Some version) head body = with_lines (length head + 1) (size_of head) (empty_table version) body
+abbrev pub table_in : Properties → Option Version → List (List ℕ) → List (List ℕ) → Result TableValue (ℕ × LineFault)
+table_in properties None head body = Err (1, Syntax)
+table_in properties (Some version) head body = with_lines (length head + 1) (size_of head) (empty_table properties version) body
 
 -- the table that lines spell, the first of which may be a version line
-unfoldable pub table_of_lines : Notation → List (List ℕ) → Result TableValue (ℕ × LineFault)
-table_of_lines notation lines = table_in (version_of notation lines) (head_of notation lines) (body_of notation lines)
+unfoldable pub table_of_lines : Properties → Notation → List (List ℕ) → Result TableValue (ℕ × LineFault)
+table_of_lines properties notation lines = table_in properties (version_of notation lines) (head_of notation lines) (body_of notation lines)
 
 -- the table that a text spells, or the line and the kind of its first fault
-abbrev pub table_of_text : Notation → List ℕ → Result TableValue (ℕ × LineFault)
-table_of_text notation text = table_of_lines notation (raw_lines text)
+abbrev pub table_of_text : Properties → Notation → List ℕ → Result TableValue (ℕ × LineFault)
+table_of_text properties notation text = table_of_lines properties notation (raw_lines text)

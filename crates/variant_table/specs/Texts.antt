@@ -19,6 +19,7 @@ use Rattle.variant_table.specs.Versions.{version_of, head_of, body_of, size_of}
 use Rattle.variant_table.specs.Forms.{HasForm, written_out, knows_all, entries_of, SpellsEntries}
 use Rattle.variant_table.specs.WellFormed.{IsTable}
 use Rattle.variant_table.specs.Conditions.{is_too_long, is_over_limit, has_bad_class, has_repeat, has_source_in}
+use Rattle.idn_class.specs.declared.properties.Properties.{Properties}
 
 -- ---- a line, less one carriage return at its end
 
@@ -49,13 +50,14 @@ LinesSpell t (line ∷ lines) table = (u : TableValue) × LineAdds t (strip_carr
 
 -- lines without a fault, after a version line or without one, and the table that they spell
 pub record AreLinesOf (head lines : List (List ℕ)) (table : TableValue) : Type 0 where
-  pub spelled : LinesSpell (empty_table table.version) lines table
+  pub spelled : LinesSpell (empty_table table.definitions.properties table.version) lines table
   pub short : All (λ line. length line ≤ line_limit table.version) lines
   pub size : size_of head + size_of lines ≤ text_limit table.version
   pub well_formed : IsTable table
 
 -- the text spells the table
-pub record IsTextOf (notation : Notation) (text : List ℕ) (table : TableValue) : Type 0 where
+pub record IsTextOf (properties : Properties) (notation : Notation) (text : List ℕ) (table : TableValue) : Type 0 where
+  pub by_these : table.definitions.properties ≡ properties
   pub version : version_of notation (raw_lines text) ≡ Some table.version
   pub lines : AreLinesOf (head_of notation (raw_lines text)) (body_of notation (raw_lines text)) table
 
@@ -107,7 +109,7 @@ Holds bytes table line too_long = IsTrue (is_too_long table.version bytes line)
 Holds bytes table line no_form = HasSomeForm table.version (strip_carriage_return line) → ⊥
 Holds bytes table line over_limit = IsSuch table.version line (λ form. is_over_limit table.version table.definitions table.entries (written_out form))
 Holds bytes table line no_such_name = IsSuch table.version line (λ form. not (knows_all table.definitions form.mapped))
-Holds bytes table line bad_class = IsSuch table.version line (λ form. list_any has_bad_class (entries_of table.definitions form))
+Holds bytes table line bad_class = IsSuch table.version line (λ form. list_any (has_bad_class table.definitions.properties) (entries_of table.definitions form))
 Holds bytes table line same_variant = IsSuch table.version line (λ form. list_any has_repeat (entries_of table.definitions form))
 Holds bytes table line same_source = IsSuch table.version line (λ form. list_any (has_source_in table.entries) (entries_of table.definitions form))
 
@@ -128,11 +130,12 @@ abbrev pub LacksVersion : Notation → List ℕ → Type 0
 LacksVersion notation text = version_of notation (raw_lines text) ≡ None
 
 -- the line of this number, from 1, has the fault, and the lines before it have none
-pub record IsFirstFaulty (notation : Notation) (text : List ℕ) (number : ℕ) (fault : LineFault) : Type 0 where
+pub record IsFirstFaulty (properties : Properties) (notation : Notation) (text : List ℕ) (number : ℕ) (fault : LineFault) : Type 0 where
   pub before : List (List ℕ)
   pub line : List ℕ
   pub after : List (List ℕ)
   pub table : TableValue
+  pub by_these : table.definitions.properties ≡ properties
   pub version : version_of notation (raw_lines text) ≡ Some table.version
   pub cut : body_of notation (raw_lines text) ≡ before ++ line ∷ after
   pub numbered : number ≡ length (head_of notation (raw_lines text)) + length before + 1
@@ -140,11 +143,11 @@ pub record IsFirstFaulty (notation : Notation) (text : List ℕ) (number : ℕ) 
   pub faulty : IsLineFault (size_of (head_of notation (raw_lines text)) + size_of before) table line fault
 
 -- the first fault of the text, with the number of its line: a text that lacks its version has a fault of syntax in line 1
-abbrev pub IsFaultOf : Notation → List ℕ → ℕ → LineFault → Type 0
-IsFaultOf notation text number fault =
-    (LacksVersion notation text × (number ≡ 1) × (fault ≡ Syntax)) ⊎ IsFirstFaulty notation text number fault
+abbrev pub IsFaultOf : Properties → Notation → List ℕ → ℕ → LineFault → Type 0
+IsFaultOf properties notation text number fault =
+    (LacksVersion notation text × (number ≡ 1) × (fault ≡ Syntax)) ⊎ IsFirstFaulty properties notation text number fault
 
 -- the fault is the text's, or memory was refused
-abbrev pub IsToldOf : Notation → List ℕ → TableFault → Type 0
-IsToldOf notation text fault =
-    (fault ≡ Memory) ⊎ ((line : ℕ) × (kind : LineFault) × (fault ≡ table_fault line kind) × IsFaultOf notation text line kind)
+abbrev pub IsToldOf : Properties → Notation → List ℕ → TableFault → Type 0
+IsToldOf properties notation text fault =
+    (fault ≡ Memory) ⊎ ((line : ℕ) × (kind : LineFault) × (fault ≡ table_fault line kind) × IsFaultOf properties notation text line kind)

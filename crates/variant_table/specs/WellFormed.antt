@@ -12,6 +12,8 @@ use Rattle.variant_table.specs.declared.version.Version.TheVariants.{One, Two, T
 use Rattle.variant_table.specs.Entries.{Variant, Entry, replacements, itself, whole, IsOfVersion, TableValue}
 use Rattle.variant_table.specs.Canonical.{table_text}
 use Rattle.variant_table.specs.Limits.{text_limit, entry_limit}
+use Rattle.idn_class.specs.declared.properties.Properties.{Properties}
+use Rattle.idn_class.specs.declared.properties.Properties.TheVariants.{Unicode}
 
 -- PVALID, CONTEXTJ or CONTEXTO (RFC 5892, section 3)
 abbrev pub is_table_class : Class → Bool
@@ -20,10 +22,17 @@ is_table_class Contextj = true
 is_table_class Contexto = true
 is_table_class other = false
 
--- a code point that a table may hold
+-- these properties let a table hold the code point, and the code points of an entry
+abbrev pub IsPointBy : Properties → ℕ → Type 0
+IsPointBy properties c = IsTrue (is_table_class (class_of properties c))
+
+abbrev pub HasPointsBy : Properties → Entry → Type 0
+HasPointsBy properties e = All (λ s. All (IsPointBy properties) s) (replacements e)
+
+-- a code point that a table may hold by some properties
 pub record IsTablePoint (c : ℕ) : Type 0 where
   pub scalar_value : IsScalarValue c
-  pub class : IsTrue (is_table_class (class_of c))
+  pub class : IsTrue (is_table_class (class_of Unicode c))
 
 -- 1 to 8 code points that a table may hold
 pub record IsSequence (s : List ℕ) : Type 0 where
@@ -69,8 +78,8 @@ IsNamed definitions e = All (HasItsNames definitions) (whole e)
 
 -- versions 1 and 2 define nothing
 abbrev pub AreOfVersion : Version → Definitions → Type 0
-AreOfVersion One definitions = definitions ≡ nothing_defined
-AreOfVersion Two definitions = definitions ≡ nothing_defined
+AreOfVersion One definitions = definitions ≡ nothing_defined definitions.properties
+AreOfVersion Two definitions = definitions ≡ nothing_defined definitions.properties
 AreOfVersion Three definitions = Unit {0}
 
 -- definitions without a fault and well-formed entries, as the version has them, whose tags and rules are defined; within its limits, the version line counted
@@ -78,6 +87,7 @@ pub record IsTable (table : TableValue) : Type 0 where
   pub without_fault : AreDefinitions table.definitions
   pub defined : AreOfVersion table.version table.definitions
   pub well_formed : IsWellFormed table.entries
+  pub points : All (HasPointsBy table.definitions.properties) table.entries
   pub of_version : All (IsOfVersion table.version) table.entries
   pub named : All (IsNamed table.definitions) table.entries
   pub few : length table.entries ≤ entry_limit table.version

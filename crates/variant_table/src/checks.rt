@@ -8,7 +8,7 @@ ghost use Rattle.variant_table.specs.Ranges.{entry_in_range};
 ghost use Rattle.variant_table.specs.WellFormed.{is_table_class};
 
 use crate::sequences::Sequences;
-use idn_class::{Class, class_of};
+use idn_class::{Class, Properties, class_of_by};
 use label_patterns::Condition;
 use ruleset_text::Mapped;
 use std::alloc::{AllocError, Global};
@@ -27,12 +27,16 @@ pub fn is_too_large(entry: &[Mapped]) -> bool
 }
 
 /// Whether some code point has a class that no table may hold.
-pub fn has_bad_class(alloc: Global, sequences: &Sequences) -> Result<bool, AllocError>
+pub fn has_bad_class(
+    alloc: Global,
+    sequences: &Sequences,
+    properties: Properties,
+) -> Result<bool, AllocError>
     requires { 0 < length sequences.now }
-    ensures { IfOk result (λ bad. bad ≡ conditions.has_bad_class (entry_from sequences.now)) }
+    ensures { IfOk result (λ bad. bad ≡ conditions.has_bad_class properties (entry_from sequences.now)) }
 {
     for index in 0..sequences.len() {
-        if has_bad_point(alloc, sequences.get(index))? {
+        if has_bad_point(alloc, sequences.get(index), properties)? {
             return Ok(true);
         }
     }
@@ -40,12 +44,17 @@ pub fn has_bad_class(alloc: Global, sequences: &Sequences) -> Result<bool, Alloc
 }
 
 /// Whether one of `count` code points, from `first` on, has a class that no table may hold.
-pub fn has_bad_class_in(alloc: Global, first: u32, count: usize) -> Result<bool, AllocError>
+pub fn has_bad_class_in(
+    alloc: Global,
+    first: u32,
+    count: usize,
+    properties: Properties,
+) -> Result<bool, AllocError>
     requires { first + count ≤ 2 ^ 32 }
-    ensures { IfOk result (λ bad. (v : Variant) → bad ≡ list_any conditions.has_bad_class (map (entry_in_range v) (range_with_len first count))) }
+    ensures { IfOk result (λ bad. (v : Variant) → bad ≡ list_any (conditions.has_bad_class properties) (map (entry_in_range v) (range_with_len first count))) }
 {
     for offset in 0..count {
-        if has_bad_point(alloc, &[first + offset as u32])? {
+        if has_bad_point(alloc, &[first + offset as u32], properties)? {
             return Ok(true);
         }
     }
@@ -53,11 +62,15 @@ pub fn has_bad_class_in(alloc: Global, first: u32, count: usize) -> Result<bool,
 }
 
 /// Whether a code point of the sequence has a class that no table may hold.
-fn has_bad_point(alloc: Global, sequence: &[u32]) -> Result<bool, AllocError>
-    ensures { IfOk result (λ bad. bad ≡ conditions.has_bad_point sequence.now) }
+fn has_bad_point(
+    alloc: Global,
+    sequence: &[u32],
+    properties: Properties,
+) -> Result<bool, AllocError>
+    ensures { IfOk result (λ bad. bad ≡ conditions.has_bad_point properties sequence.now) }
 {
     for point in sequence {
-        if !is_table_class(class_of(alloc, *point)?) {
+        if !is_table_class(class_of_by(alloc, *point, properties)?) {
             return Ok(true);
         }
     }

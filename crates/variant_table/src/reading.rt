@@ -7,6 +7,7 @@ ghost use Rattle.ruleset_text.specs.EntryText.{IsForm};
 ghost use Rattle.variant_table.specs.Limits.{text_limit};
 ghost use Rattle.variant_table.specs.Ranges.{entry_in_range};
 ghost use Rattle.ruleset_text.specs.Definitions.{nothing_defined};
+ghost use Rattle.idn_class.specs.declared.properties.Properties.{Properties};
 ghost use Rattle.ruleset_text.specs.Lexemes.{lexemes};
 ghost use Rattle.variant_table.specs.declared.version.Version.TheVariants.{Three};
 ghost use Rattle.variant_table.specs.Entries.{entry_from, source_of, table_of};
@@ -21,6 +22,7 @@ use crate::lengths::{left_after_entry, left_after_range};
 use crate::ordered_entries::OrderedEntries;
 use crate::sequences::Sequences;
 use crate::version::{Notation, Version, head_of};
+use idn_class::Properties;
 use idn_text::without_carriage_return;
 use ruleset_text::{Definitions, Keyword, Mapped, read_entry, without_blanks};
 use std::alloc::Global;
@@ -35,13 +37,18 @@ pub struct ReadText {
 
 /// The version of a text, the definitions and the entries that it spells.
 #[tactic(auto, unfolding(crate::specs::Reading::table_of_lines))]
-pub fn read_text(alloc: Global, notation: Notation, text: &[u8]) -> Result<ReadText, TableFault>
-    ensures { Reads result (table_of_text notation text.now) }
+pub fn read_text(
+    alloc: Global,
+    notation: Notation,
+    text: &[u8],
+    properties: Properties,
+) -> Result<ReadText, TableFault>
+    ensures { Reads result (table_of_text properties notation text.now) }
 {
     let Some(head) = head_of(notation, text) else {
         return Err(TableFault::Syntax { line: 1 });
     };
-    let mut reader = Reader::new(alloc, head.version);
+    let mut reader = Reader::new(alloc, head.version, properties);
     let mut number = head.lines;
     let mut bytes = head.bytes;
     for line in head.body {
@@ -71,9 +78,9 @@ struct Reader {
 
 impl Reader {
     /// A reader that has read nothing yet, of a text of this version.
-    fn new(alloc: Global, version: Version) -> Self
+    fn new(alloc: Global, version: Version, properties: Properties) -> Self
         ensures version { result.version ≡ version }
-        ensures definitions { result.definitions ≡ nothing_defined }
+        ensures definitions { result.definitions ≡ nothing_defined properties }
         ensures entries { result.entries ≡ [] }
         ensures counted { IsCounted result.version result.definitions result.left result.entries }
     {
@@ -81,7 +88,7 @@ impl Reader {
             alloc,
             version,
             sequences: Sequences::new(alloc),
-            definitions: Definitions::new(alloc),
+            definitions: Definitions::new(alloc, properties),
             entries: OrderedEntries::new(alloc),
             left: left_after_head(version),
         }
@@ -185,7 +192,7 @@ impl Reader {
             return Err(TableFault::NoSuchName { line: number });
         }
         let sequences = &self.sequences;
-        if has_bad_class(self.alloc, sequences)? {
+        if has_bad_class(self.alloc, sequences, self.definitions.properties())? {
             return Err(TableFault::BadClass { line: number });
         }
         if has_repeat(sequences) {
@@ -218,7 +225,7 @@ impl Reader {
         if !take_sequences(&mut self.sequences, &self.definitions, mapped)? {
             return Err(TableFault::NoSuchName { line: number });
         }
-        if has_bad_class_in(self.alloc, first, count)? {
+        if has_bad_class_in(self.alloc, first, count, self.definitions.properties())? {
             return Err(TableFault::BadClass { line: number });
         }
         push_points(
@@ -236,7 +243,7 @@ impl Reader {
 
 /// How many bytes a canonical text may have after its version line, where the version limits them.
 fn left_after_head(version: Version) -> usize
-    ensures { IsCounted version nothing_defined result [] }
+    ensures { (properties : Properties) → IsCounted version (nothing_defined properties) result [] }
 {
     version.text_limit() - version.head().len()
 }

@@ -5,9 +5,9 @@ use Rattle.idn2_cli.specs.declared.refusals.cause.Explaining.TheVariants as by
 
 abbrev pub explained_by : Explaining → Explained
 explained_by by.Nothing = Unexplained
-explained_by by.Label = ByLabel
-explained_by by.Name = ByName
+explained_by (by.Label properties) = ByLabel properties
+explained_by (by.Name properties) = ByName properties
 explained_by (by.Query std3) = ByQuery std3
-explained_by (by.Table table) = ByTable table.now
-explained_by (by.Request table) = ByRequest table.now
-explained_by by.RegisteredLine = ByRegisteredLine
+explained_by (by.Table properties table) = ByTable properties table.now
+explained_by (by.Request properties table) = ByRequest properties table.now
+explained_by (by.RegisteredLine properties) = ByRegisteredLine properties

@@ -2,6 +2,7 @@
 use Rattle.std.proofs.Common.{◌≡◌, ◌⊎◌, inl, inr, ◌++◌, ◌&&◌, ◌||◌, ℕ, List, [], ◌∷◌, Option, Some, None, Bool, true, false, take, length, refl, sym, ap, ◌∙◌, arith}
 use Rattle.std.proofs.Math.Seq.{take-append_seam}
 use Rattle.std.proofs.lemmas.List.{length-append}
+use Rattle.idn_class.specs.declared.properties.Properties.{Properties}
 use Rattle.idn_class.specs.Hopeless.{hopeless}
 use Rattle.idn_label.proofs.HopeLemmas.{none_hopeless}
 use Rattle.variant_table.specs.Entries.{TableValue}
@@ -40,9 +41,9 @@ lost_beginning lost (c ∷ w) z none is = unless-true (has_hope lost ((c ∷ w) 
         let clear : lost (take (length (c ∷ w)) ((c ∷ w) ++ z)) ≡ false = hope-gives lost ((c ∷ w) ++ z) h (length (c ∷ w)) (omega arith) (omega (arith, length-append (c ∷ w) z)) in
         let bad : false ≡ true = sym clear ∙ at_it in cc
 
-pub none_accepted : (ruling : Option TableValue) (w z : List ℕ) → (filter_by ruling).hopeless w ≡ true → (filter_by ruling).accepts (w ++ z) ≡ false
-none_accepted None w z is = none_hopeless w z is
-none_accepted (Some table) w z is = elim (one-of (hopeless w) (is_lost table w) is) [
-  | inl h ↦ not-left (is_registrable (w ++ z)) _ (none_hopeless w z h)
-  | inr l ↦ not-right (is_registrable (w ++ z)) _ (not-right (is_valid table (w ++ z)) _ (lost_beginning (is_lost table) w z refl l))
+pub none_accepted : (properties : Properties) (ruling : Option TableValue) (w z : List ℕ) → (filter_by properties ruling).hopeless w ≡ true → (filter_by properties ruling).accepts (w ++ z) ≡ false
+none_accepted properties None w z is = none_hopeless properties w z is
+none_accepted properties (Some table) w z is = elim (one-of (hopeless properties w) (is_lost table w) is) [
+  | inl h ↦ not-left (is_registrable properties (w ++ z)) _ (none_hopeless properties w z h)
+  | inr l ↦ not-right (is_registrable properties (w ++ z)) _ (not-right (is_valid table (w ++ z)) _ (lost_beginning (is_lost table) w z refl l))
 ]

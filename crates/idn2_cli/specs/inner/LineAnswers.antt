@@ -1,5 +1,6 @@
 -- What the modes answer to a line, and when a listing has as many variants as it may.
 use Rattle.std.specs.Prelude.{◌≡◌, ℕ, ◌==◌, Bool, false, List, [], ◌∷◌, ◌++◌, length, Option, Some, None, if◌then◌else◌, Result, Ok, Err}
+use Rattle.idn_class.specs.declared.properties.Properties.{Properties}
 use Rattle.idn_text.specs.declared.refusal.Refusal.{Refusal}
 use Rattle.idn_text.specs.declared.refusal.Refusal.TheVariants.{Empty}
 use Rattle.idn_text.specs.Lines.{Numbered}
@@ -29,8 +30,8 @@ unfoldable pub query_answer : List ℕ → Bool → Result (List ℕ) Refusal
 query_answer bytes std3 = if length bytes == 0 then Err Empty else utf8_answer bytes std3
 
 -- the answer of decoding, by the bytes of the name
-unfoldable pub decoded_answer : List ℕ → Result (List ℕ) Refusal
-decoded_answer bytes = if length bytes == 0 then Err Empty else decode_utf8_answer bytes
+unfoldable pub decoded_answer : Properties → List ℕ → Result (List ℕ) Refusal
+decoded_answer properties bytes = if length bytes == 0 then Err Empty else decode_utf8_answer properties bytes
 
 -- ---- an answer of one text
 

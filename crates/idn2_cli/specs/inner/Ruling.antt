@@ -1,6 +1,7 @@
 -- The table that labels are tested by: none, where the table asks nothing of its labels.
 use Rattle.std.specs.Prelude.{◌≡◌, ◌&&◌, ℕ, nat_le, Bool, true, false, List, length, take, Option, Some, None, if◌then◌else◌}
 use Rattle.std.specs.Option.{option_map}
+use Rattle.idn_class.specs.declared.properties.Properties.{Properties}
 use Rattle.variant_table.specs.Entries.{TableValue}
 use Rattle.valid_labels.specs.Testing.{SharesKept, Testing}
 use Rattle.valid_labels.specs.Validity.{IsSound}
@@ -28,9 +29,9 @@ KeepsOf label None = Unit {0}
 KeepsOf label (Some test) = IsSound test.table × (take (length test.kept) label ≡ test.kept)
 
 -- what is then asked of labels
-abbrev pub filter_by : Option TableValue → Filter
-filter_by None = registrable_labels
-filter_by (Some table) = ruled_labels table
+abbrev pub filter_by : Properties → Option TableValue → Filter
+filter_by properties None = registrable_labels properties
+filter_by properties (Some table) = ruled_labels properties table
 
 -- a label that may be registered is accepted so
 abbrev pub passes : Option TableValue → List ℕ → Bool

@@ -3,6 +3,7 @@
 ghost use Rattle.std.specs.Prelude.{◌≡◌, ◌≤◌, ℕ, ◌∷◌, [], ◌++◌, List, length, codes, decimal, All, None, Some, IfOk, IfErr, IsOk, OnErr};
 ghost use Rattle.idn_text.specs.Points.{AreScalarValues};
 ghost use Rattle.idn_class.specs.Known.{AreKnown};
+ghost use Rattle.idn_class.specs.declared.properties.Properties.{Properties};
 ghost use Rattle.idn_punycode.specs.Kept.{IsTakenApart};
 ghost use Rattle.idn_label.specs.ALabel.{a_label_of};
 ghost use Rattle.idn_label.specs.FirstFault.{IsRegistrable};
@@ -34,7 +35,7 @@ use crate::output::object::Object;
 use crate::output::stop::Stop;
 use answer_json::{Disposition, Input};
 use arrayvec::{ArrayString, ArrayVec};
-use idn_class::KeptBeginnings;
+use idn_class::{KeptBeginnings, Properties};
 use idn_label::{ALabel, KeptALabel};
 use idn_text::{MAX_LINE_LEN, Refusal, Sink};
 use idn2_options::{Form, Options};
@@ -59,8 +60,8 @@ pub(crate) fn write_block<W: Sink, E: Sink>(
     requires spelled { All AreScalarValues net.now.spelled }
     requires new { (v : List ℕ) → KeepsOf v validity }
     ensures written { Emits console.old console.new
-        (outputs (said_text asked.now.form (asked_line asked.now)) (block_by (filter_by (ruling_in validity.entry)) (field_by dispositions.old) (keeping None options.now) net.now.spelled)) result }
-    ensures begun { StopsForMemory (All NeedsNoMemory (tested_among (filter_by (ruling_in validity.entry)).hopeless net.now.spelled options.now.after))
+        (outputs (said_text asked.now.form (asked_line asked.now)) (block_by (filter_by options.now.properties (ruling_in validity.entry)) (field_by dispositions.old) (keeping None options.now) net.now.spelled)) result }
+    ensures begun { StopsForMemory (All NeedsNoMemory (tested_among (filter_by options.now.properties (ruling_in validity.entry)).hopeless net.now.spelled options.now.after))
         console.old console.new result }
 {
     let mut cursor = Cursor::new(alloc, net, &options.after)?;
@@ -69,6 +70,7 @@ pub(crate) fn write_block<W: Sink, E: Sink>(
         test: KeptALabel::new(),
         line: KeptLine::new(),
         validity,
+        properties: options.properties,
     };
     let mut tries = options.tries;
     let mut steps = options.steps;
@@ -111,35 +113,37 @@ struct VariantJudge<'p> {
     test: KeptALabel,
     line: KeptLine,
     validity: Option<ValidityTest<'p>>,
+    properties: Properties,
 }
 
 impl<'p> Judge for VariantJudge<'p> {
-    ghost accepted = { λ judge label. (filter_by (ruling_in judge.validity)).accepts label };
+    ghost accepted = { λ judge label. (filter_by judge.properties (ruling_in judge.validity)).accepts label };
 
-    ghost lost = { λ judge label. (filter_by (ruling_in judge.validity)).hopeless label };
+    ghost lost = { λ judge label. (filter_by judge.properties (ruling_in judge.validity)).hopeless label };
 
     ghost tells = { λ judge label. judge.test.text ≡ a_label_of label };
 
-    ghost keeps = { λ judge label. AreKnown label judge.beginnings × IsTakenApart label judge.test × IsBegun label judge.line × KeepsOf label judge.validity };
+    ghost keeps = { λ judge label. AreKnown judge.properties label judge.beginnings × IsTakenApart label judge.test × IsBegun label judge.line × KeepsOf label judge.validity };
 
     ghost needs_none = { λ _ label. NeedsNoMemory label };
 
-    ghost lost_for_good = { λ judge w z lost. none_accepted (ruling_in judge.validity) w z lost };
+    ghost lost_for_good = { λ judge w z lost. none_accepted judge.properties (ruling_in judge.validity) w z lost };
 
     /// Judges a label. It takes no memory for one of which the test needs none.
     fn judge(&mut self, alloc: Global, label: &[u32], shared: usize) -> Result<Verdict, AllocError>
         requires short { length label.now ≤ 63 }
-        requires kept { IsKeptOf (λ v. AreKnown v self.old.beginnings × IsTakenApart v self.old.test × IsBegun v self.old.line × KeepsOf v self.old.validity) shared label.now }
-        ensures kept { AreKnown label.now self.new.beginnings × IsTakenApart label.now self.new.test × IsBegun label.now self.new.line × KeepsOf label.now self.new.validity }
-        ensures verdict { IfOk result (IsVerdict (filter_by (ruling_in self.old.validity)).accepts (filter_by (ruling_in self.old.validity)).hopeless (λ v. self.new.test.text ≡ a_label_of v) label.now) }
-        ensures memory { OnErr result (shortest_hopeless (filter_by (ruling_in self.old.validity)).hopeless label.now ≡ None) }
+        requires kept { IsKeptOf (λ v. AreKnown self.old.properties v self.old.beginnings × IsTakenApart v self.old.test × IsBegun v self.old.line × KeepsOf v self.old.validity) shared label.now }
+        ensures kept { AreKnown self.new.properties label.now self.new.beginnings × IsTakenApart label.now self.new.test × IsBegun label.now self.new.line × KeepsOf label.now self.new.validity }
+        ensures verdict { IfOk result (IsVerdict (filter_by self.old.properties (ruling_in self.old.validity)).accepts (filter_by self.old.properties (ruling_in self.old.validity)).hopeless (λ v. self.new.test.text ≡ a_label_of v) label.now) }
+        ensures memory { OnErr result (shortest_hopeless (filter_by self.old.properties (ruling_in self.old.validity)).hopeless label.now ≡ None) }
         ensures no_memory { NeedsNoMemory label.now → IsOk result }
         ensures same_ruling { ruling_in self.new.validity ≡ ruling_in self.old.validity }
+        ensures same_properties { self.new.properties ≡ self.old.properties }
     {
         self.beginnings.keep(shared);
         self.test.keep(shared);
         self.line.keep(shared);
-        let hopeless = self.beginnings.shortest_hopeless(label);
+        let hopeless = self.beginnings.shortest_hopeless(label, self.properties);
         let validity = validity_by(&mut self.validity, label, shared);
         if let Some(count) = lesser(hopeless, lost_by(validity)) {
             return Ok(Verdict::Hopeless(count));
@@ -148,7 +152,7 @@ impl<'p> Judge for VariantJudge<'p> {
             return Ok(Verdict::NotAccepted);
         }
         let facts = self.beginnings.facts();
-        match self.test.test_label(alloc, label, facts) {
+        match self.test.test_label(alloc, label, facts, self.properties) {
             Ok(()) => Ok(Verdict::Accepted),
             Err(Refusal::Memory) => Err(AllocError),
             Err(_) => Ok(Verdict::NotAccepted),
@@ -178,7 +182,7 @@ pub(crate) fn write_variant<W: Sink, E: Sink>(
     line: &mut KeptLine,
     console: &mut Console<'_, '_, W, E>,
 ) -> Result<(), Stop>
-    requires registrable { IsRegistrable label.now }
+    requires registrable { (properties : Properties) × IsRegistrable properties label.now }
     requires a_label { a_label.now.bytes ≡ a_label_of label.now }
     requires begun { IsBegun label.now line.old }
     ensures begun { IsBegun label.now line.new }
@@ -205,7 +209,7 @@ fn write_variant_line<W: Sink, E: Sink>(
     line: &mut KeptLine,
     console: &mut Console<'_, '_, W, E>,
 ) -> Result<(), Stop>
-    requires registrable { IsRegistrable label.now }
+    requires registrable { (properties : Properties) × IsRegistrable properties label.now }
     requires a_label { a_label.now.bytes ≡ a_label_of label.now }
     requires begun { IsBegun label.now line.old }
     ensures begun { IsBegun label.now line.new }

@@ -2,6 +2,7 @@
 
 ghost use Rattle.std.specs.Prelude.{◌≡◌, ◌≤◌, ℕ, List, Some, All, Err, length};
 ghost use Rattle.idn_text.specs.Points.{AreScalarValues};
+ghost use Rattle.registered_labels.specs.Registered.{AreRegistered};
 ghost use Rattle.idn2_options.specs.Settings.{IsWithinLimits, keeping};
 ghost use Rattle.idn2_cli.specs.Said.{said_text};
 ghost use Rattle.idn2_cli.specs.Transcript.{outputs};
@@ -42,9 +43,10 @@ pub(crate) fn write_collisions<W: Sink, E: Sink>(
     requires few { length asked.now.text.now ≤ MAX_LINE_LEN }
     requires limits { IsWithinLimits options.now }
     requires spelled { All AreScalarValues net.now.spelled }
+    requires all { AreRegistered options.now.properties registered.now }
     requires new { (v : List ℕ) → KeepsOf v validity.old }
     ensures written { Emits console.old console.new
-        (outputs (said_text asked.now.form (asked_line asked.now)) (block_by (filter_by (ruling_in validity.old)) (field_by dispositions.old) (keeping (Some registered.now) options.now) net.now.spelled)) result }
+        (outputs (said_text asked.now.form (asked_line asked.now)) (block_by (filter_by options.now.properties (ruling_in validity.old)) (field_by dispositions.old) (keeping (Some registered.now) options.now) net.now.spelled)) result }
     ensures begun { result ≡ Err stop.Memory → console.new ≡ console.old }
 {
     // How many there are is more than the count ever is.
@@ -59,7 +61,7 @@ pub(crate) fn write_collisions<W: Sink, E: Sink>(
         if !is_valid_by(validity, label, shared) {
             continue;
         }
-        let a_label = encode_label(label);
+        let a_label = encode_label(label, options.properties);
         let disposition = dispositions.of_variant(label);
         write_variant(asked, label, &a_label, disposition, &mut line, console)?;
         count += 1;

@@ -13,16 +13,19 @@ use crate::modes::answering::{Answering, Kind, Served, answered, refused, reply}
 use crate::output::asked::Asked;
 use crate::output::buffers::{Buffers, MAX_ANSWER_LEN};
 use crate::output::console::Console;
+use idn_class::Properties;
 use idn_label::{DecodedLabel, decode_utf8};
 use idn_text::{MAX_LINE_LEN, Refusal, Sink};
 use std::alloc::Global;
 
 /// Decoding (RFC 5891 section 5.3).
 #[derive(Clone, Copy)]
-pub(crate) struct Decode;
+pub(crate) struct Decode {
+    pub properties: Properties,
+}
 
 impl Answering for Decode {
-    ghost answer_of = { λ _ name. one_answer Decoded (in_utf8 (decode_answer name)) };
+    ghost answer_of = { λ mode name. one_answer Decoded (in_utf8 (decode_answer mode.properties name)) };
 
     ghost needs_none = { λ _ name. DecodesLineWithoutMemory name };
 
@@ -35,7 +38,13 @@ impl Answering for Decode {
         buffers: &mut Buffers,
         console: &mut Console<'_, '_, W, E>,
     ) -> Served {
-        match fill_line(alloc, asked.text, &mut buffers.u_label, &mut buffers.answer) {
+        match fill_line(
+            alloc,
+            asked.text,
+            &mut buffers.u_label,
+            &mut buffers.answer,
+            self.properties,
+        ) {
             Ok(len) => {
                 let line = &buffers.answer[..len];
                 answered(reply(asked, Kind::Decoded, line, console))
@@ -54,10 +63,11 @@ fn fill_line(
     name: &[u8],
     u_label: &mut DecodedLabel,
     line: &mut [u8],
+    properties: Properties,
 ) -> Result<usize, Refusal>
     requires short { length name.now ≤ MAX_LINE_LEN }
     requires room { length line.old ≡ MAX_ANSWER_LEN }
-    ensures answer { Gives (λ len. take len line.new) result (with_feed (decoded_answer name.now)) }
+    ensures answer { Gives (λ len. take len line.new) result (with_feed (decoded_answer properties name.now)) }
     ensures short { IfOk result (λ len. len ≤ MAX_ANSWER_LEN) }
     ensures length { length line.new ≡ MAX_ANSWER_LEN }
     ensures no_memory { DecodesLineWithoutMemory name.now → result ≢ Err Refusal.Memory }
@@ -65,7 +75,7 @@ fn fill_line(
     if name.is_empty() {
         return Err(Refusal::Empty);
     }
-    let len = decode_utf8(alloc, name, u_label, line)?;
+    let len = decode_utf8(alloc, name, u_label, line, properties)?;
     line[len] = b'\n';
     Ok(len + 1)
 }

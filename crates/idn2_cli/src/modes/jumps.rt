@@ -28,7 +28,8 @@ use crate::output::object::Object;
 use crate::output::stop::Stop;
 use crate::request::{label_of_request, parts_of};
 use answer_json::Input;
-use idn_label::test_label;
+use idn_class::Properties;
+use idn_label::test_label_by;
 use idn_text::{MAX_LINE_LEN, Sink};
 use idn2_options::Form;
 use std::alloc::Global;
@@ -41,16 +42,17 @@ use variant_table::Table;
 pub(crate) struct Jumps<'t, 'p> {
     pub table: &'t Table,
     pub ruling: &'p Option<Pieces<'t>>,
+    pub properties: Properties,
 }
 
 impl<'t, 'p> PointAnswering for Jumps<'t, 'p> {
-    ghost answer_of = { λ mode line. jump_answer mode.table.now line };
+    ghost answer_of = { λ mode line. jump_answer mode.properties mode.table.now line };
 
     ghost is_ready = { λ mode. IsSound mode.table.now × (mode.ruling.now ≡ ruling_of mode.table.now) };
 
     ghost reads_table = { λ _. true };
 
-    ghost needs_none = { λ _ line. IsRefusedWithoutMemory (requested_label line) };
+    ghost needs_none = { λ mode line. IsRefusedWithoutMemory mode.properties (requested_label line) };
 
     fn answer_points<W: Sink, E: Sink>(
         &self,
@@ -59,7 +61,7 @@ impl<'t, 'p> PointAnswering for Jumps<'t, 'p> {
         points: &[u32],
         console: &mut Console<'_, '_, W, E>,
     ) -> Served {
-        match test_label(alloc, label_of_request(points)) {
+        match test_label_by(alloc, label_of_request(points), self.properties) {
             Ok(_) => answer_least(alloc, self, asked, points, console),
             Err(refusal) => refused(refusal),
         }
@@ -78,7 +80,7 @@ fn answer_least<W: Sink, E: Sink>(
     requires ruling { mode.now.ruling.now ≡ ruling_of mode.now.table.now }
     requires few { length asked.now.text.now ≤ MAX_LINE_LEN }
     requires scalar_values { AreScalarValues points.now }
-    requires registrable { IsRegistrable (requested_label points.now) }
+    requires registrable { IsRegistrable mode.now.properties (requested_label points.now) }
     ensures written { Emits console.old console.new
         (reply_pieces asked.now.form (asked_line asked.now) (least_answer mode.now.table.now (requested_label points.now) (requested_text points.now))) (result_of result) }
     ensures refused { IfOk (result_of result) (λ refusal. refusal ≡ refusal_in (least_answer mode.now.table.now (requested_label points.now) (requested_text points.now))) }

@@ -1,9 +1,10 @@
 //! The variants of a label under a table, all of them or those that are registered.
 
-ghost use Rattle.std.specs.Prelude.{◌≡◌, ◌≤◌, ℕ, List, true, All, IfOk, length};
+ghost use Rattle.std.specs.Prelude.{◌≡◌, ◌≤◌, ℕ, List, true, All, IfOk, IfSome, length};
 ghost use Rattle.idn_text.specs.Points.{AreScalarValues};
 ghost use Rattle.idn_label.specs.FirstFault.{IsRegistrable};
 ghost use Rattle.idn_label.specs.Memory.{NeedsNoMemory};
+ghost use Rattle.registered_labels.specs.Registered.{AreRegistered};
 ghost use Rattle.valid_labels.specs.Validity.{IsSound};
 ghost use Rattle.variant_list.specs.Spelled.{spelled};
 ghost use Rattle.std.specs.Option.{option_copied};
@@ -29,7 +30,7 @@ use crate::modes::dispositions::Dispositions;
 use crate::output::asked::Asked;
 use crate::output::console::Console;
 use crate::output::stop::Stop;
-use idn_label::test_label;
+use idn_label::test_label_by;
 use idn_text::{MAX_LINE_LEN, Sink};
 use idn2_options::Options;
 use registered_labels::RegisteredLabels;
@@ -53,13 +54,14 @@ impl<'t, 'p, 'r, 'b> PointAnswering for Variants<'t, 'p, 'r, 'b> {
     ghost answer_of = { λ mode label. variants_answer (keeping (option_copied mode.registered) mode.options.now) mode.table.now label };
 
     ghost is_ready = { λ mode. IsWithinLimits mode.options.now × IsSound mode.table.now
-        × (mode.ruling.now ≡ ruling_of mode.table.now) × AreOfTable mode.table.now mode.dispositions.now };
+        × (mode.ruling.now ≡ ruling_of mode.table.now) × AreOfTable mode.table.now mode.dispositions.now
+        × IfSome (option_copied mode.registered) (AreRegistered mode.options.now.properties) };
 
     ghost reads_table = { λ _. true };
 
-    ghost needs_none = { λ _ label. IsRefusedWithoutMemory label };
+    ghost needs_none = { λ mode label. IsRefusedWithoutMemory mode.options.now.properties label };
 
-    ghost goes_on = { λ mode label. All NeedsNoMemory (tested_after (filter_of mode.table.now) (keeping (option_copied mode.registered) mode.options.now) (spelled mode.table.now label)) };
+    ghost goes_on = { λ mode label. All NeedsNoMemory (tested_after (filter_of mode.options.now.properties mode.table.now) (keeping (option_copied mode.registered) mode.options.now) (spelled mode.table.now label)) };
 
     fn answer_points<W: Sink, E: Sink>(
         &self,
@@ -68,7 +70,8 @@ impl<'t, 'p, 'r, 'b> PointAnswering for Variants<'t, 'p, 'r, 'b> {
         points: &[u32],
         console: &mut Console<'_, '_, W, E>,
     ) -> Served {
-        match test_label(alloc, points) {
+        let options = self.options;
+        match test_label_by(alloc, points, options.properties) {
             Ok(_) => list(alloc, self, asked, points, console),
             Err(refusal) => refused(refusal),
         }
@@ -89,10 +92,11 @@ fn write_block_or_collisions<W: Sink, E: Sink>(
     requires limits { IsWithinLimits mode.now.options.now }
     requires spelled { All AreScalarValues net.now.spelled }
     requires new { (v : List ℕ) → KeepsOf v validity }
+    requires registered { IfSome (option_copied mode.now.registered) (AreRegistered mode.now.options.now.properties) }
     ensures written { Emits console.old console.new
-        (outputs (said_text asked.now.form (asked_line asked.now)) (block_by (filter_by (ruling_in validity.entry)) (field_by dispositions.old) (keeping (option_copied mode.now.registered) mode.now.options.now) net.now.spelled)) result }
+        (outputs (said_text asked.now.form (asked_line asked.now)) (block_by (filter_by mode.now.options.now.properties (ruling_in validity.entry)) (field_by dispositions.old) (keeping (option_copied mode.now.registered) mode.now.options.now) net.now.spelled)) result }
     ensures begun { StopsForMemory
-        (All NeedsNoMemory (tested_after (filter_by (ruling_in validity.entry)) (keeping (option_copied mode.now.registered) mode.now.options.now) net.now.spelled))
+        (All NeedsNoMemory (tested_after (filter_by mode.now.options.now.properties (ruling_in validity.entry)) (keeping (option_copied mode.now.registered) mode.now.options.now) net.now.spelled))
         console.old console.new result }
 {
     match mode.registered {
@@ -132,9 +136,10 @@ fn list<W: Sink, E: Sink>(
     requires sound { IsSound mode.now.table.now }
     requires ruling { mode.now.ruling.now ≡ ruling_of mode.now.table.now }
     requires dispositions { AreOfTable mode.now.table.now mode.now.dispositions.now }
+    requires registered { IfSome (option_copied mode.now.registered) (AreRegistered mode.now.options.now.properties) }
     requires few { length asked.now.text.now ≤ MAX_LINE_LEN }
     requires scalar_values { AreScalarValues label.now }
-    requires registrable { IsRegistrable label.now }
+    requires registrable { IsRegistrable mode.now.options.now.properties label.now }
     ensures written { Emits console.old console.new
         (reply_pieces asked.now.form (asked_line asked.now)
         (listing_answer (keeping (option_copied mode.now.registered) mode.now.options.now) mode.now.table.now label.now)) (result_of result) }
@@ -142,7 +147,7 @@ fn list<W: Sink, E: Sink>(
         (λ refusal. refusal ≡ refusal_in (listing_answer (keeping (option_copied mode.now.registered) mode.now.options.now) mode.now.table.now label.now)) }
     ensures kept { KeepsIfRefused console.old console.new (result_of result) }
     ensures begun { StopsForMemory
-        (All NeedsNoMemory (tested_after (filter_of mode.now.table.now) (keeping (option_copied mode.now.registered) mode.now.options.now) (spelled mode.now.table.now label.now)))
+        (All NeedsNoMemory (tested_after (filter_of mode.now.options.now.properties mode.now.table.now) (keeping (option_copied mode.now.registered) mode.now.options.now) (spelled mode.now.table.now label.now)))
         console.old console.new (result_of result) }
 {
     let Ok(mut validity) = validity_test_by(alloc, mode.ruling) else {

@@ -1,12 +1,14 @@
 //! The cause that is told of a refused line. It is looked for only once the line is refused, and only if causes are wanted.
-ghost use Rattle.std.specs.Prelude.{◌≡◌, ◌≤◌, ℕ, List, IfOk, None, length, option_map};
+ghost use Rattle.std.specs.Prelude.{◌≡◌, ◌≢◌, ◌≤◌, false, ℕ, List, IfOk, None, length, option_map};
 ghost use Rattle.std.specs.Option.{option_copied};
 ghost use Rattle.std.specs.Result.{IsOk};
 ghost use Rattle.idn_text.specs.Points.{AreScalarValues, IsUtf8Of, utf8_of};
 ghost use Rattle.ruleset_text.specs.Definitions.{rule_name};
 ghost use Rattle.answer_json.specs.Details.{given_len};
 ghost use Rattle.idn_cause.specs.NameCauses.{name_cause, query_cause};
-ghost use Rattle.idn2_cli.specs.Explained.{bad_byte, body_cause, if_wanted, not_in_table_cause, points_cause, registration_cause, table_cause, text_cause, unless_unexplained};
+ghost use Rattle.idna.specs.Validity.{has_ace_prefix};
+ghost use Rattle.idn_cause.specs.Causes.{IsFoundWithoutMemory};
+ghost use Rattle.idn2_cli.specs.Explained.{BodyCauseNeedsNone, PointsCauseNeedsNone, TableCauseNeedsNone, TextCauseNeedsNone, bad_byte, body_cause, if_wanted, not_in_table_cause, points_cause, registration_cause, table_cause, text_cause, unless_unexplained};
 ghost use Rattle.idn2_cli.specs.Explained.{invalid_cause as invalid_cause_of, validity_cause as validity_cause_of};
 ghost use Rattle.idn2_cli.specs.inner.Explaining.{explained_by};
 
@@ -16,7 +18,7 @@ use arrayvec::ArrayVec;
 use idn_cause::{
     ALabelCause, Cause, LengthCause, NameCause, a_label_cause, cause_of, name_cause, query_cause,
 };
-use idn_class::MAX_LABEL_LEN;
+use idn_class::{MAX_LABEL_LEN, Properties};
 use idn_label::{code_point_at, has_ace_prefix};
 use idn_text::{MAX_LINE_LEN, Refusal, decode_points, write_points};
 use label_patterns::ConditionKind;
@@ -27,23 +29,23 @@ use table_cause::FaultPlace;
 use valid_labels::{ValidityCause, furthest, invalid_cause};
 use variant_table::Table;
 
-/// How a mode explains what it refuses.
+/// How a mode explains what it refuses, and by whose properties.
 #[derive(Clone, Copy)]
 pub(crate) enum Explaining<'t> {
     /// Not at all.
     Nothing,
     /// By a label, or by what it stands for.
-    Label,
+    Label(Properties),
     /// By a name whose A-labels are decoded.
-    Name,
+    Name(Properties),
     /// By a name that is looked up, with UseSTD3ASCIIRules or without.
     Query(bool),
     /// By a label, and how far sources of this table reach in it.
-    Table(&'t Table),
+    Table(Properties, &'t Table),
     /// By the label of a request, and how far sources of this table reach in it.
-    Request(&'t Table),
+    Request(Properties, &'t Table),
     /// By a label as it stands: a line of the file of registered labels.
-    RegisteredLine,
+    RegisteredLine(Properties),
 }
 
 /// A lexeme that is quoted, for whose bytes there is space; nothing where none is.
@@ -76,6 +78,8 @@ pub(crate) enum LineCause {
     Ends(usize),
     /// Where a line of a table has its fault, and the lexeme there, if it is quoted.
     OfTable(FaultPlace, Quoted),
+    /// A byte order mark at the head of a table.
+    ByteOrderMark,
 }
 
 impl<'t> Explaining<'t> {
@@ -98,6 +102,7 @@ pub(crate) fn cause_of_body(
     requires short { given_len (option_copied text) ≤ MAX_LINE_LEN }
     ensures cause { IfOk result (λ cause. cause ≡ body_cause (explained_by explaining.now) (option_copied text.entry) refusal) }
     ensures long { option_copied text.entry ≡ None → IsOk result }
+    ensures no_memory { BodyCauseNeedsNone (explained_by explaining.now) (option_copied text.entry) refusal → IsOk result }
 {
     match text {
         Some(text) => cause_of_text(alloc, text, refusal, explaining),
@@ -115,6 +120,7 @@ fn cause_of_text(
 ) -> Result<Option<LineCause>, AllocError>
     requires short { length text.now ≤ MAX_LINE_LEN }
     ensures cause { IfOk result (λ cause. cause ≡ text_cause (explained_by explaining.now) text.now refusal) }
+    ensures no_memory { TextCauseNeedsNone (explained_by explaining.now) text.now refusal → IsOk result }
 {
     let mut points = ArrayVec::new();
     match decode_points(text, &mut points) {
@@ -158,17 +164,24 @@ fn cause_of_points(
     requires short { length points.now ≤ MAX_LINE_LEN }
     requires scalar_values { AreScalarValues points.now }
     ensures cause { IfOk result (λ cause. cause ≡ points_cause (explained_by explaining.now) points.now refusal) }
+    ensures no_memory { PointsCauseNeedsNone (explained_by explaining.now) points.now refusal → IsOk result }
 {
     match explaining {
         Explaining::Nothing => Ok(None),
-        Explaining::Label => registration_cause(alloc, points, refusal),
-        Explaining::Name => cause_of_name(alloc, points, refusal),
+        Explaining::Label(properties) => {
+            registration_cause(alloc, points, refusal, *properties)
+        },
+        Explaining::Name(properties) => cause_of_name(alloc, points, refusal, *properties),
         Explaining::Query(std3) => cause_of_query(alloc, points, *std3, refusal),
-        Explaining::Table(table) => cause_by_table(alloc, points, refusal, table),
-        Explaining::Request(table) => {
-            cause_by_table(alloc, label_of_request(points), refusal, table)
+        Explaining::Table(properties, table) => {
+            cause_by_table(alloc, points, refusal, *properties, table)
+        },
+        Explaining::Request(properties, table) => {
+            cause_by_table(alloc, label_of_request(points), refusal, *properties, table)
         }
-        Explaining::RegisteredLine => Ok(of_label(cause_of(alloc, points, refusal)?)),
+        Explaining::RegisteredLine(properties) => {
+            Ok(of_label(cause_of(alloc, points, refusal, *properties)?))
+        },
     }
 }
 
@@ -177,18 +190,20 @@ fn registration_cause(
     alloc: Global,
     label: &[u32],
     refusal: Refusal,
+    properties: Properties,
 ) -> Result<Option<LineCause>, AllocError>
     requires short { length label.now ≤ MAX_LINE_LEN }
     requires scalar_values { AreScalarValues label.now }
-    ensures { IfOk result (λ cause. cause ≡ registration_cause label.now refusal) }
+    ensures cause { IfOk result (λ cause. cause ≡ registration_cause properties label.now refusal) }
+    ensures no_memory { has_ace_prefix label.now ≡ false → IsFoundWithoutMemory refusal → IsOk result }
 {
     if has_ace_prefix(label) {
-        return match a_label_cause(alloc, label, refusal)? {
+        return match a_label_cause(alloc, label, refusal, properties)? {
             Some(cause) => Ok(Some(LineCause::OfALabel(cause))),
             None => Ok(None),
         };
     }
-    Ok(of_label(cause_of(alloc, label, refusal)?))
+    Ok(of_label(cause_of(alloc, label, refusal, properties)?))
 }
 
 /// The cause of a label's fault as that of a line.
@@ -206,11 +221,13 @@ fn cause_of_name(
     alloc: Global,
     name: &[u32],
     refusal: Refusal,
+    properties: Properties,
 ) -> Result<Option<LineCause>, AllocError>
     requires { length name.now ≤ MAX_LINE_LEN }
-    ensures { IfOk result (λ cause. cause ≡ option_map LineCause.OfName (name_cause name.now refusal)) }
+    ensures cause { IfOk result (λ cause. cause ≡ option_map LineCause.OfName (name_cause properties name.now refusal)) }
+    ensures no_memory { refusal ≡ Refusal.Empty → IsOk result }
 {
-    match name_cause(alloc, name, refusal)? {
+    match name_cause(alloc, name, refusal, properties)? {
         Some(cause) => Ok(Some(LineCause::OfName(cause))),
         None => Ok(None),
     }
@@ -225,7 +242,8 @@ fn cause_of_query(
 ) -> Result<Option<LineCause>, AllocError>
     requires short { length name.now ≤ MAX_LINE_LEN }
     requires scalar_values { AreScalarValues name.now }
-    ensures { IfOk result (λ cause. cause ≡ option_map LineCause.OfQuery (query_cause (utf8_of name.now) std3 refusal)) }
+    ensures cause { IfOk result (λ cause. cause ≡ option_map LineCause.OfQuery (query_cause (utf8_of name.now) std3 refusal)) }
+    ensures no_memory { refusal ≢ Refusal.LookupLength → IsOk result }
 {
     let mut utf8 = ArrayVec::new();
     write_points(name, &mut utf8);
@@ -241,15 +259,17 @@ fn cause_by_table(
     alloc: Global,
     label: &[u32],
     refusal: Refusal,
+    properties: Properties,
     table: &Table,
 ) -> Result<Option<LineCause>, AllocError>
     requires { AreScalarValues label.now }
-    ensures { IfOk result (λ cause. cause ≡ table_cause table.now label.now refusal) }
+    ensures cause { IfOk result (λ cause. cause ≡ table_cause properties table.now label.now refusal) }
+    ensures no_memory { TableCauseNeedsNone refusal → IsOk result }
 {
     match refusal {
         Refusal::NotInTable => Ok(of_label(not_in_table_cause(label, table))),
         Refusal::NotValid => cause_by_ruleset(alloc, label, table),
-        _ => Ok(of_label(cause_of(alloc, label, refusal)?)),
+        _ => Ok(of_label(cause_of(alloc, label, refusal, properties)?)),
     }
 }
 

@@ -39,6 +39,10 @@ pub(crate) fn push_line_cause(text: &mut ExplainedMessage, refusal: &Refusal, ca
         LineCause::Broken(number, kind) => push_broken(text, *number, *kind),
         LineCause::Ends(place) => push_end(text, *place),
         LineCause::OfTable(place, quoted) => push_fault_place(text, place, quoted),
+        LineCause::ByteOrderMark => {
+            append(text, b"a byte order mark");
+            push_at_byte(text, 0);
+        }
     }
 }
 
@@ -382,6 +386,7 @@ pub(crate) fn name_of_class(class: BidiClass) -> &'static [u8]
         BidiClass::ON => b"ON",
         BidiClass::BN => b"BN",
         BidiClass::NSM => b"NSM",
+        BidiClass::Other => b"-",
     }
 }
 
@@ -407,6 +412,7 @@ fn push_a_label_cause(text: &mut ExplainedMessage, refusal: &Refusal, cause: &AL
             append(text, b"decoded: ");
             push_cause(text, refusal, cause);
         }
+        ALabelCause::Copied(cause) => push_cause(text, refusal, cause),
     }
 }
 

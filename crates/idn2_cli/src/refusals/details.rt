@@ -18,6 +18,9 @@ use table_cause::FaultPlace;
 /// The code point of the hyphen.
 const HYPHEN: u32 = 0x2D;
 
+/// The code point of a byte order mark.
+const BYTE_ORDER_MARK: u32 = 0xFEFF;
+
 /// What the object of a refused line says of the cause, if there is one.
 pub(crate) fn details_of_refusal<'a>(
     refusal: &Refusal,
@@ -67,6 +70,7 @@ fn details_of_line<'a>(refusal: &Refusal, cause: &'a LineCause) -> RefusalMember
             members
         }
         LineCause::OfTable(place, _) => details_of_place(place),
+        LineCause::ByteOrderMark => details_of_place(&FaultPlace::Point(0, BYTE_ORDER_MARK)),
     }
 }
 
@@ -167,6 +171,7 @@ fn details_of_a_label<'a>(refusal: &Refusal, cause: &'a ALabelCause) -> RefusalM
             members.decoded = true;
             members
         }
+        ALabelCause::Copied(cause) => details_of_cause(refusal, cause),
     }
 }
 
@@ -279,5 +284,6 @@ fn rule_of_condition(condition: BidiCondition) -> &'static [u8]
         BidiCondition::RtlEnds => b"RFC 5893 2 condition 3",
         BidiCondition::RtlNumbers => b"RFC 5893 2 condition 4",
         BidiCondition::LtrHolds => b"RFC 5893 2 condition 5",
+        BidiCondition::LtrEnds => b"RFC 5893 2 condition 6",
     }
 }

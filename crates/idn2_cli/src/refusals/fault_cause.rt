@@ -3,11 +3,12 @@ ghost use Rattle.std.specs.Prelude.{◌≡◌, ◌≤◌, [], IfOk, IfSome, drop
 ghost use Rattle.std.specs.List.{list_all};
 ghost use Rattle.std.specs.Option.{option_copied};
 ghost use Rattle.std.specs.Result.{IsOk};
-ghost use Rattle.idn2_cli.specs.TableCauses.{fault_cause, is_visible as is_visible_byte, may_be_quoted as may_be_quoted_text, quoted as quoted_of, quoted_at as quoted_in, told_if};
+ghost use Rattle.idn2_cli.specs.TableCauses.{begins_with_mark, fault_cause, is_syntax_of_first, is_visible as is_visible_byte, may_be_quoted as may_be_quoted_text, quoted as quoted_of, quoted_at as quoted_in, told_if};
 ghost use Rattle.idn2_cli.specs.inner.CauseRoom.{cause_room};
 
 use crate::output::buffers::append;
 use crate::refusals::cause::{LineCause, Quoted};
+use idn_class::Properties;
 use std::alloc::{AllocError, Global};
 use table_cause::{FaultPlace, fault_place, faulty_line};
 use variant_table::{Notation, TableFault};
@@ -22,13 +23,14 @@ pub(crate) fn fault_cause_if_wanted(
     notation: Notation,
     text: &[u8],
     fault: TableFault,
+    properties: Properties,
 ) -> Result<Option<LineCause>, AllocError>
-    ensures cause { IfOk result (λ cause. cause ≡ told_if wanted (fault_cause notation text.now fault)) }
+    ensures cause { IfOk result (λ cause. cause ≡ told_if wanted (fault_cause properties notation text.now fault)) }
     ensures unwanted { wanted ≡ false → IsOk result }
     ensures short { IfOk result (λ cause. IfSome cause (λ cause. cause_room cause ≤ 72)) }
 {
     if wanted {
-        cause_of_fault(alloc, notation, text, fault)
+        cause_of_fault(alloc, notation, text, fault, properties)
     } else {
         Ok(None)
     }
@@ -40,16 +42,37 @@ fn cause_of_fault(
     notation: Notation,
     text: &[u8],
     fault: TableFault,
+    properties: Properties,
 ) -> Result<Option<LineCause>, AllocError>
-    ensures cause { IfOk result (λ cause. cause ≡ fault_cause notation text.now fault) }
+    ensures cause { IfOk result (λ cause. cause ≡ fault_cause properties notation text.now fault) }
     ensures short { IfOk result (λ cause. IfSome cause (λ cause. cause_room cause ≤ 72)) }
 {
-    match fault_place(alloc, notation, text, fault)? {
+    if begins_with_mark(text) && is_syntax_of_first(fault) {
+        return Ok(Some(LineCause::ByteOrderMark));
+    }
+    match fault_place(alloc, notation, text, fault, properties)? {
         Some(place) => {
             let quoted = quoted_at(faulty_line(text, fault), place);
             Ok(Some(LineCause::OfTable(place, quoted)))
         }
         None => Ok(None),
+    }
+}
+
+/// Whether a byte order mark stands at the head of a text.
+fn begins_with_mark(text: &[u8]) -> bool
+    ensures { result ≡ begins_with_mark text.now }
+{
+    text.starts_with(b"\xEF\xBB\xBF")
+}
+
+/// Whether the fault is that the first line can't be read.
+fn is_syntax_of_first(fault: TableFault) -> bool
+    ensures { result ≡ is_syntax_of_first fault }
+{
+    match fault {
+        TableFault::Syntax { line } => line == 1,
+        _ => false,
     }
 }
 

@@ -5,7 +5,7 @@ ghost use Rattle.idn_text.specs.Reading.{line_at};
 ghost use Rattle.answer_json.specs.Details.{given_len};
 ghost use Rattle.answer_json.specs.Inputs.{told, told_len, told_of};
 ghost use Rattle.idn2_cli.specs.CauseTexts.{tail_text};
-ghost use Rattle.idn2_cli.specs.Explained.{Unexplained, body_cause};
+ghost use Rattle.idn2_cli.specs.Explained.{BodyCauseNeedsNone, body_cause};
 ghost use Rattle.idn2_cli.specs.Transcript.{Message, Output, Refuses, piece_in, pieces_for, refused_message, refused_object};
 ghost use Rattle.idn2_cli.specs.inner.Emitting.{Emits};
 ghost use Rattle.idn2_cli.specs.inner.Explaining.{explained_by};
@@ -22,7 +22,7 @@ use idn_text::{Lines, MAX_LINE_LEN, Refusal, Sink, Source};
 use idn2_options::Form;
 use std::alloc::Global;
 
-/// Reports why the line that the input went on to is refused. A cause may take memory, but that of a line that is too long.
+/// Reports why the line that the input went on to is refused. Some causes take memory.
 // Most lines are not refused.
 #[cold]
 #[inline(never)]
@@ -36,7 +36,7 @@ pub(crate) fn refuse<R: Source, W: Sink, E: Sink>(
 ) -> Result<(), Stop>
     requires { (line_at input.now).number ≤ 2 ^ 32 }
     ensures told { Emits console.old console.new (pieces_for form (explained_by explaining.now) (line_at input.now) (Err refusal)) result }
-    ensures unexplained { explained_by explaining.now ≡ Unexplained → IfErr result (λ why. why ≢ stop.Memory) }
+    ensures no_memory { BodyCauseNeedsNone (explained_by explaining.now) (line_at input.now).body refusal → IfErr result (λ why. why ≢ stop.Memory) }
     ensures long { (line_at input.now).body ≡ None → IfErr result (λ why. why ≢ stop.Memory) }
     ensures begun { result ≡ Err stop.Memory → console.new ≡ console.old }
 {
@@ -67,6 +67,7 @@ fn explain<W: Sink, E: Sink>(
     requires number { number ≤ 2 ^ 32 }
     ensures told { Emits console.old console.new
         (piece_in form (Refuses (record { number = number; body = option_copied text.entry }) refusal (body_cause (explained_by explaining.now) (option_copied text.entry) refusal)) ∷ []) result }
+    ensures no_memory { BodyCauseNeedsNone (explained_by explaining.now) (option_copied text.entry) refusal → IfErr result (λ why. why ≢ stop.Memory) }
     ensures long { option_copied text.entry ≡ None → IfErr result (λ why. why ≢ stop.Memory) }
     ensures begun { result ≡ Err stop.Memory → console.new ≡ console.old }
 {

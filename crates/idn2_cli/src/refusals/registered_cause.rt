@@ -10,7 +10,7 @@ ghost use Rattle.idn2_cli.specs.WrongLines.{MayTakeMemory, body_at, order_cause,
 use crate::refusals::cause::{Explaining, LineCause, cause_of_body};
 use arrayvec::ArrayVec;
 use idn_cause::Cause;
-use idn_class::shared_len;
+use idn_class::{Properties, shared_len};
 use idn_text::{MAX_LINE_LEN, Refusal, TextLines, decode_points, without_carriage_return};
 use std::alloc::{AllocError, Global};
 
@@ -21,14 +21,15 @@ pub(crate) fn cause_if_wanted(
     text: &[u8],
     number: u64,
     refusal: Refusal,
+    properties: Properties,
 ) -> Result<Option<LineCause>, AllocError>
-    ensures cause { IfOk result (λ cause. cause ≡ told_of_wrong_line wanted text.now number refusal) }
+    ensures cause { IfOk result (λ cause. cause ≡ told_of_wrong_line properties wanted text.now number refusal) }
     ensures unwanted { wanted ≡ false → IsOk result }
     ensures short { IfOk result (λ cause. IfSome cause (λ cause. cause_room cause ≤ 72)) }
     ensures memory { OnErr result (MayTakeMemory text.now number refusal) }
 {
     if wanted {
-        cause_of_wrong_line(alloc, text, number, refusal)
+        cause_of_wrong_line(alloc, text, number, refusal, properties)
     } else {
         Ok(None)
     }
@@ -41,8 +42,9 @@ fn cause_of_wrong_line(
     text: &[u8],
     number: u64,
     refusal: Refusal,
+    properties: Properties,
 ) -> Result<Option<LineCause>, AllocError>
-    ensures cause { IfOk result (λ cause. cause ≡ wrong_line_cause text.now number refusal) }
+    ensures cause { IfOk result (λ cause. cause ≡ wrong_line_cause properties text.now number refusal) }
     ensures short { IfOk result (λ cause. IfSome cause (λ cause. cause_room cause ≤ 72)) }
     ensures memory { OnErr result (MayTakeMemory text.now number refusal) }
 {
@@ -53,7 +55,7 @@ fn cause_of_wrong_line(
             alloc,
             body_at(text, number),
             refusal,
-            &Explaining::RegisteredLine,
+            &Explaining::RegisteredLine(properties),
         ),
     }
 }

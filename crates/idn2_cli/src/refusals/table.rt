@@ -19,6 +19,7 @@ use crate::refusals::cause::LineCause;
 use crate::refusals::details::details_of_refusal;
 use crate::refusals::fault_cause::fault_cause_if_wanted;
 use crate::refusals::message::{explained_message, table_message};
+use idn_class::Properties;
 use idn_text::{Refusal, Sink};
 use idn2_options::Form;
 use std::alloc::Global;
@@ -33,16 +34,17 @@ pub(crate) fn refuse_table<W: Sink, E: Sink>(
     notation: Notation,
     text: &[u8],
     fault: TableFault,
+    properties: Properties,
     console: &mut Console<'_, '_, W, E>,
 ) -> Result<Status, Stop>
     ensures told { MatchOption (told_of fault) ((result ≡ Err stop.Memory) × (console.new ≡ console.old))
-        (λ told. Emits console.old console.new (check_pieces form wanted (Err (told.0, told.1, fault_cause notation text.now fault))) result) }
+        (λ told. Emits console.old console.new (check_pieces form wanted (Err (told.0, told.1, fault_cause properties notation text.now fault))) result) }
     ensures status { IfOk result (λ status. status ≡ statuses.Unusable) }
 {
     let Some((line, refusal)) = told_of(fault) else {
         return Err(Stop::Memory);
     };
-    let cause = fault_cause_if_wanted(alloc, wanted, notation, text, fault)?;
+    let cause = fault_cause_if_wanted(alloc, wanted, notation, text, fault, properties)?;
     write_fault(form, line, refusal, cause.as_ref(), console)?;
     Ok(Status::Unusable)
 }

@@ -55,7 +55,14 @@ pub fn report_registered<W: Sink, E: Sink>(
     match fault {
         RegisteredFileFault::Memory => report(&Refusal::Memory, err),
         RegisteredFileFault::Refused { line, refusal } => {
-            match cause_if_wanted(alloc, options.tells_causes(), text, *line, *refusal) {
+            match cause_if_wanted(
+                alloc,
+                options.tells_causes(),
+                text,
+                *line,
+                *refusal,
+                options.properties,
+            ) {
                 Ok(cause) => tell_wrong_line(
                     options.form,
                     *line,

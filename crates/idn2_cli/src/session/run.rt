@@ -1,9 +1,10 @@
 //! A whole run.
 
-ghost use Rattle.std.specs.Prelude.{◌≡◌, ℕ, List, IfOk};
+ghost use Rattle.std.specs.Prelude.{◌≡◌, ℕ, List, IfOk, IfSome};
 ghost use Rattle.std.specs.Option.{option_copied};
 ghost use Rattle.idn_text.specs.Reading.{IsUnread};
 ghost use Rattle.idn_label.specs.FirstFault.{IsRegistrable};
+ghost use Rattle.registered_labels.specs.Registered.{AreRegistered};
 ghost use Rattle.variant_table.specs.Entries.{TableValue};
 ghost use Rattle.idn2_options.specs.Settings.{IsWithinLimits, keeping};
 ghost use Rattle.idn2_cli.specs.Answers.{jump_answer, requested_label, variants_answer, IsJumpAnswer, IsListing};
@@ -25,6 +26,7 @@ use crate::refusals::table::refuse_table;
 use crate::session::lines::serve_lines;
 use crate::session::report::report;
 use answer_json::MAX_OBJECT_LEN;
+use idn_class::Properties;
 use idn_text::{Lines, Sink, Source};
 use idn2_options::{Form, Mode, Options};
 use registered_labels::RegisteredLabels;
@@ -45,18 +47,18 @@ pub fn run<R: Source, W: Sink, E: Sink>(
 ) -> Status
     requires limits { IsWithinLimits options.now }
     requires unread { IsUnread input.old }
-    ensures ends { (given : TableGiven) × IsTableOf options.now.mode options.now.notation table.now given
+    ensures ends { (given : TableGiven) × IsTableOf options.now.properties options.now.mode options.now.notation table.now given
         × Ends (mode_job options.now given) input.old input.new
         (held (W.state out.old) (E.state err.old)) (held (W.state out.new) (E.state err.new)) result }
     // The theorem of a listing: these bytes of this output are the lines of these labels.
-    ensures headline { (given : TableValue) → options.now.mode ≡ modes.Variants → IsReadAs options.now.notation table.now (Ok given) →
+    ensures headline { (given : TableValue) → options.now.mode ≡ modes.Variants → IsReadAs options.now.properties options.now.notation table.now (Ok given) →
         PrintsListings options.now given input.old input.new (W.state out.old).contents (W.state out.new).contents result }
     // What the transcript has for a label that may be registered, for a request, and for the check of a table.
-    ensures listing { (given : TableValue) (label : List ℕ) → IsReadAs options.now.notation table.now (Ok given) → IsRegistrable label →
+    ensures listing { (given : TableValue) (label : List ℕ) → IsReadAs options.now.properties options.now.notation table.now (Ok given) → IsRegistrable options.now.properties label →
         IsListing options.now given label (variants_answer options.now given label) }
-    ensures jump { (given : TableValue) (request : List ℕ) → IsReadAs options.now.notation table.now (Ok given) → IsRegistrable (requested_label request) →
-        IsJumpAnswer given request (jump_answer given request) }
-    ensures check { (given : TableValue) → IsReadAs options.now.notation table.now (Ok given) → IsCheck given.entries (check_findings given.entries) }
+    ensures jump { (given : TableValue) (request : List ℕ) → IsReadAs options.now.properties options.now.notation table.now (Ok given) → IsRegistrable options.now.properties (requested_label request) →
+        IsJumpAnswer given request (jump_answer options.now.properties given request) }
+    ensures check { (given : TableValue) → IsReadAs options.now.properties options.now.notation table.now (Ok given) → IsCheck given.entries (check_findings given.entries) }
 {
     // Only for the proof: where a field is read, it is known what contracts see of the options: no registered labels.
     let _ = &options.mode;
@@ -75,16 +77,20 @@ pub fn run_among<R: Source, W: Sink, E: Sink>(
     err: &mut E,
 ) -> Status
     requires limits { IsWithinLimits options.now }
+    requires registered { IfSome (option_copied registered) (AreRegistered options.now.properties) }
     requires unread { IsUnread input.old }
-    ensures ends { (given : TableGiven) × IsTableOf options.now.mode options.now.notation table.now given
+    ensures ends { (given : TableGiven) × IsTableOf options.now.properties options.now.mode options.now.notation table.now given
         × Ends (mode_job (keeping (option_copied registered.entry) options.now) given) input.old input.new
         (held (W.state out.old) (E.state err.old)) (held (W.state out.new) (E.state err.new)) result }
-    ensures headline { (given : TableValue) → options.now.mode ≡ modes.Variants → IsReadAs options.now.notation table.now (Ok given) →
+    ensures headline { (given : TableValue) → options.now.mode ≡ modes.Variants → IsReadAs options.now.properties options.now.notation table.now (Ok given) →
         PrintsListings (keeping (option_copied registered.entry) options.now) given input.old input.new
         (W.state out.old).contents (W.state out.new).contents result }
-    ensures listing { (given : TableValue) (label : List ℕ) → IsReadAs options.now.notation table.now (Ok given) → IsRegistrable label →
+    ensures listing { (given : TableValue) (label : List ℕ) → IsReadAs options.now.properties options.now.notation table.now (Ok given) → IsRegistrable options.now.properties label →
         IsListing (keeping (option_copied registered.entry) options.now) given label
         (variants_answer (keeping (option_copied registered.entry) options.now) given label) }
+    ensures jump { (given : TableValue) (request : List ℕ) → IsReadAs options.now.properties options.now.notation table.now (Ok given) → IsRegistrable options.now.properties (requested_label request) →
+        IsJumpAnswer given request (jump_answer options.now.properties given request) }
+    ensures check { (given : TableValue) → IsReadAs options.now.properties options.now.notation table.now (Ok given) → IsCheck given.entries (check_findings given.entries) }
 {
     let mut console = Console {
         output: out,
@@ -107,8 +113,9 @@ fn serve<R: Source, W: Sink, E: Sink>(
     console: &mut Console<'_, '_, W, E>,
 ) -> Status
     requires limits { IsWithinLimits options.now }
+    requires registered { IfSome (option_copied registered) (AreRegistered options.now.properties) }
     requires unread { IsUnread input.old }
-    ensures { (given : TableGiven) × IsTableOf options.now.mode options.now.notation table.now given
+    ensures { (given : TableGiven) × IsTableOf options.now.properties options.now.mode options.now.notation table.now given
         × Ends (mode_job (keeping (option_copied registered.entry) options.now) given) input.old input.new console.old console.new result }
 {
     match serve_mode(alloc, options, table, registered, input, console) {
@@ -127,8 +134,9 @@ fn serve_mode<R: Source, W: Sink, E: Sink>(
     console: &mut Console<'_, '_, W, E>,
 ) -> Result<Status, Stop>
     requires limits { IsWithinLimits options.now }
+    requires registered { IfSome (option_copied registered) (AreRegistered options.now.properties) }
     requires unread { IsUnread input.old }
-    ensures { (given : TableGiven) × IsTableOf options.now.mode options.now.notation table.now given
+    ensures { (given : TableGiven) × IsTableOf options.now.properties options.now.mode options.now.notation table.now given
         × Does (mode_job (keeping (option_copied registered.entry) options.now) given) input.old input.new console.old console.new result }
 {
     match options.mode {
@@ -138,12 +146,20 @@ fn serve_mode<R: Source, W: Sink, E: Sink>(
             serve_lines(alloc, options.form, &explaining, &mode, input, console)
         }
         Mode::Register => {
-            let explaining = Explaining::Label.if_wanted(options.tells_causes());
-            serve_lines(alloc, options.form, &explaining, &Register, input, console)
+            let explaining = Explaining::Label(options.properties).if_wanted(
+                options.tells_causes(),
+            );
+            let mode = Register {
+                properties: options.properties,
+            };
+            serve_lines(alloc, options.form, &explaining, &mode, input, console)
         }
         Mode::Decode => {
-            let explaining = Explaining::Name.if_wanted(options.tells_causes());
-            serve_lines(alloc, options.form, &explaining, &Decode, input, console)
+            let explaining = Explaining::Name(options.properties).if_wanted(options.tells_causes());
+            let mode = Decode {
+                properties: options.properties,
+            };
+            serve_lines(alloc, options.form, &explaining, &mode, input, console)
         }
         Mode::Variants => serve_variants(alloc, options, table, registered, input, console),
         Mode::Jump => serve_jumps(alloc, options, table, input, console),
@@ -152,6 +168,7 @@ fn serve_mode<R: Source, W: Sink, E: Sink>(
             options.form,
             options.tells_causes(),
             options.notation,
+            options.properties,
             table,
             console,
         ),
@@ -168,22 +185,23 @@ fn serve_variants<R: Source, W: Sink, E: Sink>(
     console: &mut Console<'_, '_, W, E>,
 ) -> Result<Status, Stop>
     requires limits { IsWithinLimits options.now }
+    requires registered { IfSome (option_copied registered) (AreRegistered options.now.properties) }
     requires mode { options.now.mode ≡ modes.Variants }
     requires unread { IsUnread input.old }
-    ensures { (given : TableGiven) × IsTableOf options.now.mode options.now.notation text.now given
+    ensures { (given : TableGiven) × IsTableOf options.now.properties options.now.mode options.now.notation text.now given
         × Does (mode_job (keeping (option_copied registered.entry) options.now) given) input.old input.new console.old console.new result }
 {
-    let table = match Table::read(alloc, options.notation, text) {
+    let table = match Table::read_by(alloc, options.notation, text, options.properties) {
         Ok(table) => table,
         Err(fault) => {
-            let wanted = options.tells_causes();
             return refuse_table(
                 alloc,
                 options.form,
-                wanted,
+                options.tells_causes(),
                 options.notation,
                 text,
                 fault,
+                options.properties,
                 console,
             );
         }
@@ -196,6 +214,7 @@ fn serve_variants<R: Source, W: Sink, E: Sink>(
             options.notation,
             text,
             TableFault::Memory,
+            options.properties,
             console,
         );
     };
@@ -207,7 +226,9 @@ fn serve_variants<R: Source, W: Sink, E: Sink>(
         options,
         registered,
     };
-    let explaining = Explaining::Table(&table).if_wanted(options.tells_causes());
+    let explaining = Explaining::Table(options.properties, &table).if_wanted(
+        options.tells_causes(),
+    );
     let by_points = ByPoints { mode: &mode };
     serve_lines(alloc, options.form, &explaining, &by_points, input, console)
 }
@@ -222,10 +243,10 @@ fn serve_jumps<R: Source, W: Sink, E: Sink>(
 ) -> Result<Status, Stop>
     requires mode { options.now.mode ≡ modes.Jump }
     requires unread { IsUnread input.old }
-    ensures { (given : TableGiven) × IsTableOf options.now.mode options.now.notation text.now given
+    ensures { (given : TableGiven) × IsTableOf options.now.properties options.now.mode options.now.notation text.now given
         × Does (mode_job options.now given) input.old input.new console.old console.new result }
 {
-    let table = match Table::read(alloc, options.notation, text) {
+    let table = match Table::read_by(alloc, options.notation, text, options.properties) {
         Ok(table) => table,
         Err(fault) => {
             let wanted = options.tells_causes();
@@ -236,6 +257,7 @@ fn serve_jumps<R: Source, W: Sink, E: Sink>(
                 options.notation,
                 text,
                 fault,
+                options.properties,
                 console,
             );
         }
@@ -248,14 +270,18 @@ fn serve_jumps<R: Source, W: Sink, E: Sink>(
             options.notation,
             text,
             TableFault::Memory,
+            options.properties,
             console,
         );
     };
     let mode = Jumps {
         table: &table,
         ruling: &ruling,
+        properties: options.properties,
     };
-    let explaining = Explaining::Request(&table).if_wanted(options.tells_causes());
+    let explaining = Explaining::Request(options.properties, &table).if_wanted(
+        options.tells_causes(),
+    );
     let by_points = ByPoints { mode: &mode };
     serve_lines(alloc, options.form, &explaining, &by_points, input, console)
 }
@@ -266,16 +292,19 @@ fn serve_check<W: Sink, E: Sink>(
     form: Form,
     wanted: bool,
     notation: Notation,
+    properties: Properties,
     text: &[u8],
     console: &mut Console<'_, '_, W, E>,
 ) -> Result<Status, Stop>
-    ensures { (given : TableGiven) × IsReadAs notation text.now given
+    ensures { (given : TableGiven) × IsReadAs properties notation text.now given
         × Emits console.old console.new (check_pieces form wanted given) result
         × IfOk result (λ status. status ≡ check_status given) }
 {
-    match Table::read(alloc, notation, text) {
+    match Table::read_by(alloc, notation, text, properties) {
         Ok(table) => check_table(alloc, form, &table, console),
-        Err(fault) => refuse_table(alloc, form, wanted, notation, text, fault, console),
+        Err(fault) => refuse_table(
+            alloc, form, wanted, notation, text, fault, properties, console,
+        ),
     }
 }
 

@@ -6,7 +6,7 @@ ghost use Rattle.idn2_options.specs.CommandLine.{app, flag_rule, short_flag_rule
 
 use crate::command_line::arguments::{
     AFTER, AMONG, CHECK_RULESET, CHECK_TABLE, DECODE, EXPLAIN, JSON, JUMP, LIMIT, LOOKUP, QUIET,
-    REGISTER, RULESET, STD3, STEPS, STRINGS, TR46NT, TRIES, VARIANTS,
+    REGISTER, RULESET, STANDARD, STD3, STEPS, STRINGS, TR46NT, TRIES, VARIANTS,
 };
 use clap::{Arg, ArgAction, ArgMatches, Command, Error};
 use std::alloc::{AllocError, Global};
@@ -159,6 +159,12 @@ fn with_switches<'a>(command: Command<'a>, alloc: Global) -> Result<Command<'a>,
         alloc,
         STD3,
         "Lookup refuses ASCII but letters, digits, hyphens",
+    )?;
+    let command = with_flag(
+        command,
+        alloc,
+        STANDARD,
+        "Test labels by Unicode's own data, not by lists",
     )?;
     let command = with_flag(
         command,

@@ -2,6 +2,7 @@
 
 use crate::command_line::form::Form;
 use crate::command_line::mode::Mode;
+use idn_class::Properties;
 use std::marker::Model;
 use variant_table::Notation;
 
@@ -14,6 +15,8 @@ pub struct Options {
     /// Lookup refuses ASCII code points other than letters, digits and hyphens (UseSTD3ASCIIRules
     /// of UTS #46). The other modes don't read it.
     pub std3: bool,
+    /// Whose Bidi classes, joining types and viramas labels are tested by. Lookup doesn't read it.
+    pub properties: Properties,
     /// The messages of refused lines go on with the cause: those of the input, and a faulty line of the table or of the
     /// registered labels.
     pub explain: bool,
@@ -48,6 +51,7 @@ impl Model for Options {
     ghost view = { λ o. record {
       mode = o.mode;
       std3 = o.std3;
+      properties = o.properties;
       explain = o.explain;
       form = o.form;
       file = string_bytes o.file;

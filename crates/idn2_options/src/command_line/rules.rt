@@ -1,12 +1,14 @@
 //! The program's own rules on its options, which `clap` does not know.
 ghost use Rattle.std.specs.Prelude.{◌≡◌, count_by, option_map};
 ghost use Rattle.clap.specs.Words.{found_of, rows_of};
+ghost use Rattle.idn2_options.specs.Causes.{broken_rule, listing_option, misfit_of, misfit_of_among, wrong_number};
 ghost use Rattle.idn2_options.specs.Words.{among_of, has_listing_option, listing_options_fit, checked_file, checks, checks_alone, file_of, has_counts, has_short_start, is_allowed, is_bound_if_given, is_count_if_given, jumps_by_table, listing_file, lists, names_one_mode, notation_of, start_of, suits_among};
 
 use crate::command_line::arguments::{
     AFTER, AMONG, CHECK_RULESET, CHECK_TABLE, DECODE, JUMP, LIMIT, LOOKUP, REGISTER, RULESET,
     STEPS, TRIES, VARIANTS, has_flag, has_strings, has_value, value_of,
 };
+use crate::command_line::broken_rule::{BrokenRule, ListingOption};
 use crate::command_line::counts::{count_of, steps_of};
 use clap::ArgMatches;
 use idn_text::MAX_LINE_LEN;
@@ -23,6 +25,89 @@ pub(crate) fn is_allowed(matches: &ArgMatches<'_>) -> bool
         && has_counts(matches)
         && has_short_start(matches)
         && checks_alone(matches)
+}
+
+/// The first rule that is broken.
+pub(crate) fn broken_rule(matches: &ArgMatches<'_>) -> Option<BrokenRule>
+    ensures { result ≡ broken_rule (rows_of (found_of matches.now)) }
+{
+    if !names_one_mode(matches) {
+        return Some(BrokenRule::TwoModes);
+    }
+    if !listing_options_fit(matches) {
+        return Some(misfit_of(matches));
+    }
+    if !jumps_by_table(matches) {
+        return Some(BrokenRule::JumpWithoutTable);
+    }
+    if !suits_among(matches) {
+        return Some(misfit_of_among(matches));
+    }
+    if !has_counts(matches) {
+        return Some(wrong_number(matches));
+    }
+    if !has_short_start(matches) {
+        return Some(BrokenRule::LongStart);
+    }
+    if !checks_alone(matches) {
+        return Some(BrokenRule::CheckedStrings);
+    }
+    None
+}
+
+/// How the options of a listing do not fit, where they do not.
+fn misfit_of(matches: &ArgMatches<'_>) -> BrokenRule
+    ensures { result ≡ misfit_of (rows_of (found_of matches.now)) }
+{
+    let option = listing_option(matches);
+    if lists(matches) {
+        BrokenRule::NotWithJump(option)
+    } else {
+        BrokenRule::GoesWithVariants(option)
+    }
+}
+
+/// The first option of a listing that is given, if one is.
+fn listing_option(matches: &ArgMatches<'_>) -> ListingOption
+    ensures { result ≡ listing_option (rows_of (found_of matches.now)) }
+{
+    if has_value(matches, AFTER) {
+        ListingOption::After
+    } else if has_value(matches, LIMIT) {
+        ListingOption::Limit
+    } else if has_value(matches, TRIES) {
+        ListingOption::Tries
+    } else if has_value(matches, STEPS) {
+        ListingOption::Steps
+    } else {
+        ListingOption::Among
+    }
+}
+
+/// What does not suit `--among`, where something does not.
+fn misfit_of_among(matches: &ArgMatches<'_>) -> BrokenRule
+    ensures { result ≡ misfit_of_among (rows_of (found_of matches.now)) }
+{
+    if has_value(matches, TRIES) {
+        BrokenRule::NotWithAmong(ListingOption::Tries)
+    } else if has_value(matches, STEPS) {
+        BrokenRule::NotWithAmong(ListingOption::Steps)
+    } else {
+        BrokenRule::SameFile
+    }
+}
+
+/// The first number that is out of its range, where one is.
+fn wrong_number(matches: &ArgMatches<'_>) -> BrokenRule
+    ensures { result ≡ wrong_number (rows_of (found_of matches.now)) }
+{
+    if !is_count_if_given(matches, LIMIT) {
+        BrokenRule::OutOfRange(ListingOption::Limit)
+    } else if !is_count_if_given(matches, TRIES) {
+        BrokenRule::OutOfRange(ListingOption::Tries)
+    } else {
+        BrokenRule::OutOfRange(ListingOption::Steps)
+    }
 }
 
 /// The text of `--after`, which is empty where it is left out.

@@ -2,22 +2,27 @@
 ghost use Rattle.std.specs.Prelude.{◌≡◌, IfOk, IsUtf8, OnOk, map, option_and_then, option_map, string_bytes};
 ghost use Rattle.std.specs.Str.{chars};
 ghost use Rattle.clap.specs.Words.{found_of, kind_of, rows_of};
+ghost use Rattle.idn2_options.specs.Causes.{IsUsageCause};
 ghost use Rattle.idn2_options.specs.Settings.{IsWithinLimits, SuitsMode};
-ghost use Rattle.idn2_options.specs.Words.{IsAnswer, IsUsage, count_of, form_of, mode_of, options_of, settings_of, start_of, steps_of, strings_of, value_of};
+ghost use Rattle.idn2_options.specs.Words.{IsAnswer, IsUsage, count_of, form_of, mode_of, options_of, properties_of, settings_of, start_of, steps_of, strings_of, value_of};
 
 use crate::command_line::arguments::{
-    AMONG, DECODE, EXPLAIN, JSON, JUMP, LIMIT, REGISTER, STD3, STEPS, STRINGS, TRIES, has_flag,
-    value_of,
+    AMONG, DECODE, EXPLAIN, JSON, JUMP, LIMIT, REGISTER, STANDARD, STD3, STEPS, STRINGS, TRIES,
+    has_flag, value_of,
 };
 use crate::command_line::command;
 use crate::command_line::counts::{count_of, steps_of};
 use crate::command_line::form::Form;
 use crate::command_line::mode::Mode;
 use crate::command_line::options::Options;
-use crate::command_line::rules::{checks, file_of, is_allowed, lists, notation_of, start_of};
+use crate::command_line::rules::{
+    broken_rule, checks, file_of, is_allowed, lists, notation_of, start_of,
+};
 use crate::command_line::usage::Usage;
+use crate::command_line::usage_cause::{UsageCause, refused_by_clap};
 use clap::error::ErrorKind;
 use clap::{ArgMatches, Error};
+use idn_class::Properties;
 use std::alloc::{AllocError, Global};
 
 /// `--tries` where it is left out.
@@ -39,6 +44,23 @@ pub fn read_options(alloc: Global, words: &[String]) -> Result<Options, Usage>
         return Err(Usage::Bad);
     }
     Ok(settings_of(alloc, &matches)?)
+}
+
+/// Why words are refused, if they are; the first word is the program's name. `clap`'s refusal comes first.
+pub fn usage_cause(alloc: Global, words: &[String]) -> Result<Option<UsageCause>, AllocError>
+    ensures { IfOk result (IsUsageCause (map string_bytes words.now)) }
+{
+    match command::matches(alloc, words) {
+        Ok(matches) => match broken_rule(&matches) {
+            Some(rule) => Ok(Some(UsageCause::Rule(rule))),
+            None => Ok(None),
+        },
+        Err(error) => match usage_of(alloc, &error) {
+            Usage::Bad => Ok(Some(refused_by_clap(alloc, words, &error)?)),
+            Usage::Show(_) => Ok(None),
+            Usage::Memory => Err(AllocError),
+        },
+    }
 }
 
 // What `clap`'s error comes to: only help and the version have a text to be shown.
@@ -64,6 +86,7 @@ fn settings_of(alloc: Global, matches: &ArgMatches<'_>) -> Result<Options, Alloc
     Ok(Options {
         mode: mode_of(matches),
         std3: has_flag(matches, STD3),
+        properties: properties_of(matches),
         explain: has_flag(matches, EXPLAIN),
         form: form_of(matches),
         file: String::from_str(alloc, file_of(matches))?,
@@ -104,6 +127,16 @@ fn form_of(matches: &ArgMatches<'_>) -> Form
         Form::Json
     } else {
         Form::Plain
+    }
+}
+
+fn properties_of(matches: &ArgMatches<'_>) -> Properties
+    ensures { result ≡ properties_of (rows_of (found_of matches.now)) }
+{
+    if has_flag(matches, STANDARD) {
+        Properties::Unicode
+    } else {
+        Properties::Profile
     }
 }
 

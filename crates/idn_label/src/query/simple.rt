@@ -12,8 +12,8 @@ ghost use Rattle.idn_label.specs.inner.SimpleNames.{AreAppended, Cover, IsTested
 ghost use Rattle.idn_label.specs.Lookup.{deny_list};
 
 use crate::a_label::ALabelEncoder;
+use crate::bidi::passes_bidi_rule;
 use crate::full_stops::label_end;
-use crate::query::bidi::passes_bidi_rule;
 use crate::query::buffers::{LookupBuffers, Mapped, Query};
 use crate::query::lengths::{has_label_length, may_end};
 use crate::unit::{has_ace_prefix, is_all_ascii};

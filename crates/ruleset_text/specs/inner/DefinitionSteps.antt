@@ -4,7 +4,7 @@ use Rattle.label_patterns.specs.Sets.{Rise}
 use Rattle.ruleset_text.specs.declared.definition_line.DefinitionLine.{DefinitionLine}
 use Rattle.ruleset_text.specs.declared.fault.DefinitionFault.{DefinitionFault}
 use Rattle.ruleset_text.specs.declared.fault.DefinitionFault.TheVariants as fault
-use Rattle.ruleset_text.specs.declared.rules.Sign.TheVariants as sign
+use Rattle.ruleset_text.specs.Signs as sign
 use Rattle.ruleset_text.specs.Canonical.{definition_text}
 use Rattle.ruleset_text.specs.Definition as definition
 use Rattle.ruleset_text.specs.Definition.{Definition}

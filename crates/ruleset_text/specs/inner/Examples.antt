@@ -5,10 +5,12 @@ use Rattle.ruleset_text.specs.declared.entry_form.NamedCondition.{NamedCondition
 use Rattle.ruleset_text.specs.Definitions.{Definitions}
 use Rattle.ruleset_text.specs.Entries.{Mapped}
 use Rattle.ruleset_text.specs.Spans.{span}
+use Rattle.idn_class.specs.declared.properties.Properties.TheVariants.{Profile}
 
 -- the tags t and v; the set A, which is a; the rule r, which holds before b
 abbrev pub some_defined : Definitions
 some_defined = record {
+  properties = Profile;
   tags = codes "t" ∷ codes "v" ∷ [];
   set_names = codes "A" ∷ [];
   sets = (span 97 97 ∷ []) ∷ [];

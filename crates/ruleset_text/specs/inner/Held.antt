@@ -9,6 +9,7 @@ use Rattle.ruleset_text.specs.WellFormed.{AreDefinitions}
 -- the definitions that the fields hold
 abbrev pub held : Inside → Definitions
 held s = record {
+  properties = s.properties;
   tags = s.tags.items;
   set_names = s.set_names.items;
   sets = s.sets.items;

@@ -12,9 +12,10 @@ use Rattle.variant_table.specs.declared.version.Notation.TheVariants.{Ruleset}
 use Rattle.variant_table.specs.Entries.{Entry, TableValue, Variant}
 use Rattle.variant_table.specs.Faults.{LineFault}
 use Rattle.variant_table.specs.Reading.{◌>>=◌, form_in, named_entries, table_of_text}
+use Rattle.idn_class.specs.declared.properties.Properties.TheVariants.{Profile}
 
 abbrev pub two_tags : Definitions
-two_tags = record nothing_defined { tags = codes "t" ∷ codes "v" ∷ [] }
+two_tags = record (nothing_defined Profile) { tags = codes "t" ∷ codes "v" ∷ [] }
 
 -- the entries of the lexemes of a line
 abbrev pub entries_in : Version → Definitions → List (List ℕ) → Result (List Entry) LineFault
@@ -26,7 +27,7 @@ ruleset_of lines = codes "%version 3" ++ flat_map (λ line. 10 ∷ line) lines
 
 -- what is told of it
 abbrev pub told : List (List ℕ) → Result TableValue (ℕ × LineFault)
-told lines = table_of_text Ruleset (ruleset_of lines)
+told lines = table_of_text Profile Ruleset (ruleset_of lines)
 
 abbrev pub text_told : Result TableValue (ℕ × LineFault) → Option (List ℕ)
 text_told (Ok t) = Some (table_text t.version t.definitions t.entries)
@@ -42,7 +43,7 @@ EachTold fault lines = AllByRecursion (λ line. told (three_lines ++ line ∷ []
 
 -- two tags and two rules by their names
 abbrev pub four_names : Definitions
-four_names = record nothing_defined { tags = codes "simp" ∷ codes "trad" ∷ []; rule_names = codes "r" ∷ codes "s" ∷ [] }
+four_names = record (nothing_defined Profile) { tags = codes "simp" ∷ codes "trad" ∷ []; rule_names = codes "r" ∷ codes "s" ∷ [] }
 
 -- the entries that a line of a ruleset spells after these
 abbrev pub spelled : List ℕ → Result (List Entry) LineFault

@@ -6,7 +6,7 @@ use Rattle.idn_cause.proofs.name.name_cause.Given as goal
 
 abbrev pub invariant-labels : goal.invariant-labels
 invariant-labels l = record {
-  so_far : first_failing_label is_decoded 0 (labels_of l.name) ≡ first_failing_label is_decoded l.number (labels_of (drop l.start l.name));
+  so_far : first_failing_label (is_decoded l.properties) 0 (labels_of l.name) ≡ first_failing_label (is_decoded l.properties) l.number (labels_of (drop l.start l.name));
   within : l.start ≤ length l.name;
   counted : l.number ≤ l.start;
 }

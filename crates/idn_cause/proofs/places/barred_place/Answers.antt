@@ -10,8 +10,8 @@ pub returns-in-Disallowed : goal.returns-in-Disallowed
 returns-in-Disallowed c =
     let label = c.args.label.now in
     let told = λ (class : Class). is_none (fault_of_class class) in
-    let here = sym c.in_ok-class_of.ensures.class in
-    sym (first_failing-found (length label) (λ place. told (class_of (slice_index label place))) _ c.loop-place-test.true
+    let here = sym c.in_ok-class_of_by.ensures.class in
+    sym (first_failing-found (length label) (λ place. told (class_of c.args.properties (slice_index label place))) _ c.loop-place-test.true
     (elim c.in-Disallowed.is [ inl disallowed ↦ ap told (here ∙ disallowed) | inr unassigned ↦ ap told (here ∙ unassigned) ])
     c.loop-place.invariant)
 
@@ -19,4 +19,4 @@ pub returns : goal.returns
 returns c =
     let label = c.args.label.now in
     let past = c.loop-place-test.false in
-    sym (first_failing-none (length label) (λ place. is_none (fault_of_class (class_of (slice_index label place)))) (λ k low. c.loop-place.invariant k (omega arith)))
+    sym (first_failing-none (length label) (λ place. is_none (fault_of_class (class_of c.args.properties (slice_index label place)))) (λ k low. c.loop-place.invariant k (omega arith)))

@@ -5,4 +5,4 @@ use Rattle.idn_label.specs.FirstFault.{fault_of_class}
 use Rattle.idn_cause.proofs.places.barred_place.Given as goal
 
 abbrev pub invariant-loop-place : goal.invariant-loop-place
-invariant-loop-place l = (k : ℕ) → k < l.place → is_none (fault_of_class (class_of (slice_index l.label k))) ≡ true
+invariant-loop-place l = (k : ℕ) → k < l.place → is_none (fault_of_class (class_of l.properties (slice_index l.label k))) ≡ true

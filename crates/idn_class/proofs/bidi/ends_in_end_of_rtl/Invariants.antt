@@ -4,7 +4,7 @@ use Rattle.idn_class.specs.BidiClass.{bidi_class}
 use Rattle.idn_class.proofs.bidi.ends_in_end_of_rtl.Given as goal
 
 abbrev pub invariant-loop-end : goal.invariant-loop-end
-invariant-loop-end l = record { within : l.end ≤ length l.label; rest : (k : ℕ) → l.end ≤ k → k < length l.label → slice_get (map bidi_class l.label) k ≡ Some NSM }
+invariant-loop-end l = record { within : l.end ≤ length l.label; rest : (k : ℕ) → l.end ≤ k → k < length l.label → slice_get (map (bidi_class l.properties) l.label) k ≡ Some NSM }
 
 abbrev pub decreases-loop-end : goal.decreases-loop-end
 decreases-loop-end l = l.end

@@ -8,17 +8,17 @@ pub returns-then-has_both : goal.returns-then-has_both
 returns-then-has_both c =
     let label = c.args.label.now in
     let now = c.loop-place.invariant in
-    let fails = numbers_at label c.loop-place.place _ _ _ _ _ c.bidi_class-class.ensures c.is_en-has_european.ensures c.is_an-has_arabic.ensures now.european now.arabic ∙ ap not c.if-has_both.true in
-    sym (first_failing-found (length label) (numbers_agree_to label) _ c.loop-place-test.true fails now.before)
+    let fails = numbers_at c.args.properties label c.loop-place.place _ _ _ _ _ c.bidi_class-class.ensures c.is_en-has_european.ensures c.is_an-has_arabic.ensures now.european now.arabic ∙ ap not c.if-has_both.true in
+    sym (first_failing-found (length label) (numbers_agree_to c.args.properties label) _ c.loop-place-test.true fails now.before)
 
 pub loop-place-preserved : goal.loop-place-preserved
 loop-place-preserved c =
     let label = c.args.label.now in
     let now = c.loop-place.invariant in
-    let holds = numbers_at label c.loop-place.place _ _ _ _ _ c.bidi_class-class.ensures c.is_en-has_european.ensures c.is_an-has_arabic.ensures now.european now.arabic ∙ ap not c.if-has_both.false in
+    let holds = numbers_at c.args.properties label c.loop-place.place _ _ _ _ _ c.bidi_class-class.ensures c.is_en-has_european.ensures c.is_an-has_arabic.ensures now.european now.arabic ∙ ap not c.if-has_both.false in
     record {
-      european = some_more (λ k. is_en (class_at label k)) c.loop-place.place _ _ (c.is_en-has_european.ensures ∙ ap is_en c.bidi_class-class.ensures) now.european;
-      arabic = some_more (λ k. is_an (class_at label k)) c.loop-place.place _ _ (c.is_an-has_arabic.ensures ∙ ap is_an c.bidi_class-class.ensures) now.arabic;
+      european = some_more c.args.properties (λ k. is_en (class_at c.args.properties label k)) c.loop-place.place _ _ (c.is_en-has_european.ensures ∙ ap is_en c.bidi_class-class.ensures) now.european;
+      arabic = some_more c.args.properties (λ k. is_an (class_at c.args.properties label k)) c.loop-place.place _ _ (c.is_an-has_arabic.ensures ∙ ap is_an c.bidi_class-class.ensures) now.arabic;
       before = below_more _ _ now.before holds;
     }
 
@@ -26,4 +26,4 @@ pub returns : goal.returns
 returns c =
     let label = c.args.label.now in
     let past = c.loop-place-test.false in
-    sym (first_failing-none (length label) (numbers_agree_to label) (λ k low. c.loop-place.invariant.before k (omega arith)))
+    sym (first_failing-none (length label) (numbers_agree_to c.args.properties label) (λ k low. c.loop-place.invariant.before k (omega arith)))

@@ -4,4 +4,4 @@ use Rattle.idn_class.specs.ContextJ.{type_at}
 use Rattle.idn_class.proofs.contextj.joins_after.Given as goal
 
 abbrev pub invariant-loop-place : goal.invariant-loop-place
-invariant-loop-place l = (k : ℕ) → l.joiner < k → k < l.place → type_at l.label k ≡ Transparent
+invariant-loop-place l = (k : ℕ) → l.joiner < k → k < l.place → type_at l.properties l.label k ≡ Transparent

@@ -11,11 +11,11 @@ loop-place-preserved c = below_more _ _ c.loop-place.invariant (c.if-not-joiner_
 pub returns-then-not-joiner_passes-clause-test : goal.returns-then-not-joiner_passes-clause-test
 returns-then-not-joiner_passes-clause-test c =
     let label = c.args.label.now in
-    sym (first_failing-found_by (length label) (joiner_at label) (JoinerPasses label) (joiner_at-rule c.args.label.now) _ c.loop-place-test.true
+    sym (first_failing-found_by (length label) (joiner_at c.args.properties label) (JoinerPasses c.args.properties label) (joiner_at-rule c.args.properties c.args.label.now) _ c.loop-place-test.true
     (λ passes. let clash : false ≡ true = c.if-not-joiner_passes.ensures.1 passes in cc) c.loop-place.invariant)
 
 pub returns-clause-test : goal.returns-clause-test
 returns-clause-test c =
     let label = c.args.label.now in
     let past = c.loop-place-test.false in
-    sym (first_failing-none_by (length label) (joiner_at label) (JoinerPasses label) (joiner_at-rule c.args.label.now) (λ k low. c.loop-place.invariant k (omega arith)))
+    sym (first_failing-none_by (length label) (joiner_at c.args.properties label) (JoinerPasses c.args.properties label) (joiner_at-rule c.args.properties c.args.label.now) (λ k low. c.loop-place.invariant k (omega arith)))

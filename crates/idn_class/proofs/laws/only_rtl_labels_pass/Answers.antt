@@ -6,5 +6,5 @@ use Rattle.idn_class.proofs.BidiLemmas.{RtlParts_from}
 use Rattle.idn_class.proofs.laws.only_rtl_labels_pass.Goals as goal
 
 pub returns : goal.returns
-returns c label some passes =
-    let classes = map bidi_class label in (RtlParts_from classes (list_any-from_Any is_rtl_class classes some) passes).begins
+returns c properties label some passes =
+    let classes = map (bidi_class properties) label in (RtlParts_from classes (list_any-from_Any is_rtl_class classes some) passes).begins

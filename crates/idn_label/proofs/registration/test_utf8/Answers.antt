@@ -14,31 +14,34 @@ use Rattle.idn_label.proofs.AnswerLemmas.{utf8_fault-ascii, utf8_fault-points, u
 use Rattle.idn_label.proofs.FaultLemmas.{first_fault-measured}
 use Rattle.idn_label.proofs.LdhLemmas.{ascii_points, is_all_ascii-points, is_all_ascii-octets}
 use Rattle.idn_label.proofs.registration.test_utf8.Goals as goal
+use Rattle.idn_class.specs.declared.properties.Properties.{Properties}
 
-ldh_fault : (label : List ℕ) → list_all is_ldh_point label ≡ true → utf8_fault label ≡ first_fault label
-ldh_fault label ldh = utf8_fault-ascii label (is_all_ascii-octets label (is_all_ascii-points label (ascii_points label ldh)))
+module _ (properties : Properties) where
+  ldh_fault : (label : List ℕ) → list_all is_ldh_point label ≡ true → utf8_fault properties label ≡ first_fault properties label
+  ldh_fault label ldh = utf8_fault-ascii properties label (is_all_ascii-octets label (is_all_ascii-points label (ascii_points label ldh)))
 
 pub returns-then-is_ldh-clause-passes : goal.returns-then-is_ldh-clause-passes
-returns-then-is_ldh-clause-passes c = rw (ldh_fault c.args.label.now (c.requires.ldh c.if-is_ldh.true)) c.check_ldh.ensures.registrable
+returns-then-is_ldh-clause-passes c = rw (ldh_fault c.args.properties c.args.label.now (c.requires.ldh c.if-is_ldh.true)) c.check_ldh.ensures.registrable
 
 pub returns-then-is_ldh-clause-fault : goal.returns-then-is_ldh-clause-fault
 returns-then-is_ldh-clause-fault c =
-    rw (ldh_fault c.args.label.now (c.requires.ldh c.if-is_ldh.true)) (IfErr-weaker c.check_ldh.result _ _ (λ refusal fault other. fault) c.check_ldh.ensures.fault)
+    rw (ldh_fault c.args.properties c.args.label.now (c.requires.ldh c.if-is_ldh.true)) (IfErr-weaker c.check_ldh.result _ _ (λ refusal fault other. fault) c.check_ldh.ensures.fault)
 
 pub check_ldh-requires : goal.check_ldh-requires
 check_ldh-requires c = c.requires.ldh c.if-is_ldh.true
 
 pub returns-in_default-clause-fault : goal.returns-in_default-clause-fault
-returns-in_default-clause-fault c = λ other. utf8_fault-other c.args.label.now c.in_default.ensures.refused
+returns-in_default-clause-fault c = λ other. utf8_fault-other c.args.properties c.args.label.now c.in_default.ensures.refused
 
-measured : (label points : List ℕ) (fault : Option Refusal) (long : Bool) → IsUtf8Of label points → fault_but_length points ≡ fault → is_too_long points ≡ long → utf8_fault label ≡ first_of (fault ∷ fault_if long LabelTooLong ∷ [])
-measured label points fault long is told length =
-    utf8_fault-points label points is ∙ first_fault-measured points ∙ ap₂ (λ f l. first_of (f ∷ fault_if l LabelTooLong ∷ [])) told length
+module _ (properties : Properties) where
+  measured : (label points : List ℕ) (fault : Option Refusal) (long : Bool) → IsUtf8Of label points → fault_but_length properties points ≡ fault → is_too_long points ≡ long → utf8_fault properties label ≡ first_of (fault ∷ fault_if long LabelTooLong ∷ [])
+  measured label points fault long is told length =
+      utf8_fault-points properties label points is ∙ first_fault-measured properties points ∙ ap₂ (λ f l. first_of (f ∷ fault_if l LabelTooLong ∷ [])) told length
 
 pub returns-in_err-check_label-clause-fault : goal.returns-in_err-check_label-clause-fault
 returns-in_err-check_label-clause-fault c =
     let p = err_from_is_err_and c.from_residual.result c.from_residual.ensures.1 in
-    rw p.1 (λ other. rw (p.2) (measured c.args.label.now _ (Some c.in_err-check_label.field-0.0) _ c.in-Some.ensures.points (c.in_err-check_label.ensures.fault (rw (p.2) at other)) refl))
+    rw p.1 (λ other. rw (p.2) (measured c.args.properties c.args.label.now _ (Some c.in_err-check_label.field-0.0) _ c.in-Some.ensures.points (c.in_err-check_label.ensures.fault (rw (p.2) at other)) refl))
 
 pub returns-in_err-check_label-clause-no_memory : goal.returns-in_err-check_label-clause-no_memory
 returns-in_err-check_label-clause-no_memory c =
@@ -51,7 +54,7 @@ pub is_short-requires : goal.is_short-requires
 is_short-requires c = ap length c.in-Some.ensures.points.encoded
 
 pub returns-then-is_short-clause-passes : goal.returns-then-is_short-clause-passes
-returns-then-is_short-clause-passes c = measured c.args.label.now _ None false c.in-Some.ensures.points c.in_ok-check_label.ensures.passes (not-true _ (sym c.is_short.ensures ∙ c.if-is_short.true))
+returns-then-is_short-clause-passes c = measured c.args.properties c.args.label.now _ None false c.in-Some.ensures.points c.in_ok-check_label.ensures.passes (not-true _ (sym c.is_short.ensures ∙ c.if-is_short.true))
 
 pub returns-else-is_short-clause-fault : goal.returns-else-is_short-clause-fault
-returns-else-is_short-clause-fault c other = measured c.args.label.now _ None true c.in-Some.ensures.points c.in_ok-check_label.ensures.passes (not-false _ (sym c.is_short.ensures ∙ c.if-is_short.false))
+returns-else-is_short-clause-fault c other = measured c.args.properties c.args.label.now _ None true c.in-Some.ensures.points c.in_ok-check_label.ensures.passes (not-false _ (sym c.is_short.ensures ∙ c.if-is_short.false))

@@ -15,11 +15,11 @@ returns-clause-passes g c =
     let short : length given ≤ 63 = omega (arith, many, c.if-given-gt-MAX_LABEL_LEN.false) in
     let few : length label ≤ 63 = omega (arith, c.as_slice.ensures.short, ap length c.as_slice.ensures.value) in
     on_ok_weaker c.check_label.result
-    (λ faultless. answered-tested given label c.requires.prefix short (ap decode (sym c.code_of.ensures.codes) ∙ c.in-Ok.ensures.decoded) (ap is_all_ascii (sym c.as_slice.ensures.value) ∙ sym c.if-is_all_ascii.ensures) few (ap fault_but_length (sym c.as_slice-2.ensures.value) ∙ faultless))
+    (λ faultless. answered-tested c.args.properties given label c.requires.prefix short (ap decode (sym c.code_of.ensures.codes) ∙ c.in-Ok.ensures.decoded) (ap is_all_ascii (sym c.as_slice.ensures.value) ∙ sym c.if-is_all_ascii.ensures) few (ap (fault_but_length c.args.properties) (sym c.as_slice-2.ensures.value) ∙ faultless))
     c.check_label.ensures.passes
 
 pub returns-clause-fault : goal.returns-clause-fault
 returns-clause-fault g c =
     let label = c.decode.new.self in
     MatchResult-weaker c.check_label.result c.check_label.ensures.fault (λ _ t. t)
-    (λ refusal told lower other. coded_fault (g.U.Unit.codes c.args.given.now) label refusal c.requires.prefix lower (ap decode (sym c.code_of.ensures.codes) ∙ c.in-Ok.ensures.decoded) (ap is_all_ascii (sym c.as_slice.ensures.value) ∙ sym c.if-is_all_ascii.ensures) (ap fault_but_length (sym c.as_slice-2.ensures.value) ∙ told other))
+    (λ refusal told lower other. coded_fault c.args.properties (g.U.Unit.codes c.args.given.now) label refusal c.requires.prefix lower (ap decode (sym c.code_of.ensures.codes) ∙ c.in-Ok.ensures.decoded) (ap is_all_ascii (sym c.as_slice.ensures.value) ∙ sym c.if-is_all_ascii.ensures) (ap (fault_but_length c.args.properties) (sym c.as_slice-2.ensures.value) ∙ told other))

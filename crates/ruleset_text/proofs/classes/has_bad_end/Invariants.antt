@@ -4,4 +4,4 @@ use Rattle.ruleset_text.proofs.classes.has_bad_end.Given as goal
 
 -- no bad end so far
 abbrev pub invariant-loop-span : goal.invariant-loop-span
-invariant-loop-span l = has_bad_end (take l.span-index l.set) ≡ false
+invariant-loop-span l = has_bad_end l.properties (take l.span-index l.set) ≡ false

@@ -17,14 +17,15 @@ use Rattle.ruleset_text.specs.Spans.{span, spans_in}
 use Rattle.ruleset_text.specs.Tokens.{tokens_in}
 use Rattle.ruleset_text.proofs.DefinitionOrderLemmas.{by_tests}
 use Rattle.ruleset_text.proofs.laws.definitions_compute_the_lines.Goals as goal
+use Rattle.idn_class.specs.declared.properties.Properties.TheVariants.{Profile}
 
 -- a code point that is DISALLOWED is a bad end, and A is one
-disallowed : (c : ℕ) → class_of c ≡ Disallowed → has_bad_end (span c c ∷ []) ≡ true
+disallowed : (c : ℕ) → class_of Profile c ≡ Disallowed → has_bad_end Profile (span c c ∷ []) ≡ true
 disallowed c e = rw e
 
-bad-41 : has_bad_end (span 65 65 ∷ []) ≡ true
+bad-41 : has_bad_end Profile (span 65 65 ∷ []) ≡ true
 unfolding in_table
-bad-41 = disallowed 65 (class_of-in_table 65 Disallowed refl)
+bad-41 = disallowed 65 (class_of-in_table Profile 65 Disallowed refl)
 
 pub returns-clause-tag : goal.returns-clause-tag
 unfolding with_definition names_on canonical_size all_atoms point_text pattern_of spans_in tokens_in number_of point_of_hex

@@ -7,13 +7,13 @@ use Rattle.table_cause.proofs.UnknownSetLemmas.{set_refused}
 use Rattle.table_cause.proofs.laws.places_are_told_where_reading_refuses.Goals as goal
 
 pub returns-clause-tags : goal.returns-clause-tags
-returns-clause-tags c head before table is spelled = (names_are head before table is spelled).0
+returns-clause-tags c properties head before table is spelled = (names_are properties head before table is spelled).0
 
 pub returns-clause-sets : goal.returns-clause-sets
-returns-clause-sets c head before table is spelled = (names_are head before table is spelled).1
+returns-clause-sets c properties head before table is spelled = (names_are properties head before table is spelled).1
 
 pub returns-clause-rules : goal.returns-clause-rules
-returns-clause-rules c head before table is spelled = (names_are head before table is spelled).2
+returns-clause-rules c properties head before table is spelled = (names_are properties head before table is spelled).2
 
 pub returns-clause-unknown : goal.returns-clause-unknown
 returns-clause-unknown c = unknown_refused

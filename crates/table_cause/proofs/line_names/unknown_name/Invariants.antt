@@ -1,6 +1,6 @@
 use Rattle.std.proofs.Common.{◌≡◌, length}
 use Rattle.table_cause.specs.LineNames.{unknown_name, unknown_name_from}
-use Rattle.table_cause.specs.PlacedLexemes.{placed_lexemes}
+use Rattle.ruleset_text.specs.PlacedLexemes.{placed_lexemes}
 use Rattle.table_cause.proofs.line_names.unknown_name.Given as goal
 
 -- the place is among the lexemes that are left

@@ -1,6 +1,6 @@
 use Rattle.std.proofs.Common.{◌≡◌, ◌-◌, length}
 use Rattle.table_cause.specs.PatternLimits.{atoms_among, pattern_in}
-use Rattle.table_cause.specs.PlacedLexemes.{placed_lexemes}
+use Rattle.ruleset_text.specs.PlacedLexemes.{placed_lexemes}
 use Rattle.table_cause.proofs.pattern_limit.atoms_left.Given as goal
 
 -- those that the lexemes that are left take are still to be taken

@@ -1,7 +1,7 @@
 use Rattle.std.proofs.Common.{◌≡◌, length}
 use Rattle.table_cause.specs.inner.NestingSteps.{nesting_of}
 use Rattle.table_cause.specs.PatternLimits.{first_past, past_from, pattern_in}
-use Rattle.table_cause.specs.PlacedLexemes.{placed_lexemes}
+use Rattle.ruleset_text.specs.PlacedLexemes.{placed_lexemes}
 use Rattle.table_cause.proofs.pattern_limit.first_past.Given as goal
 
 -- the place is among the lexemes that are left

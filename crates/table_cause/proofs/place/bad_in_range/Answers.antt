@@ -5,4 +5,4 @@ use Rattle.table_cause.proofs.place.bad_in_range.Goals as goal
 
 pub loop-offset-preserved : goal.loop-offset-preserved
 loop-offset-preserved c =
-    range_later is_bad_point c.args.first c.saturating_sub-count.result c.loop-offset.offset c.loop-offset-test.true (sym (c.in_ok-is_bad_point.ensures {u = tt}) ∙ c.if-branch.false) c.loop-offset.invariant
+    range_later (is_bad_point c.args.properties) c.args.first c.saturating_sub-count.result c.loop-offset.offset c.loop-offset-test.true (sym (c.in_ok-is_bad_point.ensures {u = tt}) ∙ c.if-branch.false) c.loop-offset.invariant

@@ -6,4 +6,4 @@ use Rattle.table_cause.proofs.place.bad_in_range.Given as goal
 
 -- the first that is bad is still to be found
 abbrev pub invariant-loop-offset : goal.invariant-loop-offset
-invariant-loop-offset l = find is_bad_point (range_with_len (l.first + l.offset) (l.count - l.offset)) ≡ find is_bad_point (range_with_len l.first l.count)
+invariant-loop-offset l = find (is_bad_point l.properties) (range_with_len (l.first + l.offset) (l.count - l.offset)) ≡ find (is_bad_point l.properties) (range_with_len l.first l.count)

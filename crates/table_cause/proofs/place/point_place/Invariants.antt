@@ -6,4 +6,4 @@ use Rattle.table_cause.proofs.place.point_place.Given as goal
 
 -- the first is still to be found
 abbrev pub invariant-loop-p : goal.invariant-loop-p
-invariant-loop-p l = find (λ (p : LinePoint). is_bad_point p.point) (drop l.p-index l.points) ≡ find (λ (p : LinePoint). is_bad_point p.point) l.points
+invariant-loop-p l = find (λ (p : LinePoint). is_bad_point l.properties p.point) (drop l.p-index l.points) ≡ find (λ (p : LinePoint). is_bad_point l.properties p.point) l.points

@@ -6,4 +6,4 @@ use Rattle.variant_table.proofs.checks.has_bad_class.Given as goal
 
 -- a bad code point is still to be found
 abbrev pub invariant-loop-index : goal.invariant-loop-index
-invariant-loop-index l = list_any has_bad_point (drop l.index (sequences_in l.sequences)) ≡ list_any has_bad_point (sequences_in l.sequences)
+invariant-loop-index l = list_any (has_bad_point l.properties) (drop l.index (sequences_in l.sequences)) ≡ list_any (has_bad_point l.properties) (sequences_in l.sequences)

@@ -7,4 +7,4 @@ use Rattle.variant_table.proofs.checks.has_bad_class_in.Given as goal
 
 -- a bad code point is still to be found
 abbrev pub invariant-loop-offset : goal.invariant-loop-offset
-invariant-loop-offset l = (v : Variant) → list_any has_bad_class (points_from v (l.first + l.offset) (l.count - l.offset)) ≡ list_any has_bad_class (points_from v l.first l.count)
+invariant-loop-offset l = (v : Variant) → list_any (has_bad_class l.properties) (points_from v (l.first + l.offset) (l.count - l.offset)) ≡ list_any (has_bad_class l.properties) (points_from v l.first l.count)

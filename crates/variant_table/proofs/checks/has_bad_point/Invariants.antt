@@ -4,4 +4,4 @@ use Rattle.variant_table.proofs.checks.has_bad_point.Given as goal
 
 -- no bad code point so far
 abbrev pub invariant-loop-point : goal.invariant-loop-point
-invariant-loop-point l = has_bad_point (take l.point-index l.sequence) ≡ false
+invariant-loop-point l = has_bad_point l.properties (take l.point-index l.sequence) ≡ false

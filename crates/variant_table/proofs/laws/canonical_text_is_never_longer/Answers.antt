@@ -5,7 +5,7 @@ use Rattle.variant_table.proofs.SizeLemmas.{never_longer, size_of-raw_lines}
 use Rattle.variant_table.proofs.laws.canonical_text_is_never_longer.Goals as goal
 
 pub returns-clause-text : goal.returns-clause-text
-returns-clause-text c = λ notation text table h one. never_longer notation (raw_lines text) table one h.lines.well_formed.defined h.lines.spelled
+returns-clause-text c = λ properties notation text table h one. never_longer notation (raw_lines text) table one h.lines.well_formed.defined h.lines.spelled
 
 pub returns-clause-limit : goal.returns-clause-limit
 returns-clause-limit c = λ table is. is.short

@@ -10,6 +10,7 @@ use Rattle.variant_table.proofs.ExampleLemmas.{letter, with_form-capital, with_f
 use Rattle.variant_table.proofs.laws.definitions_compute_the_examples.Goals as goal
 use Rattle.ruleset_text.specs.Canonical.{point_text}
 use Rattle.ruleset_text.specs.EntrySteps.{entry_in}
+use Rattle.idn_class.specs.declared.properties.Properties.TheVariants.{Profile}
 
 pub returns-clause-read : goal.returns-clause-read
 unfolding point_of_hex point_text entry_in table_of_lines with_lines with_raw_line with_line with_form with_entries
@@ -65,16 +66,16 @@ read number t r = in_line number (r >>= λ all. Ok (record t { entries = all }))
 
 -- what a line of this number gives, with a last line after it, which comes after so many bytes
 abbrev then : ℕ → ℕ → List ℕ → Result (List Entry) LineFault → Result TableValue (ℕ × LineFault)
-then number bytes line r = in_line number (r >>= λ all. Ok (table_of One nothing_defined all)) >>= λ t. in_line (number + 1) (with_raw_line bytes t line) >>= λ u. Ok u
+then number bytes line r = in_line number (r >>= λ all. Ok (table_of One (nothing_defined Profile) all)) >>= λ t. in_line (number + 1) (with_raw_line bytes t line) >>= λ u. Ok u
 
 pub returns-clause-bad_class : goal.returns-clause-bad_class
 unfolding point_of_hex entry_in table_of_lines with_lines with_raw_line with_line
-returns-clause-bad_class c = ap (read 1 (empty_table One)) with_form-capital
+returns-clause-bad_class c = ap (read 1 (empty_table Profile One)) with_form-capital
 
 pub returns-clause-same_variant : goal.returns-clause-same_variant
 unfolding point_of_hex entry_in table_of_lines with_lines with_raw_line with_line
-returns-clause-same_variant c = ap (read 1 (empty_table One)) with_form-own_variant
+returns-clause-same_variant c = ap (read 1 (empty_table Profile One)) with_form-own_variant
 
 pub returns-clause-same_source : goal.returns-clause-same_source
 unfolding point_of_hex entry_in table_of_lines with_lines with_raw_line with_line
-returns-clause-same_source c = ap (then 1 5 (codes "0061")) with_form-letter ∙ ap (read 2 (table_of One nothing_defined (letter [] ∷ []))) with_form-letter_again
+returns-clause-same_source c = ap (then 1 5 (codes "0061")) with_form-letter ∙ ap (read 2 (table_of One (nothing_defined Profile) (letter [] ∷ []))) with_form-letter_again

@@ -11,6 +11,7 @@ use Rattle.variant_table.proofs.ExampleLemmas.{three, with_form-range, with_form
 use Rattle.variant_table.proofs.laws.definitions_compute_the_examples_of_version_2.Goals as goal
 use Rattle.ruleset_text.specs.Canonical.{point_text}
 use Rattle.ruleset_text.specs.EntrySteps.{entry_in}
+use Rattle.idn_class.specs.declared.properties.Properties.TheVariants.{Profile}
 
 pub returns-clause-written : goal.returns-clause-written
 unfolding point_of_hex point_text entry_in table_of_lines with_lines with_raw_line with_line with_form with_entries
@@ -58,20 +59,20 @@ read number t r = in_line number (r >>= λ all. Ok (record t { entries = all }))
 
 -- what a line of this number gives, with a last line after it, which comes after so many bytes
 abbrev then : ℕ → ℕ → List ℕ → Result (List Entry) LineFault → Result TableValue (ℕ × LineFault)
-then number bytes line r = in_line number (r >>= λ all. Ok (table_of Two nothing_defined all)) >>= λ t. in_line (number + 1) (with_raw_line bytes t line) >>= λ u. Ok u
+then number bytes line r = in_line number (r >>= λ all. Ok (table_of Two (nothing_defined Profile) all)) >>= λ t. in_line (number + 1) (with_raw_line bytes t line) >>= λ u. Ok u
 
 pub returns-clause-table : goal.returns-clause-table
 unfolding point_of_hex entry_in table_of_lines with_lines with_raw_line with_line
-returns-clause-table c = ap (then 2 22 (codes "0078|!0079:007A")) with_form-range ∙ ap (read 3 (table_of Two nothing_defined three)) with_form-blocked
+returns-clause-table c = ap (then 2 22 (codes "0078|!0079:007A")) with_form-range ∙ ap (read 3 (table_of Two (nothing_defined Profile) three)) with_form-blocked
 
 pub returns-clause-same_variant : goal.returns-clause-same_variant
 unfolding point_of_hex entry_in table_of_lines with_lines with_raw_line with_line
-returns-clause-same_variant c = ap (read 2 (empty_table Two)) with_form-marked_twice
+returns-clause-same_variant c = ap (read 2 (empty_table Profile Two)) with_form-marked_twice
 
 pub returns-clause-bad_class : goal.returns-clause-bad_class
 unfolding point_of_hex entry_in table_of_lines with_lines with_raw_line with_line
-returns-clause-bad_class c = ap (read 2 (empty_table Two)) with_form-from_capital
+returns-clause-bad_class c = ap (read 2 (empty_table Profile Two)) with_form-from_capital
 
 pub returns-clause-same_source : goal.returns-clause-same_source
 unfolding point_of_hex entry_in table_of_lines with_lines with_raw_line with_line
-returns-clause-same_source c = ap (then 2 16 (codes "0061..0063")) with_form-b ∙ ap (read 3 (table_of Two nothing_defined (point_entry false 0x62 ∷ []))) with_form-b_again
+returns-clause-same_source c = ap (then 2 16 (codes "0061..0063")) with_form-b ∙ ap (read 3 (table_of Two (nothing_defined Profile) (point_entry false 0x62 ∷ []))) with_form-b_again

@@ -3,7 +3,7 @@ use Rattle.variant_table.proofs.TextLemmas.{read_fault, fault_read}
 use Rattle.variant_table.proofs.laws.reading_is_exact.Goals as goal
 
 pub returns-clause-table : goal.returns-clause-table
-returns-clause-table c = λ notation text table. (read_text notation text table, text_read notation text table)
+returns-clause-table c = λ properties notation text table. (read_text properties notation text table, text_read properties notation text table)
 
 pub returns-clause-fault : goal.returns-clause-fault
-returns-clause-fault c = λ notation text line kind. (read_fault notation text line kind, fault_read notation text line kind)
+returns-clause-fault c = λ properties notation text line kind. (read_fault properties notation text line kind, fault_read properties notation text line kind)

@@ -20,7 +20,7 @@ pub loop-line-init : goal.loop-line-init
 loop-line-init c =
     let lines : List (List ℕ) = raw_lines c.args.text.now in
     record {
-      same = lines_begin c.args.notation lines c.new-reader.result.version c.in-Some.head.lines c.in-Some.head.bytes c.new-reader.result.definitions c.new-reader.result.entries _
+      same = lines_begin c.args.properties c.args.notation lines c.new-reader.result.version c.in-Some.head.lines c.in-Some.head.bytes c.new-reader.result.definitions c.new-reader.result.entries _
           (named c.args.notation lines c.in-Some.head.version c.new-reader.result.version c.in-Some.ensures.version c.new-reader.ensures.version) c.in-Some.ensures.lines c.in-Some.ensures.bytes
           c.new-reader.ensures.definitions c.new-reader.ensures.entries (search rules);
       within = omega (arith, c.in-Some.ensures.bytes, head_within c.args.notation c.new-reader.result.version lines);
@@ -31,8 +31,8 @@ loop-line-init c =
 pub returns-in_err-add_raw_line : goal.returns-in_err-add_raw_line
 returns-in_err-add_raw_line c =
     let t : TableValue = table_of c.loop-line.reader.version c.loop-line.reader.definitions c.loop-line.reader.entries in
-    let fails : FailsIn c.in_err-add_raw_line.field-0.0 (table_of_text c.args.notation c.args.text.now) =
-    lines_fail (c.loop-line.number + 1) c.loop-line.bytes t c.in-Some-line.line.now c.next.new.self c.loop-line.line-iterator (table_of_text c.args.notation c.args.text.now)
+    let fails : FailsIn c.in_err-add_raw_line.field-0.0 (table_of_text c.args.properties c.args.notation c.args.text.now) =
+    lines_fail (c.loop-line.number + 1) c.loop-line.bytes t c.in-Some-line.line.now c.next.new.self c.loop-line.line-iterator (table_of_text c.args.properties c.args.notation c.args.text.now)
     c.in-Some-line.ensures.steps c.loop-line.invariant.same c.in_err-add_raw_line.field-0.0 c.in_err-add_raw_line.ensures.read in search rules
 
 pub loop-line-preserved : goal.loop-line-preserved
@@ -42,7 +42,7 @@ loop-line-preserved c =
     let u : TableValue = table_of c.loop-line.reader.version c.add_raw_line.new.self.definitions c.add_raw_line.new.self.entries in
     record {
       same = ap (λ v. with_lines (c.loop-line.number + 1 + 1) (c.loop-line.bytes + (length c.in-Some-line.line.now + 1)) (table_of v c.add_raw_line.new.self.definitions c.add_raw_line.new.self.entries) c.next.new.self) version
-          ∙ lines_step (c.loop-line.number + 1) c.loop-line.bytes t c.in-Some-line.line.now c.next.new.self c.loop-line.line-iterator (table_of_text c.args.notation c.args.text.now)
+          ∙ lines_step (c.loop-line.number + 1) c.loop-line.bytes t c.in-Some-line.line.now c.next.new.self c.loop-line.line-iterator (table_of_text c.args.properties c.args.notation c.args.text.now)
           c.in-Some-line.ensures.steps c.loop-line.invariant.same u c.in_ok-add_raw_line.ensures.read;
       within = subst (λ v. c.loop-line.bytes + (length c.in-Some-line.line.now + 1) ≤ text_limit v) (sym version) (omega (arith, c.in_ok-add_raw_line.ensures.within));
       counted = omega (arith, c.loop-line.invariant.counted);
@@ -52,7 +52,7 @@ loop-line-preserved c =
 pub returns : goal.returns
 returns c =
     lines_end (c.loop-line.number + 1) c.loop-line.bytes (table_of c.loop-line.reader.version c.loop-line.reader.definitions c.loop-line.reader.entries) c.loop-line.line-iterator
-    (table_of_text c.args.notation c.args.text.now) c.in-None.ensures.steps.0 c.loop-line.invariant.same
+    (table_of_text c.args.properties c.args.notation c.args.text.now) c.in-None.ensures.steps.0 c.loop-line.invariant.same
 
 pub returns-in_default : goal.returns-in_default
-returns-in_default c = lines_lack c.args.notation (raw_lines c.args.text.now) c.in_default.ensures.version
+returns-in_default c = lines_lack c.args.properties c.args.notation (raw_lines c.args.text.now) c.in_default.ensures.version

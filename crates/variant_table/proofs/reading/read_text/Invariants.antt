@@ -8,7 +8,7 @@ use Rattle.variant_table.proofs.reading.read_text.Given as goal
 -- reading goes on as it does from the start
 abbrev pub invariant-loop-line : goal.invariant-loop-line
 invariant-loop-line l = record {
-  same : with_lines (l.number + 1) l.bytes (table_of l.reader.version l.reader.definitions l.reader.entries) l.line-iterator ≡ table_of_text l.fn.notation l.text;
+  same : with_lines (l.number + 1) l.bytes (table_of l.reader.version l.reader.definitions l.reader.entries) l.line-iterator ≡ table_of_text l.fn.properties l.fn.notation l.text;
   within : l.bytes ≤ text_limit l.reader.version;
   counted : l.number ≤ l.bytes;
   left : IsCounted l.reader.version l.reader.definitions l.reader.left l.reader.entries;

@@ -1,7 +1,9 @@
 use Rattle.std.proofs.Common.{◌≡◌, ◌+◌, ◌-◌, ◌∙◌, ℕ, List, Bool, Option, Result, Ok, Err, All, ap, sym, subst, refl, inr}
 use Rattle.std.specs.declared.alloc.AllocError.{AllocError}
+use Rattle.idn_class.specs.declared.properties.Properties.{Properties}
 use Rattle.idn_class.specs.Known.{AreKnown}
 use Rattle.idn_class.proofs.KnownLemmas.{AreKnown-nil}
+use Rattle.idn_label.specs.FirstFault.{IsRegistrable}
 use Rattle.variant_list.specs.Steps.{IfDecided}
 use Rattle.variant_list.specs.declared.cursor.Outcome.{Outcome}
 use Rattle.variant_list.specs.declared.cursor.Outcome.TheVariants as outcome
@@ -66,10 +68,10 @@ returns-in_err-cursor-clause-written g c =
 pub variants-init : goal.variants-init
 variants-init g c = record {
   same = refl;
-  same_filter = refl;
-  listing = listing-start (filter_by (ruling_in c.args.validity)) (said_text c.args.asked.now.form (asked_line c.args.asked.now)) (field_by c.args.dispositions.now) (filter_by-IsSound (ruling_in c.args.validity)) c.args.options.now c.args.net.now _ c.in_ok-cursor.cursor c.deref.result.now c.options.inside.tries c.options.inside.steps c.requires.limits
+  same_filter = ap (λ (p : Properties). filter_by p (ruling_in c.args.validity)) (ap (λ (o : Settings). o.properties) c.options.view_is);
+  listing = listing-start c.args.options.now.properties (filter_by c.args.options.now.properties (ruling_in c.args.validity)) (said_text c.args.asked.now.form (asked_line c.args.asked.now)) (field_by c.args.dispositions.now) (filter_by-IsSound c.args.options.now.properties (ruling_in c.args.validity)) c.args.options.now c.args.net.now _ c.in_ok-cursor.cursor c.deref.result.now c.options.inside.tries c.options.inside.steps c.requires.limits
       (c.deref.ensures.value ∙ ap (λ (o : Settings). o.after) c.options.view_is) (ap (λ (o : Settings). o.tries) c.options.view_is) (ap (λ (o : Settings). o.steps) c.options.view_is) c.in_ok-cursor.ensures;
-  known = subst (AreKnown c.in_ok-cursor.cursor.last) (sym c.new-2.ensures) (AreKnown-nil c.in_ok-cursor.cursor.last);
+  known = subst (AreKnown c.options.inside.properties c.in_ok-cursor.cursor.last) (sym c.new-2.ensures) (AreKnown-nil c.options.inside.properties c.in_ok-cursor.cursor.last);
   apart = c.new-3.ensures.apart c.in_ok-cursor.cursor.last;
   begun = c.new-4.ensures c.in_ok-cursor.cursor.last;
   tested = c.requires.new c.in_ok-cursor.cursor.last;
@@ -80,58 +82,58 @@ variants-init g c = record {
 pub write_stop-requires-clause-scalar_values : goal.write_stop-requires-clause-scalar_values
 write_stop-requires-clause-scalar_values g c =
     (subst IsWritable (sym c.last.ensures.value)
-    (spent-writable (filter_by (ruling_in c.args.validity)) (said_text c.args.asked.now.form (asked_line c.args.asked.now)) (field_by c.args.dispositions.now) _ _ _ _ c.variants.cursor c.seek.new.self c.variants.count c.variants.tries c.seek.new.tries c.variants.steps c.seek.new.steps c.requires.spelled c.variants.invariant.listing (spent-from (filter_by (ruling_in c.args.validity)) c.variants.cursor c.seek.new.self c.variants.tries c.seek.new.tries c.variants.steps c.seek.new.steps c.seek.result c.in_ok-seek.field-0 c.in_ok-seek.was (decided_by (filter_by (ruling_in c.variants.judge.validity)) (filter_by (ruling_in c.args.validity)) c.variants.cursor c.variants.tries c.seek.new.tries c.seek.result c.variants.invariant.same_filter c.seek.ensures.decided) (moves_by (filter_by (ruling_in c.variants.judge.validity)) (filter_by (ruling_in c.args.validity)) (c.variants.tries - c.seek.new.tries) c.seek.result c.variants.cursor c.seek.new.self c.variants.invariant.same_filter c.seek.ensures.moves) (steps_by (filter_by (ruling_in c.variants.judge.validity)) (filter_by (ruling_in c.args.validity)) c.variants.cursor c.seek.new.self c.variants.steps c.seek.new.steps c.seek.result c.variants.invariant.same_filter c.seek.ensures.steps) c.in-OutOfTries.is))).scalar_values
+    (spent-writable c.args.options.now.properties (filter_by c.args.options.now.properties (ruling_in c.args.validity)) (said_text c.args.asked.now.form (asked_line c.args.asked.now)) (field_by c.args.dispositions.now) _ _ _ _ c.variants.cursor c.seek.new.self c.variants.count c.variants.tries c.seek.new.tries c.variants.steps c.seek.new.steps c.requires.spelled c.variants.invariant.listing (spent-from (filter_by c.args.options.now.properties (ruling_in c.args.validity)) c.variants.cursor c.seek.new.self c.variants.tries c.seek.new.tries c.variants.steps c.seek.new.steps c.seek.result c.in_ok-seek.field-0 c.in_ok-seek.was (decided_by (filter_by c.variants.judge.properties (ruling_in c.variants.judge.validity)) (filter_by c.args.options.now.properties (ruling_in c.args.validity)) c.variants.cursor c.variants.tries c.seek.new.tries c.seek.result c.variants.invariant.same_filter c.seek.ensures.decided) (moves_by (filter_by c.variants.judge.properties (ruling_in c.variants.judge.validity)) (filter_by c.args.options.now.properties (ruling_in c.args.validity)) (c.variants.tries - c.seek.new.tries) c.seek.result c.variants.cursor c.seek.new.self c.variants.invariant.same_filter c.seek.ensures.moves) (steps_by (filter_by c.variants.judge.properties (ruling_in c.variants.judge.validity)) (filter_by c.args.options.now.properties (ruling_in c.args.validity)) c.variants.cursor c.seek.new.self c.variants.steps c.seek.new.steps c.seek.result c.variants.invariant.same_filter c.seek.ensures.steps) c.in-OutOfTries.is))).scalar_values
 
 pub write_stop-requires-in-OutOfSteps-clause-scalar_values : goal.write_stop-requires-in-OutOfSteps-clause-scalar_values
 write_stop-requires-in-OutOfSteps-clause-scalar_values g c =
     (subst IsWritable (sym c.last-in-OutOfSteps.ensures.value)
-    (halted-writable (filter_by (ruling_in c.args.validity)) (said_text c.args.asked.now.form (asked_line c.args.asked.now)) (field_by c.args.dispositions.now) _ _ _ _ c.variants.cursor c.seek.new.self c.variants.count c.variants.tries c.seek.new.tries c.variants.steps c.seek.new.steps c.requires.spelled c.variants.invariant.listing (halted-from (filter_by (ruling_in c.args.validity)) c.variants.cursor c.seek.new.self c.variants.tries c.seek.new.tries c.variants.steps c.seek.new.steps c.seek.result c.in_ok-seek.field-0 c.in_ok-seek.was (decided_by (filter_by (ruling_in c.variants.judge.validity)) (filter_by (ruling_in c.args.validity)) c.variants.cursor c.variants.tries c.seek.new.tries c.seek.result c.variants.invariant.same_filter c.seek.ensures.decided) (moves_by (filter_by (ruling_in c.variants.judge.validity)) (filter_by (ruling_in c.args.validity)) (c.variants.tries - c.seek.new.tries) c.seek.result c.variants.cursor c.seek.new.self c.variants.invariant.same_filter c.seek.ensures.moves) (steps_by (filter_by (ruling_in c.variants.judge.validity)) (filter_by (ruling_in c.args.validity)) c.variants.cursor c.seek.new.self c.variants.steps c.seek.new.steps c.seek.result c.variants.invariant.same_filter c.seek.ensures.steps) c.in-OutOfSteps.is))).scalar_values
+    (halted-writable c.args.options.now.properties (filter_by c.args.options.now.properties (ruling_in c.args.validity)) (said_text c.args.asked.now.form (asked_line c.args.asked.now)) (field_by c.args.dispositions.now) _ _ _ _ c.variants.cursor c.seek.new.self c.variants.count c.variants.tries c.seek.new.tries c.variants.steps c.seek.new.steps c.requires.spelled c.variants.invariant.listing (halted-from (filter_by c.args.options.now.properties (ruling_in c.args.validity)) c.variants.cursor c.seek.new.self c.variants.tries c.seek.new.tries c.variants.steps c.seek.new.steps c.seek.result c.in_ok-seek.field-0 c.in_ok-seek.was (decided_by (filter_by c.variants.judge.properties (ruling_in c.variants.judge.validity)) (filter_by c.args.options.now.properties (ruling_in c.args.validity)) c.variants.cursor c.variants.tries c.seek.new.tries c.seek.result c.variants.invariant.same_filter c.seek.ensures.decided) (moves_by (filter_by c.variants.judge.properties (ruling_in c.variants.judge.validity)) (filter_by c.args.options.now.properties (ruling_in c.args.validity)) (c.variants.tries - c.seek.new.tries) c.seek.result c.variants.cursor c.seek.new.self c.variants.invariant.same_filter c.seek.ensures.moves) (steps_by (filter_by c.variants.judge.properties (ruling_in c.variants.judge.validity)) (filter_by c.args.options.now.properties (ruling_in c.args.validity)) c.variants.cursor c.seek.new.self c.variants.steps c.seek.new.steps c.seek.result c.variants.invariant.same_filter c.seek.ensures.steps) c.in-OutOfSteps.is))).scalar_values
 
 pub returns-in-OutOfTries-clause-written : goal.returns-in-OutOfTries-clause-written
 returns-in-OutOfTries-clause-written g c =
-    let spent = spent-from (filter_by (ruling_in c.args.validity)) c.variants.cursor c.seek.new.self c.variants.tries c.seek.new.tries c.variants.steps c.seek.new.steps c.seek.result c.in_ok-seek.field-0 c.in_ok-seek.was (decided_by (filter_by (ruling_in c.variants.judge.validity)) (filter_by (ruling_in c.args.validity)) c.variants.cursor c.variants.tries c.seek.new.tries c.seek.result c.variants.invariant.same_filter c.seek.ensures.decided) (moves_by (filter_by (ruling_in c.variants.judge.validity)) (filter_by (ruling_in c.args.validity)) (c.variants.tries - c.seek.new.tries) c.seek.result c.variants.cursor c.seek.new.self c.variants.invariant.same_filter c.seek.ensures.moves) (steps_by (filter_by (ruling_in c.variants.judge.validity)) (filter_by (ruling_in c.args.validity)) c.variants.cursor c.seek.new.self c.variants.steps c.seek.new.steps c.seek.result c.variants.invariant.same_filter c.seek.ensures.steps) c.in-OutOfTries.is in
-    listing-spent (filter_by (ruling_in c.args.validity)) (said_text c.args.asked.now.form (asked_line c.args.asked.now)) (field_by c.args.dispositions.now) _ _ _ _ _ c.variants.cursor c.seek.new.self c.variants.count c.variants.tries c.seek.new.tries c.variants.steps c.seek.new.steps c.last.result.now c.write_stop.result c.variants.invariant.listing spent c.last.ensures.value c.write_stop.ensures.written
+    let spent = spent-from (filter_by c.args.options.now.properties (ruling_in c.args.validity)) c.variants.cursor c.seek.new.self c.variants.tries c.seek.new.tries c.variants.steps c.seek.new.steps c.seek.result c.in_ok-seek.field-0 c.in_ok-seek.was (decided_by (filter_by c.variants.judge.properties (ruling_in c.variants.judge.validity)) (filter_by c.args.options.now.properties (ruling_in c.args.validity)) c.variants.cursor c.variants.tries c.seek.new.tries c.seek.result c.variants.invariant.same_filter c.seek.ensures.decided) (moves_by (filter_by c.variants.judge.properties (ruling_in c.variants.judge.validity)) (filter_by c.args.options.now.properties (ruling_in c.args.validity)) (c.variants.tries - c.seek.new.tries) c.seek.result c.variants.cursor c.seek.new.self c.variants.invariant.same_filter c.seek.ensures.moves) (steps_by (filter_by c.variants.judge.properties (ruling_in c.variants.judge.validity)) (filter_by c.args.options.now.properties (ruling_in c.args.validity)) c.variants.cursor c.seek.new.self c.variants.steps c.seek.new.steps c.seek.result c.variants.invariant.same_filter c.seek.ensures.steps) c.in-OutOfTries.is in
+    listing-spent c.args.options.now.properties (filter_by c.args.options.now.properties (ruling_in c.args.validity)) (said_text c.args.asked.now.form (asked_line c.args.asked.now)) (field_by c.args.dispositions.now) _ _ _ _ _ c.variants.cursor c.seek.new.self c.variants.count c.variants.tries c.seek.new.tries c.variants.steps c.seek.new.steps c.last.result.now c.write_stop.result c.variants.invariant.listing spent c.last.ensures.value c.write_stop.ensures.written
 
 pub returns-in-OutOfSteps-clause-written : goal.returns-in-OutOfSteps-clause-written
 returns-in-OutOfSteps-clause-written g c =
-    let halted = halted-from (filter_by (ruling_in c.args.validity)) c.variants.cursor c.seek.new.self c.variants.tries c.seek.new.tries c.variants.steps c.seek.new.steps c.seek.result c.in_ok-seek.field-0 c.in_ok-seek.was (decided_by (filter_by (ruling_in c.variants.judge.validity)) (filter_by (ruling_in c.args.validity)) c.variants.cursor c.variants.tries c.seek.new.tries c.seek.result c.variants.invariant.same_filter c.seek.ensures.decided) (moves_by (filter_by (ruling_in c.variants.judge.validity)) (filter_by (ruling_in c.args.validity)) (c.variants.tries - c.seek.new.tries) c.seek.result c.variants.cursor c.seek.new.self c.variants.invariant.same_filter c.seek.ensures.moves) (steps_by (filter_by (ruling_in c.variants.judge.validity)) (filter_by (ruling_in c.args.validity)) c.variants.cursor c.seek.new.self c.variants.steps c.seek.new.steps c.seek.result c.variants.invariant.same_filter c.seek.ensures.steps) c.in-OutOfSteps.is in
-    listing-halted (filter_by (ruling_in c.args.validity)) (said_text c.args.asked.now.form (asked_line c.args.asked.now)) (field_by c.args.dispositions.now) _ _ _ _ _ c.variants.cursor c.seek.new.self c.variants.count c.variants.tries c.seek.new.tries c.variants.steps c.seek.new.steps c.last-in-OutOfSteps.result.now c.write_stop-in-OutOfSteps.result c.variants.invariant.listing halted c.last-in-OutOfSteps.ensures.value c.write_stop-in-OutOfSteps.ensures.written
+    let halted = halted-from (filter_by c.args.options.now.properties (ruling_in c.args.validity)) c.variants.cursor c.seek.new.self c.variants.tries c.seek.new.tries c.variants.steps c.seek.new.steps c.seek.result c.in_ok-seek.field-0 c.in_ok-seek.was (decided_by (filter_by c.variants.judge.properties (ruling_in c.variants.judge.validity)) (filter_by c.args.options.now.properties (ruling_in c.args.validity)) c.variants.cursor c.variants.tries c.seek.new.tries c.seek.result c.variants.invariant.same_filter c.seek.ensures.decided) (moves_by (filter_by c.variants.judge.properties (ruling_in c.variants.judge.validity)) (filter_by c.args.options.now.properties (ruling_in c.args.validity)) (c.variants.tries - c.seek.new.tries) c.seek.result c.variants.cursor c.seek.new.self c.variants.invariant.same_filter c.seek.ensures.moves) (steps_by (filter_by c.variants.judge.properties (ruling_in c.variants.judge.validity)) (filter_by c.args.options.now.properties (ruling_in c.args.validity)) c.variants.cursor c.seek.new.self c.variants.steps c.seek.new.steps c.seek.result c.variants.invariant.same_filter c.seek.ensures.steps) c.in-OutOfSteps.is in
+    listing-halted c.args.options.now.properties (filter_by c.args.options.now.properties (ruling_in c.args.validity)) (said_text c.args.asked.now.form (asked_line c.args.asked.now)) (field_by c.args.dispositions.now) _ _ _ _ _ c.variants.cursor c.seek.new.self c.variants.count c.variants.tries c.seek.new.tries c.variants.steps c.seek.new.steps c.last-in-OutOfSteps.result.now c.write_stop-in-OutOfSteps.result c.variants.invariant.listing halted c.last-in-OutOfSteps.ensures.value c.write_stop-in-OutOfSteps.ensures.written
 
 pub returns-in-Ended-clause-written : goal.returns-in-Ended-clause-written
 returns-in-Ended-clause-written g c =
-    let ended = ended-from (filter_by (ruling_in c.args.validity)) c.variants.cursor c.seek.new.self c.variants.tries c.seek.new.tries c.variants.steps c.seek.new.steps c.seek.result c.in_ok-seek.field-0 c.in_ok-seek.was (decided_by (filter_by (ruling_in c.variants.judge.validity)) (filter_by (ruling_in c.args.validity)) c.variants.cursor c.variants.tries c.seek.new.tries c.seek.result c.variants.invariant.same_filter c.seek.ensures.decided) (moves_by (filter_by (ruling_in c.variants.judge.validity)) (filter_by (ruling_in c.args.validity)) (c.variants.tries - c.seek.new.tries) c.seek.result c.variants.cursor c.seek.new.self c.variants.invariant.same_filter c.seek.ensures.moves) (steps_by (filter_by (ruling_in c.variants.judge.validity)) (filter_by (ruling_in c.args.validity)) c.variants.cursor c.seek.new.self c.variants.steps c.seek.new.steps c.seek.result c.variants.invariant.same_filter c.seek.ensures.steps) c.in-Ended.is in
-    listing-ended (filter_by (ruling_in c.args.validity)) (said_text c.args.asked.now.form (asked_line c.args.asked.now)) (field_by c.args.dispositions.now) _ _ _ _ _ c.variants.cursor c.variants.count c.variants.tries c.seek.new.tries c.variants.steps c.write_end.result c.variants.invariant.listing ended c.write_end.ensures.written
+    let ended = ended-from (filter_by c.args.options.now.properties (ruling_in c.args.validity)) c.variants.cursor c.seek.new.self c.variants.tries c.seek.new.tries c.variants.steps c.seek.new.steps c.seek.result c.in_ok-seek.field-0 c.in_ok-seek.was (decided_by (filter_by c.variants.judge.properties (ruling_in c.variants.judge.validity)) (filter_by c.args.options.now.properties (ruling_in c.args.validity)) c.variants.cursor c.variants.tries c.seek.new.tries c.seek.result c.variants.invariant.same_filter c.seek.ensures.decided) (moves_by (filter_by c.variants.judge.properties (ruling_in c.variants.judge.validity)) (filter_by c.args.options.now.properties (ruling_in c.args.validity)) (c.variants.tries - c.seek.new.tries) c.seek.result c.variants.cursor c.seek.new.self c.variants.invariant.same_filter c.seek.ensures.moves) (steps_by (filter_by c.variants.judge.properties (ruling_in c.variants.judge.validity)) (filter_by c.args.options.now.properties (ruling_in c.args.validity)) c.variants.cursor c.seek.new.self c.variants.steps c.seek.new.steps c.seek.result c.variants.invariant.same_filter c.seek.ensures.steps) c.in-Ended.is in
+    listing-ended c.args.options.now.properties (filter_by c.args.options.now.properties (ruling_in c.args.validity)) (said_text c.args.asked.now.form (asked_line c.args.asked.now)) (field_by c.args.dispositions.now) _ _ _ _ _ c.variants.cursor c.variants.count c.variants.tries c.seek.new.tries c.variants.steps c.write_end.result c.variants.invariant.listing ended c.write_end.ensures.written
 
 -- ---- a variant
 
 pub returns-in_err-write_variant-clause-written : goal.returns-in_err-write_variant-clause-written
 returns-in_err-write_variant-clause-written g c =
     let p = err_from_is_err_and c.from_residual-in_err-write_variant.result c.from_residual-in_err-write_variant.ensures.1 in
-    let found = found-from (filter_by (ruling_in c.args.validity)) c.variants.cursor c.seek.new.self c.variants.tries c.seek.new.tries c.variants.steps c.seek.new.steps c.seek.result c.in_ok-seek.field-0 c.in_ok-seek.was (decided_by (filter_by (ruling_in c.variants.judge.validity)) (filter_by (ruling_in c.args.validity)) c.variants.cursor c.variants.tries c.seek.new.tries c.seek.result c.variants.invariant.same_filter c.seek.ensures.decided) (moves_by (filter_by (ruling_in c.variants.judge.validity)) (filter_by (ruling_in c.args.validity)) (c.variants.tries - c.seek.new.tries) c.seek.result c.variants.cursor c.seek.new.self c.variants.invariant.same_filter c.seek.ensures.moves) (steps_by (filter_by (ruling_in c.variants.judge.validity)) (filter_by (ruling_in c.args.validity)) c.variants.cursor c.seek.new.self c.variants.steps c.seek.new.steps c.seek.result c.variants.invariant.same_filter c.seek.ensures.steps) c.in-Found.is in
-    rw p.1 (listing-broken (filter_by (ruling_in c.args.validity)) (said_text c.args.asked.now.form (asked_line c.args.asked.now)) (field_by c.args.dispositions.now) _ _ _ _ _ c.variants.cursor c.seek.new.self c.variants.count c.variants.tries c.seek.new.tries c.variants.steps c.seek.new.steps c.last-variant.result.now c.write_variant.result p.0 c.variants.invariant.listing found c.last-variant.ensures.value
+    let found = found-from (filter_by c.args.options.now.properties (ruling_in c.args.validity)) c.variants.cursor c.seek.new.self c.variants.tries c.seek.new.tries c.variants.steps c.seek.new.steps c.seek.result c.in_ok-seek.field-0 c.in_ok-seek.was (decided_by (filter_by c.variants.judge.properties (ruling_in c.variants.judge.validity)) (filter_by c.args.options.now.properties (ruling_in c.args.validity)) c.variants.cursor c.variants.tries c.seek.new.tries c.seek.result c.variants.invariant.same_filter c.seek.ensures.decided) (moves_by (filter_by c.variants.judge.properties (ruling_in c.variants.judge.validity)) (filter_by c.args.options.now.properties (ruling_in c.args.validity)) (c.variants.tries - c.seek.new.tries) c.seek.result c.variants.cursor c.seek.new.self c.variants.invariant.same_filter c.seek.ensures.moves) (steps_by (filter_by c.variants.judge.properties (ruling_in c.variants.judge.validity)) (filter_by c.args.options.now.properties (ruling_in c.args.validity)) c.variants.cursor c.seek.new.self c.variants.steps c.seek.new.steps c.seek.result c.variants.invariant.same_filter c.seek.ensures.steps) c.in-Found.is in
+    rw p.1 (listing-broken c.args.options.now.properties (filter_by c.args.options.now.properties (ruling_in c.args.validity)) (said_text c.args.asked.now.form (asked_line c.args.asked.now)) (field_by c.args.dispositions.now) _ _ _ _ _ c.variants.cursor c.seek.new.self c.variants.count c.variants.tries c.seek.new.tries c.variants.steps c.seek.new.steps c.last-variant.result.now c.write_variant.result p.0 c.variants.invariant.listing found c.last-variant.ensures.value
     (emits_as _ _ Output _ _ c.write_variant.result (line_is (said_text c.args.asked.now.form (asked_line c.args.asked.now)) c.last-variant.result.now (told c.last-variant.result.now c.of_variant-disposition.ensures.field c.variants.invariant.same)) c.write_variant.ensures.written) (c.in_err-write_variant.was ∙ ap Err (sym p.2)))
 
 pub write_stop-requires-then-is_reached-clause-scalar_values : goal.write_stop-requires-then-is_reached-clause-scalar_values
 write_stop-requires-then-is_reached-clause-scalar_values g c =
     (subst IsWritable (sym c.last-then-is_reached.ensures.value)
-    (found-writable (filter_by (ruling_in c.args.validity)) (said_text c.args.asked.now.form (asked_line c.args.asked.now)) (field_by c.args.dispositions.now) _ _ _ _ c.variants.cursor c.seek.new.self c.variants.count c.variants.tries c.seek.new.tries c.variants.steps c.seek.new.steps c.requires.spelled c.variants.invariant.listing (found-from (filter_by (ruling_in c.args.validity)) c.variants.cursor c.seek.new.self c.variants.tries c.seek.new.tries c.variants.steps c.seek.new.steps c.seek.result c.in_ok-seek.field-0 c.in_ok-seek.was (decided_by (filter_by (ruling_in c.variants.judge.validity)) (filter_by (ruling_in c.args.validity)) c.variants.cursor c.variants.tries c.seek.new.tries c.seek.result c.variants.invariant.same_filter c.seek.ensures.decided) (moves_by (filter_by (ruling_in c.variants.judge.validity)) (filter_by (ruling_in c.args.validity)) (c.variants.tries - c.seek.new.tries) c.seek.result c.variants.cursor c.seek.new.self c.variants.invariant.same_filter c.seek.ensures.moves) (steps_by (filter_by (ruling_in c.variants.judge.validity)) (filter_by (ruling_in c.args.validity)) c.variants.cursor c.seek.new.self c.variants.steps c.seek.new.steps c.seek.result c.variants.invariant.same_filter c.seek.ensures.steps) c.in-Found.is))).scalar_values
+    (found-writable c.args.options.now.properties (filter_by c.args.options.now.properties (ruling_in c.args.validity)) (said_text c.args.asked.now.form (asked_line c.args.asked.now)) (field_by c.args.dispositions.now) _ _ _ _ c.variants.cursor c.seek.new.self c.variants.count c.variants.tries c.seek.new.tries c.variants.steps c.seek.new.steps c.requires.spelled c.variants.invariant.listing (found-from (filter_by c.args.options.now.properties (ruling_in c.args.validity)) c.variants.cursor c.seek.new.self c.variants.tries c.seek.new.tries c.variants.steps c.seek.new.steps c.seek.result c.in_ok-seek.field-0 c.in_ok-seek.was (decided_by (filter_by c.variants.judge.properties (ruling_in c.variants.judge.validity)) (filter_by c.args.options.now.properties (ruling_in c.args.validity)) c.variants.cursor c.variants.tries c.seek.new.tries c.seek.result c.variants.invariant.same_filter c.seek.ensures.decided) (moves_by (filter_by c.variants.judge.properties (ruling_in c.variants.judge.validity)) (filter_by c.args.options.now.properties (ruling_in c.args.validity)) (c.variants.tries - c.seek.new.tries) c.seek.result c.variants.cursor c.seek.new.self c.variants.invariant.same_filter c.seek.ensures.moves) (steps_by (filter_by c.variants.judge.properties (ruling_in c.variants.judge.validity)) (filter_by c.args.options.now.properties (ruling_in c.args.validity)) c.variants.cursor c.seek.new.self c.variants.steps c.seek.new.steps c.seek.result c.variants.invariant.same_filter c.seek.ensures.steps) c.in-Found.is))).scalar_values
 
 pub returns-then-is_reached-clause-written : goal.returns-then-is_reached-clause-written
 returns-then-is_reached-clause-written g c =
-    let found = found-from (filter_by (ruling_in c.args.validity)) c.variants.cursor c.seek.new.self c.variants.tries c.seek.new.tries c.variants.steps c.seek.new.steps c.seek.result c.in_ok-seek.field-0 c.in_ok-seek.was (decided_by (filter_by (ruling_in c.variants.judge.validity)) (filter_by (ruling_in c.args.validity)) c.variants.cursor c.variants.tries c.seek.new.tries c.seek.result c.variants.invariant.same_filter c.seek.ensures.decided) (moves_by (filter_by (ruling_in c.variants.judge.validity)) (filter_by (ruling_in c.args.validity)) (c.variants.tries - c.seek.new.tries) c.seek.result c.variants.cursor c.seek.new.self c.variants.invariant.same_filter c.seek.ensures.moves) (steps_by (filter_by (ruling_in c.variants.judge.validity)) (filter_by (ruling_in c.args.validity)) c.variants.cursor c.seek.new.self c.variants.steps c.seek.new.steps c.seek.result c.variants.invariant.same_filter c.seek.ensures.steps) c.in-Found.is in
+    let found = found-from (filter_by c.args.options.now.properties (ruling_in c.args.validity)) c.variants.cursor c.seek.new.self c.variants.tries c.seek.new.tries c.variants.steps c.seek.new.steps c.seek.result c.in_ok-seek.field-0 c.in_ok-seek.was (decided_by (filter_by c.variants.judge.properties (ruling_in c.variants.judge.validity)) (filter_by c.args.options.now.properties (ruling_in c.args.validity)) c.variants.cursor c.variants.tries c.seek.new.tries c.seek.result c.variants.invariant.same_filter c.seek.ensures.decided) (moves_by (filter_by c.variants.judge.properties (ruling_in c.variants.judge.validity)) (filter_by c.args.options.now.properties (ruling_in c.args.validity)) (c.variants.tries - c.seek.new.tries) c.seek.result c.variants.cursor c.seek.new.self c.variants.invariant.same_filter c.seek.ensures.moves) (steps_by (filter_by c.variants.judge.properties (ruling_in c.variants.judge.validity)) (filter_by c.args.options.now.properties (ruling_in c.args.validity)) c.variants.cursor c.seek.new.self c.variants.steps c.seek.new.steps c.seek.result c.variants.invariant.same_filter c.seek.ensures.steps) c.in-Found.is in
     let reached = sym (ap (λ (o : Settings). reaches o.limit (c.variants.count + 1)) c.options.view_is) ∙ sym c.is_reached.ensures ∙ c.if-is_reached.true in
-    listing-reached (filter_by (ruling_in c.args.validity)) (said_text c.args.asked.now.form (asked_line c.args.asked.now)) (field_by c.args.dispositions.now) _ _ _ _ _ _ c.variants.cursor c.seek.new.self c.variants.count c.variants.tries c.seek.new.tries c.variants.steps c.seek.new.steps c.last-variant.result.now c.last-then-is_reached.result.now c.write_stop-then-is_reached.result c.variants.invariant.listing
+    listing-reached c.args.options.now.properties (filter_by c.args.options.now.properties (ruling_in c.args.validity)) (said_text c.args.asked.now.form (asked_line c.args.asked.now)) (field_by c.args.dispositions.now) _ _ _ _ _ _ c.variants.cursor c.seek.new.self c.variants.count c.variants.tries c.seek.new.tries c.variants.steps c.seek.new.steps c.last-variant.result.now c.last-then-is_reached.result.now c.write_stop-then-is_reached.result c.variants.invariant.listing
     found c.last-variant.ensures.value (writes_as _ _ Output _ _ (line_is (said_text c.args.asked.now.form (asked_line c.args.asked.now)) c.last-variant.result.now (told c.last-variant.result.now c.of_variant-disposition.ensures.field c.variants.invariant.same)) c.in_ok-write_variant.ensures.written) reached c.last-then-is_reached.ensures.value c.write_stop-then-is_reached.ensures.written
 
 pub variants-preserved : goal.variants-preserved
 variants-preserved g c =
-    let found = found-from (filter_by (ruling_in c.args.validity)) c.variants.cursor c.seek.new.self c.variants.tries c.seek.new.tries c.variants.steps c.seek.new.steps c.seek.result c.in_ok-seek.field-0 c.in_ok-seek.was (decided_by (filter_by (ruling_in c.variants.judge.validity)) (filter_by (ruling_in c.args.validity)) c.variants.cursor c.variants.tries c.seek.new.tries c.seek.result c.variants.invariant.same_filter c.seek.ensures.decided) (moves_by (filter_by (ruling_in c.variants.judge.validity)) (filter_by (ruling_in c.args.validity)) (c.variants.tries - c.seek.new.tries) c.seek.result c.variants.cursor c.seek.new.self c.variants.invariant.same_filter c.seek.ensures.moves) (steps_by (filter_by (ruling_in c.variants.judge.validity)) (filter_by (ruling_in c.args.validity)) c.variants.cursor c.seek.new.self c.variants.steps c.seek.new.steps c.seek.result c.variants.invariant.same_filter c.seek.ensures.steps) c.in-Found.is in
+    let found = found-from (filter_by c.args.options.now.properties (ruling_in c.args.validity)) c.variants.cursor c.seek.new.self c.variants.tries c.seek.new.tries c.variants.steps c.seek.new.steps c.seek.result c.in_ok-seek.field-0 c.in_ok-seek.was (decided_by (filter_by c.variants.judge.properties (ruling_in c.variants.judge.validity)) (filter_by c.args.options.now.properties (ruling_in c.args.validity)) c.variants.cursor c.variants.tries c.seek.new.tries c.seek.result c.variants.invariant.same_filter c.seek.ensures.decided) (moves_by (filter_by c.variants.judge.properties (ruling_in c.variants.judge.validity)) (filter_by c.args.options.now.properties (ruling_in c.args.validity)) (c.variants.tries - c.seek.new.tries) c.seek.result c.variants.cursor c.seek.new.self c.variants.invariant.same_filter c.seek.ensures.moves) (steps_by (filter_by c.variants.judge.properties (ruling_in c.variants.judge.validity)) (filter_by c.args.options.now.properties (ruling_in c.args.validity)) c.variants.cursor c.seek.new.self c.variants.steps c.seek.new.steps c.seek.result c.variants.invariant.same_filter c.seek.ensures.steps) c.in-Found.is in
     let kept = decided-as _ c.seek.result c.in_ok-seek.field-0 outcome.Found c.in_ok-seek.was c.in-Found.is c.seek.ensures.kept in
     let going = sym (ap (λ (o : Settings). reaches o.limit (c.variants.count + 1)) c.options.view_is) ∙ sym c.is_reached.ensures ∙ c.if-is_reached.false in
     record {
       same = c.of_variant-disposition.ensures.same ∙ c.variants.invariant.same;
-      same_filter = same_filters (filter_by (ruling_in c.seek.new.judge.validity)) (filter_by (ruling_in c.variants.judge.validity)) c.seek.ensures.same_labels c.seek.ensures.same_beginnings ∙ c.variants.invariant.same_filter;
-      listing = listing-found (filter_by (ruling_in c.args.validity)) (said_text c.args.asked.now.form (asked_line c.args.asked.now)) (field_by c.args.dispositions.now) _ _ _ _ _ c.variants.cursor c.seek.new.self c.variants.count c.variants.tries c.seek.new.tries c.variants.steps c.seek.new.steps c.last-variant.result.now c.requires.spelled c.variants.invariant.listing
+      same_filter = same_filters (filter_by c.seek.new.judge.properties (ruling_in c.seek.new.judge.validity)) (filter_by c.variants.judge.properties (ruling_in c.variants.judge.validity)) c.seek.ensures.same_labels c.seek.ensures.same_beginnings ∙ c.variants.invariant.same_filter;
+      listing = listing-found c.args.options.now.properties (filter_by c.args.options.now.properties (ruling_in c.args.validity)) (said_text c.args.asked.now.form (asked_line c.args.asked.now)) (field_by c.args.dispositions.now) _ _ _ _ _ c.variants.cursor c.seek.new.self c.variants.count c.variants.tries c.seek.new.tries c.variants.steps c.seek.new.steps c.last-variant.result.now c.requires.spelled c.variants.invariant.listing
           found c.last-variant.ensures.value (writes_as _ _ Output _ _ (line_is (said_text c.args.asked.now.form (asked_line c.args.asked.now)) c.last-variant.result.now (told c.last-variant.result.now c.of_variant-disposition.ensures.field c.variants.invariant.same)) c.in_ok-write_variant.ensures.written) going;
       known = kept.0;
       apart = kept.1;
@@ -147,3 +149,11 @@ returns-in_err-seek-clause-written g c =
 
 pub returns-in_err-seek-clause-begun : goal.returns-in_err-seek-clause-begun
 returns-in_err-seek-clause-begun g c = λ _. inr (λ none. not_ok c.in_err-seek.was (c.seek.ensures.no_memory (subst (λ (f : Filter). All NeedsNoMemory (tested_ahead f.hopeless c.variants.cursor)) (sym c.variants.invariant.same_filter) (c.variants.invariant.listing.no_memory none))))
+
+-- the variant that is found may be registered
+pub write_variant-requires-clause-registrable : goal.write_variant-requires-clause-registrable
+write_variant-requires-clause-registrable g c =
+    let found = found-from (filter_by c.args.options.now.properties (ruling_in c.args.validity)) c.variants.cursor c.seek.new.self c.variants.tries c.seek.new.tries c.variants.steps c.seek.new.steps c.seek.result c.in_ok-seek.field-0 c.in_ok-seek.was (decided_by (filter_by c.variants.judge.properties (ruling_in c.variants.judge.validity)) (filter_by c.args.options.now.properties (ruling_in c.args.validity)) c.variants.cursor c.variants.tries c.seek.new.tries c.seek.result c.variants.invariant.same_filter c.seek.ensures.decided) (moves_by (filter_by c.variants.judge.properties (ruling_in c.variants.judge.validity)) (filter_by c.args.options.now.properties (ruling_in c.args.validity)) (c.variants.tries - c.seek.new.tries) c.seek.result c.variants.cursor c.seek.new.self c.variants.invariant.same_filter c.seek.ensures.moves) (steps_by (filter_by c.variants.judge.properties (ruling_in c.variants.judge.validity)) (filter_by c.args.options.now.properties (ruling_in c.args.validity)) c.variants.cursor c.seek.new.self c.variants.steps c.seek.new.steps c.seek.result c.variants.invariant.same_filter c.seek.ensures.steps) c.in-Found.is in (
+      c.args.options.now.properties,
+      subst (IsRegistrable c.args.options.now.properties) (sym (c.last-variant.ensures.value ∙ found.last)) ((filter_by-IsSound c.args.options.now.properties (ruling_in c.args.validity)).registrable _ found.found.accepted),
+    )

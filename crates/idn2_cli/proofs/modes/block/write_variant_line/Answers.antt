@@ -12,21 +12,21 @@ use Rattle.idn2_cli.proofs.modes.block.write_variant_line.Goals.{then-not-is_emp
 use Rattle.idn2_cli.proofs.modes.block.write_variant_line.Goals as goal
 
 pub begin-requires-clause-short : goal.begin-requires-clause-short
-begin-requires-clause-short g c = (MeetsRequirements-registrable c.args.label.now c.requires.registrable).points
+begin-requires-clause-short g c = (MeetsRequirements-registrable c.requires.registrable.0 c.args.label.now c.requires.registrable.1).points
 
 pub begin-requires-clause-scalar_values : goal.begin-requires-clause-scalar_values
-begin-requires-clause-scalar_values g c = registrable_scalars c.args.label.now c.requires.registrable
+begin-requires-clause-scalar_values g c = registrable_scalars c.requires.registrable.0 c.args.label.now c.requires.registrable.1
 
 pub append-requires : goal.append-requires
 append-requires g c =
-    let short = (MeetsRequirements-registrable c.args.label.now c.requires.registrable).points in
+    let short = (MeetsRequirements-registrable c.requires.registrable.0 c.args.label.now c.requires.registrable.1).points in
     let most = length-utf8_of-le c.args.label.now in
     let count = ap length c.begin.ensures.line in
     omega (arith, short, most, count)
 
 pub append-requires-2 : goal.append-requires-2
 append-requires-2 g c =
-    let short = (MeetsRequirements-registrable c.args.label.now c.requires.registrable).points in
+    let short = (MeetsRequirements-registrable c.requires.registrable.0 c.args.label.now c.requires.registrable.1).points in
     let most = length-utf8_of-le c.args.label.now in
     let count = ap length c.begin.ensures.line in
     let tab = ap length c.append.ensures.line ∙ length-append c.begin.new.self.line (9 ∷ []) in
@@ -36,7 +36,7 @@ append-requires-2 g c =
 
 pub append-requires-then-not-is_empty : goal.append-requires-then-not-is_empty
 append-requires-then-not-is_empty g c =
-    let short = (MeetsRequirements-registrable c.args.label.now c.requires.registrable).points in
+    let short = (MeetsRequirements-registrable c.requires.registrable.0 c.args.label.now c.requires.registrable.1).points in
     let most = length-utf8_of-le c.args.label.now in
     let count = ap length c.begin.ensures.line in
     let tab = ap length c.append.ensures.line ∙ length-append c.begin.new.self.line (9 ∷ []) in
@@ -48,7 +48,7 @@ append-requires-then-not-is_empty g c =
 
 pub append-requires-3 : goal.append-requires-3
 append-requires-3 g c =
-    let short = (MeetsRequirements-registrable c.args.label.now c.requires.registrable).points in
+    let short = (MeetsRequirements-registrable c.requires.registrable.0 c.args.label.now c.requires.registrable.1).points in
     let most = length-utf8_of-le c.args.label.now in
     let count = ap length c.begin.ensures.line in
     let tab = ap length c.append.ensures.line ∙ length-append c.begin.new.self.line (9 ∷ []) in

@@ -15,7 +15,7 @@ invariant-collisions g l =
       same : l.dispositions ≡ l.fn.dispositions;
       same_test : ruling_in l.validity ≡ ruling_in l.fn.validity;
       tested : KeepsOf l.search.label l.validity;
-      under_way : IsUnderWay (filter_by (ruling_in l.fn.validity)) (said_text l.asked.form (asked_line l.asked)) (field_by l.fn.dispositions) l.options l.net l.fn.registered
+      under_way : IsUnderWay l.options.properties (filter_by l.options.properties (ruling_in l.fn.validity)) (said_text l.asked.form (asked_line l.asked)) (field_by l.fn.dispositions) l.options l.net l.fn.registered
           l.fn.console
           l.console
           l.search l.count l.total;

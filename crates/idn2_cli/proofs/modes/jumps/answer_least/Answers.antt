@@ -11,11 +11,11 @@ use Rattle.idn2_cli.proofs.modes.jumps.answer_least.Goals as goal
 
 pub admitted_net-requires-clause-some : goal.admitted_net-requires-clause-some
 admitted_net-requires-clause-some g c =
-    let label = requested_label c.args.points.now in rw c.parts_of.ensures.label (some-length label (MeetsRequirements-registrable label c.requires.registrable).some)
+    let label = requested_label c.args.points.now in rw c.parts_of.ensures.label (some-length label (MeetsRequirements-registrable c.args.mode.now.properties label c.requires.registrable).some)
 
 pub admitted_net-requires-clause-short : goal.admitted_net-requires-clause-short
 admitted_net-requires-clause-short g c =
-    rw c.parts_of.ensures.label (MeetsRequirements-registrable (requested_label c.args.points.now) c.requires.registrable).points
+    rw c.parts_of.ensures.label (MeetsRequirements-registrable c.args.mode.now.properties (requested_label c.args.points.now) c.requires.registrable).points
 
 pub returns-in-Ok-admitted_net-clause-written : goal.returns-in-Ok-admitted_net-clause-written
 returns-in-Ok-admitted_net-clause-written g c =

@@ -6,4 +6,4 @@ use Rattle.idn2_cli.proofs.refusals.registered_cause.cause_of_wrong_line.Goals a
 pub returns-in_default-clause-short : goal.returns-in_default-clause-short
 returns-in_default-clause-short c =
     let body = option_copied c.body_at.result in
-    told_short c.cause_of_body.result (body_cause ByRegisteredLine body c.args.refusal) c.cause_of_body.ensures.cause (test_cause-short body c.args.refusal)
+    told_short c.cause_of_body.result (body_cause (ByRegisteredLine c.args.properties) body c.args.refusal) c.cause_of_body.ensures.cause (test_cause-short c.args.properties body c.args.refusal)

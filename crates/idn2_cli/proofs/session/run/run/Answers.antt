@@ -2,8 +2,7 @@ use Rattle.std.proofs.Common.{ap, sym, ◌≡◌, ◌∙◌, None}
 use Rattle.idn2_options.specs.Settings.{Settings, keeping}
 use Rattle.idn2_cli.specs.Ends.{mode_job}
 use Rattle.idn2_cli.proofs.AdmittedLabels.{sound_table}
-use Rattle.idn2_cli.proofs.BlockMembers.{variants_answer-IsListing, check_findings-IsCheck}
-use Rattle.idn2_cli.proofs.JumpAnswers.{jump_answer-IsJumpAnswer}
+use Rattle.idn2_cli.proofs.BlockMembers.{variants_answer-IsListing}
 use Rattle.idn2_cli.proofs.RunEnds.{ends_as}
 use Rattle.idn2_cli.proofs.HeadlineLemmas.{headline}
 use Rattle.idn2_cli.proofs.session.run.run.Goals as goal
@@ -25,7 +24,7 @@ pub returns-clause-listing : goal.returns-clause-listing
 returns-clause-listing g c = λ table label text registrable. variants_answer-IsListing c.args.options.now table label (sound_table table text.lines.well_formed) registrable
 
 pub returns-clause-jump : goal.returns-clause-jump
-returns-clause-jump g c = λ table request text registrable. jump_answer-IsJumpAnswer table request (sound_table table text.lines.well_formed) registrable
+returns-clause-jump g c = c.run_among.ensures.jump
 
 pub returns-clause-check : goal.returns-clause-check
-returns-clause-check g c = λ table text. check_findings-IsCheck table.entries text.lines.well_formed.well_formed
+returns-clause-check g c = c.run_among.ensures.check

@@ -5,7 +5,8 @@ use Rattle.idn2_cli.specs.Ends.{Held}
 use Rattle.idn2_cli.proofs.LentWriters.{same_loans, given_back}
 use Rattle.idn2_cli.proofs.HeadlineLemmas.{headline}
 use Rattle.idn2_cli.proofs.AdmittedLabels.{sound_table}
-use Rattle.idn2_cli.proofs.BlockMembers.{variants_answer-IsListing}
+use Rattle.idn2_cli.proofs.BlockMembers.{variants_answer-IsListing, check_findings-IsCheck}
+use Rattle.idn2_cli.proofs.JumpAnswers.{jump_answer-IsJumpAnswer}
 use Rattle.idn2_cli.proofs.session.run.run_among.Goals as goal
 
 pub returns-clause-ends : goal.returns-clause-ends
@@ -27,3 +28,9 @@ returns-clause-headline g c = λ table is text.
 
 pub returns-clause-listing : goal.returns-clause-listing
 returns-clause-listing g c = λ table label text registrable. variants_answer-IsListing (keeping (option_copied c.args.registered) c.args.options.now) table label (sound_table table text.lines.well_formed) registrable
+
+pub returns-clause-jump : goal.returns-clause-jump
+returns-clause-jump g c = λ table request text registrable. jump_answer-IsJumpAnswer c.args.options.now.properties table request (sound_table table text.lines.well_formed) registrable
+
+pub returns-clause-check : goal.returns-clause-check
+returns-clause-check g c = λ table text. check_findings-IsCheck table.entries text.lines.well_formed.well_formed

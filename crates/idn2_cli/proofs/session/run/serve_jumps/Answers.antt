@@ -1,10 +1,13 @@
 use Rattle.std.proofs.Common.{inl, refl, subst, Ok, ap, chars, true, ◌∙◌}
+use Rattle.idn2_cli.specs.Explained.{Explained}
+use Rattle.idn2_options.specs.declared.command_line.form.Form.{Form}
+use Rattle.idn_class.specs.declared.properties.Properties.{Properties}
 use Rattle.idn2_options.specs.Settings.{Settings}
 use Rattle.idn2_options.specs.declared.command_line.mode.Mode.TheVariants.{Jump}
 use Rattle.variant_table.specs.Texts.{IsTextOf, IsToldOf}
 use Rattle.variant_table.specs.declared.fault.TableFault.TheVariants.{Memory}
 use Rattle.idn2_cli.specs.Answers.{jump_answer, requested_label}
-use Rattle.idn2_cli.specs.Ends.{lines_job}
+use Rattle.idn2_cli.specs.Ends.{Job, lines_job}
 use Rattle.idn2_cli.specs.Explained.{ByRequest, if_wanted}
 use Rattle.idn2_cli.specs.Memory.{IsRefusedWithoutMemory}
 use Rattle.idn2_cli.specs.inner.Explaining.{explained_by}
@@ -13,18 +16,21 @@ use Rattle.idn2_cli.proofs.session.run.serve_jumps.Goals as goal
 
 pub returns-in-Err : goal.returns-in-Err
 returns-in-Err g c =
-    refused_lines c.args.options.now Jump (jumps_by_table c.args.options.now c.requires.mode) c.args.text.now _ c.in-Err.fault _ _ c.refuse_table.result c.requires.unread (subst (λ n. IsToldOf n c.args.text.now c.in-Err.fault) (ap (λ (v : Settings). v.notation) c.options.view_is) c.in-Err.ensures.fault)
-    (in_form c.args.text.now c.in-Err.fault _ _ _ _ _ _ _ _ c.refuse_table.result (ap (λ (v : Settings). v.form) c.options.view_is) c.tells_causes-wanted.ensures (ap (λ (v : Settings). v.notation) c.options.view_is) c.refuse_table.ensures.told) c.refuse_table.ensures.status
+    refused_lines c.args.options.now Jump (jumps_by_table c.args.options.now c.requires.mode) c.args.text.now _ c.in-Err.fault _ _ c.refuse_table.result c.requires.unread (subst (λ (v : Settings). IsToldOf v.properties v.notation c.args.text.now c.in-Err.fault) c.options.view_is c.in-Err.ensures.fault)
+    (in_form c.args.options.now.properties c.args.text.now c.in-Err.fault _ _ _ _ _ _ _ _ _ c.refuse_table.result (ap (λ (v : Settings). v.form) c.options.view_is) c.tells_causes-wanted.ensures (ap (λ (v : Settings). v.notation) c.options.view_is) (ap (λ (v : Settings). v.properties) c.options.view_is) c.refuse_table.ensures.told) c.refuse_table.ensures.status
 
 pub returns : goal.returns
 returns g c =
-    as_mode c.args.options.now Jump c.args.text.now (Ok c.in-Ok.table) _ _ _ _ _ c.serve_lines.result c.requires.mode (subst (λ n. IsTextOf n c.args.text.now c.in-Ok.table) (ap (λ (v : Settings). v.notation) c.options.view_is) c.in-Ok.ensures.table)
-    (ap (λ f. lines_job f (explained_by c.if_wanted-explaining.result) (jump_answer c.in-Ok.table) true (λ line. IsRefusedWithoutMemory (requested_label (chars line))) (λ line. Unit {0})) (ap (λ (v : Settings). v.form) c.options.view_is)
-    ∙ ap (λ e. lines_job c.args.options.now.form e (jump_answer c.in-Ok.table) true (λ line. IsRefusedWithoutMemory (requested_label (chars line))) (λ line. Unit {0}))
-    (c.if_wanted-explaining.ensures ∙ ap (λ x. if_wanted x (ByRequest c.in-Ok.table)) c.tells_causes-2.ensures))
+    let given : Properties = c.options.inside.properties in
+    let job : Properties → Form → Explained → Job = λ p f e. lines_job f e (jump_answer p c.in-Ok.table) true (λ line. IsRefusedWithoutMemory p (requested_label (chars line))) (λ line. Unit {0}) in
+    as_mode c.args.options.now Jump c.args.text.now (Ok c.in-Ok.table) _ _ _ _ _ c.serve_lines.result c.requires.mode (subst (λ (v : Settings). IsTextOf v.properties v.notation c.args.text.now c.in-Ok.table) c.options.view_is c.in-Ok.ensures.table)
+    (ap (λ f. job given f (explained_by c.if_wanted-explaining.result)) (ap (λ (v : Settings). v.form) c.options.view_is)
+    ∙ ap (λ e. job given c.args.options.now.form e) c.if_wanted-explaining.ensures
+    ∙ ap (λ (p : Properties). job p c.args.options.now.form (if_wanted c.tells_causes-2.result (ByRequest p c.in-Ok.table))) (ap (λ (v : Settings). v.properties) c.options.view_is)
+    ∙ ap (λ x. job c.args.options.now.properties c.args.options.now.form (if_wanted x (ByRequest c.args.options.now.properties c.in-Ok.table))) c.tells_causes-2.ensures)
     c.serve_lines.ensures
 
 pub returns-in_default : goal.returns-in_default
 returns-in_default g c =
     refused_lines c.args.options.now Jump (jumps_by_table c.args.options.now c.requires.mode) c.args.text.now _ Memory _ _ c.refuse_table-in_default.result c.requires.unread (inl refl)
-    (in_form c.args.text.now Memory _ _ _ _ _ _ _ _ c.refuse_table-in_default.result (ap (λ (v : Settings). v.form) c.options.view_is) c.tells_causes.ensures (ap (λ (v : Settings). v.notation) c.options.view_is) c.refuse_table-in_default.ensures.told) c.refuse_table-in_default.ensures.status
+    (in_form c.args.options.now.properties c.args.text.now Memory _ _ _ _ _ _ _ _ _ c.refuse_table-in_default.result (ap (λ (v : Settings). v.form) c.options.view_is) c.tells_causes.ensures (ap (λ (v : Settings). v.notation) c.options.view_is) (ap (λ (v : Settings). v.properties) c.options.view_is) c.refuse_table-in_default.ensures.told) c.refuse_table-in_default.ensures.status

@@ -1,4 +1,5 @@
 use Rattle.std.proofs.Common.{refl, ap, sym, ◌∙◌, Ok, ℕ, List, Bool, false, chars, subst}
+use Rattle.idn_class.specs.declared.properties.Properties.{Properties}
 use Rattle.idn_label.specs.Lookup.{lookup_answer}
 use Rattle.idn_label.specs.Decode.{decode_answer}
 use Rattle.idn_label.specs.Memory.{LooksUpWithoutMemory, RegistersWithoutMemory}
@@ -37,11 +38,14 @@ returns-in-Register g c =
     let o : Settings = keeping (option_copied c.args.registered) c.args.options.now in
     let mode = sym (ap (λ (v : Settings). v.mode) c.options.view_is) ∙ c.in-Register.is in
     let form = ap (λ (v : Settings). v.form) c.options.view_is in
-    let by : List ℕ → LineAnswer = λ label. one_answer (Registered (u_label_of label)) (register_answer label) in
+    let same = ap (λ (v : Settings). v.properties) c.options.view_is in
+    let given : Properties = c.options.inside.properties in
+    let by : Properties → List ℕ → LineAnswer = λ p label. one_answer (Registered (u_label_of p label)) (register_answer p label) in
     as_mode o Register c.args.table.now (Ok no_table) _ _ _ _ _ c.serve_lines-in-Register.result mode refl
-    (ap (λ f. lines_job f (explained_by c.if_wanted-explaining-in-Register.result) by false (λ line. RegistersWithoutMemory (chars line)) (λ line. Unit {0})) form
-    ∙ ap (λ e. lines_job o.form e by false (λ line. RegistersWithoutMemory (chars line)) (λ line. Unit {0}))
-    (c.if_wanted-explaining-in-Register.ensures ∙ ap (λ x. if_wanted x ByLabel) c.tells_causes-in-Register.ensures))
+    (ap (λ f. lines_job f (explained_by c.if_wanted-explaining-in-Register.result) (by given) false (λ line. RegistersWithoutMemory (chars line)) (λ line. Unit {0})) form
+    ∙ ap (λ e. lines_job o.form e (by given) false (λ line. RegistersWithoutMemory (chars line)) (λ line. Unit {0})) c.if_wanted-explaining-in-Register.ensures
+    ∙ ap (λ (p : Properties). lines_job o.form (if_wanted c.tells_causes-in-Register.result (ByLabel p)) (by p) false (λ line. RegistersWithoutMemory (chars line)) (λ line. Unit {0})) same
+    ∙ ap (λ x. lines_job o.form (if_wanted x (ByLabel o.properties)) (by o.properties) false (λ line. RegistersWithoutMemory (chars line)) (λ line. Unit {0})) c.tells_causes-in-Register.ensures)
     c.serve_lines-in-Register.ensures
 
 pub returns-in-Decode : goal.returns-in-Decode
@@ -49,18 +53,21 @@ returns-in-Decode g c =
     let o : Settings = keeping (option_copied c.args.registered) c.args.options.now in
     let mode = sym (ap (λ (v : Settings). v.mode) c.options.view_is) ∙ c.in-Decode.is in
     let form = ap (λ (v : Settings). v.form) c.options.view_is in
-    let by : List ℕ → LineAnswer = λ name. one_answer Decoded (in_utf8 (decode_answer name)) in
+    let same = ap (λ (v : Settings). v.properties) c.options.view_is in
+    let given : Properties = c.options.inside.properties in
+    let by : Properties → List ℕ → LineAnswer = λ p name. one_answer Decoded (in_utf8 (decode_answer p name)) in
     as_mode o Decode c.args.table.now (Ok no_table) _ _ _ _ _ c.serve_lines-in-Decode.result mode refl
-    (ap (λ f. lines_job f (explained_by c.if_wanted-explaining-in-Decode.result) by false DecodesLineWithoutMemory (λ line. Unit {0})) form
-    ∙ ap (λ e. lines_job o.form e by false DecodesLineWithoutMemory (λ line. Unit {0}))
-    (c.if_wanted-explaining-in-Decode.ensures ∙ ap (λ x. if_wanted x ByName) c.tells_causes-in-Decode.ensures))
+    (ap (λ f. lines_job f (explained_by c.if_wanted-explaining-in-Decode.result) (by given) false DecodesLineWithoutMemory (λ line. Unit {0})) form
+    ∙ ap (λ e. lines_job o.form e (by given) false DecodesLineWithoutMemory (λ line. Unit {0})) c.if_wanted-explaining-in-Decode.ensures
+    ∙ ap (λ (p : Properties). lines_job o.form (if_wanted c.tells_causes-in-Decode.result (ByName p)) (by p) false DecodesLineWithoutMemory (λ line. Unit {0})) same
+    ∙ ap (λ x. lines_job o.form (if_wanted x (ByName o.properties)) (by o.properties) false DecodesLineWithoutMemory (λ line. Unit {0})) c.tells_causes-in-Decode.ensures)
     c.serve_lines-in-Decode.ensures
 
 pub returns-in-CheckTable : goal.returns-in-CheckTable
 returns-in-CheckTable g c =
     let mode = sym (ap (λ (v : Settings). v.mode) c.options.view_is) ∙ c.in-CheckTable.is in
     let k = c.serve_check.ensures in
-    checked (keeping (option_copied c.args.registered) c.args.options.now) c.args.table.now k.0 _ _ _ c.serve_check.result mode (subst (λ n. IsReadAs n c.args.table.now k.0) (ap (λ (v : Settings). v.notation) c.options.view_is) k.1) c.requires.unread
+    checked (keeping (option_copied c.args.registered) c.args.options.now) c.args.table.now k.0 _ _ _ c.serve_check.result mode (subst (λ (v : Settings). IsReadAs v.properties v.notation c.args.table.now k.0) c.options.view_is k.1) c.requires.unread
     (subst (λ (f : Form). Emits c.args.console.now c.serve_check.new.console (check_pieces f (tells_causes c.args.options.now) k.0) c.serve_check.result) (ap (λ (v : Settings). v.form) c.options.view_is)
     (subst (λ (b : Bool). Emits c.args.console.now c.serve_check.new.console (check_pieces c.options.inside.form b k.0) c.serve_check.result) c.tells_causes-in-CheckTable.ensures k.2)) k.3
 

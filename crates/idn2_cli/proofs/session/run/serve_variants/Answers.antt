@@ -1,5 +1,6 @@
 use Rattle.std.proofs.Common.{inl, refl, subst, All, Ok, ap, chars, true, ◌∙◌}
 use Rattle.std.specs.Option.{option_copied}
+use Rattle.idn_class.specs.declared.properties.Properties.{Properties}
 use Rattle.idn_label.specs.Memory.{NeedsNoMemory}
 use Rattle.variant_table.specs.Entries.{TableValue}
 use Rattle.variant_list.specs.Spelled.{spelled}
@@ -17,21 +18,21 @@ use Rattle.idn2_cli.proofs.session.run.serve_variants.Goals as goal
 
 pub returns-in-Err : goal.returns-in-Err
 returns-in-Err g c =
-    refused_lines (keeping (option_copied c.args.registered) c.args.options.now) Variants (lists_by_table (keeping (option_copied c.args.registered) c.args.options.now) c.requires.mode) c.args.text.now _ c.in-Err.fault _ _ c.refuse_table.result c.requires.unread (subst (λ n. IsToldOf n c.args.text.now c.in-Err.fault) (ap (λ (v : Settings). v.notation) c.options.view_is) c.in-Err.ensures.fault)
-    (in_form c.args.text.now c.in-Err.fault _ _ _ _ _ _ _ _ c.refuse_table.result (ap (λ (v : Settings). v.form) c.options.view_is) c.tells_causes-wanted.ensures (ap (λ (v : Settings). v.notation) c.options.view_is) c.refuse_table.ensures.told) c.refuse_table.ensures.status
+    refused_lines (keeping (option_copied c.args.registered) c.args.options.now) Variants (lists_by_table (keeping (option_copied c.args.registered) c.args.options.now) c.requires.mode) c.args.text.now _ c.in-Err.fault _ _ c.refuse_table.result c.requires.unread (subst (λ (v : Settings). IsToldOf v.properties v.notation c.args.text.now c.in-Err.fault) c.options.view_is c.in-Err.ensures.fault)
+    (in_form c.args.options.now.properties c.args.text.now c.in-Err.fault _ _ _ _ _ _ _ _ _ c.refuse_table.result (ap (λ (v : Settings). v.form) c.options.view_is) c.tells_causes.ensures (ap (λ (v : Settings). v.notation) c.options.view_is) (ap (λ (v : Settings). v.properties) c.options.view_is) c.refuse_table.ensures.told) c.refuse_table.ensures.status
 
 pub returns : goal.returns
 returns g c =
     let o : Settings = keeping (option_copied c.args.registered) c.args.options.now in
     let table : TableValue = c.in-Ok.table in
-    as_mode o Variants c.args.text.now (Ok table) _ _ _ _ _ c.serve_lines.result c.requires.mode (subst (λ n. IsTextOf n c.args.text.now c.in-Ok.table) (ap (λ (v : Settings). v.notation) c.options.view_is) c.in-Ok.ensures.table)
-    (ap (λ f. lines_job f (explained_by c.if_wanted-explaining.result) (variants_answer o table) true (λ line. IsRefusedWithoutMemory (chars line)) (λ line. All NeedsNoMemory (tested_after (filter_of table) o (spelled table (chars line)))))
+    as_mode o Variants c.args.text.now (Ok table) _ _ _ _ _ c.serve_lines.result c.requires.mode (subst (λ (v : Settings). IsTextOf v.properties v.notation c.args.text.now c.in-Ok.table) c.options.view_is c.in-Ok.ensures.table)
+    (ap (λ f. lines_job f (explained_by c.if_wanted-explaining.result) (variants_answer o table) true (λ line. IsRefusedWithoutMemory c.args.options.now.properties (chars line)) (λ line. All NeedsNoMemory (tested_after (filter_of c.args.options.now.properties table) o (spelled table (chars line)))))
     (ap (λ (v : Settings). v.form) c.options.view_is)
-    ∙ ap (λ e. lines_job o.form e (variants_answer o table) true (λ line. IsRefusedWithoutMemory (chars line)) (λ line. All NeedsNoMemory (tested_after (filter_of table) o (spelled table (chars line)))))
-    (c.if_wanted-explaining.ensures ∙ ap (λ x. if_wanted x (ByTable table)) c.tells_causes-2.ensures))
+    ∙ ap (λ e. lines_job o.form e (variants_answer o table) true (λ line. IsRefusedWithoutMemory c.args.options.now.properties (chars line)) (λ line. All NeedsNoMemory (tested_after (filter_of c.args.options.now.properties table) o (spelled table (chars line)))))
+    (c.if_wanted-explaining.ensures ∙ ap (λ (p : Properties). if_wanted c.tells_causes-2.result (ByTable p table)) (ap (λ (v : Settings). v.properties) c.options.view_is) ∙ ap (λ x. if_wanted x (ByTable c.args.options.now.properties table)) c.tells_causes-2.ensures))
     c.serve_lines.ensures
 
 pub returns-in_default : goal.returns-in_default
 returns-in_default g c =
     refused_lines (keeping (option_copied c.args.registered) c.args.options.now) Variants (lists_by_table (keeping (option_copied c.args.registered) c.args.options.now) c.requires.mode) c.args.text.now _ Memory _ _ c.refuse_table-in_default.result c.requires.unread (inl refl)
-    (in_form c.args.text.now Memory _ _ _ _ _ _ _ _ c.refuse_table-in_default.result (ap (λ (v : Settings). v.form) c.options.view_is) c.tells_causes.ensures (ap (λ (v : Settings). v.notation) c.options.view_is) c.refuse_table-in_default.ensures.told) c.refuse_table-in_default.ensures.status
+    (in_form c.args.options.now.properties c.args.text.now Memory _ _ _ _ _ _ _ _ _ c.refuse_table-in_default.result (ap (λ (v : Settings). v.form) c.options.view_is) c.tells_causes-in_default.ensures (ap (λ (v : Settings). v.notation) c.options.view_is) (ap (λ (v : Settings). v.properties) c.options.view_is) c.refuse_table-in_default.ensures.told) c.refuse_table-in_default.ensures.status

@@ -4,12 +4,12 @@ use Rattle.clap.specs.Simple.{app_of_fields}
 use Rattle.idn2_options.specs.CommandLine.{app, strings_rule, with_bounds, with_switches, with_collisions, with_tables, with_modes}
 use Rattle.idn2_options.proofs.AppLemmas.{IfOk-with_rule}
 use Rattle.idn2_options.proofs.command_line.command.command.Goals as goal
-use Rattle.idn2_options.specs.declared.command_line.arguments.TheConstants.{STRINGS}
+use Rattle.idn2_options.specs.Names.{strings_name}
 
 pub returns : goal.returns
 unfolding app
 returns c =
-    IfOk-with_rule c.with_strings.result _ _ (strings_rule STRINGS.now) c.with_strings.ensures
+    IfOk-with_rule c.with_strings.result _ _ (strings_rule strings_name) c.with_strings.ensures
     (c.in_ok-command-5.ensures ∙ ap with_bounds
     (c.in_ok-command-4.ensures ∙ ap with_switches
     (c.in_ok-command-3.ensures ∙ ap with_collisions

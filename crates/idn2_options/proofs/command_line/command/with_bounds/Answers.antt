@@ -1,11 +1,11 @@
 use Rattle.idn2_options.specs.CommandLine.{value_rule}
 use Rattle.idn2_options.proofs.AppLemmas.{IfOk-with_rule, with_rule-after}
 use Rattle.idn2_options.proofs.command_line.command.with_bounds.Goals as goal
-use Rattle.idn2_options.specs.declared.command_line.arguments.TheConstants.{LIMIT, STEPS, TRIES}
+use Rattle.idn2_options.specs.Names.{limit_name, steps_name, tries_name}
 
 pub returns : goal.returns
 returns c =
-    IfOk-with_rule c.with_option-4.result _ _ (value_rule STEPS.now) c.with_option-4.ensures
-    (with_rule-after _ _ _ (value_rule TRIES.now) c.in_ok-command-3.ensures
-    (with_rule-after _ _ _ (value_rule LIMIT.now) c.in_ok-command-2.ensures
+    IfOk-with_rule c.with_option-4.result _ _ (value_rule steps_name) c.with_option-4.ensures
+    (with_rule-after _ _ _ (value_rule tries_name) c.in_ok-command-3.ensures
+    (with_rule-after _ _ _ (value_rule limit_name) c.in_ok-command-2.ensures
     c.in_ok-command.ensures))

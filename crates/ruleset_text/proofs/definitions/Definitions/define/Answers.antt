@@ -64,7 +64,7 @@ returns-then-branch-clause-read c =
     let within : IsWithinLimits c.args.limit d names o x len =
     record { read = line.0; size = line.1; line = sym c.if-is_line_over_limit.ensures; count = sym c.if-is_one_too_many.ensures } in
     let known : has_known_sets (length d.sets) x ≡ true = ap (λ s. has_known_sets (length s) x) (sym c.sets.ensures) ∙ sym c.if-not-has_known_sets.ensures in
-    let bad : has_bad_class x ≡ true = sym (c.in_ok-has_bad_class.ensures {u = tt}) ∙ c.if-branch.true in
+    let bad : has_bad_class d.properties x ≡ true = ap (λ p. has_bad_class p x) (sym c.properties.ensures) ∙ sym (c.in_ok-has_bad_class.ensures {u = tt}) ∙ c.if-branch.true in
     class_fault c.args.limit d names o x len within known bad
 
 pub returns-then-has_same_name-clause-read : goal.returns-then-has_same_name-clause-read
@@ -79,7 +79,7 @@ returns-then-has_same_name-clause-read c =
     let within : IsWithinLimits c.args.limit d names o x len =
     record { read = line.0; size = line.1; line = sym c.if-is_line_over_limit.ensures; count = sym c.if-is_one_too_many.ensures } in
     let known : has_known_sets (length d.sets) x ≡ true = ap (λ s. has_known_sets (length s) x) (sym c.sets.ensures) ∙ sym c.if-not-has_known_sets.ensures in
-    let bad : has_bad_class x ≡ false = sym (c.in_ok-has_bad_class.ensures {u = tt}) ∙ c.if-branch.false in
+    let bad : has_bad_class d.properties x ≡ false = ap (λ p. has_bad_class p x) (sym c.properties.ensures) ∙ sym (c.in_ok-has_bad_class.ensures {u = tt}) ∙ c.if-branch.false in
     let new : has_same_name d x ≡ true = sym c.if-has_same_name.ensures in
     same_fault c.args.limit d names o x len within known bad new
 
@@ -95,7 +95,7 @@ add-requires-clause-without_fault c =
     let within : IsWithinLimits c.args.limit d names o x len =
     record { read = line.0; size = line.1; line = sym c.if-is_line_over_limit.ensures; count = sym c.if-is_one_too_many.ensures } in
     let known : has_known_sets (length d.sets) x ≡ true = ap (λ s. has_known_sets (length s) x) (sym c.sets.ensures) ∙ sym c.if-not-has_known_sets.ensures in
-    let bad : has_bad_class x ≡ false = sym (c.in_ok-has_bad_class.ensures {u = tt}) ∙ c.if-branch.false in
+    let bad : has_bad_class d.properties x ≡ false = ap (λ p. has_bad_class p x) (sym c.properties.ensures) ∙ sym (c.in_ok-has_bad_class.ensures {u = tt}) ∙ c.if-branch.false in
     let new : has_same_name d x ≡ false = sym c.if-has_same_name.ensures in
     let more = names_on-more d.set_names words in
     let fit = may_be_added c.args.limit d names more.0 o x len more.1 c.set_names.ensures.without_fault (line_formed c.in_ok-line.field-0 c.in-Some.line c.in-Some.is (c.in_ok-line.ensures {u = tt}).formed) within known bad new in
@@ -113,7 +113,7 @@ add-requires-clause-len c =
     let within : IsWithinLimits c.args.limit d names o x len =
     record { read = line.0; size = line.1; line = sym c.if-is_line_over_limit.ensures; count = sym c.if-is_one_too_many.ensures } in
     let known : has_known_sets (length d.sets) x ≡ true = ap (λ s. has_known_sets (length s) x) (sym c.sets.ensures) ∙ sym c.if-not-has_known_sets.ensures in
-    let bad : has_bad_class x ≡ false = sym (c.in_ok-has_bad_class.ensures {u = tt}) ∙ c.if-branch.false in
+    let bad : has_bad_class d.properties x ≡ false = ap (λ p. has_bad_class p x) (sym c.properties.ensures) ∙ sym (c.in_ok-has_bad_class.ensures {u = tt}) ∙ c.if-branch.false in
     let new : has_same_name d x ≡ false = sym c.if-has_same_name.ensures in
     let more = names_on-more d.set_names words in
     let fit = may_be_added c.args.limit d names more.0 o x len more.1 c.set_names.ensures.without_fault (line_formed c.in_ok-line.field-0 c.in-Some.line c.in-Some.is (c.in_ok-line.ensures {u = tt}).formed) within known bad new in
@@ -131,6 +131,6 @@ returns-clause-read c =
     let within : IsWithinLimits c.args.limit d names o x len =
     record { read = line.0; size = line.1; line = sym c.if-is_line_over_limit.ensures; count = sym c.if-is_one_too_many.ensures } in
     let known : has_known_sets (length d.sets) x ≡ true = ap (λ s. has_known_sets (length s) x) (sym c.sets.ensures) ∙ sym c.if-not-has_known_sets.ensures in
-    let bad : has_bad_class x ≡ false = sym (c.in_ok-has_bad_class.ensures {u = tt}) ∙ c.if-branch.false in
+    let bad : has_bad_class d.properties x ≡ false = ap (λ p. has_bad_class p x) (sym c.properties.ensures) ∙ sym (c.in_ok-has_bad_class.ensures {u = tt}) ∙ c.if-branch.false in
     let new : has_same_name d x ≡ false = sym c.if-has_same_name.ensures in
     no_fault c.args.limit d names o x len within known bad new ∙ ap (λ e. Ok e) (sym (c.in_ok-add.ensures {u = tt}).ok)

@@ -8,6 +8,7 @@ use Rattle.ruleset_text.proofs.definitions.Definitions.new.Goals as goal
 pub invariant_of-result : goal.invariant_of-result
 invariant_of-result c =
     let d : Definitions = record {
+      properties = c.args.properties;
       tags = c.new.result.items;
       set_names = c.new-2.result.items;
       sets = c.new-3.result.items;
@@ -17,5 +18,5 @@ invariant_of-result c =
     } in
     let counted : IsCounted d 4096 0 = subst (λ e. IsCounted e 4096 0)
     (sym (nothing_held d c.new.ensures.items c.new-2.ensures.items c.new-3.ensures.items c.new-4.ensures.items (ap (map pattern) c.new-5.ensures.items) (ap (map demand) c.new-6.ensures.items)))
-    nothing_counted in
+    (nothing_counted c.args.properties) in
     record { without_fault = counted.without_fault; left = counted.left; size = counted.size }

@@ -35,17 +35,17 @@ returns-then-not-branch-clause-read c =
 pub returns-then-branch-clause-read : goal.returns-then-branch-clause-read
 returns-then-branch-clause-read c =
     let taken = ap entry_from (c.in_ok-take_sequences.ensures.taken c.if-not-branch.false) in
-    (refl, entry_bad c.args.self.now.version c.args.self.now.definitions c.args.self.now.entries (map mapped c.args.mapped.now) c.args.self.now.left c.requires.counted c.requires.form (omega (arith, c.if-len-entry_limit.false, c.len.ensures, c.entry_limit.ensures.limit)) (sym c.is_too_large.ensures ∙ c.if-is_too_large.false) c.in-Some.left c.in-Some.ensures (sym c.in_ok-take_sequences.ensures.known ∙ c.if-not-branch.false) (ap has_bad_class (sym taken) ∙ sym (c.in_ok-has_bad_class.ensures {u = tt}) ∙ c.if-branch.true))
+    (refl, entry_bad c.args.self.now.version c.args.self.now.definitions c.args.self.now.entries (map mapped c.args.mapped.now) c.args.self.now.left c.requires.counted c.requires.form (omega (arith, c.if-len-entry_limit.false, c.len.ensures, c.entry_limit.ensures.limit)) (sym c.is_too_large.ensures ∙ c.if-is_too_large.false) c.in-Some.left c.in-Some.ensures (sym c.in_ok-take_sequences.ensures.known ∙ c.if-not-branch.false) (ap (has_bad_class c.args.self.now.definitions.properties) (sym taken) ∙ ap (λ p. has_bad_class p (entry_from c.take_sequences.new.sequences)) (sym c.properties.ensures) ∙ sym (c.in_ok-has_bad_class.ensures {u = tt}) ∙ c.if-branch.true))
 
 pub returns-then-has_repeat-clause-read : goal.returns-then-has_repeat-clause-read
 returns-then-has_repeat-clause-read c =
     let taken = ap entry_from (c.in_ok-take_sequences.ensures.taken c.if-not-branch.false) in
-    (refl, entry_again c.args.self.now.version c.args.self.now.definitions c.args.self.now.entries (map mapped c.args.mapped.now) c.args.self.now.left c.requires.counted c.requires.form (omega (arith, c.if-len-entry_limit.false, c.len.ensures, c.entry_limit.ensures.limit)) (sym c.is_too_large.ensures ∙ c.if-is_too_large.false) c.in-Some.left c.in-Some.ensures (sym c.in_ok-take_sequences.ensures.known ∙ c.if-not-branch.false) (ap has_bad_class (sym taken) ∙ sym (c.in_ok-has_bad_class.ensures {u = tt}) ∙ c.if-branch.false) (ap has_repeat (sym taken) ∙ sym c.has_repeat.ensures ∙ c.if-has_repeat.true))
+    (refl, entry_again c.args.self.now.version c.args.self.now.definitions c.args.self.now.entries (map mapped c.args.mapped.now) c.args.self.now.left c.requires.counted c.requires.form (omega (arith, c.if-len-entry_limit.false, c.len.ensures, c.entry_limit.ensures.limit)) (sym c.is_too_large.ensures ∙ c.if-is_too_large.false) c.in-Some.left c.in-Some.ensures (sym c.in_ok-take_sequences.ensures.known ∙ c.if-not-branch.false) (ap (has_bad_class c.args.self.now.definitions.properties) (sym taken) ∙ ap (λ p. has_bad_class p (entry_from c.take_sequences.new.sequences)) (sym c.properties.ensures) ∙ sym (c.in_ok-has_bad_class.ensures {u = tt}) ∙ c.if-branch.false) (ap has_repeat (sym taken) ∙ sym c.has_repeat.ensures ∙ c.if-has_repeat.true))
 
 pub returns-in_err-push-clause-read : goal.returns-in_err-push-clause-read
 returns-in_err-push-clause-read c =
     let taken = ap entry_from (c.in_ok-take_sequences.ensures.taken c.if-not-branch.false) in
-    let new = entry_new c.args.self.now.version c.args.self.now.definitions c.args.self.now.entries (map mapped c.args.mapped.now) c.args.self.now.left c.requires.counted c.requires.form (omega (arith, c.if-len-entry_limit.false, c.len.ensures, c.entry_limit.ensures.limit)) (sym c.is_too_large.ensures ∙ c.if-is_too_large.false) c.in-Some.left c.in-Some.ensures (sym c.in_ok-take_sequences.ensures.known ∙ c.if-not-branch.false) (ap has_bad_class (sym taken) ∙ sym (c.in_ok-has_bad_class.ensures {u = tt}) ∙ c.if-branch.false) (ap has_repeat (sym taken) ∙ sym c.has_repeat.ensures ∙ c.if-has_repeat.false) in
+    let new = entry_new c.args.self.now.version c.args.self.now.definitions c.args.self.now.entries (map mapped c.args.mapped.now) c.args.self.now.left c.requires.counted c.requires.form (omega (arith, c.if-len-entry_limit.false, c.len.ensures, c.entry_limit.ensures.limit)) (sym c.is_too_large.ensures ∙ c.if-is_too_large.false) c.in-Some.left c.in-Some.ensures (sym c.in_ok-take_sequences.ensures.known ∙ c.if-not-branch.false) (ap (has_bad_class c.args.self.now.definitions.properties) (sym taken) ∙ ap (λ p. has_bad_class p (entry_from c.take_sequences.new.sequences)) (sym c.properties.ensures) ∙ sym (c.in_ok-has_bad_class.ensures {u = tt}) ∙ c.if-branch.false) (ap has_repeat (sym taken) ∙ sym c.has_repeat.ensures ∙ c.if-has_repeat.false) in
     let fails : Fails c.args.number c.in_err-push.field-0.0 (with_form c.args.self.now.version c.args.self.now.definitions c.args.self.now.entries (entry_form c.args.self.now.version c.args.self.now.definitions c.args.self.now.entries (map mapped c.args.mapped.now) c.args.self.now.left c.requires.counted)) =
     subst (Fails c.args.number c.in_err-push.field-0.0) (ap (with_new_source c.args.self.now.entries) taken ∙ sym new) c.in_err-push.ensures.read in
     search rules
@@ -53,7 +53,7 @@ returns-in_err-push-clause-read c =
 pub returns-clause-read : goal.returns-clause-read
 returns-clause-read c =
     let taken = ap entry_from (c.in_ok-take_sequences.ensures.taken c.if-not-branch.false) in
-    entry_new c.args.self.now.version c.args.self.now.definitions c.args.self.now.entries (map mapped c.args.mapped.now) c.args.self.now.left c.requires.counted c.requires.form (omega (arith, c.if-len-entry_limit.false, c.len.ensures, c.entry_limit.ensures.limit)) (sym c.is_too_large.ensures ∙ c.if-is_too_large.false) c.in-Some.left c.in-Some.ensures (sym c.in_ok-take_sequences.ensures.known ∙ c.if-not-branch.false) (ap has_bad_class (sym taken) ∙ sym (c.in_ok-has_bad_class.ensures {u = tt}) ∙ c.if-branch.false) (ap has_repeat (sym taken) ∙ sym c.has_repeat.ensures ∙ c.if-has_repeat.false)
+    entry_new c.args.self.now.version c.args.self.now.definitions c.args.self.now.entries (map mapped c.args.mapped.now) c.args.self.now.left c.requires.counted c.requires.form (omega (arith, c.if-len-entry_limit.false, c.len.ensures, c.entry_limit.ensures.limit)) (sym c.is_too_large.ensures ∙ c.if-is_too_large.false) c.in-Some.left c.in-Some.ensures (sym c.in_ok-take_sequences.ensures.known ∙ c.if-not-branch.false) (ap (has_bad_class c.args.self.now.definitions.properties) (sym taken) ∙ ap (λ p. has_bad_class p (entry_from c.take_sequences.new.sequences)) (sym c.properties.ensures) ∙ sym (c.in_ok-has_bad_class.ensures {u = tt}) ∙ c.if-branch.false) (ap has_repeat (sym taken) ∙ sym c.has_repeat.ensures ∙ c.if-has_repeat.false)
     ∙ ap (with_new_source c.args.self.now.entries) (sym taken) ∙ c.in_ok-push.ensures.read
 
 pub returns-clause-counted : goal.returns-clause-counted

@@ -1,3 +1,4 @@
+use Rattle.std.specs.List.{list_any}
 use Rattle.std.proofs.Common.{◌≡◌, ◌+◌, ◌-◌, ◌<◌, ℕ, length, map, Some, rules, refl, sym, ap, subst, ◌∙◌, arith}
 use Rattle.ruleset_text.specs.EntryForms.{mapped}
 use Rattle.ruleset_text.specs.EntryText.{IsForm}
@@ -9,6 +10,7 @@ use Rattle.variant_table.specs.inner.ReadingSteps.{Fails, with_new_sources}
 use Rattle.variant_table.proofs.AddingLemmas.{range_too_many, range_too_long, range_unnamed, range_bad, range_good, range_counted}
 use Rattle.variant_table.proofs.FormSteps.{range_of}
 use Rattle.variant_table.proofs.RangeLemmas.{points_from}
+use Rattle.variant_table.specs.Conditions.{has_bad_class}
 use Rattle.variant_table.proofs.reading.Reader.add_range.Goals as goal
 use Rattle.variant_table.proofs.reading.Reader.add_range.Goals.{then-count-limit-via-then-count-limit, then-count-limit-via-else-count-limit+then-len-limit}
 
@@ -51,7 +53,7 @@ returns-then-branch-clause-read c =
     let last : ℕ = c.args.last in
     let range = range_of items x first last c.requires.form c.index-mapped-0.is c.index-first.ensures in
     let v : Variant = variant_of c.args.self.now.definitions (mapped x) in
-    (refl, ap (λ xs. with_form c.args.self.now.version c.args.self.now.definitions c.args.self.now.entries (record { mapped = map mapped xs; last = Some last })) range.one ∙ range_bad c.args.self.now.version c.args.self.now.definitions c.args.self.now.entries (mapped x) first last (last - first + 1) c.args.self.now.left c.requires.counted range.first_is refl range.rises (subst (λ xs. IsForm (map mapped xs) (Some last)) range.one c.requires.form) (omega (arith, c.entry_limit-limit.ensures.limit, c.if-count-limit.false, c.if-len-limit.false, c.len.ensures)) c.in-Some.left c.in-Some.ensures (ap (λ xs. knows_all c.args.self.now.definitions (map mapped xs)) (sym range.one) ∙ sym c.in_ok-take_sequences.ensures.known ∙ c.if-not-branch.false) (sym (c.in_ok-has_bad_class_in.ensures {u = tt} v) ∙ c.if-branch.true))
+    (refl, ap (λ xs. with_form c.args.self.now.version c.args.self.now.definitions c.args.self.now.entries (record { mapped = map mapped xs; last = Some last })) range.one ∙ range_bad c.args.self.now.version c.args.self.now.definitions c.args.self.now.entries (mapped x) first last (last - first + 1) c.args.self.now.left c.requires.counted range.first_is refl range.rises (subst (λ xs. IsForm (map mapped xs) (Some last)) range.one c.requires.form) (omega (arith, c.entry_limit-limit.ensures.limit, c.if-count-limit.false, c.if-len-limit.false, c.len.ensures)) c.in-Some.left c.in-Some.ensures (ap (λ xs. knows_all c.args.self.now.definitions (map mapped xs)) (sym range.one) ∙ sym c.in_ok-take_sequences.ensures.known ∙ c.if-not-branch.false) (ap (λ p. list_any (has_bad_class p) (points_from v first (last - first + 1))) (sym c.properties.ensures) ∙ sym (c.in_ok-has_bad_class_in.ensures {u = tt} v) ∙ c.if-branch.true))
 
 pub returns-in_err-push_points-clause-read : goal.returns-in_err-push_points-clause-read
 returns-in_err-push_points-clause-read c =
@@ -65,7 +67,7 @@ returns-in_err-push_points-clause-read c =
     ap (λ ss. source_of (entry_from ss)) (c.in_ok-take_sequences.ensures.taken c.if-not-branch.false ∙ ap (λ xs. map (variant_of c.args.self.now.definitions) (map mapped xs)) range.one) in
     let pushed : with_new_sources c.args.self.now.entries (points_from (source_of (entry_from c.take_sequences.new.sequences)) first (last - first + 1)) ≡ with_new_sources c.args.self.now.entries (points_from v first (last - first + 1)) =
     ap (λ u. with_new_sources c.args.self.now.entries (points_from u first (last - first + 1))) taken in
-    let is = ap (λ xs. with_form c.args.self.now.version c.args.self.now.definitions c.args.self.now.entries (record { mapped = map mapped xs; last = Some last })) range.one ∙ range_good c.args.self.now.version c.args.self.now.definitions c.args.self.now.entries (mapped x) first last (last - first + 1) c.args.self.now.left c.requires.counted range.first_is refl range.rises (subst (λ xs. IsForm (map mapped xs) (Some last)) range.one c.requires.form) (omega (arith, c.entry_limit-limit.ensures.limit, c.if-count-limit.false, c.if-len-limit.false, c.len.ensures)) c.in-Some.left c.in-Some.ensures (ap (λ xs. knows_all c.args.self.now.definitions (map mapped xs)) (sym range.one) ∙ sym c.in_ok-take_sequences.ensures.known ∙ c.if-not-branch.false) (sym (c.in_ok-has_bad_class_in.ensures {u = tt} v) ∙ c.if-branch.false) ∙ sym pushed in
+    let is = ap (λ xs. with_form c.args.self.now.version c.args.self.now.definitions c.args.self.now.entries (record { mapped = map mapped xs; last = Some last })) range.one ∙ range_good c.args.self.now.version c.args.self.now.definitions c.args.self.now.entries (mapped x) first last (last - first + 1) c.args.self.now.left c.requires.counted range.first_is refl range.rises (subst (λ xs. IsForm (map mapped xs) (Some last)) range.one c.requires.form) (omega (arith, c.entry_limit-limit.ensures.limit, c.if-count-limit.false, c.if-len-limit.false, c.len.ensures)) c.in-Some.left c.in-Some.ensures (ap (λ xs. knows_all c.args.self.now.definitions (map mapped xs)) (sym range.one) ∙ sym c.in_ok-take_sequences.ensures.known ∙ c.if-not-branch.false) (ap (λ p. list_any (has_bad_class p) (points_from v first (last - first + 1))) (sym c.properties.ensures) ∙ sym (c.in_ok-has_bad_class_in.ensures {u = tt} v) ∙ c.if-branch.false) ∙ sym pushed in
     let fails : Fails c.args.number c.in_err-push_points.field-0.0 (with_form c.args.self.now.version c.args.self.now.definitions c.args.self.now.entries (record { mapped = map mapped items; last = Some last })) =
     subst (Fails c.args.number c.in_err-push_points.field-0.0) (sym is) c.in_err-push_points.ensures in
     search rules
@@ -82,7 +84,7 @@ returns-clause-read c =
     ap (λ ss. source_of (entry_from ss)) (c.in_ok-take_sequences.ensures.taken c.if-not-branch.false ∙ ap (λ xs. map (variant_of c.args.self.now.definitions) (map mapped xs)) range.one) in
     let pushed : with_new_sources c.args.self.now.entries (points_from (source_of (entry_from c.take_sequences.new.sequences)) first (last - first + 1)) ≡ with_new_sources c.args.self.now.entries (points_from v first (last - first + 1)) =
     ap (λ u. with_new_sources c.args.self.now.entries (points_from u first (last - first + 1))) taken in
-    ap (λ xs. with_form c.args.self.now.version c.args.self.now.definitions c.args.self.now.entries (record { mapped = map mapped xs; last = Some last })) range.one ∙ range_good c.args.self.now.version c.args.self.now.definitions c.args.self.now.entries (mapped x) first last (last - first + 1) c.args.self.now.left c.requires.counted range.first_is refl range.rises (subst (λ xs. IsForm (map mapped xs) (Some last)) range.one c.requires.form) (omega (arith, c.entry_limit-limit.ensures.limit, c.if-count-limit.false, c.if-len-limit.false, c.len.ensures)) c.in-Some.left c.in-Some.ensures (ap (λ xs. knows_all c.args.self.now.definitions (map mapped xs)) (sym range.one) ∙ sym c.in_ok-take_sequences.ensures.known ∙ c.if-not-branch.false) (sym (c.in_ok-has_bad_class_in.ensures {u = tt} v) ∙ c.if-branch.false) ∙ sym pushed ∙ c.in_ok-push_points.ensures
+    ap (λ xs. with_form c.args.self.now.version c.args.self.now.definitions c.args.self.now.entries (record { mapped = map mapped xs; last = Some last })) range.one ∙ range_good c.args.self.now.version c.args.self.now.definitions c.args.self.now.entries (mapped x) first last (last - first + 1) c.args.self.now.left c.requires.counted range.first_is refl range.rises (subst (λ xs. IsForm (map mapped xs) (Some last)) range.one c.requires.form) (omega (arith, c.entry_limit-limit.ensures.limit, c.if-count-limit.false, c.if-len-limit.false, c.len.ensures)) c.in-Some.left c.in-Some.ensures (ap (λ xs. knows_all c.args.self.now.definitions (map mapped xs)) (sym range.one) ∙ sym c.in_ok-take_sequences.ensures.known ∙ c.if-not-branch.false) (ap (λ p. list_any (has_bad_class p) (points_from v first (last - first + 1))) (sym c.properties.ensures) ∙ sym (c.in_ok-has_bad_class_in.ensures {u = tt} v) ∙ c.if-branch.false) ∙ sym pushed ∙ c.in_ok-push_points.ensures
 
 pub returns-clause-counted : goal.returns-clause-counted
 returns-clause-counted c =

@@ -6,7 +6,7 @@ use Rattle.idn2_cli.proofs.RefusedLines.{answered_none, emits_answered, kept_as_
 use Rattle.idn2_cli.proofs.modes.decode.DecodeAnswering.answer.Goals as goal
 
 pub reply-requires-clause-filled : goal.reply-requires-clause-filled
-reply-requires-clause-filled g c = answered-filled (decoded_answer c.args.asked.now.text.now) _ c.in-Ok.ensures.answer
+reply-requires-clause-filled g c = answered-filled (decoded_answer c.args.self.now.properties c.args.asked.now.text.now) _ c.in-Ok.ensures.answer
 
 pub reply-requires-clause-utf8 : goal.reply-requires-clause-utf8
 reply-requires-clause-utf8 g c = λ same. cc
@@ -14,13 +14,13 @@ reply-requires-clause-utf8 g c = λ same. cc
 pub returns-in-Ok-clause-written : goal.returns-in-Ok-clause-written
 returns-in-Ok-clause-written g c =
     let text = c.args.asked.now.text.now in
-    rw (text_answer-decoded text)
-    (emits_answered _ _ _ c.reply.result c.answered.result c.answered.ensures (emits_answer _ _ _ _ Decoded (decoded_answer text) _ c.reply.result c.in-Ok.ensures.answer c.reply.ensures.written))
+    rw (text_answer-decoded c.args.self.now.properties text)
+    (emits_answered _ _ _ c.reply.result c.answered.result c.answered.ensures (emits_answer _ _ _ _ Decoded (decoded_answer c.args.self.now.properties text) _ c.reply.result c.in-Ok.ensures.answer c.reply.ensures.written))
 
 pub returns-in-Ok-clause-refused : goal.returns-in-Ok-clause-refused
 returns-in-Ok-clause-refused g c =
     let text = c.args.asked.now.text.now in
-    rw (text_answer-decoded text, one_answer-answered Decoded (decoded_answer text) _ c.in-Ok.ensures.answer) (answered_none c.reply.result c.answered.result c.answered.ensures)
+    rw (text_answer-decoded c.args.self.now.properties text, one_answer-answered Decoded (decoded_answer c.args.self.now.properties text) _ c.in-Ok.ensures.answer) (answered_none c.reply.result c.answered.result c.answered.ensures)
 
 pub returns-in-Ok-clause-kept : goal.returns-in-Ok-clause-kept
 returns-in-Ok-clause-kept g c = kept_if_answered _ _ c.reply.result c.answered.result c.answered.ensures
@@ -28,12 +28,12 @@ returns-in-Ok-clause-kept g c = kept_if_answered _ _ c.reply.result c.answered.r
 pub returns-in-Err-clause-written : goal.returns-in-Err-clause-written
 returns-in-Err-clause-written g c =
     let text = c.args.asked.now.text.now in
-    replies_refusal _ _ _ c.in-Err.refusal _ c.refused.result (λ other. text_answer-decoded text ∙ one_answer-refused Decoded (decoded_answer text) c.in-Err.refusal (c.in-Err.ensures.answer other)) c.refused.ensures.refused c.refused.ensures.memory
+    replies_refusal _ _ _ c.in-Err.refusal _ c.refused.result (λ other. text_answer-decoded c.args.self.now.properties text ∙ one_answer-refused Decoded (decoded_answer c.args.self.now.properties text) c.in-Err.refusal (c.in-Err.ensures.answer other)) c.refused.ensures.refused c.refused.ensures.memory
 
 pub returns-in-Err-clause-refused : goal.returns-in-Err-clause-refused
 returns-in-Err-clause-refused g c =
     let text = c.args.asked.now.text.now in
-    refused_is c.in-Err.refusal _ c.refused.result (λ other. text_answer-decoded text ∙ one_answer-refused Decoded (decoded_answer text) c.in-Err.refusal (c.in-Err.ensures.answer other)) c.refused.ensures.refused c.refused.ensures.memory
+    refused_is c.in-Err.refusal _ c.refused.result (λ other. text_answer-decoded c.args.self.now.properties text ∙ one_answer-refused Decoded (decoded_answer c.args.self.now.properties text) c.in-Err.refusal (c.in-Err.ensures.answer other)) c.refused.ensures.refused c.refused.ensures.memory
 
 pub returns-in-Err-clause-kept : goal.returns-in-Err-clause-kept
 returns-in-Err-clause-kept g c = kept_as_it_was _ c.refused.result

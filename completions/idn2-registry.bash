@@ -1,0 +1,35 @@
+# Completes the words of idn2-registry in bash. To use it in this shell alone: source completions/idn2-registry.bash
+
+_idn2_registry() {
+    local word=${COMP_WORDS[COMP_CWORD]} before=${COMP_WORDS[COMP_CWORD - 1]} job=${COMP_WORDS[1]}
+    COMPREPLY=()
+    case $before in
+        --config | --idn2) mapfile -t COMPREPLY < <(compgen -f -- "$word"); return ;;
+        --holder | --table | --page | --after | --scheduler) return ;;
+    esac
+    if [ "$COMP_CWORD" -eq 1 ]; then
+        mapfile -t COMPREPLY < <(compgen -W "check register release variants tables-of load dump audit change join convert ask
+            check-config --help" -- "$word")
+        return
+    fi
+    local options="--config --idn2 --json --help"
+    case $job in
+        check) options+=" --holder --variants" ;;
+        register) options+=" --holder" ;;
+        variants) options+=" --table --page --after" ;;
+        load) options+=" --rest --resume --scheduler" ;;
+        audit | change) options+=" --resume --scheduler" ;;
+        convert) options="--idn2 --help --version --untyped --close-gaps --accept-more --leave-out --standard" ;;
+    esac
+    case $word in
+        -*) mapfile -t COMPREPLY < <(compgen -W "$options" -- "$word") ;;
+        *)
+            case $job in
+                load | join | convert) mapfile -t COMPREPLY < <(compgen -f -- "$word") ;;
+                change) mapfile -t COMPREPLY < <(compgen -f -P "${word%%=*}=" -- "${word#*=}") ;;
+            esac
+            ;;
+    esac
+}
+
+complete -o filenames -F _idn2_registry idn2-registry

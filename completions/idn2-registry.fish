@@ -1,0 +1,36 @@
+# Completes the words of idn2-registry in fish. To use it in this shell alone: source completions/idn2-registry.fish
+
+# An option or a word of some jobs.
+function __idn2_registry_of
+    complete -c idn2-registry -n "__fish_seen_subcommand_from $argv[1]" $argv[2..]
+end
+
+complete -c idn2-registry -f
+set -l jobs check register release variants tables-of load dump audit change join convert ask check-config
+set -l meanings 'Tell which labels are available' 'Register labels that are available' 'Release registered labels' \
+    'List the variants of labels' 'Tell which tables admit a label' 'Put labels into the register' \
+    'Write the registered labels' 'Tell which registered labels are invalid or collide' 'Tell what a new table changes' \
+    'Write the table of the zone' 'Make a table from a published ruleset' 'Answer requests' 'Check the configuration'
+for number in (seq (count $jobs))
+    complete -c idn2-registry -n "not __fish_seen_subcommand_from $jobs" -a $jobs[$number] -d $meanings[$number]
+end
+complete -c idn2-registry -s h -l help -d 'Show the options'
+set -l others (string match -v convert $jobs)
+__idn2_registry_of "$others" -l config -r -F -d 'The configuration'
+__idn2_registry_of "$others" -l json -d 'Answer with objects'
+__idn2_registry_of "$jobs" -l idn2 -r -F -d 'The program'
+__idn2_registry_of 'check register' -l holder -x -d 'Who asks'
+__idn2_registry_of check -l variants -d 'List the variants, too'
+__idn2_registry_of variants -l table -x -d 'The table'
+__idn2_registry_of variants -l page -x -d 'At most so many'
+__idn2_registry_of variants -l after -x -d 'Only those after a text'
+__idn2_registry_of 'load audit change' -l resume -d 'Go on where a run was stopped'
+__idn2_registry_of 'load audit change' -l scheduler -x -d 'Let a cluster do it'
+__idn2_registry_of load -l rest -d 'Load the others'
+__idn2_registry_of 'load change join convert' -F
+__idn2_registry_of convert -l version -x -a '1 2 3' -d 'Of the notation'
+__idn2_registry_of convert -l untyped -x -a 'blocked allocatable' -d 'What variants without a type are'
+__idn2_registry_of convert -l close-gaps -d 'Add missing pairs'
+__idn2_registry_of convert -l accept-more -d 'Drop what a table can not say'
+__idn2_registry_of convert -l leave-out -d 'Leave out what the profile does not have'
+__idn2_registry_of convert -l standard -d 'Test labels by the standards whole'

@@ -1,0 +1,32 @@
+#compdef idn2-registry
+# Completes the words of idn2-registry in zsh, as _idn2-registry in a folder of $fpath.
+
+local -a jobs common long
+jobs=(
+    'check:tell which labels are available' 'register:register labels that are available' 'release:release registered labels'
+    'variants:list the variants of labels' 'tables-of:tell which tables admit a label' 'load:put labels into the register'
+    'dump:write the registered labels' 'audit:tell which registered labels are invalid or collide'
+    'change:tell what a new table changes' 'join:write the table of the zone' 'convert:make a table from a published ruleset'
+    'ask:answer requests' 'check-config:check the configuration'
+)
+common=('--config[the configuration]:FILE:_files' '--idn2[the program]:PROGRAM:_files' '--json[answer with objects]'
+    '(-h --help)'{-h,--help}'[show the options]')
+long=('--resume[go on where a run was stopped]' '--scheduler[let a cluster do it]:ADDRESS: ')
+if (( CURRENT == 2 )); then
+    _describe job jobs
+    return
+fi
+case $words[2] in
+    check) _arguments -S : $common '--holder[who asks]:HOLDER: ' '--variants[list the variants, too]' '*:LABEL: ' ;;
+    register) _arguments -S : $common '--holder[who asks]:HOLDER: ' '*:LABEL: ' ;;
+    variants) _arguments -S : $common '--table[the table]:NAME: ' '--page[at most so many]:SIZE: ' \
+        '--after[only those after a text]:TEXT: ' '*:LABEL: ' ;;
+    load) _arguments -S : $common $long '--rest[load the others]' '*:FILE:_files' ;;
+    audit | change) _arguments -S : $common $long '*:NAME=FILE:_files' ;;
+    join) _arguments -S : $common '*:NAME:_files' ;;
+    convert) _arguments -S : '--idn2[the program]:PROGRAM:_files' '(-h --help)'{-h,--help}'[show the options]' \
+        '--version[of the notation]:N:(1 2 3)' '--untyped[what variants without a type are]:DISPOSITION:(blocked allocatable)' \
+        '--close-gaps[add missing pairs]' '--accept-more[drop what a table can not say]' \
+        '--leave-out[leave out what the profile does not have]' '--standard[test labels by the standards whole]' '*:FILE:_files' ;;
+    *) _arguments -S : $common '*:LABEL: ' ;;
+esac

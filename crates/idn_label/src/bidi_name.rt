@@ -1,0 +1,206 @@
+//! The Bidi rule of a whole name (RFC 5893, section 2): if one of its labels holds R, AL or AN, all of them meet it.
+ghost use Rattle.std.specs.Prelude.{◌≡◌, ◌≤◌, ◌*◌, chars, false, length, map, IsTrue, IsUtf8};
+ghost use Rattle.std.specs.List.{list_all, list_any};
+ghost use Rattle.ucd_bidi.specs.BidiClass.{bidi_class};
+ghost use Rattle.idna.specs.BidiRule.{is_rtl, passes_bidi_rule};
+ghost use Rattle.idna.specs.Labels.{labels_of};
+ghost use Rattle.idna.specs.Validity.{passes_bidi};
+ghost use Rattle.idn_label.specs.Decode.{name_fault};
+ghost use Rattle.idn_label.specs.inner.BidiNames.{shown};
+
+use crate::bidi::passes_bidi_rule;
+use crate::full_stops::label_end;
+use arrayvec::ArrayVec;
+use idn_class::Properties;
+use idn_text::{MAX_LINE_LEN, Refusal, character_at};
+use ucd_bidi::BidiClass;
+
+/// What is decoded from a line has at most four octets for each of its own.
+pub(crate) const MAX_DECODED_LEN: usize = 4096;
+
+/// The most characters of a label that is read into a small room, which takes few instructions to clear. A U-label has
+/// no more.
+const SHORT_LEN: usize = 64;
+
+/// The fault of a name in UTF-8 of which each label is decoded.
+#[inline]
+pub(crate) fn utf8_name_fault(name: &[u8], properties: Properties) -> Option<Refusal>
+    requires utf8 { IsUtf8 name.now }
+    requires short { length name.now ≤ MAX_DECODED_LEN }
+    ensures { result ≡ name_fault properties (labels_of (chars name.now)) }
+{
+    match properties {
+        Properties::Profile => None,
+        Properties::Unicode if passes_in_utf8(name) => None,
+        Properties::Unicode => Some(Refusal::Bidi),
+    }
+}
+
+/// The same of numbers.
+pub fn name_fault(name: &[u32], properties: Properties) -> Option<Refusal>
+    requires { length name.now ≤ MAX_LINE_LEN }
+    ensures { result ≡ name_fault properties (labels_of name.now) }
+{
+    match properties {
+        Properties::Profile => None,
+        Properties::Unicode if passes_in_numbers(name) => None,
+        Properties::Unicode => Some(Refusal::Bidi),
+    }
+}
+
+/// Whether the labels of a name in UTF-8 pass together.
+#[inline(never)]
+fn passes_in_utf8(name: &[u8]) -> bool
+    requires utf8 { IsUtf8 name.now }
+    requires short { length name.now ≤ MAX_DECODED_LEN }
+    ensures { result ≡ passes_bidi (labels_of (chars name.now)) }
+{
+    !holds_rtl_in_utf8(name) || each_utf8_label_passes(name)
+}
+
+/// Whether a character of a name in UTF-8 is R, AL or AN.
+fn holds_rtl_in_utf8(name: &[u8]) -> bool
+    requires { IsUtf8 name.now }
+    ensures { result ≡ list_any (λ c. is_rtl (bidi_class c)) (chars name.now) }
+{
+    let mut at = 0;
+    while at < name.len() {
+        let Some((c, next)) = character_at(name, at) else {
+            unreachable!()
+        };
+        if is_rtl(c) {
+            return true;
+        }
+        at = next;
+    }
+    false
+}
+
+/// Whether each label of a name in UTF-8 meets the rule.
+// Not inlined: most names do not come here, and to look through them needs not its room.
+#[inline(never)]
+fn each_utf8_label_passes(name: &[u8]) -> bool
+    requires utf8 { IsUtf8 name.now }
+    requires short { length name.now ≤ MAX_DECODED_LEN }
+    ensures { result ≡ list_all passes_bidi_rule (labels_of (chars name.now)) }
+{
+    let mut room = ArrayVec::new();
+    let mut start = 0;
+    'labels: loop {
+        let end = label_end(name, start);
+        if !utf8_label_passes(&name[start..end], &mut room) {
+            return false;
+        }
+        if end == name.len() {
+            return true;
+        }
+        start = end + 1;
+    }
+}
+
+/// Whether a label in UTF-8 meets the rule. `room` is for its characters: what stood there says nothing.
+fn utf8_label_passes(label: &[u8], room: &mut ArrayVec<char, SHORT_LEN>) -> bool
+    requires utf8 { IsUtf8 label.now }
+    requires short { length label.now ≤ MAX_DECODED_LEN }
+    ensures { result ≡ passes_bidi_rule (chars label.now) }
+{
+    if read_characters(label, room) {
+        passes_bidi_rule(room)
+    } else {
+        long_label_passes(label)
+    }
+}
+
+/// The same of a label of any length.
+// Not inlined: other labels need not its room.
+#[inline(never)]
+fn long_label_passes(label: &[u8]) -> bool
+    requires utf8 { IsUtf8 label.now }
+    requires short { length label.now ≤ MAX_DECODED_LEN }
+    ensures { result ≡ passes_bidi_rule (chars label.now) }
+{
+    let mut room: ArrayVec<char, MAX_DECODED_LEN> = ArrayVec::new();
+    read_characters(label, &mut room) && passes_bidi_rule(&room)
+}
+
+/// Leaves the characters of a label in UTF-8 in `room`, in place of what stood there, or says that they are too many.
+fn read_characters<const LEN: usize>(label: &[u8], room: &mut ArrayVec<char, LEN>) -> bool
+    requires { IsUtf8 label.now }
+    ensures read { IsTrue result → room.new.items ≡ chars label.now }
+    ensures fits { length label.now ≤ LEN → IsTrue result }
+{
+    room.clear();
+    let mut at = 0;
+    while at < label.len() {
+        let Some((c, next)) = character_at(label, at) else {
+            unreachable!()
+        };
+        if room.is_full() {
+            return false;
+        }
+        room.push(c);
+        at = next;
+    }
+    true
+}
+
+/// Whether the labels of a name pass together. A number that is no character has the class of a letter, L.
+fn passes_in_numbers(name: &[u32]) -> bool
+    requires { length name.now ≤ MAX_LINE_LEN }
+    ensures { result ≡ passes_bidi (labels_of name.now) }
+{
+    let mut characters: ArrayVec<char, MAX_LINE_LEN> = ArrayVec::new();
+    for c in name {
+        characters.push(char::from_u32(*c).unwrap_or('a'));
+    }
+    passes_bidi(&characters)
+}
+
+/// Criterion 9 of UTS 46, section 4.1, of all labels of a name.
+fn passes_bidi(name: &[char]) -> bool
+    ensures { result ≡ passes_bidi (labels_of name.now) }
+{
+    !holds_rtl(name) || each_label_passes(name)
+}
+
+/// Whether a code point of a name is R, AL or AN.
+fn holds_rtl(name: &[char]) -> bool
+    ensures { result ≡ list_any (λ c. is_rtl (bidi_class c)) name.now }
+{
+    name.iter().any(|c| is_rtl(*c))
+}
+
+/// Whether a character is R, AL or AN.
+#[inline]
+fn is_rtl(c: char) -> bool
+    ensures { result ≡ is_rtl (bidi_class c) }
+{
+    // None is before Hebrew, nor from the dashes to the presentation forms. So most characters need no look-up.
+    if c < '\u{590}' {
+        return false;
+    }
+    if c >= '\u{2010}' && c <= '\u{FB1C}' {
+        return false;
+    }
+    matches!(
+        BidiClass::for_char(c),
+        BidiClass::RightToLeft | BidiClass::ArabicLetter | BidiClass::ArabicNumber
+    )
+}
+
+/// Whether each label of a name meets the rule.
+fn each_label_passes(name: &[char]) -> bool
+    ensures { result ≡ list_all passes_bidi_rule (labels_of name.now) }
+{
+    let mut start = 0;
+    'labels: loop {
+        let end = label_end(name, start);
+        if !passes_bidi_rule(&name[start..end]) {
+            return false;
+        }
+        if end == name.len() {
+            return true;
+        }
+        start = end + 1;
+    }
+}

@@ -1,5 +1,0 @@
-use Rattle.table_cause.proofs.PlacedLemmas.{placed-length}
-use Rattle.table_cause.proofs.placed.PlacedLexemes.new.Goals as goal
-
-pub returns-clause-few : goal.returns-clause-few
-returns-clause-few c = placed-length 0 c.args.line.now

@@ -1,0 +1,138 @@
+//! What lines of a ruleset define, and the first fault of a line that defines nothing.
+use idn_class::Properties;
+use ruleset_text::{DefinitionFault, Definitions, Name, push_pattern, push_spans};
+use std::alloc::{AllocError, Global};
+use std::test::Fail;
+
+/// How many bytes the canonical text may have.
+const LIMIT: usize = 1000;
+
+/// Lines before each of those below.
+const DEFINED: [&str; 4] = ["%tag t", "%tag v", "%set A 0061", "%rule r _ 0062"];
+
+/// A line, and its first fault, if it has one.
+const LINES: [(&str, Option<DefinitionFault>); 45] = [
+    ("%tag a", None),
+    ("%tag R", None),
+    ("  %set\tabcd 0061 .. 0063 u+0065", None),
+    ("%set D 0900..097F", None),
+    ("%rule U ^ _ @A/_(@A / .)* $", None),
+    ("%never ((0061* 0062)* 0063)", None),
+    ("%always @A .* @A?", None),
+    ("", Some(DefinitionFault::Syntax)),
+    ("%version 3", Some(DefinitionFault::Syntax)),
+    ("%Set C 0061", Some(DefinitionFault::Syntax)),
+    ("% set C 0061", Some(DefinitionFault::Syntax)),
+    ("%set", Some(DefinitionFault::Syntax)),
+    ("%set C", Some(DefinitionFault::Syntax)),
+    ("%set C 0061..0063 0063", Some(DefinitionFault::Syntax)),
+    ("%set C @A", Some(DefinitionFault::Syntax)),
+    ("%set 9c 0061", Some(DefinitionFault::Syntax)),
+    ("%set C-D 0061", Some(DefinitionFault::Syntax)),
+    ("%tag", Some(DefinitionFault::Syntax)),
+    ("%tag a b", Some(DefinitionFault::Syntax)),
+    ("%rule s @A", Some(DefinitionFault::Syntax)),
+    ("%rule s _ / @A", Some(DefinitionFault::Syntax)),
+    ("%rule s (@A / $) _", Some(DefinitionFault::Syntax)),
+    ("%never", Some(DefinitionFault::Syntax)),
+    ("%never @A _", Some(DefinitionFault::Syntax)),
+    ("%never @A@A", Some(DefinitionFault::Syntax)),
+    ("%always / @A", Some(DefinitionFault::Syntax)),
+    (
+        "%never (((((((((0061)))))))))",
+        Some(DefinitionFault::Limit),
+    ),
+    ("%never ((0061* 0062)* 0063)*", Some(DefinitionFault::Limit)),
+    (
+        "%never (((((((((@nope)))))))))",
+        Some(DefinitionFault::Limit),
+    ),
+    ("%rule s @B _", Some(DefinitionFault::NoSuchName)),
+    ("%rule s @r _", Some(DefinitionFault::NoSuchName)),
+    ("%never (@A @B)", Some(DefinitionFault::NoSuchName)),
+    ("%never @nope 0041", Some(DefinitionFault::NoSuchName)),
+    ("%rule t @nope _", Some(DefinitionFault::NoSuchName)),
+    ("%set C 0041", Some(DefinitionFault::BadClass)),
+    ("%set D 0041..007A", Some(DefinitionFault::BadClass)),
+    ("%never 0041", Some(DefinitionFault::BadClass)),
+    ("%rule s 0041 _", Some(DefinitionFault::BadClass)),
+    ("%set t 0041", Some(DefinitionFault::BadClass)),
+    ("%tag t", Some(DefinitionFault::SameName)),
+    ("%tag A", Some(DefinitionFault::SameName)),
+    ("%set t 0061", Some(DefinitionFault::SameName)),
+    ("%set r 0061", Some(DefinitionFault::SameName)),
+    ("%rule A _", Some(DefinitionFault::SameName)),
+    ("%rule r _", Some(DefinitionFault::SameName)),
+];
+
+#[test]
+fn first_faults_of_lines(rt: HostRuntime) {
+    for (line, wanted) in LINES {
+        assert_eq!(&rt; fault(&rt, line), wanted, "{line:?}");
+    }
+}
+
+/// The first fault of a line after those above.
+fn fault(rt: &HostRuntime, line: &str) -> Option<DefinitionFault> {
+    let mut definitions = defined(rt.alloc(), &DEFINED).ok()?;
+    definitions
+        .define_line(rt.alloc(), LIMIT, line.as_bytes())
+        .err()
+}
+
+/// What lines define, or the first fault.
+fn defined(alloc: Global, lines: &[&str]) -> Result<Definitions, DefinitionFault> {
+    let mut definitions = Definitions::new(alloc, Properties::Profile);
+    for line in lines {
+        definitions.define_line(alloc, LIMIT, line.as_bytes())?;
+    }
+    Ok(definitions)
+}
+
+/// Lines of each kind, in another order than that of the canonical text, and with other blanks.
+const MIXED: [&str; 6] = [
+    "%set Vowels u+0061 0065..0069",
+    "%rule r _ @Vowels/^ _",
+    "%always @Vowels.*",
+    " %tag  t1",
+    "%set B 0064 .. 0066",
+    "%never\t( 0030/0031 )* @B",
+];
+
+/// The canonical text of what they define.
+const CANONICAL: &str = "\
+%tag t1
+%set Vowels 0061 0065..0069
+%set B 0064..0066
+%rule r _ @Vowels / ^ _
+%always @Vowels .*
+%never (0030 / 0031)* @B
+";
+
+#[test]
+fn canonical_text(rt: HostRuntime) -> Result<(), Fail> {
+    let definitions = defined(rt.alloc(), &MIXED)?;
+    assert_eq!(&rt;
+        text_of(rt.alloc(), &definitions)?.as_slice(),
+        CANONICAL.as_bytes()
+    );
+    assert_eq!(&rt; definitions.canonical_len(), CANONICAL.len());
+    Ok(())
+}
+
+#[test]
+fn copies_of_definitions(rt: HostRuntime) -> Result<(), Fail> {
+    let copy = defined(rt.alloc(), &MIXED)?.copied(rt.alloc())?;
+    assert_eq!(&rt;
+        text_of(rt.alloc(), &copy)?.as_slice(),
+        CANONICAL.as_bytes()
+    );
+    assert_eq!(&rt; copy.canonical_len(), CANONICAL.len());
+    Ok(())
+}
+
+fn text_of(alloc: Global, definitions: &Definitions) -> Result<Vec<u8>, AllocError> {
+    let mut text = Vec::new(alloc);
+    definitions.push_lines(&mut text)?;
+    Ok(text)
+}

@@ -1,0 +1,169 @@
+"""What is said of a label: the objects of the commands and of the library."""
+
+import re
+from collections.abc import Mapping
+from dataclasses import dataclass, field
+from enum import Enum
+from typing import Any
+
+Object = dict[str, Any]
+CONTROL_CHARACTER = re.compile(r"[\x00-\x1f\x7f]")
+
+
+class Status(Enum):
+    """What the answer is; each has one exit status."""
+
+    AVAILABLE = "available"
+    REGISTERED = "registered"
+    RELEASED = "released"
+    FREE = "free"
+    LISTED = "listed"
+    ADMITTED = "admitted"
+    REFUSED = "refused"
+    TAKEN = "taken"
+    UNKNOWN = "unknown"
+
+
+class ExitStatus(Enum):
+    """Whether the answer was yes to all labels, no to some, or not known for some."""
+
+    YES = 0
+    NO = 1
+    NOT_KNOWN = 75
+
+    @classmethod
+    def of(cls, status: Status) -> "ExitStatus":
+        """The exit status of one answer."""
+        if status is Status.UNKNOWN:
+            return cls.NOT_KNOWN
+        return cls.NO if status in (Status.REFUSED, Status.TAKEN, Status.FREE) else cls.YES
+
+    def joined(self, other: "ExitStatus") -> "ExitStatus":
+        """The exit status of several answers: the one that says least."""
+        return max(self, other, key=lambda status: status.value)
+
+
+@dataclass(frozen=True)
+class RegisteredLabel:
+    """A label of the register, with its holder where one was given."""
+
+    ulabel: str
+    alabel: str
+    holder: str | None = None
+
+    def object(self) -> Object:
+        """The object that says it."""
+        return {"ulabel": self.ulabel, "alabel": self.alabel, "holder": self.holder}
+
+
+@dataclass(frozen=True)
+class Variant:
+    """A variant of a label; the disposition is None under a table of version 1."""
+
+    ulabel: str
+    alabel: str
+    disposition: str | None
+
+    def object(self) -> Object:
+        """The object that says it, as the program does."""
+        told = {"ulabel": self.ulabel, "alabel": self.alabel}
+        return told if self.disposition is None else {**told, "disposition": self.disposition}
+
+
+@dataclass(frozen=True)
+class Refusal:
+    """Why a label is refused: the number and the text of the program's message, and the members of its cause
+    (docs/JSON.md). A control character has no number, since such a label isn't sent."""
+
+    number: int | None
+    text: str
+    details: Mapping[str, Any] = field(default_factory=dict)
+
+    @classmethod
+    def read(cls, told: Mapping[str, Any]) -> "Refusal":
+        """The refusal of an object of the program."""
+        details = {name: value for name, value in told.items() if name not in ("number", "text")}
+        return cls(told["number"], told["text"], details)
+
+    @classmethod
+    def of_control_character(cls, label: str) -> "Refusal | None":
+        """The refusal of a label with a control character, if it has one."""
+        found = CONTROL_CHARACTER.search(label)
+        if found is None:
+            return None
+        details = {"code_point": f"U+{ord(found[0]):04X}", "place": found.start() + 1}
+        return cls(None, "control character", details)
+
+    def object(self) -> Object:
+        """The object that says it."""
+        number = {} if self.number is None else {"number": self.number}
+        return {**number, "text": self.text, **self.details}
+
+    def __str__(self) -> str:
+        """The refusal in words."""
+        words = self.text if self.number is None else f"{self.number} {self.text}"
+        told = self.details
+        where = str(told["code_point"]) if "code_point" in told else ""
+        if "place" in told:
+            where += f" at place {told['place']}"
+        if "rule" in told:
+            where += f" ({told['rule']})"
+        return f"{words}: {where.strip()}" if where else words
+
+
+@dataclass(frozen=True)
+class Answer:
+    """What is said of one label. Only members that its status has are told.
+
+    `reason` says why an answer isn't known. `after` is where a listing that isn't `complete` goes on."""
+
+    label: str
+    status: Status
+    ulabel: str | None = None
+    alabel: str | None = None
+    tables: tuple[str, ...] | None = None
+    refusal: Refusal | None = None
+    taken_by: tuple[RegisteredLabel, ...] = ()
+    table: str | None = None
+    variants: tuple[Variant, ...] | None = None
+    after: str | None = None
+    reason: str | None = None
+
+    @property
+    def complete(self) -> bool:
+        """Whether the variants are all variants after the text that was asked for."""
+        return self.variants is not None and self.after is None
+
+    def object(self) -> Object:
+        """The object that says it, one line of `--json`."""
+        told: Object = {**label_member(self.label), "status": self.status.value}
+        plain = {"ulabel": self.ulabel, "alabel": self.alabel, "tables": self.tables, "refusal": self.refusal,
+                 "taken_by": self.taken_by or None, "table": self.table, "variants": self.variants}
+        told |= {name: plain_value(value) for name, value in plain.items() if value is not None}
+        if self.variants is not None:
+            told |= {"complete": self.complete} | ({} if self.after is None else {"after": self.after})
+        return told if self.reason is None else {**told, "reason": self.reason}
+
+
+def plain_value(value: Any) -> Any:
+    """A value as JSON has it."""
+    if isinstance(value, tuple):
+        return [plain_value(part) for part in value]
+    return value.object() if hasattr(value, "object") else value
+
+
+def bytes_of(label: str) -> bytes:
+    """The bytes of a label as they were given; no UTF-8 for what is no text, so that the program refuses it."""
+    try:
+        return label.encode("utf-8", "surrogateescape")
+    except UnicodeEncodeError:
+        return label.encode("utf-8", "surrogatepass")
+
+
+def label_member(label: str) -> Object:
+    """The label as it was given; in hexadecimal digits if it isn't UTF-8."""
+    try:
+        label.encode()
+    except UnicodeEncodeError:
+        return {"label_hex": bytes_of(label).hex().upper()}
+    return {"label": label}

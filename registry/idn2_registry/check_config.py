@@ -1,0 +1,58 @@
+"""`check-config`: whether the configuration, its tables and its register can be used, and what they lack."""
+
+from .answers import ExitStatus
+from .configuration import Configuration
+from .faults import Unknown, Unusable
+from .join import lacking
+from .output import Output
+from .program import Program
+from .register import open_register
+from .tables import Table, read_table
+from .words import counted
+
+# So many gaps of a table are named; the program tells all of them.
+SHOWN_GAPS = 3
+
+
+def check_configuration(configuration: Configuration, program: Program, output: Output) -> None:
+    """Tells of each part that it can be used, or what is wrong with it, by file and line."""
+    check_tables(configuration, program, output)
+    check_register(configuration, output)
+    output.fact({"program": program.path, "version": program.version}, f"{program.path}: {program.version}", ExitStatus.YES)
+
+
+def check_tables(configuration: Configuration, program: Program, output: Output) -> None:
+    """Each table; where labels collide, also whether each collision is known."""
+    tables: dict[str, Table] = {}
+    for name, path in configuration.tables.items():
+        try:
+            table = read_table(name, path, program)
+        except Unusable as error:
+            output.fact({"table": name, "fault": str(error)}, str(error), ExitStatus.NOT_KNOWN)
+            continue
+        tables[name] = table
+        told = {"table": name, "file": str(path), "entries": table.entries, "gaps": len(table.gaps)}
+        output.fact(told, f"{path}: {name}: {counted(table.entries, 'entry', 'entries')}, {counted(len(table.gaps), 'gap')}", ExitStatus.YES)
+        for gap in table.gaps[:SHOWN_GAPS]:
+            output.fact({"table": name, "missing": gap}, f"{path}: add the pair {gap}", ExitStatus.NO)
+    if (zone := tables.get(configuration.zone)) is not None:
+        admitting = [tables[name] for name in configuration.admitting if name in tables]
+        if doubt := zone.doubt or lacking(zone, admitting):
+            words = f"{doubt}: no label is told to be available"
+            output.fact({"table": zone.name, "doubt": words}, f"{zone.path}: {words}", ExitStatus.NO)
+
+
+def check_register(configuration: Configuration, output: Output) -> None:
+    """The register."""
+    try:
+        register = open_register(configuration)
+        faults = register.faults()
+        count = sum(1 for _ in register.rows())
+        register.close()
+    except (Unusable, Unknown) as error:
+        output.fact({"register": configuration.register, "fault": str(error)}, str(error), ExitStatus.NOT_KNOWN)
+        return
+    for fault in faults:
+        output.fact({"register": configuration.register, "lacks": fault}, fault, ExitStatus.NO)
+    output.fact({"register": configuration.register, "labels": count}, f"{configuration.register}: {counted(count, 'label')}",
+                ExitStatus.YES)

@@ -1,0 +1,107 @@
+"""Which registered labels collide with a label. All that asks the program for collisions is here."""
+
+import json
+import re
+from collections.abc import Callable
+
+from .answers import Object, Refusal
+from .faults import Unknown
+from .processes import Pool, Question, only
+from .program import HeldFile, Program
+from .tables import Table
+
+ALLOCATABLE = "allocatable"
+NOT_ADMITTED, NOT_VALID = 40, 41
+# How an object ends that ends a block, and that of a label which collides with another than itself. No text of an object
+# has such an end, since it has no quote that isn't escaped.
+END = b',"complete":true}\n'
+COLLIDING = re.compile(rb',"count":(?!1,)(\d+),"complete":true\}\n')
+
+
+class Collisions:
+    """Collisions under one table. The program tells those registered labels that are variants of the label. Where the table
+    may hide others, `doubt` says why, and a label without a found collision isn't known to be free."""
+
+    def __init__(self, table: Table) -> None:
+        self.doubt = table.doubt
+        self._list, _ = table.kind.value
+        self._table = table
+        self._jump = Question((self._list, table.held.path, "--jump"), (table.held,))
+
+    def of(self, label: str, pool: Pool, first_from: Callable[[str], str | None]) -> list[str]:
+        """The registered labels that collide with a label, in label order. `first_from` tells the first registered label at
+        or after a text. Raises Unknown if the table refuses the label, too."""
+        found: list[str] = []
+        text = ""
+        # The program and the register take turns: each goes on from what the other has.
+        while (near := self._first_near(label, text, pool)) is not None and (registered := first_from(near)) is not None:
+            if registered == near:
+                found.append(registered)
+                # The least text above it.
+                text = registered + "\0"
+            else:
+                text = registered
+        return found
+
+    def refusal(self, label: str, pool: Pool) -> Refusal | None:
+        """Why the table refuses a label that may be registered; None if it admits it."""
+        answer = only(pool.ask(self._jump, label.encode()), "ulabel")
+        if "refusal" not in answer:
+            return None
+        refusal = Refusal.read(answer["refusal"])
+        if refusal.number not in (NOT_ADMITTED, NOT_VALID):
+            raise Unknown(f"the program gave another answer than it should: {refusal}")
+        return refusal
+
+    def _first_near(self, label: str, text: str, pool: Pool) -> str | None:
+        answer = only(pool.ask(self._jump, f"{label}\t{text}".encode()), "ulabel")
+        if "refusal" in answer:
+            refusal = answer["refusal"]
+            raise Unknown(f"the table {self._table.name} refuses it: {refusal['number']} {refusal['text']}")
+        near: str | None = answer["ulabel"]
+        if near is not None and near < text:
+            raise Unknown(f"the program went back: {near}")
+        return near
+
+    def is_offered(self, label: str, registered: str, program: Program, seconds: float) -> bool:
+        """Whether the holder of a registered label may have the label, too: it is one of its allocatable variants."""
+        file = HeldFile(f"{label}\n".encode())
+        words = [self._list, self._table.held.path, "--among", file.path, "--", registered]
+        files = [self._table.held.descriptor, file.descriptor]
+        told = [json.loads(line) for line in program.answered(words, files=files, seconds=seconds).splitlines()]
+        if not told or told[-1].get("complete") is not True:
+            return False
+        return [(variant["ulabel"], variant.get("disposition")) for variant in told[:-1]] == [(label, ALLOCATABLE)]
+
+    def audit_words(self, registered: HeldFile) -> tuple[list[str], list[int]]:
+        """The words and the files of a run that is asked all registered labels, each on a line."""
+        words = [self._list, self._table.held.path, "--among", registered.path]
+        return words, [self._table.held.descriptor, registered.descriptor]
+
+
+def found_in_audit(output: bytes) -> tuple[int, list[tuple[str, str]], list[Object]]:
+    """What a run with `audit_words` says: how many lines it answered, the pairs that collide, and the objects with
+    refusals. Labels without another collision than with themselves, which are most, aren't looked at one by one."""
+    refused = refusals_in(output)
+    pairs = []
+    for end in COLLIDING.finditer(output):
+        start = output.rfind(b"\n", 0, end.start()) + 1
+        label = json.loads(output[start:end.end()])["input"]
+        for _ in range(int(end[1])):
+            start, line_end = output.rfind(b"\n", 0, start - 1) + 1, start
+            other = json.loads(output[start:line_end])["ulabel"]
+            if other != label:
+                pairs.append((label, other))
+    return output.count(END) + len(refused), pairs[::-1], refused
+
+
+def refusals_in(output: bytes) -> list[Object]:
+    """The objects with refusals, each of a line of the input."""
+    refused = []
+    for found in re.finditer(rb'"refusal":', output):
+        line = output[output.rfind(b"\n", 0, found.start()) + 1:output.find(b"\n", found.end())]
+        told = json.loads(line)
+        if "refusal" not in told or "line" not in told:
+            raise Unknown(f"the program gave another answer than it should: {told}")
+        refused.append(told)
+    return refused

@@ -1,0 +1,220 @@
+"""The command `idn2-registry`: its options, and what each job does with them."""
+
+import argparse
+import contextlib
+import os
+import sys
+from collections.abc import Callable, Iterator, Sequence
+
+from .answers import Answer, ExitStatus
+from .audit import audit as audit_all
+from .change import change as change_all
+from .co_process import CoProcess
+from .configuration import DEFAULT_PATH, Configuration, read_configuration
+from .convert import convert as convert_file
+from .faults import Unknown, Unusable
+from .holdings import Holdings
+from .join import join as joined
+from .load import dump as dump_register
+from .load import load as load_file
+from .output import Output, complain
+from .program import Program
+from .register import open_register
+from .check_config import check_configuration
+from .work import Means
+from .zone import Zone
+
+Words = argparse.Namespace
+Job = Callable[[Words, Output], None]
+
+
+def text_of_word(word: str) -> str:
+    """A word of the command line, which is UTF-8 in every locale."""
+    return os.fsencode(word).decode("utf-8", "surrogateescape")
+
+
+def labels_of(words: Words) -> Iterator[str]:
+    """The labels: the words, or the lines of standard input."""
+    if words.labels:
+        yield from map(text_of_word, words.labels)
+        return
+    for line in sys.stdin.buffer:
+        yield line.removesuffix(b"\n").decode("utf-8", "surrogateescape")
+
+
+def opened(words: Words) -> Zone:
+    """The zone."""
+    return Zone.open(words.config, words.idn2)
+
+
+def answers(words: Words, output: Output, asked: Callable[[Zone, str], Answer]) -> None:
+    """Answers each label."""
+    with opened(words) as zone:
+        for label in labels_of(words):
+            output.answer(asked(zone, label))
+
+
+def check(words: Words, output: Output) -> None:
+    """Tells which labels are available."""
+    answers(words, output, lambda zone, label: zone.check(label, words.holder, words.variants))
+
+
+def register(words: Words, output: Output) -> None:
+    """Registers labels that are available."""
+    answers(words, output, lambda zone, label: zone.register(label, words.holder))
+
+
+def release(words: Words, output: Output) -> None:
+    """Releases registered labels."""
+    answers(words, output, lambda zone, label: zone.release(label))
+
+
+def variants(words: Words, output: Output) -> None:
+    """Lists the variants of labels."""
+    answers(words, output, lambda zone, label: zone.variants(label, words.table, words.page, words.after))
+
+
+def tables_of(words: Words, output: Output) -> None:
+    """Tells which tables admit a label."""
+    answers(words, output, lambda zone, label: zone.tables_of(label))
+
+
+def ask(words: Words, output: Output) -> None:
+    """Answers requests, objects of JSON, one on each line."""
+    with opened(words) as zone:
+        CoProcess(zone).run()
+
+
+def check_config(words: Words, output: Output) -> None:
+    """Checks the configuration, its tables and its register."""
+    configuration = read_configuration(words.config)
+    check_configuration(configuration, program(words, configuration), output)
+
+
+def program(words: Words, configuration: Configuration | None) -> Program:
+    """The program, which tests labels as the configuration says."""
+    return Program(words.idn2, configuration.labels) if configuration else Program(words.idn2)
+
+
+def means(words: Words, configuration: Configuration) -> Means:
+    """With what long work is done. What is done of it is kept beside the configuration."""
+    return Means(configuration.path, configuration.processes, words.scheduler, words.resume)
+
+
+def holdings(configuration: Configuration) -> Holdings:
+    """What is registered."""
+    register = open_register(configuration)
+    try:
+        return Holdings.read(register)
+    finally:
+        register.close()
+
+
+def load(words: Words, output: Output) -> None:
+    """Puts the labels of a file into the register, whole or not at all. Each line is a label, or a label, a tab and a holder."""
+    configuration = read_configuration(words.config)
+    load_file(configuration, program(words, configuration), means(words, configuration), words.file, words.rest, output)
+
+
+def dump(words: Words, output: Output) -> None:
+    """Writes the registered labels, each with its holder after a tab."""
+    configuration = read_configuration(words.config)
+    dump_register(holdings(configuration), program(words, configuration), words.json)
+
+
+def audit(words: Words, output: Output) -> None:
+    """Tells which registered labels are no longer valid, and which collide."""
+    configuration = read_configuration(words.config)
+    asked = program(words, configuration)
+    audit_all(configuration, asked, holdings(configuration), means(words, configuration), output)
+
+
+def change(words: Words, output: Output) -> None:
+    """Tells what a new table changes for registered labels."""
+    configuration = read_configuration(words.config)
+    asked = program(words, configuration)
+    change_all(configuration, asked, holdings(configuration), means(words, configuration), words.new, output)
+
+
+def join(words: Words, output: Output) -> None:
+    """Writes the table of the zone, joined from others by their names in the configuration, or by their paths."""
+    configuration = read_configuration(words.config) if os.path.exists(words.config) else None
+    sys.stdout.buffer.write(joined(configuration, words.names, program(words, configuration)))
+    sys.stdout.buffer.flush()
+
+
+def convert(words: Words, output: Output) -> None:
+    """Makes a table from a published ruleset; convert --help tells its options."""
+
+
+def parser() -> argparse.ArgumentParser:
+    """The options of all jobs."""
+    common = argparse.ArgumentParser(add_help=False)
+    common.add_argument("--config", metavar="FILE", default=DEFAULT_PATH, help=f"the configuration [default: {DEFAULT_PATH}]")
+    common.add_argument("--idn2", metavar="PROGRAM", help="the program [default: the idn2 beside this one, or on the path]")
+    common.add_argument("--json", action="store_true", help="answer with objects of JSON, one on each line")
+    whole = argparse.ArgumentParser(prog="idn2-registry", description="The jobs of a domain name registry.",
+                                    epilog="Status: 0 yes to all, 1 no to some, 75 not known for some.", allow_abbrev=False)
+    jobs = whole.add_subparsers(metavar="JOB", required=True)
+
+    def add(name: str, job: Job, has_labels: bool = True) -> argparse.ArgumentParser:
+        added = jobs.add_parser(name, parents=[common], help=job.__doc__, description=job.__doc__, allow_abbrev=False)
+        added.set_defaults(job=job)
+        if has_labels:
+            added.add_argument("labels", metavar="LABEL", nargs="*", help="[default: the lines of standard input]")
+        return added
+
+    for name, job in (("check", check), ("register", register)):
+        add(name, job).add_argument("--holder", metavar="HOLDER", type=text_of_word, help="who asks, and may have variants of own labels")
+    jobs.choices["check"].add_argument("--variants", action="store_true", help="list the variants, too")
+    add("release", release)
+    listing = add("variants", variants)
+    listing.add_argument("--table", metavar="NAME", help="the table [default: the first that admits the label]")
+    listing.add_argument("--page", metavar="SIZE", type=int, help="at most so many")
+    listing.add_argument("--after", metavar="TEXT", type=text_of_word, help="only those after a text")
+    add("tables-of", tables_of)
+    for name, job in (("load", load), ("audit", audit), ("change", change)):
+        long = add(name, job, has_labels=False)
+        long.add_argument("--resume", action="store_true", help="go on where a run was stopped")
+        long.add_argument("--scheduler", metavar="ADDRESS", help="let a cluster of Dask do it")
+    jobs.choices["load"].add_argument("file", metavar="FILE")
+    jobs.choices["load"].add_argument("--rest", action="store_true", help="load the others if lines are refused")
+    jobs.choices["change"].add_argument("new", metavar="NAME=FILE", help="a name in the configuration, and its new table")
+    add("dump", dump, has_labels=False)
+    add("join", join, has_labels=False).add_argument("names", metavar="NAME", nargs="+")
+    add("convert", convert, has_labels=False)
+    add("ask", ask, has_labels=False)
+    add("check-config", check_config, has_labels=False)
+    return whole
+
+
+def main(given: Sequence[str] | None = None) -> int:
+    """Does a job, and gives its exit status."""
+    first, *rest = [*(sys.argv[1:] if given is None else given), ""]
+    # The converter has its own options.
+    if first == "convert":
+        return guarded(lambda: convert_file(rest[:-1]))
+    words = parser().parse_args(given)
+    output = Output(words.json)
+
+    def job() -> int:
+        words.job(words, output)
+        return output.status.value
+
+    return guarded(job)
+
+
+def guarded(job: Callable[[], int]) -> int:
+    """The exit status of a job; 75 with one line that says why, if it can't be done."""
+    try:
+        return job()
+    except (Unusable, Unknown) as error:
+        complain(str(error))
+    except (ValueError, OSError) as error:
+        complain(f"{error}")
+    except KeyboardInterrupt:
+        complain("stopped")
+    # What stands in the buffer can't be written, either.
+    with contextlib.suppress(OSError):
+        os.dup2(os.open(os.devnull, os.O_WRONLY), sys.stdout.fileno())
+    return ExitStatus.NOT_KNOWN.value

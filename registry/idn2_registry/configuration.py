@@ -1,0 +1,175 @@
+"""`registry.toml`: what a zone is."""
+
+import os
+import re
+import tomllib
+from dataclasses import dataclass, fields
+from enum import Enum
+from pathlib import Path
+from typing import Any
+
+from .faults import Unusable
+
+DEFAULT_PATH = "registry.toml"
+REGISTERS = ("sqlite:", "postgresql:")
+KEYS = ("register", "zone", "labels", "processes", "tables", "limits")
+
+
+class LabelRules(Enum):
+    """By which rules labels are tested: by the lists of docs/PROFILE.md, or by RFC 5892 and RFC 5893 whole."""
+
+    PROFILE = "profile"
+    STANDARD = "standard"
+
+
+@dataclass(frozen=True)
+class Limits:
+    """What bounds one request (docs/idn2.1 has the options of the same names); `seconds` bounds its time."""
+
+    tries: int = 100_000
+    steps: int = 1_000_000
+    limit: int = 1_000
+    seconds: float = 5
+
+
+LEAST = {"tries": 1, "steps": 2, "limit": 1}
+MOST = {"tries": 10**9, "steps": 10**18, "limit": 10**9, "seconds": 3600}
+MOST_PROCESSES = 1024
+
+
+@dataclass(frozen=True)
+class Configuration:
+    """A zone: its register, its tables by their names in the order of the file, and under which of them labels collide."""
+
+    path: Path
+    register: str
+    tables: dict[str, Path]
+    zone: str
+    limits: Limits
+    processes: int
+    labels: LabelRules = LabelRules.PROFILE
+
+    @property
+    def admitting(self) -> tuple[str, ...]:
+        """The names of the tables that say which labels may be registered. The table of the zone has the letters of all
+        tables, and so is none of them if there are others."""
+        others = tuple(name for name in self.tables if name != self.zone)
+        return others or (self.zone,)
+
+
+def read_configuration(path: str | os.PathLike[str] = DEFAULT_PATH) -> Configuration:
+    """The configuration in a file. Raises Unusable with the file, the line and the remedy."""
+    return Reader(Path(path)).configuration()
+
+
+class Reader:
+    """Reads one file."""
+
+    def __init__(self, path: Path) -> None:
+        self.path = path
+        try:
+            self.text = path.read_text(encoding="utf-8")
+        except OSError as error:
+            raise Unusable(f"{path}: {error.strerror}: write one, or name it with --config FILE") from error
+        except UnicodeDecodeError as error:
+            raise Unusable(f"{path}: not UTF-8 at byte {error.start + 1}: save it as UTF-8") from error
+        try:
+            self.values: dict[str, Any] = tomllib.loads(self.text)
+        except tomllib.TOMLDecodeError as error:
+            raise Unusable(self.told_of_syntax(str(error))) from error
+
+    def told_of_syntax(self, message: str) -> str:
+        """A message of tomllib with its line in front."""
+        found = re.fullmatch(r"(.*) \(at (?:line (\d+), column \d+|end of document)\)", message, re.DOTALL)
+        words, line = (found[1], found[2]) if found else (message, None)
+        return f"{self.path}: line {line or len(self.text.splitlines())}: {words}: mend the TOML there"
+
+    def fault(self, key: str, words: str, section: str = "") -> Unusable:
+        """What is wrong with a key, with the line where it stands."""
+        return Unusable(f"{self.path}: line {self.line_of(key, section)}: {key}: {words}")
+
+    def line_of(self, key: str, section: str) -> int:
+        """The line of a key, else that of its section, else the last line."""
+        inside, head = "", 0
+        for number, line in enumerate(self.text.splitlines(), 1):
+            if found := re.match(r"\s*\[\s*([^\]]*?)\s*\]", line):
+                inside = found[1]
+                head = number if inside in (section, key) else head
+            is_here = inside == section and re.match(rf"\s*[\"']?{re.escape(key)}[\"']?\s*[=.]", line)
+            if is_here or section and re.match(rf"\s*{section}\s*(\.\s*[\"']?{re.escape(key)}\b|=)", line):
+                return number
+        return head or max(1, len(self.text.splitlines()))
+
+    def configuration(self) -> Configuration:
+        """All of it."""
+        for key in self.values:
+            if key not in KEYS:
+                raise self.fault(key, f"nothing has this name: write one of {', '.join(KEYS)}")
+        register, tables = self.register(), self.tables()
+        zone, limits, processes = self.zone(tables), self.limits(), self.processes()
+        return Configuration(self.path, register, tables, zone, limits, processes, self.labels())
+
+    def register(self) -> str:
+        """Where the register is; a file's path is made whole from the folder of the configuration."""
+        register = self.values.get("register")
+        if not isinstance(register, str) or not register.startswith(REGISTERS):
+            raise self.fault("register", 'write register = "sqlite:FILE" or register = "postgresql://.."')
+        kind, _, rest = register.partition(":")
+        if kind == "sqlite":
+            if not rest or "\0" in rest:
+                raise self.fault("register", "no file is named: write sqlite: and its path")
+            return f"sqlite:{self.path.parent / rest}"
+        return register
+
+    def section(self, name: str) -> dict[str, Any]:
+        """A section, which may be missing."""
+        section = self.values.get(name, {})
+        if not isinstance(section, dict):
+            raise self.fault(name, f"not a section: write [{name}], and each on a line below")
+        return section
+
+    def tables(self) -> dict[str, Path]:
+        """The paths of the tables."""
+        tables = self.section("tables")
+        if not tables:
+            raise self.fault("tables", 'no table: write [tables], and below it NAME = "FILE"')
+        for name, path in tables.items():
+            if not isinstance(path, str) or not path or "\0" in path:
+                raise self.fault(name, f'not a path: write {name} = "FILE"', "tables")
+        return {name: self.path.parent / path for name, path in tables.items()}
+
+    def zone(self, tables: dict[str, Path]) -> str:
+        """The name of the table of the zone."""
+        if "zone" not in self.values and len(tables) == 1:
+            return next(iter(tables))
+        zone = self.values.get("zone")
+        if not isinstance(zone, str) or zone not in tables:
+            raise self.fault("zone", f"no name of [tables]: write one of {', '.join(tables)}")
+        return zone
+
+    def limits(self) -> Limits:
+        """The limits, each within what the program takes."""
+        limits = self.section("limits")
+        known = [field.name for field in fields(Limits)]
+        for name, value in limits.items():
+            if name not in known:
+                raise self.fault(name, f"no limit has this name: write one of {', '.join(known)}", "limits")
+            is_number = isinstance(value, (int, float) if name == "seconds" else int) and not isinstance(value, bool)
+            if not (is_number and LEAST.get(name, 0) <= value <= MOST[name] and value):
+                raise self.fault(name, f"write a number from {LEAST.get(name, 'above 0')} to {MOST[name]}", "limits")
+        return Limits(**limits)
+
+    def labels(self) -> LabelRules:
+        """The rules of labels."""
+        known = [rules.value for rules in LabelRules]
+        labels = self.values.get("labels", LabelRules.PROFILE.value)
+        if labels not in known:
+            raise self.fault("labels", f"no rules have this name: write one of {', '.join(known)}")
+        return LabelRules(labels)
+
+    def processes(self) -> int:
+        """How many requests the program answers at once."""
+        processes = self.values.get("processes", os.cpu_count() or 1)
+        if not isinstance(processes, int) or isinstance(processes, bool) or not 1 <= processes <= MOST_PROCESSES:
+            raise self.fault("processes", f"write a number from 1 to {MOST_PROCESSES}")
+        return processes

@@ -1,0 +1,43 @@
+"""What a register has, as long work reads it."""
+
+import json
+from collections.abc import Iterable
+from dataclasses import dataclass, field
+
+from .answers import RegisteredLabel
+from .faults import Unknown
+from .program import Program
+from .register import Register
+
+
+@dataclass
+class Holdings:
+    """The labels of one state of a register, in label order, and those of their holders that are known."""
+
+    labels: list[str] = field(default_factory=list)
+    holders: dict[str, str] = field(default_factory=dict)
+
+    @classmethod
+    def read(cls, register: Register) -> "Holdings":
+        """All of a register."""
+        holdings = cls()
+        for label, holder in register.rows():
+            holdings.labels.append(label)
+            if holder is not None:
+                holdings.holders[label] = holder
+        return holdings
+
+    @property
+    def lines(self) -> list[bytes]:
+        """The labels as lines."""
+        return [label.encode() for label in self.labels]
+
+    def named(self, labels: Iterable[str], program: Program) -> dict[str, RegisteredLabel]:
+        """Labels with their A-labels and holders."""
+        wanted = sorted(set(labels))
+        output = program.answered(["--register"], "".join(f"{label}\n" for label in wanted).encode())
+        told = [json.loads(line) for line in output.split(b"\n")[:-1]]
+        if len(told) != len(wanted):
+            raise Unknown("the program didn't answer each label")
+        return {label: RegisteredLabel(label, answer.get("alabel", label), self.holders.get(label))
+                for label, answer in zip(wanted, told, strict=True)}

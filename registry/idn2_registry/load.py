@@ -1,0 +1,138 @@
+"""`load`: labels into the register, whole or not at all; and `dump`, labels out of it."""
+
+import json
+from collections.abc import Iterator
+from dataclasses import dataclass
+from typing import Any
+
+from .answers import CONTROL_CHARACTER, ExitStatus, Object, Refusal, label_member
+from .configuration import Configuration
+from .faults import Unknown
+from .holdings import Holdings
+from .output import Output
+from .program import Program
+from .register import open_register
+from .words import counted
+from .work import Means, parts_of, results
+
+DUMPED = 10_000
+TAB = "\t"
+
+
+@dataclass(frozen=True)
+class LoadTask:
+    """What the lines of a file stand for."""
+
+    program: Program
+
+    def done(self, part: bytes) -> bytes:
+        """For each line a label with its holder, or a refusal."""
+        read: list[tuple[str | None, str | None, Object | None]] = [read_line(line) for line in part.split(b"\n")[:-1]]
+        asked = [number for number, (label, _, _) in enumerate(read) if label is not None]
+        output = self.program.answered(["--register"], b"".join(
+            (read[number][0] or "").encode("utf-8", "surrogateescape") + b"\n" for number in asked))
+        told = [json.loads(line) for line in output.split(b"\n")[:-1]]
+        if len(told) != len(asked):
+            raise Unknown("the program didn't answer each label")
+        for number, answer in zip(asked, told, strict=True):
+            read[number] = (answer.get("ulabel"), read[number][1], answer.get("refusal"))
+        return json.dumps(read).encode()
+
+
+def read_line(line: bytes) -> tuple[str | None, str | None, Object | None]:
+    """The label and the holder of a line; or a refusal of what can't be sent or stored."""
+    label, has_holder, holder = line.removesuffix(b"\r").decode("utf-8", "surrogateescape").partition(TAB)
+    if refusal := Refusal.of_control_character(label):
+        return None, None, refusal.object()
+    if not has_holder:
+        return label, None, None
+    if not holder or CONTROL_CHARACTER.search(holder) or not is_unicode(holder):
+        return None, None, {"text": "no holder after the tab"}
+    return label, holder, None
+
+
+def is_unicode(text: str) -> bool:
+    """Whether a text was UTF-8."""
+    return not any("\ud800" <= each <= "\udfff" for each in text)
+
+
+def lines_of(path: str) -> list[bytes]:
+    """The lines of a file."""
+    with open(path, "rb") as file:
+        data = file.read()
+    return data.removesuffix(b"\n").split(b"\n") if data else []
+
+
+@dataclass
+class Loading:
+    """What comes of the lines of a file."""
+
+    there: dict[str, str | None]
+    new: dict[str, str | None]
+    refused: list[tuple[int, Object]]
+
+    def add(self, number: int, label: str | None, holder: str | None, refusal: Object | None) -> None:
+        """A line. One that says again what another says, or the register, adds nothing."""
+        if label is None or refusal is not None:
+            self.refused.append((number, refusal or {"text": "no label"}))
+            return
+        for known in (self.there, self.new):
+            if label in known:
+                if known[label] != holder:
+                    self.refused.append((number, {"text": "registered for another holder"}))
+                return
+        self.new[label] = holder
+
+
+def registered_before(configuration: Configuration) -> dict[str, str | None]:
+    """What is registered already; nothing if there is no register yet."""
+    register = open_register(configuration, must_be=False)
+    try:
+        return dict(register.rows()) if register.is_made() else {}
+    finally:
+        register.close()
+
+
+def load(configuration: Configuration, program: Program, means: Means, path: str, with_rest: bool, output: Output) -> None:
+    """Loads a file: whole, or with the rest what isn't refused. Each refused line is told, with number and cause."""
+    lines = lines_of(path)
+    loading = Loading(registered_before(configuration), {}, [])
+    number = 0
+    for result in results(means, "load", LoadTask(program), parts_of(lines), [program.state]):
+        for read in json.loads(result):
+            number += 1
+            loading.add(number, *read)
+    for number, refusal in loading.refused:
+        line = lines[number - 1].decode("utf-8", "surrogateescape")
+        told = {"line": number, **label_member(line.partition(TAB)[0]), "refusal": refusal}
+        cause = Refusal(refusal.get("number"), refusal["text"], refusal)
+        output.fact(told, f"{path}: line {number}: {cause}", ExitStatus.NO)
+    is_loaded = with_rest or not loading.refused
+    if is_loaded:
+        register = open_register(configuration, must_be=False)
+        register.load(loading.new.items())
+        register.close()
+    counts = {"lines": len(lines), "loaded": len(loading.new) if is_loaded else 0, "refused": len(loading.refused)}
+    words = f"{counted(counts['lines'], 'line')}, {counts['loaded']} loaded, {counts['refused']} refused"
+    output.fact(counts, words, ExitStatus.YES)
+
+
+def dump(holdings: Holdings, program: Program, as_json: bool) -> None:
+    """Writes all labels in label order, each with its holder after a tab; or as objects."""
+    for start in range(0, len(holdings.labels), DUMPED):
+        labels = holdings.labels[start:start + DUMPED]
+        Output.line("\n".join(dumped(holdings, labels, program) if as_json else plain(holdings, labels)))
+
+
+def plain(holdings: Holdings, labels: list[str]) -> Iterator[str]:
+    """The lines that load takes."""
+    for label in labels:
+        holder = holdings.holders.get(label)
+        yield label if holder is None else f"{label}\t{holder}"
+
+
+def dumped(holdings: Holdings, labels: list[str], program: Program) -> Iterator[str]:
+    """The objects."""
+    named: dict[str, Any] = holdings.named(labels, program)
+    for label in labels:
+        yield json.dumps(named[label].object(), ensure_ascii=False, separators=(",", ":"))

@@ -1,0 +1,102 @@
+"""The program `idn2`, which decides: where it is, and runs of it that end."""
+
+import os
+import pkgutil
+import re
+import shutil
+import subprocess
+import sys
+from collections.abc import Iterator, Sequence
+from pathlib import Path
+
+from .configuration import LabelRules
+from .faults import Unknown, Unusable
+
+# Under which name the program is installed beside this one; `make install` writes another name here if it has one.
+NAME_FILE = "program_name.txt"
+ANSWERED = (0, 1)
+OPTIONS: dict[LabelRules, tuple[str, ...]] = {LabelRules.PROFILE: (), LabelRules.STANDARD: ("--standard",)}
+
+
+def named() -> str:
+    """The name of the program."""
+    return (pkgutil.get_data(__package__, NAME_FILE) or b"").decode().strip()
+
+
+def candidates(name: str) -> Iterator[Path]:
+    """Where the program may be: beside this one, where the repository builds it, and first on the path."""
+    package = Path(__file__).resolve().parent
+    yield Path(sys.argv[0]).resolve().parent / name
+    yield package.parent.parent / "crates" / "idn2" / "out" / name
+    if found := shutil.which(name):
+        yield Path(found)
+
+
+class Program:
+    """The program in a file, which tests labels by some rules in every run."""
+
+    def __init__(self, path: str | os.PathLike[str] | None = None, rules: LabelRules = LabelRules.PROFILE) -> None:
+        """Finds it, or takes the one at a path. Raises Unusable if it isn't there, is another program, or lacks the rules."""
+        name = named()
+        found = [Path(path)] if path else list(candidates(name))
+        self.path = str(next((each for each in found if os.access(each, os.X_OK) and each.is_file()), ""))
+        if not self.path:
+            raise Unusable(f"{path or name}: no such program: install it beside this one, or name it with --idn2 PROGRAM")
+        self.options: tuple[str, ...] = ()
+        self.version = self.run(["--version"]).stdout.decode("utf-8", "replace").strip()
+        if not re.match(r"idn2 \d", self.version):
+            raise Unusable(f"{self.path}: another program of this name: name the right one with --idn2 PROGRAM")
+        self.options = OPTIONS[rules]
+        if self.run(["--register"]).returncode != 0:
+            raise Unusable(f"{self.path}: {self.version} can't test labels by labels = \"{rules.value}\": name a newer one with "
+                           "--idn2 PROGRAM")
+
+    @property
+    def state(self) -> bytes:
+        """On what of it its answers depend."""
+        return " ".join([self.version, *self.options]).encode()
+
+    def run(self, words: Sequence[str], given: bytes = b"", files: Sequence[int] = (),
+            seconds: float | None = 60) -> subprocess.CompletedProcess[bytes]:
+        """One run. Raises Unusable if the program can't be started, and Unknown if it takes too long."""
+        try:
+            return subprocess.run([self.path, *self.options, *words], input=given, capture_output=True, pass_fds=tuple(files),
+                                  timeout=seconds, check=False)
+        except subprocess.TimeoutExpired as error:
+            raise Unknown(f"no answer within {seconds:g} seconds") from error
+        except OSError as error:
+            raise Unusable(f"{self.path}: {error.strerror}: name another program with --idn2 PROGRAM") from error
+
+    def answered(self, words: Sequence[str], given: bytes = b"", files: Sequence[int] = (),
+                 seconds: float | None = None) -> bytes:
+        """The output of a run with `--json` that answered each line. Raises Unknown for any other."""
+        done = self.run(["--json", *words], given, files, seconds)
+        if done.returncode not in ANSWERED:
+            raise Unknown(ended(done.returncode, done.stderr))
+        return done.stdout
+
+
+def ended(status: int, messages: bytes) -> str:
+    """Why a process ended, in one line."""
+    told = messages.decode("utf-8", "replace").strip().splitlines()
+    return f"the program ended with status {status}" + (f": {told[-1]}" if told else "")
+
+
+class HeldFile:
+    """Bytes that processes read as a file. They stay the same when the file they came from changes."""
+
+    def __init__(self, data: bytes) -> None:
+        # In memory, since a service should go on when a disk is full.
+        self._file = open(os.memfd_create("idn2-registry"), "wb")
+        self._file.write(data)
+        self._file.flush()
+
+    @property
+    def descriptor(self) -> int:
+        """What a process is handed."""
+        return self._file.fileno()
+
+    @property
+    def path(self) -> str:
+        """Under which path such a process reads it."""
+        return f"/dev/fd/{self.descriptor}"

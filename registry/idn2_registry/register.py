@@ -1,0 +1,102 @@
+"""The register: which labels are registered, and who holds them. A register in a file of SQLite is `sqlite.py`, one of
+PostgreSQL `postgresql.py`."""
+
+import abc
+from collections.abc import Callable, Iterable, Iterator
+from contextlib import AbstractContextManager
+from typing import TypeVar
+
+from .answers import CONTROL_CHARACTER
+from .configuration import Configuration
+from .faults import Unknown
+
+Result = TypeVar("Result")
+Row = tuple[str, str | None]
+MOST_POINTS = 63
+
+
+class Transaction(abc.ABC):
+    """What can be done in one transaction."""
+
+    @abc.abstractmethod
+    def first_from(self, text: str) -> str | None:
+        """The first registered label at or after a text, in label order."""
+
+    @abc.abstractmethod
+    def holder_of(self, label: str) -> str | None:
+        """The holder of a registered label, where one was given."""
+
+    @abc.abstractmethod
+    def insert(self, label: str, holder: str | None) -> None:
+        """Registers a label that isn't registered."""
+
+    @abc.abstractmethod
+    def delete(self, label: str) -> bool:
+        """Releases a label; False if it wasn't registered."""
+
+    def has(self, label: str) -> bool:
+        """Whether a label is registered."""
+        return self.first_from(label) == label
+
+
+class Register(abc.ABC):
+    """A register. Each call raises Unusable where it can't be used at all, and Unknown where it failed this time."""
+
+    @abc.abstractmethod
+    def reading(self) -> AbstractContextManager[Transaction]:
+        """A transaction that sees one state of the register."""
+
+    @abc.abstractmethod
+    def change(self, job: Callable[[Transaction], Result]) -> Result:
+        """What a job gives in a transaction that is as if no other ran beside it. The job may be run several times; what the
+        last run did is there when this returns, and nothing of it if it raises."""
+
+    @abc.abstractmethod
+    def rows(self) -> Iterator[Row]:
+        """All labels with their holders in label order, of one state of the register."""
+
+    @abc.abstractmethod
+    def load(self, rows: Iterable[Row]) -> None:
+        """Adds labels, all or none, to a register that is made if there is none. Raises Unusable if one is registered."""
+
+    @abc.abstractmethod
+    def is_made(self) -> bool:
+        """Whether there is a register, of which this only is asked if it must not be."""
+
+    @abc.abstractmethod
+    def faults(self) -> list[str]:
+        """What it lacks, each with its remedy."""
+
+    @abc.abstractmethod
+    def close(self) -> None:
+        """Closes its connections."""
+
+
+def open_register(configuration: Configuration, must_be: bool = True) -> Register:
+    """The register of a configuration. Raises Unusable if it can't be used, and also if there is none and it must be."""
+    kind, _, rest = configuration.register.partition(":")
+    if kind == "sqlite":
+        from .sqlite import SqliteRegister
+
+        return SqliteRegister(rest, configuration.limits.seconds, must_be)
+    from .postgresql import PostgresqlRegister
+
+    return PostgresqlRegister(configuration.register, configuration.limits.seconds, must_be)
+
+
+def checked_label(found: object, text: str) -> str:
+    """A label that the register gave as the first at or after a text. Raises Unknown if it is none, or out of order."""
+    if not isinstance(found, str) or len(found) > MOST_POINTS or CONTROL_CHARACTER.search(found):
+        raise Unknown(f"the register has what is no label: {found!r}")
+    if found < text:
+        raise Unknown(f"the register is not in the order of UTF-8: {found} comes after {text}")
+    return found
+
+
+def checked_holder(holder: str | None) -> str | None:
+    """A holder that can be stored. Raises ValueError for one that is empty, has a control character or isn't Unicode."""
+    if holder is not None:
+        holder.encode()
+        if not holder or CONTROL_CHARACTER.search(holder):
+            raise ValueError("a holder is a text without control characters")
+    return holder

@@ -1,0 +1,150 @@
+"""A register in a file of SQLite."""
+
+import contextlib
+import sqlite3
+import threading
+from collections.abc import Callable, Iterable, Iterator
+from pathlib import Path
+
+from .faults import Unknown, Unusable
+from .register import Register, Result, Row, Transaction, checked_label
+
+TABLE = """create table if not exists registered (
+    label text primary key check (typeof(label) = 'text') check (label not like 'xn--%'),
+    holder text check (holder is null or typeof(holder) = 'text')
+) without rowid"""
+FIRST = "select label from registered where label >= ? collate binary order by label collate binary limit 1"
+MISSING = "there is no register: idn2-registry load FILE makes it, and load /dev/null an empty one"
+
+
+class SqliteTransaction(Transaction):
+    """A transaction of one connection."""
+
+    def __init__(self, connection: sqlite3.Connection) -> None:
+        self._connection = connection
+
+    def first_from(self, text: str) -> str | None:
+        row = self._connection.execute(FIRST, (text,)).fetchone()
+        return None if row is None else checked_label(row[0], text)
+
+    def holder_of(self, label: str) -> str | None:
+        row = self._connection.execute("select holder from registered where label = ? collate binary", (label,)).fetchone()
+        return None if row is None else row[0]
+
+    def insert(self, label: str, holder: str | None) -> None:
+        self._connection.execute("insert into registered (label, holder) values (?, ?)", (label, holder))
+
+    def delete(self, label: str) -> bool:
+        done = self._connection.execute("delete from registered where label = ? collate binary", (label,))
+        return done.rowcount > 0
+
+
+class SqliteRegister(Register):
+    """A register in a file. SQLite has one writer at a time, and a change is a writer from its first question on (`begin
+    immediate`): so nothing comes between the answer that a label is free and its registration. A process that is killed
+    leaves its journal, by which the next one undoes what was half done."""
+
+    def __init__(self, path: str, seconds: float, must_be: bool) -> None:
+        self.path = path
+        self._seconds = seconds
+        self._lock = threading.Lock()
+        self._idle: list[sqlite3.Connection] = []
+        if must_be:
+            with self._connection() as connection:
+                self._check(connection)
+
+    def _open(self, mode: str = "rw") -> sqlite3.Connection:
+        """A connection; a file is made only for a load, since under an empty register each label would be free."""
+        uri = f"{Path(self.path).absolute().as_uri()}?mode={mode}"
+        return sqlite3.connect(uri, uri=True, timeout=self._seconds, isolation_level=None, check_same_thread=False)
+
+    @contextlib.contextmanager
+    def _connection(self, mode: str = "rw") -> Iterator[sqlite3.Connection]:
+        """A connection that no other thread uses; one that failed isn't used again."""
+        with self._lock:
+            connection = self._idle.pop() if self._idle else None
+        try:
+            connection = connection or self._open(mode)
+            yield connection
+        except sqlite3.Error as error:
+            if connection:
+                connection.close()
+            raise self._told(error) from error
+        except BaseException:
+            if connection:
+                connection.close()
+            raise
+        with self._lock:
+            self._idle.append(connection)
+
+    def _told(self, error: sqlite3.Error) -> Unknown | Unusable:
+        """What a fault of SQLite says of the request."""
+        code = getattr(error, "sqlite_errorname", "")
+        if code == "SQLITE_CANTOPEN":
+            is_missing = Path(self.path).parent.is_dir() and not Path(self.path).exists()
+            remedy = MISSING if is_missing else f"{error}: look at it and at its folder, and at their rights"
+            return Unusable(f"{self.path}: {remedy}")
+        if code in ("SQLITE_NOTADB", "SQLITE_CORRUPT"):
+            return Unusable(f"{self.path}: {error}: put back its backup")
+        return Unknown(f"{self.path}: {error}")
+
+    def _check(self, connection: sqlite3.Connection) -> None:
+        """That it is a register."""
+        columns = {row[1] for row in connection.execute("pragma table_info(registered)")}
+        if not columns:
+            raise Unusable(f"{self.path}: {MISSING}")
+        if not {"label", "holder"} <= columns:
+            raise Unusable(f"{self.path}: its table registered has no column holder: alter table registered add column holder text")
+        if connection.execute("pragma encoding").fetchone()[0] != "UTF-8":
+            raise Unusable(f"{self.path}: not in UTF-8: dump it, and load it into a new one")
+
+    @contextlib.contextmanager
+    def reading(self) -> Iterator[Transaction]:
+        with self._connection() as connection:
+            connection.execute("begin")
+            yield SqliteTransaction(connection)
+            connection.execute("commit")
+
+    def change(self, job: Callable[[Transaction], Result]) -> Result:
+        with self._connection() as connection:
+            connection.execute("begin immediate")
+            result = job(SqliteTransaction(connection))
+            connection.execute("commit")
+            return result
+
+    def rows(self) -> Iterator[Row]:
+        with self._connection() as connection:
+            yield from connection.execute("select label, holder from registered order by label collate binary")
+
+    def load(self, rows: Iterable[Row]) -> None:
+        with self._connection("rwc") as connection:
+            # Readers go on while a change is written.
+            connection.execute("pragma journal_mode = wal")
+            connection.execute("begin immediate")
+            connection.execute(TABLE)
+            self._check(connection)
+            try:
+                connection.executemany("insert into registered (label, holder) values (?, ?)", rows)
+            except sqlite3.IntegrityError as error:
+                raise Unusable(f"{self.path}: {error}: nothing was loaded") from error
+            connection.execute("commit")
+
+    def is_made(self) -> bool:
+        if not Path(self.path).exists():
+            return False
+        with self._connection() as connection:
+            return connection.execute("select 1 from sqlite_master where name = 'registered'").fetchone() is not None
+
+    def faults(self) -> list[str]:
+        with self._connection() as connection:
+            plan = " ".join(str(row[3]) for row in connection.execute(f"explain query plan {FIRST}", ("",)))
+        if "SEARCH" in plan and "TEMP B-TREE" not in plan:
+            return []
+        return [f"{self.path}: no index in byte order, so each look-up reads all labels: "
+                "create index registered_label on registered (label collate binary)"]
+
+    def close(self) -> None:
+        with self._lock:
+            for connection in self._idle:
+                connection.close()
+            self._idle.clear()

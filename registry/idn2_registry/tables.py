@@ -1,0 +1,100 @@
+"""Tables and rulesets: what is read of them, and what the program says of them."""
+
+import json
+import re
+from dataclasses import dataclass, field
+from enum import Enum
+from pathlib import Path
+
+from .answers import Refusal
+from .faults import Unknown, Unusable
+from .program import HeldFile, Program, ended
+
+MOST_BYTES = 67_108_864
+VERSION_3 = b"%version 3"
+# What hides collisions (docs/NOTATION.md): a condition of a variant; or a sequence of several code points beside a condition
+# of a source, or an outside source.
+VARIANT_CONDITION = re.compile(rb"[|:].*[ \t](when|unless)[ \t]")
+SOURCE_CONDITION = re.compile(rb"^[ \t]*!|[ \t](when|unless)[ \t]")
+
+
+class Kind(Enum):
+    """How the program is asked: by which option it lists, and by which it checks."""
+
+    TABLE = ("--variants", "--check-table")
+    RULESET = ("--ruleset", "--check-ruleset")
+
+
+@dataclass(frozen=True)
+class Table:
+    """A table as it was read, with its gaps as `source|missing`. It is asked by its bytes, whatever becomes of its file."""
+
+    name: str
+    path: Path
+    data: bytes = field(repr=False)
+    gaps: tuple[str, ...] = ()
+    entries: int = 0
+
+    def __post_init__(self) -> None:
+        object.__setattr__(self, "_held", HeldFile(self.data))
+
+    def __reduce__(self) -> tuple[type["Table"], tuple[str, Path, bytes, tuple[str, ...], int]]:
+        return Table, (self.name, self.path, self.data, self.gaps, self.entries)
+
+    @property
+    def held(self) -> HeldFile:
+        """The file that processes read."""
+        held: HeldFile = self._held  # type: ignore[attr-defined]
+        return held
+
+    @property
+    def kind(self) -> Kind:
+        """Whether it is a ruleset."""
+        first = self.data.split(b"\n", 1)[0].removesuffix(b"\r")
+        return Kind.RULESET if first == VERSION_3 else Kind.TABLE
+
+    @property
+    def doubt(self) -> str | None:
+        """Why a label may collide although none was found under this table; None where that can't be."""
+        if self.gaps:
+            return f"the table {self.name} has {len(self.gaps)} gap{'s' if len(self.gaps) > 1 else ''}"
+        if self.kind is Kind.TABLE:
+            return None
+        lines = [line for line in self.data.split(b"\n") if re.match(rb"[ \t]*[^#%\s\0]", line)]
+        has_sequence = any(b"-" in line for line in lines)
+        if any(map(VARIANT_CONDITION.search, lines)) or has_sequence and any(map(SOURCE_CONDITION.search, lines)):
+            return f"the conditions of the ruleset {self.name} may hide collisions"
+        return None
+
+
+def read_table(name: str, path: Path, program: Program) -> Table:
+    """The table in a file. Raises Unusable with the file, the line and the remedy."""
+    try:
+        with open(path, "rb") as file:
+            data = file.read(MOST_BYTES + 1)
+    except OSError as error:
+        raise Unusable(f"{path}: {error.strerror}: mend the path of {name} in [tables]") from error
+    if len(data) > MOST_BYTES:
+        raise Unusable(f"{path}: more than {MOST_BYTES:,} bytes: a table has at most 1,048,576")
+    return checked(Table(name, path, data), program)
+
+
+def checked(table: Table, program: Program) -> Table:
+    """The table with its gaps, which the program tells. Raises Unusable for a faulty table."""
+    _, check = table.kind.value
+    held = table.held
+    try:
+        done = program.run(["--json", check, held.path], files=[held.descriptor])
+    except Unknown as error:
+        raise Unusable(f"{table.path}: {error}: try it with {check}") from error
+    told = [json.loads(line) for line in done.stdout.splitlines()]
+    if told and "refusal" in told[-1]:
+        line, refusal = told[-1].get("table_line"), Refusal.read(told[-1]["refusal"])
+        at = f" at byte {refusal.details['byte']}" if "byte" in refusal.details else ""
+        raise Unusable(f"{table.path}: line {line}: {refusal}{at}: mend it (docs/NOTATION.md)")
+    if done.returncode not in (0, 1) or not told or "entries" not in told[-1]:
+        raise Unusable(f"{table.path}: {ended(done.returncode, done.stderr)}: try it with {check}")
+    if not told[-1]["entries"]:
+        raise Unusable(f"{table.path}: line 1: no entry in it: each label would be refused: was it cut short?")
+    gaps = tuple(f"{gap['source']}|{gap['missing']}" for gap in told[:-1] if "missing" in gap)
+    return Table(table.name, table.path, table.data, gaps, told[-1]["entries"])

@@ -1,0 +1,56 @@
+#!/usr/bin/env python3
+"""Packs idn2-registry and the converter into one file that Python runs: python3 registry/pack.py PROGRAM_NAME FILE
+
+PROGRAM_NAME is the name of the program idn2 beside it. The same sources make the same bytes."""
+
+import sys
+import zipfile
+from collections.abc import Iterator
+from pathlib import Path
+
+HERE = Path(__file__).resolve().parent
+TABLES = HERE.parent / "tables"
+# The converter stands on the last two.
+PACKAGES = (HERE / "idn2_registry", TABLES / "lgr", TABLES / "notation")
+MODULES = (TABLES / "unicode_data.py",)
+NAME_FILE = "idn2_registry/program_name.txt"
+START = """import sys
+
+# An older Python has to be able to read this, so that it can tell of itself.
+if sys.version_info < (3, 11):
+    sys.exit("idn2-registry: Python 3.11 or later is needed, and this is %d.%d" % sys.version_info[:2])
+
+from idn2_registry.command import main
+
+sys.exit(main())
+"""
+
+
+def files(program_name: str) -> Iterator[tuple[str, bytes]]:
+    """The names and the texts of what is packed."""
+    yield "__main__.py", START.encode()
+    for package in PACKAGES:
+        for path in sorted(package.iterdir()):
+            if path.suffix in (".py", ".typed", ".txt"):
+                name = f"{package.name}/{path.name}"
+                yield name, f"{program_name}\n".encode() if name == NAME_FILE else path.read_bytes()
+    for path in MODULES:
+        yield path.name, path.read_bytes()
+
+
+def packed(program_name: str, target: Path) -> None:
+    """Writes the file."""
+    target.parent.mkdir(parents=True, exist_ok=True)
+    with open(target, "wb") as file:
+        file.write(b"#!/usr/bin/env python3\n")
+        with zipfile.ZipFile(file, "w", zipfile.ZIP_DEFLATED) as archive:
+            for name, text in files(program_name):
+                # Without a time, which would be another in each archive.
+                archive.writestr(zipfile.ZipInfo(name), text, zipfile.ZIP_DEFLATED)
+    target.chmod(0o755)
+
+
+if __name__ == "__main__":
+    if len(sys.argv) != 3:
+        sys.exit(__doc__)
+    packed(sys.argv[1], Path(sys.argv[2]))

@@ -1,0 +1,183 @@
+"""Collisions beside whole sets of what labels spell, and tables that are joined. Disks that are full."""
+
+import json
+import os
+import random
+import resource
+import signal
+import sqlite3
+import subprocess
+from collections.abc import Iterable
+from pathlib import Path
+
+from conftest import LIMIT, PROGRAM, TABLES, Place
+from program import is_registrable, spelled
+
+from idn2_registry import Status
+
+Sets = dict[str, list[str]]
+
+
+def random_table(chance: random.Random, letters: str, longest: int) -> Sets:
+    """A table without gaps: sets of sequences, each with all others of its set as variants."""
+    sequences = {"".join(chance.choices(letters, k=chance.randint(1, longest))) for _ in range(8)} | set(letters)
+    sets: dict[int, list[str]] = {}
+    for sequence in sorted(sequences):
+        sets.setdefault(chance.randrange(5), []).append(sequence)
+    return {source: [each for each in members if each != source] for members in sets.values() for source in members}
+
+
+def written(table: Sets, chance: random.Random) -> str:
+    """The text of a table, in one of its spellings."""
+    line_end, prefix, space = (chance.choice(spellings) for spellings in (("\n", "\r\n"), ("", "U+", "u+"), ("", " ")))
+    lines, mark = ["# a comment .. with | signs", ""], ""
+    if chance.random() < 0.5:
+        lines, mark = ["%version 2", *lines], "!"
+
+    def points(text: str) -> str:
+        return (space + "-").join(f"{prefix}{ord(letter):04x}" for letter in text)
+
+    for source, variants in table.items():
+        others = f"{space}:".join(chance.choice(("", mark)) + points(each) for each in variants)
+        lines.append(points(source) + (f"{space}|{others}" if others else ""))
+    return line_end.join(lines) + line_end
+
+
+def registrable_labels(chance: random.Random, letters: str, longest: int, count: int) -> list[str]:
+    """Some labels."""
+    labels = ("".join(chance.choices(letters, k=chance.randint(1, longest))) for _ in range(count))
+    return sorted({label for label in labels if is_registrable(label)})
+
+
+def set_register(place: Place, labels: Iterable[str]) -> None:
+    """A register with labels of any kind."""
+    with sqlite3.connect(place.folder / "register.db") as database:
+        database.execute("delete from registered")
+        database.executemany("insert into registered (label) values (?)", [(label,) for label in labels])
+
+
+def test_finds_the_collisions_that_sets_have(place: Place) -> None:
+    """Under random tables without gaps; what is registered need not be registrable by the program."""
+    chance = random.Random(7940)
+    for _ in range(12):
+        letters, longest = chance.choice((("abc-", 1), ("abc-", 2), ("abß-", 2)))
+        table = random_table(chance, letters, longest)
+        place.write("table.txt", written(table, chance))
+        place.configure(own="table.txt")
+        registered = {"".join(chance.choices(letters, k=chance.randint(1, 4))) for _ in range(60)}
+        set_register(place, registered)
+        with place.zone() as zone:
+            for label in registrable_labels(chance, letters, 4, 12):
+                answer = zone.check(label)
+                expected = sorted(registered & spelled(table, label))
+                found = [each.ulabel for each in answer.taken_by]
+                assert (found, answer.status) == (expected, Status.TAKEN if expected else Status.AVAILABLE), (table, label)
+
+
+def zone_with_gaps(place: Place, chance: random.Random, share: float) -> Sets:
+    """A random table that has lost some of its variants, under which the zone is put."""
+    table = random_table(chance, "abc", 2)
+    kept = {source: [each for each in variants if chance.random() < share] for source, variants in table.items()}
+    place.write("table.txt", written(kept, chance))
+    place.configure(own="table.txt")
+    return kept
+
+
+def test_tells_what_it_finds_under_a_table_with_gaps(place: Place) -> None:
+    """What is found is taken, and nothing else is said to be available."""
+    chance = random.Random(60)
+    for _ in range(8):
+        kept = zone_with_gaps(place, chance, 0.6)
+        registered = set(registrable_labels(chance, "abc", 4, 20))
+        set_register(place, registered)
+        with place.zone() as zone:
+            doubt = zone.tables.doubt
+            for label in registrable_labels(chance, "abc", 4, 8):
+                expected = bool(registered & spelled(kept, label))
+                status = Status.TAKEN if expected else Status.UNKNOWN if doubt else Status.AVAILABLE
+                assert zone.check(label).status is status, (kept, label)
+
+
+def test_an_audit_finds_the_collisions_that_sets_have(place: Place) -> None:
+    """From one side or the other, also under a table with gaps."""
+    chance = random.Random(8228)
+    for _ in range(8):
+        kept = zone_with_gaps(place, chance, 0.7)
+        labels = registrable_labels(chance, "abc", 4, 12)
+        set_register(place, labels)
+        told = [json.loads(line) for line in place.run("audit", "--json").stdout.splitlines()]
+        found = {each["ulabel"] for group in told if "collide" in group for each in group["collide"]}
+        pairs = [(one, other) for one in labels for other in labels if one != other and other in spelled(kept, one)]
+        assert found == {label for pair in pairs for label in pair}, (kept, labels)
+
+
+def check(place: Place, table: str) -> bytes:
+    """What the program prints of a table."""
+    return subprocess.run([PROGRAM, "--check-table", place.folder / table], capture_output=True, timeout=LIMIT).stdout
+
+
+def test_joins_tables_so_that_nothing_is_missed(bare: Place) -> None:
+    """What a label spells under one of two tables it spells under the joined one; and that one has no gap."""
+    chance = random.Random(4290)
+    for _ in range(8):
+        tables = [random_table(chance, "abc-"[first:first + 3], 2) for first in (0, 1)]
+        for name, table in zip(("one.txt", "two.txt"), tables, strict=True):
+            # Some variants have no entry, as in a list of pairs in one direction.
+            kept = {source: variants for source, variants in table.items() if variants == [] or chance.random() < 0.8}
+            table.clear()
+            table.update(kept)
+            bare.write(name, written(table, chance))
+        done = bare.run("join", "one.txt", "two.txt")
+        assert (done.stderr, done.returncode) == (b"", 0), done
+        bare.write("zone.txt", done.stdout)
+        sequences = {each for table in tables for source, variants in table.items() for each in (source, *variants)}
+        assert check(bare, "zone.txt") == b"#table %d 0\n" % len(sequences), (tables, done)
+        for label in registrable_labels(chance, "abc-", 3, 6):
+            words = [str(PROGRAM), "--variants", str(bare.folder / "zone.txt"), "--", label]
+            listed = subprocess.run(words, capture_output=True, timeout=LIMIT).stdout.decode().splitlines()[:-1]
+            wanted = {each for table in tables for each in spelled(table, label) if is_registrable(each)}
+            assert wanted <= {line.split("\t")[0] for line in listed}, (tables, label, listed)
+            assert all(line.endswith("\tblocked") for line in listed if line.split("\t")[0] != label), listed
+
+
+def test_joins_rulesets(bare: Place) -> None:
+    """Of a ruleset its sources, outside ones among them, and its pairs, without tags and conditions."""
+    bare.write("ruleset.txt", "%version 3\n%tag as\n%tag BEEF\n%rule when _ 0062\n"
+               "0061 as as , BEEF when when|0062 as BEEF:!0063\tunless when\n"
+               "!0430 unless when|! 0061\n0064 .. 0065 as BEEF when when\n0065-0066\n")
+    bare.write("other.txt", "0062|0067\n")
+    joined = ("0061", "0062", "0063", "0067", "0430")
+    lines = {each: f"{each}|" + ":".join(f"!{other}" for other in joined if other != each) for each in joined}
+    lines.update((each, each) for each in ("0064", "0065", "0065-0066"))
+    wanted = "%version 2\n" + "".join(lines[each] + "\n" for each in sorted(lines))
+    bare.expect(["join", "ruleset.txt", "other.txt"], wanted, 0)
+
+
+def test_joins_the_tables_that_come_with_the_program(bare: Place) -> None:
+    for name, entries in (("german", 42), ("arabic-digits", 73)):
+        bare.write("zone.txt", bare.run("join", str(TABLES / f"{name}.txt")).stdout)
+        assert check(bare, "zone.txt") == b"#table %d 0\n" % entries, name
+
+
+def without_space() -> None:
+    """No byte can be written to any file, as on a full disk."""
+    signal.signal(signal.SIGXFSZ, signal.SIG_IGN)
+    resource.setrlimit(resource.RLIMIT_FSIZE, (0, 0))
+
+
+def test_takes_a_full_disk_for_unknown(place: Place, tmp_path: Path) -> None:
+    place.load("strasse")
+    place.write("labels.txt", "haus\n")
+    for words in (["register", "maus"], ["load", "labels.txt"], ["check", "maus"], ["audit"]):
+        process = place.start(*words, preexec_fn=without_space)
+        output, messages = process.communicate(timeout=LIMIT)
+        told = output + messages
+        assert process.returncode == 75 and len(told.splitlines()) >= 1 and b"Traceback" not in told, (words, told)
+    place.expect(["dump"], "strasse\n", 0)
+    for words in (["check", "maus"], ["check", "--json", "maus"], ["dump"], ["audit"], ["check-config"],
+                  ["join", str(TABLES / "german.txt")], ["variants", "maus"]):
+        with open("/dev/full", "wb") as full:
+            process = place.start(*words, stdout=full)
+            _, messages = process.communicate(timeout=LIMIT)
+        assert process.returncode == 75 and b"No space left" in messages and b"Traceback" not in messages, (words, messages)
+    assert os.listdir(tmp_path)

@@ -1,0 +1,125 @@
+"""A faulty configuration is told by file, line and remedy, before any label is answered."""
+
+import os
+from pathlib import Path
+
+import pytest
+from conftest import PROGRAM, TABLES, Place
+
+from idn2_registry import Unusable, Zone
+from idn2_registry.configuration import LabelRules, Limits, read_configuration
+
+GERMAN = TABLES / "german.txt"
+HEAD = f'register = "sqlite:register.db"\n[tables]\nde = "{GERMAN}"\n'
+ROWS = (
+    ("", "line 1: register: write register ="),
+    ('register = "mysql:x"\n', "line 1: register: write register ="),
+    ('\nregister = "sqlite:"\n[tables]\nde = "g"\n', "line 2: register: no file is named"),
+    ('register = "sqlite:r"\n', "line 1: tables: no table"),
+    ('register = "sqlite:r"\n[tables]\n\nde = 5\n', "line 4: de: not a path"),
+    ('register = "sqlite:r"\ntables = 5\n', "line 2: tables: not a section"),
+    (f"zone = 'en'\n{HEAD}", "line 1: zone: no name of [tables]: write one of de"),
+    (f'{HEAD}en = "english.txt"\n', "line 4: zone: no name of [tables]: write one of de, en"),
+    (f"{HEAD}[limits]\ntrys = 5\n", "line 5: trys: no limit has this name"),
+    (f"{HEAD}[limits]\ntries = 0\n", "line 5: tries: write a number from 1 to 1000000000"),
+    (f"{HEAD}[limits]\nsteps = 1\n", "line 5: steps: write a number from 2 to"),
+    (f"{HEAD}[limits]\nlimit = 1.5\n", "line 5: limit: write a number from 1 to"),
+    (f"{HEAD}[limits]\nseconds = true\n", "line 5: seconds: write a number"),
+    (f"{HEAD}[limits]\nseconds = 0\n", "line 5: seconds: write a number"),
+    (f"processes = 0\n{HEAD}", "line 1: processes: write a number from 1 to"),
+    (f"labels = 'idna2003'\n{HEAD}", "line 1: labels: no rules have this name: write one of profile, standard"),
+    (f"prozesse = 2\n{HEAD}", "line 1: prozesse: nothing has this name"),
+    (f"{HEAD}[limits\n", "line 4: Expected ']'"),
+    (f"register\n{HEAD}", "line 1: Expected '='"),
+)
+
+
+@pytest.mark.parametrize(("text", "told"), ROWS)
+def test_names_file_line_and_remedy(bare: Place, text: str, told: str) -> None:
+    bare.write("registry.toml", text)
+    done = bare.run("check", "haus")
+    [line] = done.stderr.decode().splitlines()
+    assert line.startswith(f"idn2-registry: registry.toml: {told}") and (done.stdout, done.returncode) == (b"", 75), line
+
+
+def test_reads_all_of_it(bare: Place) -> None:
+    path = bare.write("registry.toml", f'zone = "de"\nlabels = "standard"\nprocesses = 3\n{HEAD}en = "en.txt"\n[limits]\ntries = 7\nsteps = 8\n'
+                      "limit = 9\nseconds = 0.5\n")
+    found = read_configuration(path)
+    assert found.register == f"sqlite:{bare.folder}/register.db" and found.zone == "de" and found.processes == 3
+    assert found.tables == {"de": GERMAN, "en": bare.folder / "en.txt"} and found.admitting == ("en",)
+    assert found.limits == Limits(7, 8, 9, 0.5) and found.labels is LabelRules.STANDARD
+
+
+def test_tells_what_can_not_be_used(bare: Place) -> None:
+    bare.configure(de="table.txt")
+    rows = (
+        (None, "table.txt: No such file or directory: mend the path of de in [tables]"),
+        ("", "table.txt: line 1: no entry in it"),
+        ("# nothing\n", "table.txt: line 1: no entry in it"),
+        ("0061\n0063||0064\n", "table.txt: line 2: 30 table syntax at byte 6"),
+        ("0061\n", "register.db: there is no register: idn2-registry load FILE makes it"),
+    )
+    for text, told in rows:
+        if text is not None:
+            bare.write("table.txt", text)
+        for job in (["check", "a"], ["register", "a"], ["release", "a"], ["variants", "a"], ["ask"]):
+            done = bare.run(*job, given=b'{"job":"check","label":"a"}\n')
+            [line] = done.stderr.decode().splitlines()
+            assert told in line and (done.stdout, done.returncode) == (b"", 75), (job, line)
+
+
+def test_takes_no_other_file_for_a_register(bare: Place) -> None:
+    bare.configure()
+    bare.write("register.db", "no database at all, but a text\n" * 100)
+    done = bare.run("check", "a")
+    assert done.returncode == 75 and b"register.db: file is not a database" in done.stderr, done
+    (bare.folder / "register.db").write_bytes(b"")
+    done = bare.run("check", "a")
+    assert done.returncode == 75 and b"there is no register" in done.stderr, done
+
+
+def test_takes_no_other_program(bare: Place) -> None:
+    bare.configure()
+    bare.load()
+    other = bare.write("idn2", "#!/bin/sh\necho 'idn2 (Libidn2) 2.3.3'\n")
+    os.chmod(other, 0o755)
+    for path in (other, bare.folder / "missing", Path("/dev/null")):
+        with pytest.raises(Unusable, match="program"):
+            Zone.open(bare.folder / "registry.toml", path)
+
+
+def test_check_config_tells_all(bare: Place) -> None:
+    bare.write("gap.txt", "0061|0062\n0062\n")
+    bare.write("faulty.txt", "0061|\n")
+    bare.configure('zone = "gap"', gap="gap.txt", faulty="faulty.txt")
+    done = bare.run("check-config")
+    lines = done.stdout.decode().splitlines()
+    assert done.returncode == 75 and lines[:2] == ["gap.txt: gap: 2 entries, 1 gap", "gap.txt: add the pair 0062|0061"], lines
+    assert lines[2].startswith("faulty.txt: line 1: 30 table syntax") and "there is no register" in lines[4], lines
+    assert lines[3] == "gap.txt: the table gap has 1 gap: no label is told to be available", lines
+    bare.configure()
+    bare.load("haus")
+    done = bare.run("check-config")
+    assert done.returncode == 0 and f"sqlite:{bare.folder}/register.db" not in done.stderr.decode(), done
+    assert done.stdout.decode().splitlines()[-1] == f"{PROGRAM}: idn2 0.1.0 (Unicode 18.0.0)", done
+
+
+def test_tests_labels_by_the_rules_in_each_run(bare: Place, monkeypatch: pytest.MonkeyPatch) -> None:
+    """A program that has the option is asked with it each time; one that hasn't is refused."""
+    bare.configure("labels = 'standard'")
+    text = (f"#!/bin/sh\n[ \"$1\" = --version ] && exec {PROGRAM} --version\n"
+            f"echo \"$*\" >> {bare.folder}/asked\nshift\nexec {PROGRAM} \"$@\"\n")
+    program = bare.write("newer", text)
+    os.chmod(program, 0o755)
+    monkeypatch.setattr("conftest.PROGRAM", program)
+    bare.write("labels.txt", "strasse\tH1\n")
+    jobs = (["load", "labels.txt"], ["check", "--holder", "H1", "straße"], ["register", "maus"], ["variants", "--page", "1", "maus"],
+            ["audit"], ["change", f"de={GERMAN}"], ["dump", "--json"], ["check-config"], ["release", "maus"], ["join", "de"])
+    for words in jobs:
+        assert bare.run(*words).returncode == 0, words
+    asked = (bare.folder / "asked").read_text("utf-8").splitlines()
+    assert len(asked) > 20 and all(line.startswith("--standard ") for line in asked), asked
+    os.chmod(bare.write("older", "#!/bin/sh\n[ \"$1\" = --version ] && exec echo idn2 0.1.0\nexit 2\n"), 0o755)
+    with pytest.raises(Unusable, match="can't test labels by labels = \"standard\""):
+        Zone.open(bare.folder / "registry.toml", bare.folder / "older")

@@ -1,0 +1,259 @@
+"""Audits, changes of a table, what was stopped and goes on, and a cluster."""
+
+import json
+import os
+import pty
+import random
+import signal
+import subprocess
+import sys
+import time
+from collections.abc import Iterator
+from pathlib import Path
+
+import pytest
+from conftest import LIMIT, PROGRAM, TABLES, Place
+
+from idn2_registry import work
+from idn2_registry.audit import groups_of
+
+GERMAN = (TABLES / "german.txt").read_text("utf-8")
+WITH_AE = GERMAN.replace("\n00E4\n", "\n") + "0061-0065|00E4\n00E4|0061-0065\n"
+
+
+def objects(done: "subprocess.CompletedProcess[bytes]") -> list[dict[str, object]]:
+    """What a run says."""
+    return [json.loads(line) for line in done.stdout.splitlines()]
+
+
+def small_parts(monkeypatch: pytest.MonkeyPatch, lines: int) -> None:
+    """Parts of so many lines."""
+    whole = work.parts_of
+    for module in ("audit", "change", "load"):
+        monkeypatch.setattr(f"idn2_registry.{module}.parts_of", lambda given: whole(given, lines))
+
+
+def test_audit_tells_invalid_labels_and_groups(place: Place, monkeypatch: pytest.MonkeyPatch) -> None:
+    place.load("haus\tH1", "sss\tH1", "sß\tH2", "ßs", "中国\tH3", "zoo")
+    small_parts(monkeypatch, 2)
+    done = place.run("audit", "--json")
+    assert done.returncode == 1
+    assert objects(done) == [
+        {"ulabel": "中国", "alabel": "xn--fiqs8s", "holder": "H3",
+         "refusal": {"number": 40, "text": "not made of table entries", "code_point": "U+4E2D", "place": 1}},
+        {"collide": [{"ulabel": "sss", "alabel": "sss", "holder": "H1"}, {"ulabel": "sß", "alabel": "xn--s-qfa", "holder": "H2"},
+                     {"ulabel": "ßs", "alabel": "xn--s-pfa", "holder": None}]},
+        {"labels": 6, "invalid": 1, "groups": 1}]
+    place.expect(["audit"], "中国 (xn--fiqs8s, held by H3): no longer valid: 40 not made of table entries: U+4E2D at place 1\n"
+                 "collide: sss, held by H1, sß (xn--s-qfa, held by H2), ßs (xn--s-pfa)\n6 labels, 1 invalid, 1 group\n", 1)
+
+
+def test_audit_finds_what_is_hidden_from_one_side(bare: Place) -> None:
+    """Each label's variants are looked for, so that a collision is found from one side or the other."""
+    bare.write("gap.txt", "0061|0062\n0062\n")
+    bare.write("sigma.txt", "%version 3\n%rule end _ $\n03B1..03C1\n03C3|03C2 when end\n03C2|03C3\n03C4..03C9\n")
+    for table, first, second in (("gap.txt", "a", "b"), ("sigma.txt", "ςα", "σα")):
+        bare.configure(own=table)
+        bare.load(first, second)
+        told = objects(bare.run("audit", "--json"))
+        assert [each["ulabel"] for each in told[0]["collide"]] == [first, second], told  # type: ignore[attr-defined]
+        (bare.folder / "register.db").unlink()
+
+
+def test_audit_asks_all_tables(bare: Place) -> None:
+    bare.write("latin.txt", "%version 2\n0061..007A\n")
+    bare.write("cyrillic.txt", "%version 2\n0430..044F\n")
+    bare.write("zone.txt", bare.run("join", str(bare.folder / "latin.txt"), str(bare.folder / "cyrillic.txt")).stdout)
+    bare.configure('zone = "zone"', latin="latin.txt", cyrillic="cyrillic.txt", zone="zone.txt")
+    bare.load("abc", "абв", "abв")
+    told = objects(bare.run("audit", "--json"))
+    assert [each.get("ulabel") for each in told] == ["abв", None] and told[1] == {"labels": 3, "invalid": 1, "groups": 0}
+
+
+def test_audit_of_nothing_wrong(place: Place) -> None:
+    place.expect(["audit"], "0 labels, 0 invalid, 0 groups\n", 0)
+    place.load("haus", "maus")
+    place.expect(["audit"], "2 labels, 0 invalid, 0 groups\n", 0)
+    place.expect(["change", "de=" + str(TABLES / "german.txt")], "2 labels, 0 changes, 0 groups\n", 0)
+
+
+def test_groups_are_those_that_pairs_connect() -> None:
+    random.seed(60)
+    for _ in range(200):
+        labels = [f"l{number}" for number in range(10)]
+        pairs = [(random.choice(labels), random.choice(labels)) for _ in range(random.randrange(8))]
+        expected: list[set[str]] = []
+        for pair in pairs:
+            touched = [group for group in expected if group & set(pair)]
+            expected = [group for group in expected if group not in touched] + [set(pair).union(*touched)]
+        assert groups_of(pairs) == sorted(sorted(group) for group in expected), pairs
+
+
+def test_change_tells_what_a_new_table_does(place: Place, monkeypatch: pytest.MonkeyPatch) -> None:
+    place.load("baer\tH1", "bär\tH2", "haus", "strasse", "zo")
+    small_parts(monkeypatch, 2)
+    place.write("new.txt", WITH_AE.replace("\n007A\n", "\n").replace("00DF|0073-0073", "00DF"))
+    done = place.run("change", "--json", "de=new.txt")
+    assert done.returncode == 1
+    told = objects(done)
+    baer = {"ulabel": "baer", "alabel": "baer", "holder": "H1"}
+    other = {"ulabel": "bär", "alabel": "xn--br-via", "holder": "H2"}
+    assert {**baer, "change": "gained", "variant": {"ulabel": "bär", "alabel": "xn--br-via", "disposition": "allocatable"}} in told
+    assert {**other, "change": "gained", "variant": {"ulabel": "baer", "alabel": "baer", "disposition": "allocatable"}} in told
+    assert {"change": "collide", "collide": [baer, other]} in told
+    assert told[-1] == {"labels": 5, "changes": len(told) - 2, "groups": 1}
+
+
+def test_change_tells_of_each_kind(bare: Place) -> None:
+    """Each expected line is worked out from the two tables."""
+    bare.write("old.txt", "%version 2\n0061|!0062\n0062|!0061\n0063|0064\n0064|0063\n0065\n")
+    bare.write("new.txt", "%version 2\n0061|0062\n0062|0061\n0063|!0064\n0064|!0063\n0066\n")
+    bare.configure(own="old.txt")
+    bare.load("a", "c", "e")
+    bare.expect(["change", "own=new.txt"], "a: freed b (b, allocatable)\nc: blocked d (d, blocked)\n"
+                "e: no longer valid: 40 not made of table entries: U+0065 at place 1\n3 labels, 3 changes, 0 groups\n", 1)
+    bare.configure(own="new.txt")
+    bare.expect(["change", "own=old.txt"], "a: blocked b (b, blocked)\nc: freed d (d, allocatable)\ne: valid\n"
+                "3 labels, 3 changes, 0 groups\n", 1)
+    bare.write("less.txt", "%version 2\n0061\n0062\n0063|!0064\n0064|!0063\n0066\n")
+    bare.expect(["change", "own=less.txt"], "a: lost b (b, allocatable)\n3 labels, 1 change, 0 groups\n", 1)
+
+
+def test_change_says_what_is_not_known(bare: Place) -> None:
+    bare.configure("[limits]\ntries = 2", de=TABLES / "german.txt")
+    bare.load("ssssssss")
+    bare.write("new.txt", WITH_AE.replace("00DF|0073-0073", "00DF|!0073-0073").replace("0073-0073|00DF", "0073-0073|!00DF"))
+    done = bare.run("change", "de=new.txt")
+    assert done.returncode == 75 and b"ssssssss: not known" in done.stdout, done
+
+
+def test_change_wants_a_table_of_the_zone(place: Place) -> None:
+    for words in ("german.txt", "en=german.txt", "de=missing.txt"):
+        done = place.run("change", words)
+        assert done.returncode == 75 and not done.stdout and len(done.stderr.splitlines()) == 1, done
+
+
+class Stopped(Exception):
+    """As if the work were stopped."""
+
+
+@pytest.mark.parametrize("job", ["audit", "load"])
+def test_goes_on_where_it_was_stopped(place: Place, monkeypatch: pytest.MonkeyPatch, job: str) -> None:
+    labels = sorted({f"strasse{number}" for number in range(40)} | {f"straße{number}" for number in range(0, 40, 7)})
+    place.write("labels.txt", "".join(f"{label}\n" for label in labels))
+    if job == "audit":
+        place.load(*labels)
+    words = [job, *(["labels.txt"] if job == "load" else [])]
+    small_parts(monkeypatch, 10)
+    keep = work.Kept.keep
+    kept: list[int] = []
+
+    def keep_two(self: work.Kept, number: int, result: bytes) -> None:
+        if len(kept) == 2:
+            raise OSError("no space left")
+        kept.append(number)
+        keep(self, number, result)
+
+    monkeypatch.setattr(work.Kept, "keep", keep_two)
+    assert place.run(*words).returncode == 75
+    assert place.run("dump").stdout.count(b"\n") == (0 if job == "load" else len(labels))
+    done_again: list[int] = []
+
+    def keep_all(self: work.Kept, number: int, result: bytes) -> None:
+        done_again.append(number)
+        keep(self, number, result)
+
+    monkeypatch.setattr(work.Kept, "keep", keep_all)
+    if job == "audit":
+        place.run("register", "maus")
+        refused = place.run(*words, "--resume")
+        assert refused.returncode == 75 and b"leave out --resume" in refused.stderr, refused
+        place.run("release", "maus")
+    resumed = place.run(*words, "--resume")
+    first = [number for number in done_again if number in kept]
+    assert resumed.returncode in (0, 1) and len(kept) == 2 and (job == "audit" or not first), resumed
+    assert not list(place.folder.glob("registry.toml.*")), "what was kept is gone"
+    if job == "audit":
+        assert resumed.stdout == place.run("audit").stdout
+    else:
+        assert place.run("dump").stdout.decode().split() == labels
+
+
+def test_shows_progress_on_a_terminal_alone(place: Place) -> None:
+    place.load("haus", "maus")
+    assert place.run("audit").stderr == b""
+    master, end = pty.openpty()
+    process = place.start("audit", stderr=end)
+    os.close(end)
+    process.communicate(timeout=LIMIT)
+    shown = os.read(master, 65_536).decode()
+    os.close(master)
+    assert process.returncode == 0 and "audit [####" in shown and "2 of 2" in shown and "s left" in shown, shown
+
+
+def start(words: list[str], folder: Path, environment: dict[str, str]) -> "subprocess.Popen[bytes]":
+    """A process of a cluster."""
+    return subprocess.Popen(words, cwd=folder, env=environment, stdout=subprocess.DEVNULL, stderr=subprocess.DEVNULL)
+
+
+@pytest.fixture
+def cluster(place: Place) -> Iterator[tuple[str, list["subprocess.Popen[bytes]"]]]:
+    """The address of a scheduler, and its three workers."""
+    pytest.importorskip("distributed", reason="python3-distributed")
+    file = place.folder / "scheduler.json"
+    common = [sys.executable, "-m", "distributed.cli.dask_scheduler"]
+    scheduler = start([*common, "--port", "0", "--no-dashboard", "--scheduler-file", str(file)], place.folder, place.environment)
+    workers: list[subprocess.Popen[bytes]] = []
+    try:
+        until = time.monotonic() + LIMIT
+        while not file.exists():
+            assert time.monotonic() < until and scheduler.poll() is None
+            time.sleep(0.1)
+        worker = [sys.executable, "-m", "distributed.cli.dask_worker", "--scheduler-file", str(file), "--nthreads", "1",
+                  "--no-dashboard", "--no-nanny"]
+        workers += [start(worker, place.folder, place.environment) for _ in range(3)]
+        yield json.loads(file.read_text())["address"], workers
+    finally:
+        for process in (*workers, scheduler):
+            process.kill()
+            process.wait()
+
+
+def test_a_cluster_does_the_same(place: Place, cluster: tuple[str, list["subprocess.Popen[bytes]"]],
+                                 monkeypatch: pytest.MonkeyPatch) -> None:
+    address, workers = cluster
+    labels = [f"strasse{number}" for number in range(300)] + [f"straße{number}" for number in range(0, 300, 7)] + ["中国"]
+    place.load(*labels)
+    small_parts(monkeypatch, 10)
+    alone = place.run("audit", "--json")
+    killed: list[int] = []
+    keep = work.Kept.keep
+
+    def kill_one(self: work.Kept, number: int, result: bytes) -> None:
+        keep(self, number, result)
+        if not killed:
+            workers[0].send_signal(signal.SIGKILL)
+            killed.append(number)
+
+    monkeypatch.setattr(work.Kept, "keep", kill_one)
+    together = place.run("audit", "--json", "--scheduler", address)
+    assert killed and (together.stdout, together.returncode) == (alone.stdout, 1), together.stderr
+    monkeypatch.setattr("idn2_registry.cluster.SECONDS", 1)
+    away = place.run("audit", "--scheduler", "tcp://127.0.0.1:1")
+    assert away.returncode == 75 and not away.stdout, away
+
+
+def test_converts(bare: Place) -> None:
+    bare.write("published.txt", "U+0073\nU+0073-U+0073|U+00DF # sharp s\n")
+    words = [sys.executable, "-m", "idn2_registry", "convert", "--idn2", str(PROGRAM), "--version", "2", "published.txt"]
+    done = subprocess.run(words, cwd=bare.folder, env=bare.environment, capture_output=True, timeout=LIMIT, check=False)
+    assert done.returncode == 0 and done.stdout.endswith(b"\n0073\n0073-0073|!00DF\n"), done
+    assert b"blocked, since it has no type" in done.stderr, done
+
+
+def test_joins_to_nothing_that_is_too_large(bare: Place) -> None:
+    for number in range(3):
+        lines = "".join(f"{point:04X}\n" for point in range(0x4E00 + 2000 * number, 0x4E00 + 2000 * (number + 1)))
+        bare.write(f"{number}.txt", lines)
+    done = bare.run("join", "0.txt", "1.txt", "2.txt")
+    assert done.returncode == 75 and not done.stdout and b"34 table limit" in done.stderr, done

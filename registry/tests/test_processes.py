@@ -1,0 +1,193 @@
+"""A process that dies, hangs or answers for another request is replaced, and its request is unknown."""
+
+import asyncio
+import json
+import os
+import signal
+import threading
+import time
+from concurrent.futures import ThreadPoolExecutor
+from pathlib import Path
+
+import pytest
+from conftest import PROGRAM, TABLES, Place
+
+from idn2_registry import Status, Unusable, Zone
+from idn2_registry.async_zone import AsyncZone
+
+# A program that does with the label 'odd' what stands in its place, once, and else what the program does.
+FAULTY = """#!/usr/bin/env python3
+import os, subprocess, sys, time
+if "--register" not in sys.argv:
+    os.execv({program!r}, sys.argv)
+child = subprocess.Popen([{program!r}, *sys.argv[1:]], stdin=subprocess.PIPE, stdout=subprocess.PIPE, bufsize=0)
+for line in sys.stdin.buffer:
+    child.stdin.write(line)
+    answer = child.stdout.readline()
+    if line == b"odd\\n" and not os.path.exists({mark!r}):
+        open({mark!r}, "w").close()
+        {action}
+    sys.stdout.buffer.write(answer)
+    sys.stdout.buffer.flush()
+"""
+ACTIONS = {
+    "dies": "os._exit(3)",
+    "hangs": "time.sleep(100)",
+    "is late": "time.sleep(3)",
+    "answers another request": 'answer = answer.replace(b\'"line":\', b\'"line":9\')',
+    "answers for another label": 'answer = answer.replace(b\'"input":"odd"\', b\'"input":"old"\')',
+    "says nothing of a line": "answer = b'{}\\n'",
+    "says no JSON": "answer = b'idn2: what\\n'",
+    "says a list": "answer = b'[1]\\n'",
+    "says half a line": "os.write(1, answer[:9]); os._exit(0)",
+    "ends its output": "os.close(1); time.sleep(100)",
+    "says a fault": "answer = b'{\"table_line\":1,\"refusal\":{\"number\":30,\"text\":\"table syntax\"}}\\n'",
+}
+
+
+@pytest.mark.parametrize("kind", ACTIONS)
+def test_replaces_a_process(place: Place, kind: str) -> None:
+    place.configure("[limits]\nseconds = 2")
+    text = FAULTY.format(program=str(PROGRAM), mark=str(place.folder / "mark"), action=ACTIONS[kind])
+    os.chmod(place.write("faulty", text), 0o755)
+    with Zone.open(place.folder / "registry.toml", place.folder / "faulty") as zone:
+        assert zone.check("maus").status in (Status.AVAILABLE, Status.UNKNOWN)
+        assert zone.check("odd").status is Status.UNKNOWN, kind
+        for label in ("odd", "maus", "odd"):
+            answers = [zone.check(label) for _ in range(3)]
+            assert Status.AVAILABLE in [answer.status for answer in answers] and answers[-1].alabel == label, answers
+
+
+def children_of(process: int) -> list[int]:
+    """The processes that a process has started."""
+    files = Path(f"/proc/{process}/task").glob("*/children")
+    return [int(word) for file in files for word in file.read_text().split()]
+
+
+def test_goes_on_when_processes_are_killed(place: Place) -> None:
+    with place.zone() as zone:
+        for _ in range(5):
+            assert zone.check("maus").status is Status.AVAILABLE
+            for child in children_of(os.getpid()):
+                os.kill(child, signal.SIGKILL)
+            # One that died while nobody asked it is replaced before it is asked.
+            time.sleep(0.05)
+
+
+def test_leaves_no_process(place: Place) -> None:
+    before = set(children_of(os.getpid()))
+    with place.zone() as zone:
+        zone.check("maus")
+        assert len(set(children_of(os.getpid())) - before) > 1
+    time.sleep(0.1)
+    assert set(children_of(os.getpid())) <= before
+
+
+def test_answers_many_threads(place: Place) -> None:
+    place.load("strasse1", "strasse3")
+    labels = [f"straße{number}" for number in range(200)]
+    with place.zone() as zone, ThreadPoolExecutor(16) as executor:
+        answers = list(executor.map(zone.check, labels))
+    assert [answer.label for answer in answers] == labels
+    assert [answer.label for answer in answers if answer.status is not Status.AVAILABLE] == ["straße1", "straße3"]
+
+
+def test_reads_tables_again_and_loses_no_request(place: Place) -> None:
+    text = (TABLES / "german.txt").read_text("utf-8")
+    table = place.write("own.txt", text)
+    place.configure(own=table)
+    is_over = threading.Event()
+    with place.zone() as zone:
+        assert zone.check("élan").status is Status.REFUSED
+
+        def asked() -> set[Status]:
+            found = set()
+            while not is_over.is_set():
+                found.add(zone.check("haus").status)
+            return found
+
+        with ThreadPoolExecutor(4) as executor:
+            running = [executor.submit(asked) for _ in range(4)]
+            for turn in range(6):
+                table.write_text(text + ("00E9\n" if turn % 2 == 0 else ""), "utf-8")
+                # Without it the tables stay as they were.
+                status = Status.AVAILABLE if turn % 2 else Status.REFUSED
+                assert zone.check("élan").status is status
+                zone.reload()
+                assert zone.check("élan").status is not status
+            is_over.set()
+            assert [each.result() for each in running] == [{Status.AVAILABLE}] * 4
+        table.write_text(text + "00E9|\n", "utf-8")
+        with pytest.raises(Unusable, match="own.txt: line "):
+            zone.reload()
+        assert zone.check("haus").status is Status.AVAILABLE
+
+
+def test_co_process_answers_each_request(place: Place) -> None:
+    place.load("strasse\tH2")
+    requests: list[object] = [
+        {"id": 1, "job": "check", "label": "straße"}, {"id": "two", "job": "register", "label": "straße", "holder": "H2"},
+        {"job": "release", "label": "straße"}, {"job": "variants", "label": "sss", "page": 1},
+        {"job": "tables-of", "label": "中"}, {"job": "check", "label": "a\nb"}, {"job": "burn", "label": "a"}, {"job": "check"},
+        {"job": "check", "label": "a", "page": 1}, {"job": "check", "label": "a", "holder": 1},
+        {"job": "check", "label": "a", "holder": "\n"}, [], "a", None, {"id": 3, "job": "check", "label": "\udc80"}]
+    lines = [json.dumps(request).encode() for request in requests] + [b"{", b"", b"\xff"]
+    done = place.run("ask", given=b"\n".join(lines) + b"\n")
+    told = [json.loads(line) for line in done.stdout.splitlines()]
+    assert len(told) == len(lines) and done.returncode == 0
+    assert [each.get("status") for each in told[:6]] == ["taken", "registered", "released", "listed", "refused", "refused"]
+    assert [each.get("id") for each in told[:3]] == [1, "two", None]
+    assert all(each.keys() == {"fault"} for each in (*told[6:14], *told[15:])), told
+    assert told[14] == {"id": 3, "label_hex": "80", "status": "refused",
+                        "refusal": {"number": 1, "text": "not UTF-8", "byte": 1}}
+
+
+def test_co_process_keeps_no_long_request(place: Place) -> None:
+    """What is too long is read away, and the next request is answered."""
+    for length in (65_500, 65_536, 65_537, 65_538, 131_072, 131_073, 1_000_000):
+        request = json.dumps({"job": "check", "label": "a"})[:-1].encode()
+        long = request + b" " * (length - len(request) - 2) + b"}\n"
+        assert len(long) == length
+        done = place.run("ask", given=long + b'{"id":1,"job":"check","label":"b"}\n')
+        first, second = (json.loads(line) for line in done.stdout.splitlines())
+        assert ("fault" in first) == (length > 65_536) and second["id"] == 1 and second["alabel"] == "b", (length, first, second)
+    done = place.run("ask", given=b"x" * 100_000)
+    assert [json.loads(line) for line in done.stdout.splitlines()] == [{"fault": "more than 65536 bytes"}]
+
+
+def test_co_process_reads_tables_again_on_sighup(place: Place) -> None:
+    text = (TABLES / "german.txt").read_text("utf-8")
+    table = place.write("own.txt", text)
+    place.configure(own=table)
+    process = place.start("ask")
+    assert process.stdin and process.stdout
+
+    def status() -> str:
+        assert process.stdin and process.stdout
+        process.stdin.write('{"job":"tables-of","label":"élan"}\n'.encode())
+        process.stdin.flush()
+        told: str = json.loads(process.stdout.readline())["status"]
+        return told
+
+    assert status() == "refused"
+    table.write_text(text + "00E9\n", "utf-8")
+    process.send_signal(signal.SIGHUP)
+    assert status() == "admitted"
+    table.write_text("0061|\n", "utf-8")
+    process.send_signal(signal.SIGHUP)
+    assert status() == "admitted"
+    _, messages = process.communicate(timeout=60)
+    assert b"own.txt: line 1: 30 table syntax" in messages and process.returncode == 0
+
+
+def test_async_zone_does_the_same(place: Place) -> None:
+    async def asked() -> list[Status]:
+        async with await AsyncZone.open(place.folder / "registry.toml", PROGRAM) as zone:
+            first = await zone.register("maß", "H1")
+            others = await asyncio.gather(*(zone.check(label) for label in ("mass", "Maß", "maus", "maß")))
+            await zone.reload()
+            rest = [await zone.variants("maß"), await zone.tables_of("maß"), await zone.release("maß")]
+            return [answer.status for answer in (first, *others, *rest)]
+
+    assert asyncio.run(asked()) == [Status.REGISTERED, Status.TAKEN, Status.REFUSED, Status.AVAILABLE, Status.TAKEN,
+                                    Status.LISTED, Status.ADMITTED, Status.RELEASED]

@@ -1,0 +1,215 @@
+"""Who registers a label, with SQLite and with PostgreSQL: one of many at once, and nothing half."""
+
+import json
+import os
+import signal
+import sqlite3
+import subprocess
+import sys
+from collections.abc import Callable, Iterator
+from pathlib import Path
+
+import pytest
+from conftest import PROGRAM, Place
+
+from idn2_registry import Status, Unusable
+
+RACERS = 16
+ROUNDS = 12
+# Registers labels, each when it is told so by a line, and says which status it got.
+RACER = """
+import sys
+from idn2_registry import Zone
+with Zone.open(sys.argv[1], sys.argv[2]) as zone:
+    zone.check("warm")
+    print("ready", flush=True)
+    for line in sys.stdin:
+        answer = zone.register(line.rstrip("\\n"), sys.argv[3])
+        print(answer.status.value, answer.reason or "", flush=True)
+"""
+
+
+@pytest.fixture(params=["sqlite", "postgresql"])
+def kind(request: pytest.FixtureRequest, place: Place) -> Iterator[Place]:
+    """A zone with either register."""
+    if request.param == "postgresql":
+        database: Callable[[str], str] = request.getfixturevalue("server")
+        place.register = database(f"zone{abs(hash(str(place.folder)))}")
+        place.configure()
+        place.load()
+    yield place
+
+
+def test_registers_and_releases(kind: Place) -> None:
+    with kind.zone() as zone:
+        assert zone.register("maß", "H1").status is Status.REGISTERED
+        taken = zone.register("mass", "H2")
+        assert taken.status is Status.TAKEN and [(each.ulabel, each.holder) for each in taken.taken_by] == [("maß", "H1")]
+        assert zone.register("maß", "H1").status is Status.TAKEN
+        assert zone.register("mass", "H1").status is Status.REGISTERED
+        assert zone.release("xn--ma-hia").status is Status.RELEASED
+        assert zone.release("maß").status is Status.FREE
+        assert zone.release("Maß").status is Status.REFUSED
+        assert zone.check("mass", "H1").status is Status.TAKEN
+        for holder in ("", "a\tb", "a\n"):
+            with pytest.raises(ValueError, match="holder"):
+                zone.register("haus", holder)
+        assert list(zone.registered.rows()) == [("mass", "H1")]
+
+
+def test_finds_collisions_between_others(kind: Place) -> None:
+    kind.load("haus", "sss", "strasse", "xyz", "ßs", "öl")
+    with kind.zone() as zone:
+        assert [each.ulabel for each in zone.check("sss").taken_by] == ["sss", "ßs"]
+        assert [each.ulabel for each in zone.check("straße").taken_by] == ["strasse"]
+        assert [each.ulabel for each in zone.check("öl").taken_by] == ["öl"]
+        assert zone.check("zz").status is Status.AVAILABLE
+
+
+def start_racer(place: Place, holder: str) -> "subprocess.Popen[str]":
+    """A registrar in a process of its own."""
+    words = [sys.executable, "-c", RACER, str(place.folder / "registry.toml"), str(PROGRAM), holder]
+    return subprocess.Popen(words, env=place.environment, stdin=subprocess.PIPE, stdout=subprocess.PIPE, text=True, bufsize=1)
+
+
+def test_one_of_sixteen_registrars_wins(kind: Place) -> None:
+    kind.configure("processes = 1\n[limits]\nseconds = 30")
+    racers = [start_racer(kind, f"H{number}") for number in range(RACERS)]
+    try:
+        for racer in racers:
+            assert racer.stdout and racer.stdout.readline() == "ready\n"
+        for turn in range(ROUNDS):
+            # Each is a variant of each other; which registrar asks for which changes.
+            labels = [f"straße{turn}", f"strasse{turn}"]
+            for number, racer in enumerate(racers):
+                assert racer.stdin
+                racer.stdin.write(labels[(number + turn) % 2] + "\n")
+                racer.stdin.flush()
+            told = [racer.stdout.readline().split() for racer in racers if racer.stdout]
+            assert sorted(each[0] for each in told) == ["registered"] + ["taken"] * (RACERS - 1), told
+    finally:
+        for racer in racers:
+            racer.communicate()
+    with kind.zone() as zone:
+        assert len(list(zone.registered.rows())) == ROUNDS
+
+
+def test_what_is_told_is_done(kind: Place) -> None:
+    """Registrars are killed at any time: what one told as registered is, and of variants at most one is."""
+    kind.configure("processes = 1\n[limits]\nseconds = 30")
+    told: list[str] = []
+    for turn in range(4):
+        racers = [start_racer(kind, f"H{number}") for number in range(3)]
+        for racer in racers:
+            assert racer.stdout and racer.stdout.readline() == "ready\n"
+        for number, racer in enumerate(racers):
+            assert racer.stdin
+            racer.stdin.write("".join(f"{'straße' if number % 2 else 'strasse'}{turn}x{each}\n" for each in range(300)))
+            racer.stdin.flush()
+        assert racers[turn % 3].stdout
+        first = [racers[turn % 3].stdout.readline() for _ in range(10 * turn + 1)]  # type: ignore[union-attr]
+        for racer in racers:
+            racer.send_signal(signal.SIGKILL)
+        for number, racer in enumerate(racers):
+            output = [*(first if number == turn % 3 else []), *racer.communicate()[0].splitlines()]
+            told += [f"{'straße' if number % 2 else 'strasse'}{turn}x{each}"
+                     for each, line in enumerate(output) if line.startswith("registered")]
+    with kind.zone() as zone:
+        rows = [label for label, _ in zone.registered.rows()]
+        assert set(told) <= set(rows) and len({label.replace("ß", "ss") for label in rows}) == len(rows) and told
+        assert zone.register("haus").status is Status.REGISTERED
+
+
+def test_loads_whole_or_not_at_all(kind: Place) -> None:
+    kind.load("haus\tH1")
+    kind.write("labels.txt", "xn--strae-oqa\r\n\nmaus\tH2\nMaus\nhaus\tH2\nhaus\tH1\nma\x01s\nmaus\tH2\nfa\udcff\n".encode(
+        "utf-8", "surrogateescape"))
+    told = ["labels.txt: line 2: 3 empty", "labels.txt: line 4: 10 disallowed code point: U+004D at place 1 (RFC 5892 2.2)",
+            "labels.txt: line 7: control character: U+0001 at place 3", "labels.txt: line 9: 1 not UTF-8",
+            "labels.txt: line 5: registered for another holder"]
+    done = kind.run("load", "labels.txt")
+    lines = done.stdout.decode().splitlines()
+    assert sorted(lines[:-1]) == sorted(told) and lines[-1] == "9 lines, 0 loaded, 5 refused" and done.returncode == 1, done
+    kind.expect(["dump"], "haus\tH1\n", 0)
+    done = kind.run("load", "--rest", "labels.txt")
+    assert done.stdout.decode().splitlines()[-1] == "9 lines, 2 loaded, 5 refused" and done.returncode == 1, done
+    kind.expect(["dump"], "haus\tH1\nmaus\tH2\nstraße\n", 0)
+    rows = [json.loads(line) for line in kind.run("dump", "--json").stdout.splitlines()]
+    assert rows[2] == {"ulabel": "straße", "alabel": "xn--strae-oqa", "holder": None}
+    # What is dumped can be loaded again.
+    kind.write("again.txt", kind.run("dump").stdout)
+    kind.expect(["load", "again.txt"], "3 lines, 0 loaded, 0 refused\n", 0)
+
+
+def test_has_label_order(kind: Place) -> None:
+    """As the bytes of UTF-8 have it, whatever the collation of the database."""
+    labels = ["a", "a-b", "a0", "ab", "z", "ß", "ä", "ž", "а", "ا", "ก", "中", "𠀀"]
+    kind.load(*labels)
+    expected = sorted(labels, key=lambda label: label.encode())
+    assert kind.run("dump").stdout.decode().split() == expected
+    with kind.zone() as zone, zone.registered.reading() as transaction:
+        for first, second in zip(expected, expected[1:], strict=False):
+            assert transaction.first_from(first) == first and transaction.first_from(first + "\u0001") == second
+        assert transaction.first_from("𠀀a") is None
+
+
+def test_tells_what_a_register_lacks(bare: Place) -> None:
+    bare.configure()
+    with sqlite3.connect(bare.folder / "register.db") as database:
+        database.execute("create table registered (label text collate nocase)")
+    done = bare.run("check", "a")
+    assert done.returncode == 75 and b"alter table registered add column holder text" in done.stderr, done
+    with sqlite3.connect(bare.folder / "register.db") as database:
+        database.execute("alter table registered add column holder text")
+        database.execute("insert into registered values ('strasse', 'H1')")
+    done = bare.run("check-config")
+    assert done.returncode == 1 and b"create index registered_label" in done.stdout, done
+    bare.expect(["check", "straße"], "straße: taken by strasse, held by H1\n", 1)
+
+
+def test_says_that_a_database_is_away(server: Callable[[str], str], bare: Place, tmp_path: Path) -> None:
+    bare.register = server("away").replace("/away", "/nowhere")
+    bare.configure()
+    done = bare.run("check", "haus")
+    [line] = done.stderr.decode().splitlines()
+    assert (done.stdout, done.returncode) == (b"", 75) and 'database "nowhere" does not exist' in line, line
+    bare.register = f"postgresql://postgres@/x?host={tmp_path}&password=secret"
+    bare.configure()
+    done = bare.run("check", "haus")
+    [line] = done.stderr.decode().splitlines()
+    assert done.returncode == 75 and "secret" not in line and "connection" in line, line
+
+
+def test_goes_on_after_a_session_has_ended(server: Callable[[str], str], bare: Place) -> None:
+    bare.register = server("ended")
+    bare.configure()
+    bare.load("strasse")
+    import psycopg
+
+    with bare.zone() as zone:
+        assert zone.check("straße").status is Status.TAKEN
+        with psycopg.connect(bare.register, autocommit=True) as other:
+            other.execute("select pg_terminate_backend(pid) from pg_stat_activity where pid <> pg_backend_pid()"
+                          " and datname = current_database()")
+        assert zone.check("straße").status is Status.TAKEN
+        assert zone.register("maus").status is Status.REGISTERED
+
+
+def test_knows_nothing_while_the_register_is_locked(place: Place) -> None:
+    place.configure("[limits]\nseconds = 1")
+    with place.zone() as zone:
+        other = sqlite3.connect(place.folder / "register.db", isolation_level=None)
+        other.execute("begin immediate")
+        answer = zone.register("maus")
+        assert answer.status is Status.UNKNOWN and answer.reason and "locked" in answer.reason
+        # Who only asks doesn't wait.
+        assert zone.check("maus").status is Status.AVAILABLE
+        other.execute("rollback")
+        assert zone.register("maus").status is Status.REGISTERED
+
+
+def test_never_makes_a_register_by_asking(bare: Place) -> None:
+    bare.configure()
+    with pytest.raises(Unusable, match="there is no register"):
+        bare.zone()
+    assert not os.path.exists(bare.folder / "register.db")
