@@ -33,15 +33,7 @@ fn places_from(context: &PatternTree, seen: &SeenLabel, places: u64) -> u64
                 places_from(rest, seen, ends(item, seen, places))
             }
         }
-        PatternTree::Point(_) => 0,
-        PatternTree::Set(_) => 0,
-        PatternTree::Any => 0,
-        PatternTree::Start => 0,
-        PatternTree::End => 0,
-        PatternTree::Group(_) => 0,
-        PatternTree::Optional(_) => 0,
-        PatternTree::Many(_) => 0,
-        PatternTree::Either(_, _) => 0,
+        _ => 0,
     }
 }
 
@@ -59,15 +51,7 @@ pub fn places_after(context: &PatternTree, seen: &SeenLabel) -> u64
                 places_after(rest, seen)
             }
         }
-        PatternTree::Point(_) => 0,
-        PatternTree::Set(_) => 0,
-        PatternTree::Any => 0,
-        PatternTree::Start => 0,
-        PatternTree::End => 0,
-        PatternTree::Group(_) => 0,
-        PatternTree::Optional(_) => 0,
-        PatternTree::Many(_) => 0,
-        PatternTree::Either(_, _) => 0,
+        _ => 0,
     }
 }
 
@@ -100,14 +84,7 @@ pub fn holds(rule: &PatternTree, seen: &SeenLabel, start: usize, end: usize) -> 
         }
         PatternTree::Then(_, _) => context_holds(rule, seen, start, end),
         PatternTree::Anchor => true,
-        PatternTree::Point(_) => false,
-        PatternTree::Set(_) => false,
-        PatternTree::Any => false,
-        PatternTree::Start => false,
-        PatternTree::End => false,
-        PatternTree::Group(_) => false,
-        PatternTree::Optional(_) => false,
-        PatternTree::Many(_) => false,
+        _ => false,
     }
 }
 
@@ -131,13 +108,6 @@ pub fn holding_points(rule: &PatternTree, seen: &SeenLabel) -> u64
         ),
         PatternTree::Then(_, _) => points_in_context(rule, seen),
         PatternTree::Anchor => all_places(seen.len()),
-        PatternTree::Point(_) => 0,
-        PatternTree::Set(_) => 0,
-        PatternTree::Any => 0,
-        PatternTree::Start => 0,
-        PatternTree::End => 0,
-        PatternTree::Group(_) => 0,
-        PatternTree::Optional(_) => 0,
-        PatternTree::Many(_) => 0,
+        _ => 0,
     }
 }
