@@ -166,8 +166,8 @@ ends-before-agrees s context i l =
     let all = every_place s.label in
     let found = before_from s context all in
     let tested = place-tested found i in
-    let are = from-all context s (length s.label) all found refl (every-place s.label) (before-are s context all (every-within s.label)) i l in
-    (λ h. are.0 (tested.0 h), λ h. tested.1 (are.1 h))
+    let are = from-all context s (length s.label) all found refl (every-place s.label) (before-are s context all (every-within s.label)) i in
+    (λ h. (are.0 (tested.0 h)).1, λ h. tested.1 (are.1 (l, h)))
 
 -- the places that begin at one
 pub one-within : (n j : ℕ) → j ≤ n → IsWithin n (2 ^ j)

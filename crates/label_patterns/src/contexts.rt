@@ -14,7 +14,7 @@ use crate::starts::starts;
 /// The places of a label such that what is before one of them ends in what stands before `_` in the context.
 pub fn places_before(context: &PatternTree, seen: &SeenLabel) -> u64
     requires { HasItsSets (length seen.now.sets) (pattern context.now) }
-    ensures { (i : _) → i ≤ length seen.now.label → (Has result i ↔ EndsBefore seen.now (pattern context.now) i) }
+    ensures { (i : _) → Has result i ↔ ((i ≤ length seen.now.label) × EndsBefore seen.now (pattern context.now) i) }
 {
     places_from(context, seen, all_places(seen.len()))
 }
@@ -40,7 +40,7 @@ fn places_from(context: &PatternTree, seen: &SeenLabel, places: u64) -> u64
 /// The places of a label such that what is after one of them begins with what stands after `_` in the context.
 pub fn places_after(context: &PatternTree, seen: &SeenLabel) -> u64
     requires { HasItsSets (length seen.now.sets) (pattern context.now) }
-    ensures { (j : _) → j ≤ length seen.now.label → (Has result j ↔ BeginsAfter seen.now (pattern context.now) j) }
+    ensures { (j : _) → Has result j ↔ ((j ≤ length seen.now.label) × BeginsAfter seen.now (pattern context.now) j) }
 {
     match context {
         PatternTree::Anchor => all_places(seen.len()),
@@ -91,7 +91,7 @@ pub fn holds(rule: &PatternTree, seen: &SeenLabel, start: usize, end: usize) -> 
 /// The places of a label such that one context holds for the code point that stands there.
 fn points_in_context(context: &PatternTree, seen: &SeenLabel) -> u64
     requires { HasItsSets (length seen.now.sets) (pattern context.now) }
-    ensures { (i : _) → i < length seen.now.label → (Has result i ↔ (EndsBefore seen.now (pattern context.now) i × BeginsAfter seen.now (pattern context.now) (i + 1))) }
+    ensures { (i : _) → Has result i ↔ ((i < length seen.now.label) × EndsBefore seen.now (pattern context.now) i × BeginsAfter seen.now (pattern context.now) (i + 1)) }
 {
     before(places_after(context, seen), places_before(context, seen))
 }
@@ -99,7 +99,7 @@ fn points_in_context(context: &PatternTree, seen: &SeenLabel) -> u64
 /// The places of a label such that a rule holds for the code point that stands there.
 pub fn holding_points(rule: &PatternTree, seen: &SeenLabel) -> u64
     requires { HasItsSets (length seen.now.sets) (pattern rule.now) }
-    ensures { (i : _) → i < length seen.now.label → (Has result i ↔ Holds seen.now (pattern rule.now) i (i + 1)) }
+    ensures { (i : _) → Has result i ↔ ((i < length seen.now.label) × Holds seen.now (pattern rule.now) i (i + 1)) }
 {
     match rule {
         PatternTree::Either(context, others) => either(
@@ -107,7 +107,7 @@ pub fn holding_points(rule: &PatternTree, seen: &SeenLabel) -> u64
             holding_points(others, seen),
         ),
         PatternTree::Then(_, _) => points_in_context(rule, seen),
-        PatternTree::Anchor => all_places(seen.len()),
+        PatternTree::Anchor => seen.places_of_all(),
         _ => 0,
     }
 }
