@@ -10,8 +10,8 @@ from pathlib import Path
 
 HERE = Path(__file__).resolve().parent
 TABLES = HERE.parent / "tables"
-# The converter stands on the last two.
-PACKAGES = (HERE / "idn2_registry", TABLES / "lgr", TABLES / "notation")
+# The converter, with the evaluator that verifies it, and what it stands on.
+PACKAGES = (HERE / "idn2_registry", TABLES / "lgr", TABLES / "rfc7940", TABLES / "notation")
 MODULES = (TABLES / "unicode_data.py",)
 NAME_FILE = "idn2_registry/program_name.txt"
 START = """import sys

@@ -49,10 +49,11 @@ class KnownProgram(Program):
 
 
 def converted(path, *options):
-    """What is made of a file, without a process: the text, the messages and the status."""
-    told, command.Program = [], KnownProgram
+    """What is made of a file, without a process and before it is verified: the text, the messages and the status."""
+    told, given = [], command.options_of([*options, path])
     try:
-        text = command.made(command.options_of(["--idn2", PROGRAM, *options, path]), told.append)
+        program = KnownProgram(PROGRAM, ["--standard"] if given.standard else [])
+        text = command.made(command.bytes_of(path), program, given, told.append)
     except Fault as fault:
         text, told = None, [str(fault)]
     messages = "".join(line + "\n" for line in told)
