@@ -3,17 +3,20 @@
 
 Each part of RFC 7940 has a small ruleset here (converted_rows.py), with the text that it becomes and with answers that the RFC
 gives. Random rulesets (rich_ruleset.py) are asked beside a plain reading of the RFC (plain_ruleset.py). The second writing
-(conformance/ruleset_labels.py) answers, and the program, which has to say the same. The last line is 'N passed, M failed', and
-the exit status is 0 where nothing failed."""
+(conformance/ruleset_labels.py) answers, and the program, which has to say the same. And a converter that was made wrong on
+purpose has to print nothing. The last line is 'N passed, M failed', and the exit status is 0 where nothing failed."""
 
 import itertools
 import os
 import pathlib
 import random
 import sys
+import tempfile
+from unittest import mock
 
-from converted_rows import (BY_STANDARD, FAULTS, LABELS, LIMITS, NO_PROPERTIES, PROFILE, PROPERTIES, REFUSALS, ROWS, UNICODE_FILES,
-                            VIRAMAS, long_set, many_entries, refusing, rule)
+from converted_rows import (BY_STANDARD, DIFFERENCES, FAULTS, LABELS, LIMITS, NO_PROPERTIES, PROFILE, PROPERTIES, REFUSALS, ROWS,
+                            UNICODE_FILES, VERIFIED, VIRAMAS, WITH_CONDITION, WITH_RULE, WITH_VARIANT, long_set, many_entries,
+                            refusing, rule)
 from plain_ruleset import PlainRuleset
 from program import PROGRAM, ROOT, run, run_tests, table_file
 from rich_ruleset import RichRuleset
@@ -22,12 +25,15 @@ from version_3 import BY_PROGRAM
 
 sys.path += [os.path.join(ROOT, "conformance"), os.path.join(ROOT, "tables")]
 
+import rfc7940.drawn_labels
 import unicode_data
-from lgr import command
+from lgr import command, convert, exact, tags
+from lgr.contexts import Holds
 from lgr.joinings import Joinings
 from lgr.program import Program
 from lgr.ruleset import Fault
 from notation import reading
+from notation.ruleset import Mapped
 from ruleset_labels import NOT_VALID, RulesetLabels, Unknown
 
 UNSAYABLE = "refused: there is no such table\n"
@@ -277,6 +283,93 @@ def says_what_random_rulesets_say(folder):
     assert count >= LEAST_CONVERTED and accepted >= LEAST_ACCEPTED, (count, accepted)
 
 
+# What is verified before it is printed.
+
+
+def main(path, *options, program=PROGRAM):
+    """What the command prints for a file, its messages without the file's name, and its status, in this process."""
+    with tempfile.TemporaryFile() as output, tempfile.TemporaryFile() as messages, \
+            mock.patch.multiple(command, STANDARD_OUTPUT=output.fileno(), STANDARD_ERROR=messages.fileno()):
+        try:
+            status = command.main(["--idn2", program, *options, path])
+        except SystemExit as end:
+            status = end.code
+        output.seek(0)
+        messages.seek(0)
+        return output.read().decode(), messages.read().decode().replace(f"{path}: ", ""), status
+
+
+NOTHING_SAID = lambda *_: None
+OTHERWISE = "refused: what was made of the file doesn't say what the file says\n"
+# What is wrong in the converter, for the file and the version: of a class or a module what is called, and what stands in
+# its place.
+WRONG = [
+    # Conditions are dropped, or never hold; rules are dropped; types are dropped, or all of them block; variants are
+    # dropped; each '!' is dropped.
+    (VERIFIED, "3", exact.Exact, "holds", lambda *_: Holds.ALWAYS),
+    (VERIFIED, "3", exact.Exact, "holds", lambda self, condition, *_: Holds.NEVER if condition else Holds.ALWAYS),
+    (VERIFIED, "3", exact, "say_demands", NOTHING_SAID),
+    (VERIFIED, "3", tags.Tags, "of_variant", lambda *_: ()),
+    (VERIFIED, "3", tags.Tags, "of_variant", NOTHING_SAID),
+    (VERIFIED, "3", exact.Exact, "kept", NOTHING_SAID),
+    (VERIFIED, "3", exact, "Mapped", lambda points, _, *rest: Mapped(points, False, *rest)),
+    (WITH_CONDITION, "2", convert.Converter, "check_condition", NOTHING_SAID),
+    (WITH_RULE, "2", convert.Converter, "check_actions", NOTHING_SAID),
+    (WITH_VARIANT, "2", convert.Converter, "is_blocked", lambda *_: False),
+    (WITH_VARIANT, "2", convert.Converter, "variants_of", lambda *_: {}),
+]
+
+
+def prints_nothing_that_says_something_else(folder):
+    """A converter that is wrong in one thing is caught by what the program lists; the label is named."""
+    for (data, rules), version, owner, name, wrong in WRONG:
+        path = ruleset(folder, data, rules)
+        with mock.patch.object(owner, name, wrong):
+            output, told, status = main(path, "--version", version)
+        assert (output, status) == ("", 1) and told.endswith(OTHERWISE), (name, output, told)
+        assert told.splitlines()[-2].startswith("label "), (name, told)
+    for of_file, version in ((VERIFIED, "3"), (WITH_VARIANT, "2"), (WITH_VARIANT, "3")):
+        output, told, status = main(ruleset(folder, *of_file), "--version", version)
+        assert output and not status, (of_file, version, told)
+
+
+def tells_where_version_3_reads_otherwise(folder):
+    """What the notation reads in another way than RFC 7940 isn't converted, and is told as what it is."""
+    for data, options, difference in DIFFERENCES:
+        output, told, status = main(ruleset(folder, data), *options)
+        assert (output, status) == ("", 1) and told.endswith(f": {difference}\n{OTHERWISE}"), (output, told)
+
+
+def verifies_with_the_labels_of_a_registry(folder):
+    """The labels of a file, with holders and as A-labels; what isn't asked, and what can't be used."""
+    path, lines = ruleset(folder, *VERIFIED), table_file(folder, b"U+0061\n", "lines.txt")
+    labels = table_file(folder, "ab\tH1\nxn--4ca\n\n-\n".encode(), "labels.txt")
+    drawn = mock.patch.object(rfc7940.drawn_labels.DrawnLabels, "labels", lambda _: [])
+    with drawn:
+        assert main(path, "--verify", labels)[2] == 0
+        with mock.patch.object(exact, "say_demands", NOTHING_SAID):
+            assert main(path)[2] == 0, "nothing is drawn"
+            for label, points in (("de\tH1", "0064-0065"), ("xn--de-wia", "0064-0065-00E4")):
+                _, told, status = main(path, "--verify", table_file(folder, f"a\n{label}\n".encode(), "labels.txt"))
+                assert status == 1 and f"\nlabel {points}: accepted, and by RFC 7940 refused" in told, told
+    not_utf8, missing = table_file(folder, b"\xff\n", "bytes.txt"), os.path.join(folder, "missing.txt")
+    for words, message in (
+            ([path, "--verify", not_utf8], f"{not_utf8}: not UTF-8\n"),
+            ([path, "--verify", missing], f"{missing}: No such file or directory\n"),
+            ([lines, "--verify", labels], "only a ruleset of RFC 7940 is verified, and this is a table of RFC 4290: leave out --verify\n")):
+        output, told, status = main(*words)
+        assert (output, status) == ("", 2) and told.endswith(message), (output, told)
+    assert by_script(path, "--version", "2", "--accept-more", "--verify", labels)[::2] == ("", 2)
+
+
+def needs_a_program_that_answers(folder):
+    """Nothing is printed where the program can't be asked for listings."""
+    stops = table_file(folder, f'#!/bin/sh\n[ "$1" != --ruleset ] || exit 3\nexec {PROGRAM} "$@"\n'.encode(), "idn2")
+    os.chmod(stops, 0o755)
+    output, told, status = main(ruleset(folder, *VERIFIED), program=stops)
+    assert (output, status) == ("", 2) and told.endswith(f"\nit can't be verified: {stops} ended with 3:\n"), (output, told)
+
+
 # Options and other formats.
 
 
@@ -326,6 +419,10 @@ TESTS = [
     joins_in_two_ways,
     says_what_stored_rulesets_say,
     says_what_random_rulesets_say,
+    prints_nothing_that_says_something_else,
+    tells_where_version_3_reads_otherwise,
+    verifies_with_the_labels_of_a_registry,
+    needs_a_program_that_answers,
     has_no_options_that_say_less,
     writes_version_3_unless_one_is_named,
     says_untyped_variants,

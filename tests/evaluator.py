@@ -370,7 +370,7 @@ def tells_what_gives_a_label_away(folder):
         assert difference.gives_away == wanted, str(difference)
     [refused] = verified.of_refused(Asked(of_file, "a"))
     assert not refused.gives_away
-    shorter = next(verified.differences([PROGRAM], "--variants", b"0061\n0062..0063\n", of_file, ["a"]))
+    shorter = next(verified.differences([PROGRAM], "--variants", b"%version 2\n0061..0063\n", of_file, ["a"]))
     assert (shorter.kind, shorter.gives_away) == (Kind.MISSING, True), str(shorter)
 
 
