@@ -3,6 +3,7 @@
 import contextlib
 import math
 import random
+import sys
 import threading
 import time
 from collections.abc import Callable, Iterable, Iterator
@@ -14,7 +15,8 @@ from .register import Register, Result, Row, Transaction, checked_label
 try:
     import psycopg
 except ImportError as error:
-    raise Unusable("psycopg is not installed, which PostgreSQL needs: apt-get install python3-psycopg") from error
+    raise Unusable(f"{sys.executable} has no psycopg, which PostgreSQL needs: apt-get install python3-psycopg is for "
+                   "/usr/bin/python3, and pip install psycopg for any other") from error
 
 TABLE = """create table if not exists registered (
     label text collate "C" primary key check (label not like 'xn--%'),
