@@ -15,8 +15,10 @@ from .ruleset import Asked, Ruleset, Verdict
 
 # So many labels are asked about in one run, so many lines of each are listed, so many labels looked at for that, and
 # so many variants of each drawn.
-IN_A_RUN, MOST_LINES, MOST_TRIES, DRAWN_VARIANTS = 4_096, 1_000, 100_000, 40
+IN_A_RUN, MOST_LINES, MOST_TRIES, DRAWN_VARIANTS = 4_096, 200, 100_000, 40
 REFUSED, ACCEPTED, ALLOCATABLE = "refused", "accepted", Verdict.ALLOCATABLE.value
+# A line of a listing. Under a table of version 1, which nothing can be blocked in, it has no disposition.
+LISTED = re.compile(r"([^\t]+)\t[^\t]+(?:\t(allocatable|blocked))?")
 
 
 class Unanswered(Exception):
@@ -137,8 +139,10 @@ def block_of(lines: Iterator[str]) -> Block:
         words = line.split(" ")
         if words[0] in ("#end", "#stop"):
             return Block(dispositions, words[2] if words[0] == "#stop" else None)
-        variant, _, disposition = line.split("\t")
-        dispositions[variant] = disposition
+        found = LISTED.fullmatch(line)
+        if found is None:
+            raise Unanswered(f"it lists {line!r}")
+        dispositions[found[1]] = found[2] or ALLOCATABLE
     raise Unanswered("a block has no end")
 
 
