@@ -15,7 +15,7 @@ from .ruleset import Asked, Ruleset, Verdict
 
 # So many labels are asked about in one run, so many lines of each are listed, so many labels looked at for that, and
 # so many variants of each drawn.
-IN_A_RUN, MOST_LINES, MOST_TRIES, DRAWN_VARIANTS = 4_096, 200, 100_000, 40
+IN_A_RUN, MOST_LINES, MOST_TRIES, DRAWN_VARIANTS = 4_096, 100, 100_000, 40
 REFUSED, ACCEPTED, ALLOCATABLE = "refused", "accepted", Verdict.ALLOCATABLE.value
 # A line of a listing. Under a table of version 1, which nothing can be blocked in, it has no disposition.
 LISTED = re.compile(r"([^\t]+)\t[^\t]+(?:\t(allocatable|blocked))?")
