@@ -57,19 +57,20 @@ class PostgresqlRegister(Register):
     registers, one of them is stopped, and asks again here. One that is killed isn't committed."""
 
     def __init__(self, uri: str, seconds: float, must_be: bool) -> None:
+        """Raises ValueError for what is no URI."""
         self.uri = uri
+        try:
+            told = psycopg.conninfo.conninfo_to_dict(uri)
+        except psycopg.Error as error:
+            # What is quoted there may have a password in it.
+            raise ValueError(first_line(error).partition('"')[0].rstrip(": ")) from error
+        self.name = "postgresql: " + ", ".join(f"{name} {told[name]}" for name in ("host", "port", "dbname") if name in told)
         self._seconds = seconds
         self._lock = threading.Lock()
         self._idle: list[Connection] = []
         if must_be:
             with self._session(READ) as connection:
                 self._check(connection)
-
-    @property
-    def name(self) -> str:
-        """The database in messages, without a password."""
-        told = psycopg.conninfo.conninfo_to_dict(self.uri)
-        return "postgresql: " + ", ".join(f"{name} {told[name]}" for name in ("host", "port", "dbname") if name in told)
 
     def _open(self) -> Connection:
         """A connection, whose statements have the time of a request."""

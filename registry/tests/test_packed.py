@@ -60,6 +60,10 @@ def test_the_packed_file_does_the_same(place: Place) -> None:
     done = run("convert", "published.xml")
     assert (done.stdout, done.returncode) == (b"", 1) and b"label 0061-0062-0063: accepted, and by RFC 7940 refused" in done.stderr, done
     assert os.access(folder / "idn2-registry", os.X_OK)
+    old = "import runpy, sys; sys.version_info = (3, 10, 2); runpy.run_path(sys.argv[1], run_name='__main__')"
+    done = subprocess.run([sys.executable, "-c", old, str(folder / "idn2-registry")], capture_output=True, timeout=LIMIT, check=False)
+    told = b"idn2-registry: Python 3.11 or later is needed, and this is 3.10\n"
+    assert (done.stdout, done.stderr, done.returncode) == (b"", told, 75), done
     os.remove(folder / "idn2-proved")
     done = run("check", "maus")
     assert done.returncode == 75 and b"no such program" in done.stderr, done
