@@ -4,7 +4,7 @@ _idn2_registry() {
     local word=${COMP_WORDS[COMP_CWORD]} before=${COMP_WORDS[COMP_CWORD - 1]} job=${COMP_WORDS[1]}
     COMPREPLY=()
     case $before in
-        --config | --idn2) mapfile -t COMPREPLY < <(compgen -f -- "$word"); return ;;
+        --config | --idn2 | --verify) mapfile -t COMPREPLY < <(compgen -f -- "$word"); return ;;
         --holder | --table | --page | --after | --scheduler) return ;;
     esac
     if [ "$COMP_CWORD" -eq 1 ]; then
@@ -19,7 +19,7 @@ _idn2_registry() {
         variants) options+=" --table --page --after" ;;
         load) options+=" --rest --resume --scheduler" ;;
         audit | change) options+=" --resume --scheduler" ;;
-        convert) options="--idn2 --help --version --untyped --close-gaps --accept-more --leave-out --standard" ;;
+        convert) options="--idn2 --help --version --untyped --close-gaps --accept-more --leave-out --standard --verify" ;;
     esac
     case $word in
         -*) mapfile -t COMPREPLY < <(compgen -W "$options" -- "$word") ;;

@@ -22,11 +22,13 @@ case $words[2] in
     variants) _arguments -S : $common '--table[the table]:NAME: ' '--page[at most so many]:SIZE: ' \
         '--after[only those after a text]:TEXT: ' '*:LABEL: ' ;;
     load) _arguments -S : $common $long '--rest[load the others]' '*:FILE:_files' ;;
-    audit | change) _arguments -S : $common $long '*:NAME=FILE:_files' ;;
+    audit) _arguments -S : $common $long ;;
+    change) _arguments -S : $common $long '*:NAME=FILE:_files' ;;
     join) _arguments -S : $common '*:NAME:_files' ;;
     convert) _arguments -S : '--idn2[the program]:PROGRAM:_files' '(-h --help)'{-h,--help}'[show the options]' \
         '--version[of the notation]:N:(1 2 3)' '--untyped[what variants without a type are]:DISPOSITION:(blocked allocatable)' \
         '--close-gaps[add missing pairs]' '--accept-more[drop what a table can not say]' \
-        '--leave-out[leave out what the profile does not have]' '--standard[test labels by the standards whole]' '*:FILE:_files' ;;
+        '--leave-out[leave out what the profile does not have]' '--standard[test labels by the standards whole]' \
+        '--verify[verify with these labels, too]:LABELS:_files' '*:FILE:_files' ;;
     *) _arguments -S : $common '*:LABEL: ' ;;
 esac

@@ -3,10 +3,10 @@
 
 FOLDER has rulesets in XML, and answers.txt with a line for each label: the ruleset's file, a tab, the label, a tab, and
 'invalid' or the variants that the ruleset finds valid, the label itself among them, each with '=allocatable' or '=blocked',
-parted by blanks. Labels are written as code points in hexadecimal, joined by hyphens. The evaluator of this folder, rfc7940.py,
-answers from the XML. tables/from_lgr.py converts each ruleset, and the program lists its labels; the second writing,
-ruleset_labels.py, tells the same without it. Then the evaluator judges what the program lists of labels that are drawn from the
-ruleset. What RFC 5891 refuses is left out on all sides. The status is 0 where all answers agree."""
+parted by blanks. Labels are written as code points in hexadecimal, joined by hyphens. This project's own evaluator,
+tables/rfc7940, answers from the XML. tables/from_lgr.py converts each ruleset, and verifies it with drawn labels; the program lists
+its labels; the second writing, ruleset_labels.py, tells the same without it. What RFC 5891 refuses is left out on all sides. The
+status is 0 where all answers agree."""
 
 import collections
 import pathlib
@@ -15,20 +15,16 @@ import subprocess
 import sys
 import tempfile
 
-import verified
 from compare import HERE, PROGRAM
-from drawn_labels import every_variant
 from notation import reading
-from rfc7940 import Asked, Verdict
-from rfc7940_reader import read
+from rfc7940.drawn_labels import every_variant
+from rfc7940.reader import read
+from rfc7940.ruleset import Asked, Verdict
 from ruleset_labels import RulesetLabels
-from verified import Kind
 
 SCRIPT = HERE.parent / "tables" / "from_lgr.py"
 # No answer has so many variants.
 MOST_SPELLED = 1_000_000
-# Where version 3 of the notation means something else than RFC 7940 (docs/DECISIONS.md, 'Rulesets').
-OF_VERSION_3 = {Kind.LONGEST, Kind.UNCLEAR, Kind.OWN, Kind.NUMBER}
 
 
 def label_of(text):
@@ -72,7 +68,7 @@ def answers_of_evaluator(ruleset, labels):
 
 
 def answer_of_evaluator(asked):
-    if asked.refusal:
+    if not asked.is_valid:
         return None
     verdicts = {variant: asked.verdict(variant) for variant in every_variant(asked, MOST_SPELLED)}
     return {variant: verdict.value for variant, verdict in verdicts.items() if verdict is not Verdict.ABSENT}
@@ -120,17 +116,8 @@ def differing(name, ruleset, text, wanted):
     return found
 
 
-def verified_by_drawn_labels(name, ruleset, text):
-    """Whether what the program lists of drawn labels is what the evaluator says; the first difference is told."""
-    labels = verified.labels_for(ruleset, [])
-    difference = verified.first_difference(str(PROGRAM), text, ruleset, labels, ignored=OF_VERSION_3)
-    print(f"{name}: {difference or f'no difference in {len(labels)} drawn labels'}", flush=True)
-    return difference is None
-
-
 def main(folder):
     total = agreeing = 0
-    is_verified = True
     for name, wanted in answers_of(folder).items():
         total += len(wanted)
         text, ruleset = converted(folder / name), read((folder / name).read_bytes())
@@ -138,9 +125,8 @@ def main(folder):
             count = len(wanted) - len(differing(name, ruleset, text, wanted))
             agreeing += count
             print(f"{name}: {count} of {len(wanted)} answers agree", flush=True)
-            is_verified &= verified_by_drawn_labels(name, ruleset, text)
     print(f"{agreeing} of {total} answers agree")
-    return agreeing != total or not is_verified
+    return agreeing != total
 
 
 if __name__ == "__main__":

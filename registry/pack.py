@@ -10,15 +10,16 @@ from pathlib import Path
 
 HERE = Path(__file__).resolve().parent
 TABLES = HERE.parent / "tables"
-# The converter stands on the last two.
-PACKAGES = (HERE / "idn2_registry", TABLES / "lgr", TABLES / "notation")
+# The converter, with the evaluator that verifies it, and what it stands on.
+PACKAGES = (HERE / "idn2_registry", TABLES / "lgr", TABLES / "rfc7940", TABLES / "notation")
 MODULES = (TABLES / "unicode_data.py",)
 NAME_FILE = "idn2_registry/program_name.txt"
 START = """import sys
 
-# An older Python has to be able to read this, so that it can tell of itself.
+# An older Python has to be able to read this, so that it can tell of itself. Its status says that nothing is known.
 if sys.version_info < (3, 11):
-    sys.exit("idn2-registry: Python 3.11 or later is needed, and this is %d.%d" % sys.version_info[:2])
+    sys.stderr.write("idn2-registry: Python 3.11 or later is needed, and this is %d.%d\\n" % sys.version_info[:2])
+    sys.exit(75)
 
 from idn2_registry.command import main
 

@@ -3,31 +3,36 @@
 
 Each part of RFC 7940 has a small ruleset here (converted_rows.py), with the text that it becomes and with answers that the RFC
 gives. Random rulesets (rich_ruleset.py) are asked beside a plain reading of the RFC (plain_ruleset.py). The second writing
-(conformance/ruleset_labels.py) answers, and the program, which has to say the same. The last line is 'N passed, M failed', and
-the exit status is 0 where nothing failed."""
+(conformance/ruleset_labels.py) answers, and the program, which has to say the same. And a converter that was made wrong on
+purpose has to print nothing. The last line is 'N passed, M failed', and the exit status is 0 where nothing failed."""
 
 import itertools
 import os
 import pathlib
 import random
 import sys
+from unittest import mock
 
-from converted_rows import (BY_STANDARD, FAULTS, LABELS, LIMITS, NO_PROPERTIES, PROFILE, PROPERTIES, REFUSALS, ROWS, UNICODE_FILES,
-                            VIRAMAS, long_set, many_entries, refusing, rule)
+from converted_rows import (BY_STANDARD, DIFFERENCES, FAULTS, LABELS, LIMITS, NO_PROPERTIES, PROFILE, PROPERTIES, REFUSALS, ROWS,
+                            UNICODE_FILES, VERIFIED, VIRAMAS, WITH_CONDITION, WITH_RULE, WITH_VARIANT, long_set, many_entries,
+                            refusing, rule)
 from plain_ruleset import PlainRuleset
 from program import PROGRAM, ROOT, run, run_tests, table_file
 from rich_ruleset import RichRuleset
-from rulesets import comments_of, converted as by_script, entries_of, listings, registrable, ruleset, stored
+from rulesets import comments_of, converted as verified, entries_of, listings, registrable, ruleset, stored
 from version_3 import BY_PROGRAM
 
 sys.path += [os.path.join(ROOT, "conformance"), os.path.join(ROOT, "tables")]
 
+import rfc7940.drawn_labels
 import unicode_data
-from lgr import command
+from lgr import command, convert, exact, tags
+from lgr.contexts import Holds
 from lgr.joinings import Joinings
 from lgr.program import Program
 from lgr.ruleset import Fault
 from notation import reading
+from notation.ruleset import Mapped
 from ruleset_labels import NOT_VALID, RulesetLabels, Unknown
 
 UNSAYABLE = "refused: there is no such table\n"
@@ -49,10 +54,11 @@ class KnownProgram(Program):
 
 
 def converted(path, *options):
-    """What is made of a file, without a process: the text, the messages and the status."""
-    told, command.Program = [], KnownProgram
+    """What is made of a file, without a process and before it is verified: the text, the messages and the status."""
+    told, given = [], command.options_of([*options, path])
     try:
-        text = command.made(command.options_of(["--idn2", PROGRAM, *options, path]), told.append)
+        program = KnownProgram(PROGRAM, ["--standard"] if given.standard else [])
+        text = command.made(command.bytes_of(path), program, given, told.append)
     except Fault as fault:
         text, told = None, [str(fault)]
     messages = "".join(line + "\n" for line in told)
@@ -167,7 +173,7 @@ def has_all_of_the_standard_if_asked(folder):
     """With --standard, each version; the head of the table says so, and the program reads it with that option alone."""
     for data, lines in BY_STANDARD:
         for version in ("3", "2"):
-            text, messages, status = by_script(ruleset(folder, data), "--standard", "--version", version)
+            text, messages, status = verified(ruleset(folder, data), "--standard", "--version", version)
             assert status == 0 and "profile" not in messages and "# It is for idn2 --standard.\n" in text, (data, messages)
             assert entries_of(text) == f"%version {version}\n" + "".join(line + "\n" for line in lines), (data, text)
             path, check = table_file(folder, text.encode()), "--check-ruleset" if version == "3" else "--check-table"
@@ -180,7 +186,7 @@ def drops_no_condition_that_the_program_does_not_ask(folder):
     for data, rule_text, is_asked in VIRAMAS:
         path = ruleset(folder, data, rule(rule_text))
         for words in ([], ["--standard"]):
-            text, messages, status = by_script(path, "--version", "2", *words)
+            text, messages, status = verified(path, "--version", "2", *words)
             assert (status == 0) == is_asked, (data, words, messages)
 
 
@@ -276,6 +282,80 @@ def says_what_random_rulesets_say(folder):
     assert count >= LEAST_CONVERTED and accepted >= LEAST_ACCEPTED, (count, accepted)
 
 
+# What is verified before it is printed.
+
+
+NOTHING_SAID = lambda *_: None
+OTHERWISE = "refused: what was made of the file doesn't say what the file says\n"
+# What is wrong in the converter, for the file and the version: of a class or a module what is called, and what stands in
+# its place.
+WRONG = [
+    # Conditions are dropped, or never hold; rules are dropped; types are dropped, or all of them block; variants are
+    # dropped; each '!' is dropped.
+    (VERIFIED, "3", exact.Exact, "holds", lambda *_: Holds.ALWAYS),
+    (VERIFIED, "3", exact.Exact, "holds", lambda self, condition, *_: Holds.NEVER if condition else Holds.ALWAYS),
+    (VERIFIED, "3", exact, "say_demands", NOTHING_SAID),
+    (VERIFIED, "3", tags.Tags, "of_variant", lambda *_: ()),
+    (VERIFIED, "3", tags.Tags, "of_variant", NOTHING_SAID),
+    (VERIFIED, "3", exact.Exact, "kept", NOTHING_SAID),
+    (VERIFIED, "3", exact, "Mapped", lambda points, _, *rest: Mapped(points, False, *rest)),
+    (WITH_CONDITION, "2", convert.Converter, "check_condition", NOTHING_SAID),
+    (WITH_RULE, "2", convert.Converter, "check_actions", NOTHING_SAID),
+    (WITH_VARIANT, "2", convert.Converter, "is_blocked", lambda *_: False),
+    (WITH_VARIANT, "2", convert.Converter, "variants_of", lambda *_: {}),
+]
+
+
+def prints_nothing_that_says_something_else(folder):
+    """A converter that is wrong in one thing is caught by what the program lists; the label is named."""
+    for (data, rules), version, owner, name, wrong in WRONG:
+        path = ruleset(folder, data, rules)
+        with mock.patch.object(owner, name, wrong):
+            output, told, status = verified(path, "--version", version)
+        assert (output, status) == ("", 1) and told.endswith(OTHERWISE), (name, output, told)
+        assert told.splitlines()[-2].startswith("label "), (name, told)
+    for of_file, version in ((VERIFIED, "3"), (WITH_VARIANT, "2"), (WITH_VARIANT, "3")):
+        output, told, status = verified(ruleset(folder, *of_file), "--version", version)
+        assert output and not status, (of_file, version, told)
+
+
+def tells_where_version_3_reads_otherwise(folder):
+    """What the notation reads in another way than RFC 7940 isn't converted, and is told as what it is."""
+    for data, options, difference in DIFFERENCES:
+        output, told, status = verified(ruleset(folder, data), *options)
+        assert (output, status) == ("", 1) and told.endswith(f": {difference}\n{OTHERWISE}"), (output, told)
+
+
+def verifies_with_the_labels_of_a_registry(folder):
+    """The labels of a file, with holders and as A-labels; what isn't asked, and what can't be used."""
+    path, lines = ruleset(folder, *VERIFIED), table_file(folder, b"U+0061\n", "lines.txt")
+    labels = table_file(folder, "ab\tH1\nxn--4ca\n\n-\n".encode(), "labels.txt")
+    drawn = mock.patch.object(rfc7940.drawn_labels.DrawnLabels, "labels", lambda _: [])
+    with drawn:
+        assert verified(path, "--verify", labels)[2] == 0
+        with mock.patch.object(exact, "say_demands", NOTHING_SAID):
+            assert verified(path)[2] == 0, "nothing is drawn"
+            for label, points in (("de\tH1", "0064-0065"), ("xn--de-wia", "0064-0065-00E4")):
+                _, told, status = verified(path, "--verify", table_file(folder, f"a\n{label}\n".encode(), "labels.txt"))
+                assert status == 1 and f"\nlabel {points}: accepted, and by RFC 7940 refused" in told, told
+    not_utf8, missing = table_file(folder, b"\xff\n", "bytes.txt"), os.path.join(folder, "missing.txt")
+    for words, message in (
+            ([path, "--verify", not_utf8], f"{not_utf8}: not UTF-8\n"),
+            ([path, "--verify", missing], f"{missing}: No such file or directory\n"),
+            ([lines, "--verify", labels], "only a ruleset of RFC 7940 is verified, and this is a table of RFC 4290: leave out --verify\n")):
+        output, told, status = verified(*words)
+        assert (output, status) == ("", 2) and told.endswith(message), (output, told)
+    assert verified(path, "--version", "2", "--accept-more", "--verify", labels)[::2] == ("", 2)
+
+
+def needs_a_program_that_answers(folder):
+    """Nothing is printed where the program can't be asked for listings."""
+    stops = table_file(folder, f'#!/bin/sh\n[ "$1" != --ruleset ] || exit 3\nexec {PROGRAM} "$@"\n'.encode(), "idn2")
+    os.chmod(stops, 0o755)
+    output, told, status = verified(ruleset(folder, *VERIFIED), "--idn2", stops)
+    assert (output, status) == ("", 2) and told.endswith(f"\nit can't be verified: {stops} ended with 3:\n"), (output, told)
+
+
 # Options and other formats.
 
 
@@ -283,16 +363,16 @@ def has_no_options_that_say_less(folder):
     path = stored("hyphen-rule.xml")
     for options in (["--accept-more"], ["--close-gaps"]):
         for version in ([], ["--version", "3"]):
-            output, told, status = by_script(path, *version, *options)
+            output, told, status = verified(path, *version, *options)
             assert (output, status) == ("", 2) and "name --version 2" in told, (options, told)
 
 
 def writes_version_3_unless_one_is_named(folder):
     path = stored("hyphen-rule.xml")
-    without, named = by_script(path), by_script(path, "--version", "3")
+    without, named = verified(path), verified(path, "--version", "3")
     assert without == named and without[1:] == ("", 0), (without, named)
     for version in ("1", "2", "3"):
-        text = entries_of(by_script(path, "--version", version)[0])
+        text = entries_of(verified(path, "--version", version)[0])
         assert text.startswith(f"%version {version}\n") == (version != "1"), text
 
 
@@ -307,7 +387,7 @@ def says_untyped_variants(folder):
         (lines, [], "0061|!0062\n0062|!0061\n"),
         (lines, ["--untyped", "allocatable"], "0061|0062\n0062|0061\n"),
     ):
-        text, told, status = by_script(file, *options)
+        text, told, status = verified(file, *options)
         assert (entries_of(text), told, status) == ("%version 3\n" + entries, "", 0), (file, options, text, told)
 
 
@@ -325,6 +405,10 @@ TESTS = [
     joins_in_two_ways,
     says_what_stored_rulesets_say,
     says_what_random_rulesets_say,
+    prints_nothing_that_says_something_else,
+    tells_where_version_3_reads_otherwise,
+    verifies_with_the_labels_of_a_registry,
+    needs_a_program_that_answers,
     has_no_options_that_say_less,
     writes_version_3_unless_one_is_named,
     says_untyped_variants,

@@ -483,3 +483,28 @@ def long_set():
     points = " ".join(f"{point:04X}" for point in range(0x4E00, 0x5C00, 2))
     return ('<range first-cp="4E00" last-cp="5BFF"/><char cp="0061" when="r"/>',
             f'<class name="many">{points}</class>' + rule('<look-behind><class by-ref="many"/></look-behind><anchor/>'))
+
+
+# What is verified: a ruleset with something of each kind; and what a table can say but for one condition, one rule or a type.
+AFTER_A = rule(BEHIND_A)
+VERIFIED = (
+    char("0061", ("0062", "blocked"), ("0430", "blocked")) + char("0062", ("0061", "blocked"))
+    + char("0063", ("0062", "x"), ("0061", "y")) + char("0430", ("0430", "out-of-repertoire-var"), ("0061", "blocked"))
+    + char("0064") + char("0065") + char("00E4") + char("0066", when="r"),
+    AFTER_A + rule('<char cp="0064 0065"/>', "de") + '<action disp="invalid" match="de"/>'
+    '<action disp="invalid" any-variant="out-of-repertoire-var"/><action disp="blocked" any-variant="blocked x"/>'
+    '<action disp="allocatable" any-variant="y"/>')
+WITH_CONDITION = ABC + char("0064", when="r"), AFTER_A
+WITH_RULE = ABC, refusing('<char cp="0061 0062"/>')
+WITH_VARIANT = char("0061", ("0062", "blocked")) + char("0062", ("0061", "blocked")), ""
+
+# What version 3 reads in another way than RFC 7940: the data, the options, and the difference.
+LONGEST = "it can be cut into entries, but not by the longest at each place (8.1)"
+UNCLEAR = "it arises in several ways, with types that differ (8.4)"
+OVERLAP = char("0061") + char("0061 0062") + char("0062 0063")
+DIFFERENCES = [
+    (OVERLAP, [], f"accepted, and by RFC 7940 refused: {LONGEST}"),
+    (OVERLAP, ["--version", "2"], f"accepted, and by RFC 7940 refused: {LONGEST}"),
+    (char("0061", ("0063", "blocked")) + char("0062") + char("0063") + char("0061 0062", ("0063 0062", "allocatable")), [],
+     f"allocatable, and by RFC 7940 unclear: {UNCLEAR}"),
+]

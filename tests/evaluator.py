@@ -18,16 +18,17 @@ from program import PROGRAM, ROOT, run_tests
 from random_ruleset import RandomRuleset
 from rich_ruleset import RichRuleset
 
-sys.path.append(os.path.join(ROOT, "conformance"))
+sys.path += [os.path.join(ROOT, "conformance"), os.path.join(ROOT, "tables")]
 
-import verified
-from drawn_labels import DrawnLabels, every_variant
-from rfc7940 import INVALID, PREDEFINED, UNMAPPED, UNTYPED, Asked, Verdict
-from rfc7940_reader import read
-from rfc7940_rules import AllOf, Anchor, AnyOf, End, Literal, OneOf, Start, Times
-from rfc7940_schema import Refused
-from unicode_properties import test_of
-from verified import Block, Kind
+import verified as command
+from rfc7940 import verified
+from rfc7940.drawn_labels import DrawnLabels, every_variant
+from rfc7940.reader import read
+from rfc7940.rules import AllOf, Anchor, AnyOf, End, Literal, OneOf, Start, Times
+from rfc7940.ruleset import INVALID, PREDEFINED, UNMAPPED, UNTYPED, Asked, Verdict
+from rfc7940.schema import Refused
+from rfc7940.unicode_properties import test_of
+from rfc7940.verified import Block, Kind
 
 LETTER_OF = {"allocatable": "A", "blocked": "B", "unclear": "U"}
 
@@ -37,10 +38,10 @@ def parsed(data, rules=""):
 
 
 def all_verdicts(rules, label):
-    """What the evaluator says of each variant of a label that it can have; the number if the label is refused."""
+    """What the evaluator says of each variant of a label that it can have; None if the label is refused."""
     asked = Asked(rules, label)
-    if asked.refusal:
-        return asked.refusal
+    if not asked.is_valid:
+        return None
     found = {variant: asked.verdict(variant) for variant in every_variant(asked, 1_000_000)}
     return {variant: verdict.value for variant, verdict in found.items() if verdict is not Verdict.ABSENT}
 
@@ -52,7 +53,7 @@ def answers_as_worked_out(folder):
         of_file = parsed(data, rules)
         for label, wanted in answers.items():
             found = all_verdicts(of_file, label)
-            if not isinstance(found, int):
+            if found is not None:
                 found = ", ".join(f"{variant} {LETTER_OF[verdict]}" for variant, verdict in sorted(found.items()))
             assert found == wanted, (section, label, wanted, found)
     # 8.3, step 3: the default actions don't see a type of the file's own, so all of what they see is activated.
@@ -64,7 +65,7 @@ def accepted(operator, labels):
     """Those of the labels that the operator matches from the start to the end."""
     whole = rule("r", f"<start/>{operator}<end/>") + '<action disp="invalid" not-match="r"/>'
     of_file = parsed(TAGGED, whole)
-    return [label for label in labels if Asked(of_file, label).refusal is None]
+    return [label for label in labels if Asked(of_file, label).is_valid]
 
 
 def classes_and_counts_match(folder):
@@ -103,7 +104,7 @@ def refuses_with_the_line(folder):
 def reads_each_spelling_of_xml(folder):
     for text in SPELLINGS:
         of_file = read(text.encode())
-        assert (all_verdicts(of_file, "a"), Asked(of_file, "b").refusal) == ({"a": "allocatable"}, 40), text
+        assert (all_verdicts(of_file, "a"), all_verdicts(of_file, "b")) == ({"a": "allocatable"}, None), text
 
 
 # ---- The definitions, written out
@@ -236,7 +237,7 @@ def grid_finds_what_the_definitions_find(folder):
         alphabet = sorted({point for points in of_file.entries for point in points})
         for label in {"".join(chance.choices(alphabet, k=chance.choice((1, 2, 3, 3, 4)))) for _ in range(14)}:
             found, wanted = all_verdicts(of_file, label), listed(of_file, label)
-            assert (None if isinstance(found, int) else found) == wanted, (drawn_as, seed, label, found, wanted)
+            assert found == wanted, (drawn_as, seed, label, found, wanted)
             asked = Asked(of_file, label)
             other = "".join(chance.choices(alphabet, k=len(label)))
             assert asked.verdict(other).value == (wanted or {}).get(other, "absent"), (drawn_as, seed, label, other)
@@ -284,8 +285,8 @@ def drawn_labels_find_each_change(folder):
         '<action disp="invalid" match="x"/>', '<action disp="invalid" not-match="z"/>',
         '<action disp="blocked" all-variants="s"/>'))
     right = parsed(data, rules)
-    drawn = DrawnLabels(right, 1).labels()
-    assert drawn == DrawnLabels(right, 1).labels() and len(drawn) == len(set(drawn)) and max(map(len, drawn)) <= 63
+    drawn = DrawnLabels(right).labels()
+    assert drawn == DrawnLabels(right).labels() and len(drawn) == len(set(drawn)) and max(map(len, drawn)) <= 63
     for old, new in CHANGED:
         assert old in data + rules, old
         wrong = parsed(data.replace(old, new, 1), rules.replace(old, new, 1))
@@ -301,14 +302,14 @@ def walks_come_near_to_a_rule(folder):
     y, z = char("y", "", ' when="x"'), char("z", "", ' not-when="y"')
     conditions = rule("x", after("x")) + rule("y", after("y"))
     right = parsed(data + y + z, conditions + rule("w", literal("klmno")) + last)
-    drawn = DrawnLabels(right, 1).labels()
+    drawn = DrawnLabels(right).labels()
     for changed, content in (
             (y + char("z"), literal("klmno")),
             (y + z, literal("klmn") + "<any/>"),
             (y + z, literal("kl") + "<any/>" + literal("no")),
             (y + z, literal("klmn") + literal("o", count_of("0:1")))):
         wrong = parsed(data + changed, conditions + rule("w", content) + last)
-        assert any(Asked(right, label).refusal != Asked(wrong, label).refusal for label in drawn), (changed, content)
+        assert any(Asked(right, label).is_valid != Asked(wrong, label).is_valid for label in drawn), (changed, content)
 
 
 def count_of(count):
@@ -317,7 +318,7 @@ def count_of(count):
 
 def drawn_variants_are_spelled(folder):
     """All variants of a label that hasn't many, and of others variants that it has, most of them distinct."""
-    drawn = DrawnLabels(parsed(char("a", "b: cd:") + char("aa", "e:") + characters("b", "e")), 1)
+    drawn = DrawnLabels(parsed(char("a", "b: cd:") + char("aa", "e:") + characters("b", "e")))
     asked = Asked(drawn.ruleset, "aab")
     wanted = "aab abb acdb bab bbb bcdb cdab cdbb cdcdb eb"
     assert drawn.variants_of(asked, 100) == wanted.split()
@@ -350,8 +351,27 @@ def compares_all_that_is_told(folder):
             (longest, "xbc", {"abc": "allocatable", "xbc": "allocatable"}, [(Kind.LONGEST, "abc")]),
             (longest, "abc", {"abc": "allocatable"}, [(Kind.LONGEST, "abc")])):
         assert kinds_of(verified.of_block(Asked(rules, label), Block(told, None))) == wanted, (label, told)
-    for label, number, wanted in (("a", 41, [(Kind.LABEL, "a")]), ("d", 40, [(Kind.NUMBER, "d")]), ("d", 41, [])):
-        assert kinds_of(verified.of_label(Asked(of_file, label), number)) == wanted, (label, number)
+    for label, wanted in (("a", [(Kind.LABEL, "a")]), ("d", [])):
+        assert kinds_of(verified.of_refused(Asked(of_file, label))) == wanted, label
+
+
+def tells_what_gives_a_label_away(folder):
+    """What is accepted or allocatable, or isn't listed, where the standard says otherwise; not what is refused or blocked."""
+    after_a = rule("r", f"<look-behind>{literal('a')}</look-behind><anchor/>")
+    of_file = parsed(char("a", "b:blocked c:") + characters("b", "c") + char("d", "", ' when="r"'), after_a)
+    right = {"a": "allocatable", "b": "blocked", "c": "allocatable"}
+    for label, told, wanted in (
+            ("a", right | {"b": "allocatable"}, True),
+            ("a", right | {"d": "allocatable"}, True),
+            ("d", {"d": "blocked"}, True),
+            ("a", right | {"c": "blocked"}, False),
+            ("a", right | {"d": "blocked"}, False)):
+        [difference] = verified.of_block(Asked(of_file, label), Block(told, None))
+        assert difference.gives_away == wanted, str(difference)
+    [refused] = verified.of_refused(Asked(of_file, "a"))
+    assert not refused.gives_away
+    shorter = next(verified.differences([PROGRAM], "--variants", b"%version 2\n0061..0063\n", of_file, ["a"]))
+    assert (shorter.kind, shorter.gives_away) == (Kind.MISSING, True), str(shorter)
 
 
 SAME = (char("a", "b:blocked c:") + char("b", "a:blocked") + characters("c", "d") + char("e", "-:") + char("-")
@@ -367,7 +387,7 @@ OTHERWISE = [
     ("%never 0064 0065\n", "", {Kind.LABEL}),
     ("%never 0064 0065\n", "%never 0064\n", {Kind.LABEL}),
     ("0066 when r", "0066", {Kind.LABEL, Kind.LISTED}),
-    ("0066 when r\n", "", {Kind.LABEL, Kind.NUMBER}),
+    ("0066 when r\n", "", {Kind.LABEL}),
 ]
 
 
@@ -375,20 +395,17 @@ def program_is_compared(folder):
     """A ruleset in both notations, and the same with a change in one of them."""
     data, rules, text = SAME
     of_file = parsed(data, rules)
-    assert verified.registrable(PROGRAM, ["a", "xn--4ca", "A", "", "a\nb", "b\r", "-", "ä"]) == ["a", "ä"]
-    labels = verified.labels_for(of_file, ["adf", "A", "", "a\nb", "b\r", "xn--4ca", "xn--4", "xn--é"])[:1_500]
+    assert verified.registrable([PROGRAM], ["a", "xn--4ca", "A", "", "a\nb", "b\r", "-", "ä"]) == ["a", "ä"]
+    labels = list(verified.labels_for(of_file, ["adf", "A", "", "a\nb", "b\r", "xn--4ca", "xn--4", "xn--é"]))[:1_500]
     assert labels[:8] == ["adf", "A", "", "a\nb", "b\r", "ä", "xn--4", "xn--é"], labels[:8]
-    assert verified.first_difference(PROGRAM, text.encode(), of_file, labels) is None
+    compared = lambda changed: verified.differences([PROGRAM], "--ruleset", changed, of_file, labels)
+    assert list(compared(text.encode())) == []
     for old, new, kinds in OTHERWISE:
-        changed = text.replace(old, new).encode()
-        found = list(verified.differences(PROGRAM, changed, of_file, labels))
+        found = list(compared(text.replace(old, new).encode()))
         assert {difference.kind for difference in found} == kinds, (old, new, list(map(str, found[:9])))
-        assert verified.first_difference(PROGRAM, changed, of_file, labels) == found[0]
-        ignored = kinds - {found[-1].kind}
-        assert verified.first_difference(PROGRAM, changed, of_file, labels, ignored=ignored).kind not in ignored
     for faulty in (b"%version 3\n0061|0061\n", b""):
         try:
-            verified.first_difference(PROGRAM, faulty, of_file, labels)
+            list(compared(faulty))
         except verified.Unanswered:
             continue
         raise AssertionError(faulty)
@@ -401,13 +418,13 @@ def compares_files(folder):
     for content, status, told in (
             (right, 0, ""),
             (right | {"t.txt": text.replace("!", ""), "labels.txt": "e\n"}, 1, "it has another disposition\n"),
-            (right | {"t.txt": text.replace("!", "")}, 1, "0061 0062, variant 0061 0061: allocatable, and by RFC 7940 "
-             "blocked: it has another disposition\n"),
+            (right | {"t.txt": text.replace("!", "")}, 1, "label 0061-0062, variant 0061-0061: allocatable, and by "
+             "RFC 7940 blocked: it has another disposition\n"),
             (right | {"t.xml": ruleset(data, "<action/>")}, 2, f"{paths['t.xml']}: line 4: action: it has no 'disp'\n"),
             (right | {"t.txt": "0061 when r\n"}, 2, "30 table syntax\n")):
         words = ["--idn2", PROGRAM, *(write(paths[name], content[name]) for name in paths)]
         with contextlib.redirect_stdout(io.StringIO()) as output, contextlib.redirect_stderr(output):
-            assert verified.main(words) == status, content
+            assert command.main(words) == status, content
         assert output.getvalue().endswith(told) and bool(output.getvalue()) == bool(told), output.getvalue()
 
 
@@ -428,6 +445,7 @@ TESTS = [
     walks_come_near_to_a_rule,
     drawn_variants_are_spelled,
     compares_all_that_is_told,
+    tells_what_gives_a_label_away,
     program_is_compared,
     compares_files,
 ]

@@ -53,10 +53,10 @@ SHORTER = char("a") + char("ab") + char("bc")
 # The section, data, rules, and for each label what is listed, A for allocatable, B for blocked and U for unclear, or
 # the refusal.
 ANSWERS = [
-    ("5 ranges", characters("a", "c"), "", {"abc": "abc A", "d": 40, "abd": 40}),
+    ("5 ranges", characters("a", "c"), "", {"abc": "abc A", "d": None, "abd": None}),
     ("5.1 a sequence and one of its code points", char("l") + char("l·l"), "",
-     {"l·l": "l·l A", "ll·l": "ll·l A", "l·": 40, "·": 40, "l·l·l": 40}),
-    ("5.2 a rule about the whole label", DIGITS, MIXED, {"٠١": "٠١ A", "۰۱": "۰۱ A", "٠۱": 41, "٠٠۰": 41}),
+     {"l·l": "l·l A", "ll·l": "ll·l A", "l·": None, "·": None, "l·l·l": None}),
+    ("5.2 a rule about the whole label", DIGITS, MIXED, {"٠١": "٠١ A", "۰۱": "۰۱ A", "٠۱": None, "٠٠۰": None}),
     ("5.3.1 one direction, and a sequence", char("ö", "oe:") + char("o") + char("e"), "",
      {"ö": "oe A, ö A", "oe": "oe A"}),
     ("5.3.1 a source that another begins with: both are looked at", char("a", "c:") + char("ab", "d:")
@@ -78,43 +78,43 @@ ANSWERS = [
     ("5.5 tags of a code point, and none of a sequence",
      '<char cp="0061" tag="letter lower"/><char cp="4E00" tag="letter"/><char cp="0061 4E00"/>',
      rule("r", '<start/><class from-tag="lower"/><end/>') + '<action disp="invalid" match="r"/>',
-     {"a": 41, "一": "一 A", "aa": "aa A", "a一": "a一 A"}),
+     {"a": None, "一": "一 A", "aa": "aa A", "a一": "a一 A"}),
     ("6.2.1 a class named before it is defined", ABC, rule("r", '<class by-ref="k"/>') + '<class name="k">0061</class>'
-     '<action disp="invalid" match="r"/>', {"a": 41, "bab": 41, "bc": "bc A"}),
+     '<action disp="invalid" match="r"/>', {"a": None, "bab": None, "bc": "bc A"}),
     ("6.2.3 properties", char("क") + char("\u094D") + char("\u200D", "", ' when="virama"'),
      rule("virama", '<look-behind><class property="ccc:9"/></look-behind><anchor/>'),
-     {"क\u094D\u200Dक": "क\u094D\u200Dक A", "क\u200D": 41, "\u200Dक": 41}),
+     {"क\u094D\u200Dक": "क\u094D\u200Dक A", "क\u200D": None, "\u200Dक": None}),
     ("6.3.1 a rule holds where it matches a part", ABC, rule("r", literal("a") + literal("b"))
-     + '<action disp="invalid" match="r"/>', {"ab": 41, "cabc": 41, "acb": "acb A", "ba": "ba A"}),
+     + '<action disp="invalid" match="r"/>', {"ab": None, "cabc": None, "acb": "acb A", "ba": "ba A"}),
     ("6.3.4 rules within rules", ABC, rule("q", '<rule by-ref="r" count="2"/>')
      + rule("r", literal("a") + '<any count="0:1"/>') + '<action disp="invalid" not-match="q"/>',
-     {"aa": "aa A", "abab": "abab A", "acba": 41, "bb": 41}),
+     {"aa": "aa A", "abab": "abab A", "acba": None, "bb": None}),
     ("6.3.5 letters, digits and hyphens", characters("-", "-") + characters("0", "9") + characters("a", "z")
      + char("ä"), rule("ldh",
      '<start/><choice count="1+"><class>0061-007A</class><class>0030-0039</class><char cp="002D"/></choice><end/>')
-     + '<action disp="invalid" not-match="ldh"/>', {"a-1": "a-1 A", "-": "- A", "ä": 41, "aä": 41}),
+     + '<action disp="invalid" not-match="ldh"/>', {"a-1": "a-1 A", "-": "- A", "ä": None, "aä": None}),
     ("6.3.8 the start and the end", characters("-", "-") + characters("0", "9") + characters("a", "z"),
      rule("letter-first", "<start/><class>0061-007A</class>") + rule("no-hyphen-last", '<char cp="002D"/><end/>')
      + '<action disp="invalid" not-match="letter-first"/><action disp="invalid" match="no-hyphen-last"/>',
-     {"a-1": "a-1 A", "1a": 41, "a-": 41, "-": 41}),
+     {"a-1": "a-1 A", "1a": None, "a-": None, "-": None}),
     ("6.4.1 each place by itself", characters("α", "ω") + char("͵", "", ' when="before-greek"'),
      rule("before-greek", "<anchor/><look-ahead><class>03B1-03C9</class></look-ahead>"),
-     {"͵α": "͵α A", "α͵": 41, "͵α͵β": "͵α͵β A", "͵α͵": 41, "͵͵α": 41}),
+     {"͵α": "͵α A", "α͵": None, "͵α͵β": "͵α͵β A", "͵α͵": None, "͵͵α": None}),
     ("6.4.1 the anchor is the sequence", char("a") + char("aa", "b:", ' not-when="first"') + char("b"), FIRST,
      {"aa": "aa A", "aaa": "aaa A, ab A", "baa": "baa A, bb A"}),
     ("6.4.2 before and after", ABC + char("d", "", ' when="between"'), rule("between",
      "<choice><rule><look-behind><start/></look-behind><anchor/></rule>"
      '<rule><look-behind><char cp="0061"/><any/></look-behind><anchor/>'
      '<look-ahead><choice><char cp="0062"/><end/></choice></look-ahead></rule></choice>'),
-     {"d": "d A", "dc": "dc A", "acd": "acd A", "acdb": "acdb A", "acdc": 41, "cd": 41, "add": 41, "acdd": 41}),
+     {"d": "d A", "dc": "dc A", "acd": "acd A", "acdb": "acdb A", "acdc": None, "cd": None, "add": None, "acdd": None}),
     ("6.4.3 without an anchor", char("ア") + char("a") + char("・", "", ' when="kana"'),
-     rule("kana", '<class property="sc:Kana"/>'), {"ア・a": "ア・a A", "a・ア": "a・ア A", "a・": 41, "・": 41}),
+     rule("kana", '<class property="sc:Kana"/>'), {"ア・a": "ア・a A", "a・ア": "a・ア A", "a・": None, "・": None}),
     ("7.1 the first action counts", char("a", "b:s c:t") + characters("b", "c"),
      '<action disp="blocked" any-variant="s t"/><action disp="invalid" any-variant="s"/>', {"a": "a A, b B, c B"}),
     ("7.1.1 rules ask the variant", char("a", "b:") + characters("b", "c"), rule("r", literal("b"))
      + '<action disp="blocked" match="r"/>', {"a": "a A, b B", "ab": "ab B, bb B", "c": "c A"}),
     ("7.1.1 a rule that must match", char("a", "b:") + characters("b", "c"), rule("r", literal("b"))
-     + '<action disp="invalid" not-match="r"/>', {"a": 41, "ab": "ab A, bb A"}),
+     + '<action disp="invalid" not-match="r"/>', {"a": None, "ab": "ab A, bb A"}),
     ("7.2 both a rule and types", char("a", "b:s") + characters("b", "c"), rule("r", literal("c"))
      + '<action disp="blocked" match="r" any-variant="s"/>', {"a": "a A, b A", "ac": "ac A, bc B"}),
     ("7.2 any", char("a", "b:s") + char("c", "d:") + characters("e", "e") + char("b") + char("d"),
@@ -129,20 +129,20 @@ ANSWERS = [
      {"国学": "国学 A, 国學 B, 國学 B, 國學 A", "國学": "国学 A, 国學 B, 國学 A, 國學 A"}),
     ("7.2.3 an out-of-repertoire variant", char("a", "а:blocked") + char("а", "а:out-of-repertoire-var a:blocked"),
      '<action disp="invalid" any-variant="out-of-repertoire-var"/><action disp="blocked" any-variant="blocked"/>',
-     {"a": "a A, а B", "а": 41, "aа": 41}),
+     {"a": "a A, а B", "а": None, "aа": None}),
     ("7.5 a variant whose condition fails isn't there",
      '<char cp="0061"><var cp="0062" type="blocked" when="final"/></char>' + characters("b", "c"), FINAL,
      {"a": "a A, b B", "ac": "ac A", "ca": "ca A, cb B"}),
     ("7.6 the order of the default actions", char("a", "b:allocatable c:blocked d:activated e:invalid")
      + characters("b", "e"), "",
      {"aa": "aa A, ab A, ac B, ad A, ba A, bb A, bc B, bd A, ca B, cb B, cc B, cd B, da A, db A, dc B, dd A"}),
-    ("8.1 the longest entry, and no way back", SHORTER, "", {"abc": 41, "ab": "ab A", "bc": "bc A", "aab": "aab A",
-     "c": 40}),
+    ("8.1 the longest entry, and no way back", SHORTER, "", {"abc": None, "ab": "ab A", "bc": "bc A", "aab": "aab A",
+     "c": None}),
     ("8.1 the longest whose condition holds", char("a") + char("ab", "", ' when="final"') + char("bc"), FINAL,
-     {"abc": "abc A", "aab": "aab A", "b": 40, "abab": 41}),
-    ("8.1 an action that makes invalid", ABC, '<action disp="invalid"/>', {"a": 41, "d": 40}),
+     {"abc": "abc A", "aab": "aab A", "b": None, "abab": None}),
+    ("8.1 an action that makes invalid", ABC, '<action disp="invalid"/>', {"a": None, "d": None}),
     ("8.1.1 a reflexive variant that makes invalid", char("a", "a:invalid") + char("b", "a:allocatable"), "",
-     {"a": 41, "ab": 41, "b": "a A, b A"}),
+     {"a": None, "ab": None, "b": "a A, b A"}),
     ("8.2 a condition of a variant is asked in the label asked about", char("a", "b:")
      + '<char cp="0063"><var cp="0064" when="after-a"/></char>' + char("b") + char("d"),
      rule("after-a", f"<look-behind>{literal('a')}</look-behind><anchor/>"),
@@ -156,7 +156,7 @@ ANSWERS = [
      + char("e", "f:activated") + char("b") + char("d") + char("f"),
      '<action disp="invalid" all-variants="activated"/>', {"ac": "ac A, ad B, bc A, bd B", "ae": "ae A, be A, bf A"}),
     ("8.4 two cuts of one label", char("a", "a:allocatable") + char("b") + char("ab", "ab:blocked"), "",
-     {"ab": 41, "a": "a A", "b": "b A", "ba": "ba A"}),
+     {"ab": None, "a": "a A", "b": "b A", "ba": "ba A"}),
     ("8.4 two cuts of one variant", char("a", "c:blocked") + char("b") + char("c") + char("ab", "cb:"), "",
      {"ab": "ab A, cb U"}),
     ("8.4 two cuts that differ in what stays", char("a", "c:blocked") + char("b") + char("c")
@@ -166,11 +166,11 @@ ANSWERS = [
     ("8.4 without types nothing is unclear", char("a", "c:") + char("b") + char("c") + char("ab", "cb:"), "",
      {"ab": "ab A, cb A"}),
     ("8.4 what is invalid by a rule in any case isn't there", char("a", "c:blocked") + char("b") + char("c")
-     + char("ab", "cb:"), rule("r", literal("cb")) + '<action disp="invalid" match="r"/>', {"ab": "ab A", "cb": 41}),
+     + char("ab", "cb:"), rule("r", literal("cb")) + '<action disp="invalid" match="r"/>', {"ab": "ab A", "cb": None}),
     ("8.4 what an action of types may come before is", char("a", "c:blocked") + char("b") + char("c")
      + char("ab", "cb:"), rule("r", literal("cb"))
      + '<action disp="blocked" any-variant="blocked"/><action disp="invalid" match="r"/>',
-     {"ab": "ab A, cb U", "cb": 41}),
+     {"ab": "ab A, cb U", "cb": None}),
 ]
 
 # Operators, and of these labels those that are valid where one of them has to match all of a label (6.2, 6.3).

@@ -7,18 +7,26 @@ beside a plain reading of the ruleset (plain_ruleset.py). The last line is 'N pa
 0 where nothing failed."""
 
 import ast
+import contextlib
+import io
 import itertools
 import os
 import random
 import re
 import subprocess
 import sys
+import tempfile
 import unicodedata
+from unittest import mock
 
 from plain_ruleset import PlainRuleset
 from program import LIMIT, PROGRAM, ROOT, make, run, run_tests, table_file
 from random_ruleset import RandomRuleset
 from standard_rules import CONDITIONS, LETTERS_AND_SIGNS, RULES, STARTS
+
+sys.path.append(os.path.join(ROOT, "tables"))
+
+from lgr import command
 
 RULESETS = os.path.join(ROOT, "tests", "rulesets")
 SCRIPT = os.path.join(ROOT, "tables", "from_lgr.py")
@@ -35,10 +43,16 @@ UNSAYABLE = "refused: there is no such table\n"
 
 
 def converted(path, *options):
-    """What the script prints for a file, its messages without the file's name, and its status."""
-    words = [sys.executable, SCRIPT, "--idn2", PROGRAM, *options, path]
-    done = subprocess.run(words, capture_output=True, text=True, timeout=LIMIT)
-    return done.stdout, done.stderr.replace(f"{path}: ", ""), done.returncode
+    """What the script prints for a file, its messages without the file's name, and its status, in this process."""
+    usage = io.StringIO()
+    with tempfile.TemporaryFile() as output, tempfile.TemporaryFile() as messages, contextlib.redirect_stderr(usage), \
+            mock.patch.multiple(command, STANDARD_OUTPUT=output.fileno(), STANDARD_ERROR=messages.fileno()):
+        try:
+            status = command.main(["--idn2", PROGRAM, *options, path])
+        except SystemExit as end:
+            status = end.code
+        printed, told = (os.pread(file.fileno(), os.fstat(file.fileno()).st_size, 0).decode() for file in (output, messages))
+    return printed, usage.getvalue() + told.replace(f"{path}: ", ""), status
 
 
 def made(path, *options):
@@ -235,13 +249,14 @@ def follows_actions_on_types(folder):
         ('<action disp="valid" all-variants="p"/>', "0061|0062\n0062|!0061\n"),
         ('<action disp="blocked" any-variant="p"/><action disp="valid" any-variant="p q"/>', "0061|!0062\n0062|0061\n"),
         ('<action disp="valid" any-variant="p"/><action disp="blocked" any-variant="p"/>', "0061|0062\n0062|!0061\n"),
-        ('<action disp="allowed" any-variant="p"/><action disp="valid" any-variant="p q"/>', "0061|!0062\n0062|0061\n"),
         ("", "0061|!0062\n0062|!0061\n"),
     ):
         path = ruleset(folder, two, actions)
         text, _, status = made(path)
         assert (status, entries_of(text)) == (0, "%version 2\n" + entries), (actions, text)
         compare(folder, path, text)
+    own = ruleset(folder, two, '<action disp="allowed" any-variant="p"/><action disp="valid" any-variant="p q"/>')
+    assert made(own) == ("", "line 4: action: the disposition 'allowed': so it can't be verified by RFC 7940\n", 1), made(own)
     text = made(stored("types-of-its-own.xml"))[0]
     entries = "56FD|!570B\n570B|!56FD:!56EF\n56EF|!570B\n4E1C|!6771\n6771|!4E1C\n4E2D|4E2A\n4E2A|!4E2D\n"
     assert entries_of(text) == "%version 2\n" + entries, text
@@ -270,20 +285,14 @@ def refuses_actions_on_labels_by_their_types(folder):
                  "line 2: char 0062: left out as a source, since each label with it is refused\n")
 
 
-def keeps_pairs_of_sequences_that_are_refused(folder):
-    """A sequence with which each label is refused is no source; but other entries can make it up, and then its variants
-    are those of labels that are accepted."""
+def refuses_sequences_that_others_make_up(folder):
+    """A sequence or a code point with which each label is refused is no source; but other entries can make it up, or have it."""
     outside = '<char cp="{}"><var cp="{}" type="invalid"/><var cp="{}" type="blocked"/></char>'
-    data = '<char cp="0061"/><char cp="0062"/>' + outside.format("0061 0061", "0061 0061", "0062")
-    path = ruleset(folder, data, '<action disp="invalid" any-variant="invalid"/>')
-    text, told, status = made(path)
-    assert (status, entries_of(text)) == (0, "%version 2\n0061\n0062\n0061-0061|!0062\n"), (text, told)
-    compare(folder, path, text)
-    # Here only another sequence has the code point, so no table can say both.
-    data = '<char cp="0062"/><char cp="0061 0062"/>' + outside.format("0061", "0061", "0062")
+    made_up = '<char cp="0061"/><char cp="0062"/>' + outside.format("0061 0061", "0061 0061", "0062")
+    within = '<char cp="0062"/><char cp="0061 0062"/>' + outside.format("0061", "0061", "0062")
     told = "each label with it is refused, but labels of other entries can have it, and then variants\n"
-    for within in (data, data.replace('<var cp="0062" type="blocked"/>', "")):
-        expect_refusal(ruleset(folder, within), [], f"line 2: char 0061: {told}{UNSAYABLE}")
+    for data, name in ((made_up, "0061-0061"), (within, "0061"), (within.replace('<var cp="0062" type="blocked"/>', ""), "0061")):
+        expect_refusal(ruleset(folder, data), [], f"line 2: char {name}: {told}{UNSAYABLE}")
 
 
 def takes_long_rules_for_others(folder):
@@ -703,7 +712,7 @@ TESTS = [
     asks_for_no_property_that_python_lacks,
     follows_actions_on_types,
     refuses_actions_on_labels_by_their_types,
-    keeps_pairs_of_sequences_that_are_refused,
+    refuses_sequences_that_others_make_up,
     takes_long_rules_for_others,
     names_each_reason_once,
     accepts_no_more_than_random_rulesets,

@@ -7,7 +7,7 @@ from enum import Enum
 from typing import Any
 
 Object = dict[str, Any]
-CONTROL_CHARACTER = re.compile(r"[\x00-\x1f\x7f]")
+CONTROL_CHARACTER = re.compile(r"[\x00-\x1f\x7f-\x9f]")
 
 
 class Status(Enum):

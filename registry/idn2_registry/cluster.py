@@ -1,5 +1,6 @@
 """Long work on several machines, by Dask: its scheduler sends parts to its workers, and a part again if its worker is lost."""
 
+import sys
 from collections.abc import Iterator
 from concurrent.futures import CancelledError
 
@@ -9,7 +10,8 @@ from .work import Task
 try:
     import distributed  # its calls have no types
 except ImportError as error:
-    raise Unusable("distributed is not installed, which --scheduler needs: apt-get install python3-distributed") from error
+    raise Unusable(f"{sys.executable} has no distributed, which --scheduler needs: apt-get install python3-distributed is for "
+                   "/usr/bin/python3, and pip install distributed for any other") from error
 
 # The scheduler has so long to be found.
 SECONDS = 10

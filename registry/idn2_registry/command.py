@@ -214,6 +214,9 @@ def guarded(job: Callable[[], int]) -> int:
         complain(f"{error}")
     except KeyboardInterrupt:
         complain("stopped")
+    except Exception as error:
+        # Python would end with 1, which says no of a label.
+        complain(f"it failed, which is a fault of idn2-registry: {type(error).__name__}: {error}")
     # What stands in the buffer can't be written, either.
     with contextlib.suppress(OSError):
         os.dup2(os.open(os.devnull, os.O_WRONLY), sys.stdout.fileno())

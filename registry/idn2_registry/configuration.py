@@ -11,7 +11,7 @@ from typing import Any
 from .faults import Unusable
 
 DEFAULT_PATH = "registry.toml"
-REGISTERS = ("sqlite:", "postgresql:")
+REGISTERS = ("sqlite:", "postgresql://")
 KEYS = ("register", "zone", "labels", "processes", "tables", "limits")
 
 

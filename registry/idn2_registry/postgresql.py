@@ -3,6 +3,7 @@
 import contextlib
 import math
 import random
+import sys
 import threading
 import time
 from collections.abc import Callable, Iterable, Iterator
@@ -14,7 +15,8 @@ from .register import Register, Result, Row, Transaction, checked_label
 try:
     import psycopg
 except ImportError as error:
-    raise Unusable("psycopg is not installed, which PostgreSQL needs: apt-get install python3-psycopg") from error
+    raise Unusable(f"{sys.executable} has no psycopg, which PostgreSQL needs: apt-get install python3-psycopg is for "
+                   "/usr/bin/python3, and pip install psycopg for any other") from error
 
 TABLE = """create table if not exists registered (
     label text collate "C" primary key check (label not like 'xn--%'),
@@ -55,19 +57,20 @@ class PostgresqlRegister(Register):
     registers, one of them is stopped, and asks again here. One that is killed isn't committed."""
 
     def __init__(self, uri: str, seconds: float, must_be: bool) -> None:
+        """Raises ValueError for what is no URI."""
         self.uri = uri
+        try:
+            told = psycopg.conninfo.conninfo_to_dict(uri)
+        except psycopg.Error as error:
+            # What is quoted there may have a password in it.
+            raise ValueError(first_line(error).partition('"')[0].rstrip(": ")) from error
+        self.name = "postgresql: " + ", ".join(f"{name} {told[name]}" for name in ("host", "port", "dbname") if name in told)
         self._seconds = seconds
         self._lock = threading.Lock()
         self._idle: list[Connection] = []
         if must_be:
             with self._session(READ) as connection:
                 self._check(connection)
-
-    @property
-    def name(self) -> str:
-        """The database in messages, without a password."""
-        told = psycopg.conninfo.conninfo_to_dict(self.uri)
-        return "postgresql: " + ", ".join(f"{name} {told[name]}" for name in ("host", "port", "dbname") if name in told)
 
     def _open(self) -> Connection:
         """A connection, whose statements have the time of a request."""

@@ -7,7 +7,7 @@ from contextlib import AbstractContextManager
 from typing import TypeVar
 
 from .answers import CONTROL_CHARACTER
-from .configuration import Configuration
+from .configuration import Configuration, Reader
 from .faults import Unknown
 
 Result = TypeVar("Result")
@@ -81,7 +81,10 @@ def open_register(configuration: Configuration, must_be: bool = True) -> Registe
         return SqliteRegister(rest, configuration.limits.seconds, must_be)
     from .postgresql import PostgresqlRegister
 
-    return PostgresqlRegister(configuration.register, configuration.limits.seconds, must_be)
+    try:
+        return PostgresqlRegister(configuration.register, configuration.limits.seconds, must_be)
+    except ValueError as error:
+        raise Reader(configuration.path).fault("register", f"{error}: write a URI as libpq takes it") from error
 
 
 def checked_label(found: object, text: str) -> str:

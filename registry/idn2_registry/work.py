@@ -42,22 +42,21 @@ def parts_of(lines: Sequence[bytes], size: int = PART_LINES) -> list[bytes]:
 
 
 class Progress:
-    """A bar with rate and time left, where standard error is a terminal."""
+    """A bar with rate and time left, where standard error is a terminal. What was done before has no part in the rate."""
 
-    def __init__(self, name: str, total: int) -> None:
-        self._name, self._total, self._done, self._start = name, total, 0, time.monotonic()
+    def __init__(self, name: str, total: int, before: int) -> None:
+        self._name, self._total, self._before, self._done, self._start = name, total, before, before, time.monotonic()
         self._is_shown = total > 0 and sys.stderr.isatty()
+        self.add(0)
 
     def add(self, count: int) -> None:
         """So many are done."""
         self._done += count
         if self._is_shown:
-            passed = max(time.monotonic() - self._start, 1e-6)
-            rate = self._done / passed
-            left = (self._total - self._done) / rate if rate else 0
+            rate = (self._done - self._before) / max(time.monotonic() - self._start, 1e-6)
+            told = f", {rate:.0f}/s, {(self._total - self._done) / rate:.0f} s left" if rate else ""
             bar = ("#" * (BAR * self._done // self._total)).ljust(BAR)
-            print(f"\r{self._name} [{bar}] {self._done} of {self._total}, {rate:.0f}/s, {left:.0f} s left ",
-                  end="", file=sys.stderr, flush=True)
+            print(f"\r{self._name} [{bar}] {self._done} of {self._total}{told} ", end="", file=sys.stderr, flush=True)
 
     def close(self) -> None:
         """Ends the line."""
@@ -105,16 +104,10 @@ class Kept:
 def results(means: Means, name: str, task: Task, parts: Sequence[bytes], state: Sequence[bytes]) -> list[bytes]:
     """The results of all parts in their order. The state is all that they depend on."""
     kept = Kept(means, name, [name.encode(), *state, *parts])
-    progress = Progress(name, sum(part.count(b"\n") for part in parts))
-    found: dict[int, bytes] = {}
-    open_parts: dict[int, bytes] = {}
-    for number, part in enumerate(parts):
-        result = kept.result(number)
-        if result is None:
-            open_parts[number] = part
-        else:
-            found[number] = result
-            progress.add(part.count(b"\n"))
+    found = {number: result for number in range(len(parts)) if (result := kept.result(number)) is not None}
+    open_parts = {number: part for number, part in enumerate(parts) if number not in found}
+    total, left = (sum(part.count(b"\n") for part in each) for each in (parts, open_parts.values()))
+    progress = Progress(name, total, total - left)
     try:
         for number, result in done_parts(means, task, open_parts):
             kept.keep(number, result)

@@ -45,7 +45,7 @@ def test_answers_the_lines_of_its_input_in_their_order(place: Place) -> None:
 
 
 def test_refuses_each_control_character(place: Place) -> None:
-    labels = [label for byte in (*range(0x20), 0x7F) for label in (f"ma{chr(byte)}s", f"m{chr(byte)}", f"{chr(byte)}m")]
+    labels = [label for byte in (*range(0x20), *range(0x7F, 0xA0)) for label in (f"ma{chr(byte)}s", f"m{chr(byte)}", f"{chr(byte)}m")]
     with place.zone() as zone:
         for label in labels:
             for answer in (zone.check(label), zone.register(label), zone.release(label), zone.tables_of(label)):

@@ -14,6 +14,7 @@ HEAD = f'register = "sqlite:register.db"\n[tables]\nde = "{GERMAN}"\n'
 ROWS = (
     ("", "line 1: register: write register ="),
     ('register = "mysql:x"\n', "line 1: register: write register ="),
+    ('register = "postgresql:x"\n', "line 1: register: write register ="),
     ('\nregister = "sqlite:"\n[tables]\nde = "g"\n', "line 2: register: no file is named"),
     ('register = "sqlite:r"\n', "line 1: tables: no table"),
     ('register = "sqlite:r"\n[tables]\n\nde = 5\n', "line 4: de: not a path"),
@@ -40,6 +41,31 @@ def test_names_file_line_and_remedy(bare: Place, text: str, told: str) -> None:
     done = bare.run("check", "haus")
     [line] = done.stderr.decode().splitlines()
     assert line.startswith(f"idn2-registry: registry.toml: {told}") and (done.stdout, done.returncode) == (b"", 75), line
+
+
+def test_names_the_line_of_what_is_no_uri(bare: Place) -> None:
+    pytest.importorskip("psycopg", reason="python3-psycopg")
+    for uri, told in (("postgresql://a:secret@[::1", 'end of string'), ("postgresql://a:se%zzcret@b/c", "invalid percent-encoded token"),
+                      ("postgresql:///x?secret=1", "invalid URI query parameter")):
+        bare.write("registry.toml", f'\nregister = "{uri}"\n[tables]\nde = "{GERMAN}"\n')
+        for job in (["check", "haus"], ["check-config"], ["dump"], ["load", "/dev/null"]):
+            done = bare.run(*job)
+            message = done.stdout.decode() if job == ["check-config"] else done.stderr.decode()
+            assert f"registry.toml: line 2: register: {told}" in message and "secret" not in message, (job, done)
+            assert "write a URI as libpq takes it" in message and done.returncode == 75, (job, done)
+
+
+def test_takes_no_fault_of_its_own_for_no(bare: Place, monkeypatch: pytest.MonkeyPatch) -> None:
+    """What goes wrong in it isn't known, and has no status that says something of a label."""
+    bare.configure()
+    bare.load()
+    for error in (KeyError("ulabel"), AssertionError(), RecursionError("too deep"), MemoryError()):
+        def fails(*_: object, error: BaseException = error) -> None:
+            raise error
+
+        monkeypatch.setattr("idn2_registry.zone.Zone.check", fails)
+        done = bare.run("check", "haus")
+        assert (done.stdout, done.returncode) == (b"", 75) and type(error).__name__.encode() in done.stderr, done
 
 
 def test_reads_all_of_it(bare: Place) -> None:

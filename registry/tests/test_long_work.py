@@ -1,5 +1,6 @@
 """Audits, changes of a table, what was stopped and goes on, and a cluster."""
 
+import io
 import json
 import os
 import pty
@@ -189,6 +190,18 @@ def test_shows_progress_on_a_terminal_alone(place: Place) -> None:
     shown = os.read(master, 65_536).decode()
     os.close(master)
     assert process.returncode == 0 and "audit [####" in shown and "2 of 2" in shown and "s left" in shown, shown
+    # It is there before the first part is done.
+    assert shown.startswith(f"\raudit-test [{' ' * work.BAR}] 0 of 2 \r"), shown
+
+
+def test_what_was_done_before_has_no_part_in_the_rate(monkeypatch: pytest.MonkeyPatch) -> None:
+    shown = io.StringIO()
+    monkeypatch.setattr(shown, "isatty", lambda: True)
+    monkeypatch.setattr(work.sys, "stderr", shown)
+    times = iter([100.0, 100.0, 102.0])
+    monkeypatch.setattr(work.time, "monotonic", lambda: next(times))
+    work.Progress("load", 1000, 900).add(40)
+    assert shown.getvalue().endswith("940 of 1000, 20/s, 3 s left "), shown.getvalue()
 
 
 def start(words: list[str], folder: Path, environment: dict[str, str]) -> "subprocess.Popen[bytes]":

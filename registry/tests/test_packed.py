@@ -15,13 +15,24 @@ from conftest import LIMIT, PACKAGE, PROGRAM, ROOT, Place
 from idn2_registry.command import parser
 
 SHELLS = ("bash", "zsh", "fish")
+# What the converter makes of it says something else (RFC 7940, section 8.1), so that nothing is printed.
+OVERLAP = ('<lgr xmlns="urn:ietf:params:xml:ns:lgr-1.0"><data><char cp="0061"/><char cp="0061 0062"/><char cp="0062 0063"/></data>'
+           "</lgr>")
 
 
 def jobs() -> Iterator[tuple[str, set[str]]]:
-    """Each job with its options."""
+    """Each job with its options; the converter tells its own."""
     [subparsers] = [action for action in parser()._actions if isinstance(action, argparse._SubParsersAction)]
     for name, job in subparsers.choices.items():
-        yield name, {option for action in job._actions for option in action.option_strings if option.startswith("--")}
+        if name != "convert":
+            yield name, {option for action in job._actions for option in action.option_strings if option.startswith("--")}
+
+
+def options_of_convert() -> set[str]:
+    """As its help tells them."""
+    done = subprocess.run([sys.executable, str(ROOT / "tables" / "from_lgr.py"), "--help"], capture_output=True, text=True,
+                          timeout=LIMIT, check=True)
+    return set(re.findall(r"^  (?:-h, )?(--[a-z0-9-]+)", done.stdout, re.MULTILINE))
 
 
 def test_the_packed_file_does_the_same(place: Place) -> None:
@@ -45,7 +56,14 @@ def test_the_packed_file_does_the_same(place: Place) -> None:
     place.write("published.txt", "U+0073\nU+0073-U+0073|U+00DF # sharp s\n")
     done = run("convert", "--version", "2", "published.txt")
     assert done.returncode == 0 and done.stdout.endswith(b"\n0073\n0073-0073|!00DF\n"), done
+    place.write("published.xml", OVERLAP)
+    done = run("convert", "published.xml")
+    assert (done.stdout, done.returncode) == (b"", 1) and b"label 0061-0062-0063: accepted, and by RFC 7940 refused" in done.stderr, done
     assert os.access(folder / "idn2-registry", os.X_OK)
+    old = "import runpy, sys; sys.version_info = (3, 10, 2); runpy.run_path(sys.argv[1], run_name='__main__')"
+    done = subprocess.run([sys.executable, "-c", old, str(folder / "idn2-registry")], capture_output=True, timeout=LIMIT, check=False)
+    told = b"idn2-registry: Python 3.11 or later is needed, and this is 3.10\n"
+    assert (done.stdout, done.stderr, done.returncode) == (b"", told, 75), done
     os.remove(folder / "idn2-proved")
     done = run("check", "maus")
     assert done.returncode == 75 and b"no such program" in done.stderr, done
@@ -53,7 +71,7 @@ def test_the_packed_file_does_the_same(place: Place) -> None:
 
 def test_the_page_has_each_job_and_option() -> None:
     page = (ROOT / "docs" / "idn2-registry.1").read_text("ascii").replace("\\-", "-")
-    for name, options in jobs():
+    for name, options in (*jobs(), ("convert", {"--verify"})):
         assert re.search(rf"^\.BR? {name}( |$)", page, re.MULTILINE), name
         for option in options:
             assert option in page, (name, option)
@@ -62,7 +80,8 @@ def test_the_page_has_each_job_and_option() -> None:
 @pytest.mark.parametrize("shell", SHELLS)
 def test_completions_have_each_job_and_option(shell: str) -> None:
     text = (ROOT / "completions" / f"idn2-registry.{shell}").read_text("utf-8")
-    for name, options in jobs():
+    assert len(options_of_convert()) > 7
+    for name, options in (*jobs(), ("convert", options_of_convert())):
         assert re.search(rf"(?<![\w-]){name}(?![\w-])", text), name
         for option in options:
             assert (f"-l {option[2:]} " if shell == "fish" else option) in text, (name, option)

@@ -12,11 +12,10 @@ from .program import Program, Unusable
 from .ruleset import Fault
 from .ruleset_text import RulesetText
 from .table import check_limits, check_size, check_versions
+from .verification import RULESET, verify
 from .writing import text_of
 
 BLOCKED = "blocked"
-# The version that says all of a ruleset.
-RULESET = 3
 CONVERTED, UNSAYABLE, UNUSABLE = 0, 1, 2
 MOST_FILE_BYTES = 67_108_864
 STANDARD_OUTPUT, STANDARD_ERROR = 1, 2
@@ -43,16 +42,21 @@ def options_of(words):
     parser.add_argument("--leave-out", action="store_true",
                         help="leave out the code points that RFC 5892 allows and the profile of idn2 doesn't have "
                              "(docs/PROFILE.md): labels that FILE accepts are refused")
+    parser.add_argument("--verify", metavar="LABELS",
+                        help="verify what is made with the labels in this file, too, one on each line, and a holder after a tab "
+                             "[default: with labels that are drawn from FILE]")
     parser.add_argument("--idn2", metavar="PROGRAM", help="the program [default: beside the scripts, or on the path]")
     options = parser.parse_args(words)
     if options.close_gaps and options.version == 1:
         parser.error("--close-gaps adds blocked variants, which version 1 can't say")
     if options.version == RULESET and (options.close_gaps or options.accept_more):
         parser.error("version 3 says what FILE says: for --close-gaps or --accept-more name --version 2")
+    if options.verify and options.accept_more:
+        parser.error("--accept-more makes a table that says something else than FILE: it can't be verified")
     return options
 
 
-def read(path):
+def bytes_of(path):
     with open(path, "rb") as file:
         data = file.read(MOST_FILE_BYTES + 1)
     if len(data) > MOST_FILE_BYTES:
@@ -61,8 +65,11 @@ def read(path):
         raise Fault(None, "nothing in it")
     if any(mark in data[:4] for mark in OTHER_ENCODINGS):
         raise Fault(1, "UTF-16 or another encoding, and only UTF-8 is read")
-    is_xml = data.lstrip(b"\xef\xbb\xbf \t\r\n").startswith(b"<")
-    return (rfc7940 if is_xml else rfc4290).read(data)
+    return data
+
+
+def is_xml(data):
+    return data.lstrip(b"\xef\xbb\xbf \t\r\n").startswith(b"<")
 
 
 def table_of(ruleset, program, options, losses):
@@ -120,10 +127,10 @@ def refusal_of(losses, options):
     return lines
 
 
-def made(options, tell):
-    """The text of the table; None if there is no such table, which is told."""
-    ruleset = read(options.file)
-    program, losses, added = Program(options.idn2, ["--standard"] if options.standard else []), Losses(), 0
+def made(data, program, options, tell):
+    """The text of the table that the bytes of a file make; None if there is no such table, which is told."""
+    ruleset = (rfc7940 if is_xml(data) else rfc4290).read(data)
+    losses, added = Losses(), 0
     if options.version == RULESET:
         text = ruleset_of(ruleset, program, options, losses)
     else:
@@ -168,8 +175,16 @@ def main(words):
             os.write(STANDARD_ERROR, lines.encode("utf-8", "surrogateescape"))
 
     try:
-        text = made(options, tell)
-        return UNSAYABLE if text is None else write(text)
+        data = bytes_of(options.file)
+        if options.verify and not is_xml(data):
+            raise Unusable("only a ruleset of RFC 7940 is verified, and this is a table of RFC 4290: leave out --verify")
+        program = Program(options.idn2, ["--standard"] if options.standard else [])
+        text = made(data, program, options, tell)
+        if text is None:
+            return UNSAYABLE
+        if is_xml(data) and not options.accept_more:
+            verify(text, data, program, options)
+        return write(text)
     except Fault as fault:
         tell(str(fault))
         return UNSAYABLE

@@ -56,14 +56,12 @@ class Converter:
         return possible
 
     def kept_of(self, possible):
-        """All but those with which each label is refused. Of these, one that others make up stays: it accepts nothing
-        more, and labels cut into those others have its variants, too."""
+        """All but those with which each label is refused."""
         outside = self.dispositions.outside
-        sources = {entry.source for entry in possible} - outside
-        points = {point for source in sources for point in source}
+        points = {point for entry in possible if entry.source not in outside for point in entry.source}
         kept = []
         for entry in possible:
-            if entry.source not in outside or is_cut(entry.source, sources):
+            if entry.source not in outside:
                 kept.append(entry)
                 continue
             if points.issuperset(entry.source):

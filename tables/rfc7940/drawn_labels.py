@@ -12,25 +12,53 @@ import math
 import random
 from collections.abc import Callable, Iterable, Iterator
 
-from rfc7940 import Asked, Entry, Ruleset
-from rfc7940_rules import AllOf, Anchor, AnyOf, Class, Condition, Literal, OneOf, Part, Times
+from .ruleset import Asked, Entry, Ruleset
+from .rules import AllOf, Anchor, AnyOf, Class, Condition, Literal, OneOf, Part, Times
 
 LONGEST = 63
 # So many walks through a rule, at least and for each of its parts; so many labels of other kinds; and so many tries to
-# draw one that is eligible.
-WALKS, WALKS_OF_A_PART, OVERLAPS, RANDOM, TRIES = 60, 12, 200, 2_000, 50
+# draw one that is valid. A class has a few code points if it has no more than these.
+WALKS, WALKS_OF_A_PART, AMONG_OTHERS, OVERLAPS, TRIES, FEW = 60, 12, 3_000, 200, 50, 16
+# So many random labels for each entry, and at most.
+RANDOM_OF_AN_ENTRY, RANDOM = 40, 2_000
 
 
 class DrawnLabels:
-    """Draws labels from a ruleset, by a seed."""
+    """Draws labels from a ruleset, the same each time."""
 
-    def __init__(self, ruleset: Ruleset, seed: int) -> None:
-        self.ruleset, self.chance = ruleset, random.Random(seed)
+    def __init__(self, ruleset: Ruleset) -> None:
+        self.ruleset, self.chance = ruleset, random.Random(0)
         self.entries = list(ruleset.entries.values())
-        # Those that a rule, another entry or an action may ask about are drawn as often as all others.
-        self.special = [entry for entry in self.entries if entry.condition or entry.variants or len(entry.points) > 1]
         self.alphabet = sorted({point for entry in self.entries for point in entry.points})
         self.members: Callable[[Class], list[str]] = functools.cache(lambda has: list(filter(has, self.alphabet)))
+        self.rules = self.rules_with_users()
+        named = {point for part, _ in self.rules.values() for point in self.named_in(part)}
+        # Those that a rule, another entry or an action may ask about are drawn as often as all others.
+        self.special = [entry for entry in self.entries if entry.condition or entry.variants or len(entry.points) > 1
+                        or entry.points in named]
+
+    def rules_with_users(self) -> dict[str, tuple[Part, list[str]]]:
+        """Each rule that is asked by its name, with the entries that ask it; an action asks it of no entry."""
+        rules: dict[str, tuple[Part, list[str]]] = {}
+        for entry in self.entries:
+            for condition in conditions_of(entry):
+                rules.setdefault(condition.rule, (condition.part, []))[1].append(entry.points)
+        for condition in filter(None, (action.condition for action in self.ruleset.actions)):
+            rules.setdefault(condition.rule, (condition.part, [""]))
+        return rules
+
+    def named_in(self, part: Part) -> Iterator[str]:
+        """The code points of a rule's sequences, and of its classes that have only a few."""
+        match part:
+            case Literal(points=points):
+                yield from points
+            case AnyOf(has=has) if len(self.members(has)) <= FEW:
+                yield from self.members(has)
+            case AllOf(parts=parts) | OneOf(parts=parts):
+                for each in parts:
+                    yield from self.named_in(each)
+            case Times(part=inner):
+                yield from self.named_in(inner)
 
     def labels(self) -> list[str]:
         """All labels that are drawn, each once, in the order in which they are drawn."""
@@ -56,18 +84,12 @@ class DrawnLabels:
 
     def walks(self) -> Iterator[str]:
         """Labels of which a part matches a rule; and the same with one code point changed or lost."""
-        rules: dict[str, tuple[Part, list[str]]] = {}
-        for entry in self.entries:
-            for condition in conditions_of(entry):
-                rules.setdefault(condition.rule, (condition.part, []))[1].append(entry.points)
-        for condition in filter(None, (action.condition for action in self.ruleset.actions)):
-            rules.setdefault(condition.rule, (condition.part, [""]))
-        for name, (part, users) in rules.items():
+        for name, (part, users) in self.rules.items():
             others = self.without_condition(name)
             count = max(WALKS, WALKS_OF_A_PART * min(part.atoms, 50), 4 * len(users))
             for anchor in itertools.islice(itertools.cycle(users), count):
-                label = mostly_eligible(others, lambda: self.with_walk(part, anchor))
-                changed = mostly_eligible(others, lambda: self.changed(label))
+                label = mostly(others.is_eligible, lambda: self.with_walk(part, anchor))
+                changed = mostly(others.is_eligible, lambda: self.changed(label))
                 yield from (label, changed, self.changed(label), self.lost(label))
 
     def without_condition(self, rule: str) -> Ruleset:
@@ -115,11 +137,13 @@ class DrawnLabels:
         return label[:place] + label[place + 1:]
 
     def variants(self) -> Iterator[str]:
-        """Each entry that has variants, and each variant, alone and with others."""
-        for entry in self.entries:
-            for points in [entry.points, *(variant.points for variant in entry.variants)] if entry.variants else ():
-                yield points
-                yield self.some(0, 1) + points + self.some(0, 1)
+        """Each entry that has variants and each variant alone; and with others, each if there aren't too many."""
+        having = [entry for entry in self.entries if entry.variants]
+        lists = ([entry.points, *(variant.points for variant in entry.variants)] for entry in having)
+        each = list(dict.fromkeys(itertools.chain.from_iterable(lists)))
+        yield from each
+        for points in self.chance.sample(each, min(AMONG_OTHERS, len(each))):
+            yield from (self.some(0, 1) + points + self.some(0, 1) for _ in range(3))
 
     def overlaps(self) -> Iterator[str]:
         """Sequences, and two entries of which the first ends as the second begins."""
@@ -136,8 +160,8 @@ class DrawnLabels:
                     yield from self.among_others(points[:place] + other)
 
     def others(self) -> Iterator[str]:
-        for _ in range(RANDOM // 2):
-            yield mostly_eligible(self.ruleset, lambda: self.some(1, 5))
+        for _ in range(min(RANDOM, RANDOM_OF_AN_ENTRY * len(self.entries)) // 2):
+            yield mostly(lambda label: Asked(self.ruleset, label).is_valid, lambda: self.some(1, 5))
             label = self.some(1, 5)
             yield self.changed(label) if self.chance.random() < 0.4 else label
 
@@ -164,11 +188,11 @@ def conditions_of(entry: Entry) -> Iterator[Condition]:
             yield condition
 
 
-def mostly_eligible(ruleset: Ruleset, draw: Callable[[], str]) -> str:
-    """The first of some draws that is eligible, or else the last."""
+def mostly(is_wanted: Callable[[str], bool], draw: Callable[[], str]) -> str:
+    """The first of some draws that is wanted, or else the last."""
     for _ in range(TRIES):
         label = draw()
-        if ruleset.is_eligible(label):
+        if is_wanted(label):
             break
     return label
 

@@ -7,10 +7,10 @@ import functools
 import re
 from collections.abc import Callable, Iterator, Sequence
 
-import unicode_properties
-from rfc7940 import DISPOSITIONS, PREDEFINED, UNTYPED, Action, Entry, Ruleset, Variant
-from rfc7940_rules import AllOf, Anchor, AnyOf, Class, Condition, End, Literal, OneOf, Part, Start, Times
-from rfc7940_schema import BLANKS, SPANS, Element, Refused, elements_of
+from . import unicode_properties
+from .ruleset import DISPOSITIONS, PREDEFINED, UNTYPED, Action, Entry, Ruleset, Variant
+from .rules import AllOf, Anchor, AnyOf, Class, Condition, End, Literal, OneOf, Part, Start, Times
+from .schema import BLANKS, SPANS, Element, Refused, elements_of
 
 __all__ = ["Refused", "read"]
 
@@ -24,18 +24,19 @@ COMBINED: dict[str, Callable[[Sequence[bool]], bool]] = {
 }
 
 
-def read(text: bytes) -> Ruleset:
-    """What a file says, or why it is refused."""
+def read(text: bytes, untyped: str | None = None) -> Ruleset:
+    """What a file says, or why it is refused; `untyped` is the predefined type of variants that have none."""
     try:
-        return ruleset_of(text)
+        return ruleset_of(text, untyped)
     except RecursionError as error:
         raise Refused(1, "rules or classes too deep in others") from error
 
 
-def ruleset_of(text: bytes) -> Ruleset:
+def ruleset_of(text: bytes, untyped: str | None) -> Ruleset:
     sections = {section.name: section.children for section in elements_of(text).children}
     data, rules = sections["data"], Rules(sections["data"], sections.get("rules", []))
-    bits = dict(PREDEFINED)
+    bits = dict[str | None, int](PREDEFINED.items())
+    bits[None] = PREDEFINED[untyped] if untyped else UNTYPED
     entries: dict[str, Entry] = {}
     for element in data:
         condition = rules.condition_of(element, "when", "not-when")
@@ -80,7 +81,7 @@ def sources_of(element: Element) -> list[str]:
     return [chr(point) for point in span if not 0xD800 <= point <= 0xDFFF]
 
 
-def variants_of(element: Element, rules: "Rules", bits: dict[str, int]) -> Iterator[Variant]:
+def variants_of(element: Element, rules: "Rules", bits: dict[str | None, int]) -> Iterator[Variant]:
     """The variants of a `char`. A variant may come twice only with conditions, and these have to differ (5.3.5)."""
     conditions: dict[str, list[Condition | None]] = {}
     for child in element.children:
@@ -90,11 +91,10 @@ def variants_of(element: Element, rules: "Rules", bits: dict[str, int]) -> Itera
         if others and (condition is None or None in others or condition in others):
             raise child.refused(f"{spelled(points)} comes twice")
         others.append(condition)
-        name = child.attributes.get("type")
-        yield Variant(points, bits.setdefault(name, 4 << len(bits)) if name else UNTYPED, condition)
+        yield Variant(points, bits.setdefault(child.attributes.get("type"), 4 << len(bits)), condition)
 
 
-def action_of(element: Element, rules: "Rules", bits: dict[str, int]) -> Action:
+def action_of(element: Element, rules: "Rules", bits: dict[str | None, int]) -> Action:
     disposition = element.attributes["disp"]
     if disposition not in DISPOSITIONS:
         raise element.refused(f"the disposition '{disposition}'")

@@ -1,8 +1,6 @@
 """An evaluator of RFC 7940: what a Label Generation Ruleset says of a label, and of one variant of it.
 
-It is written from the standard alone, and shares nothing with tables/lgr/, which it is there to check:
-rfc7940_reader.py reads a file, rfc7940_schema.py has the schema, rfc7940_rules.py the rules. The numbers in comments
-are sections of the standard. Where that leaves room:
+The numbers in comments are sections of the standard. Where that leaves room:
 
 - A condition of a variant is asked in the label asked about, where its source stands (8.2); that of an entry in each
   label.
@@ -17,7 +15,7 @@ import dataclasses
 import enum
 from collections.abc import Iterator, Sequence
 
-from rfc7940_rules import Condition, Span
+from .rules import Condition, Span
 
 UNMAPPED, UNTYPED = 1, 2
 # 7.3. Other types have the bits after these.
@@ -105,13 +103,13 @@ class Ruleset:
             place += len(longest.points)
         return label != ""
 
-    def is_cut(self, label: str, asks_conditions: bool) -> bool:
+    def is_cut(self, label: str) -> bool:
         """Whether a label can be cut into entries in any way."""
         reached = {0}
         for place in range(len(label)):
             if place in reached:
                 reached.update(place + len(entry.points) for entry in self.entries_at(label, place)
-                               if not asks_conditions or entry.stands(label, place))
+                               if entry.stands(label, place))
         return len(label) in reached and label != ""
 
     def disposition(self, label: str, kinds: int) -> str:
@@ -148,14 +146,13 @@ class Use:
 
 
 class Asked:
-    """A label asked about under a ruleset. `refusal` is 40 if it can't be cut into entries, 41 if it can and isn't
-    valid, and None if it is valid."""
+    """A label asked about under a ruleset, and whether it is valid."""
 
     def __init__(self, ruleset: Ruleset, label: str) -> None:
         self.ruleset, self.label = ruleset, label
         self.uses = [list(self.uses_at(place)) for place in range(len(label))]
-        self.recorded_of_label = self.recorded(label)
-        self.refusal = None if self.is_valid() else 41 if ruleset.is_cut(label, False) else 40
+        self.own_verdict = self.verdict_of_valid(label)
+        self.is_valid = self.own_verdict in (Verdict.ALLOCATABLE, Verdict.BLOCKED)
 
     def uses_at(self, place: int) -> Iterator[Use]:
         """What may be put in the place of each entry that stands here (8.2)."""
@@ -192,19 +189,16 @@ class Asked:
         """Whether all readings record the same: no kind is recorded by one and not by another (8.4)."""
         return not self.ruleset.has_types or recorded[0] & recorded[1] == 0
 
-    def is_valid(self) -> bool:
-        recorded = self.recorded_of_label
-        return (recorded is not None and self.ruleset.is_eligible(self.label) and self.is_clear(recorded)
-                and self.ruleset.disposition(self.label, recorded[0]) != INVALID)
-
     def verdict(self, variant: str) -> Verdict:
         """What the ruleset says of a variant of this label, the label itself too."""
-        recorded = None if self.refusal else self.recorded(variant)
+        return self.verdict_of_valid(variant) if self.is_valid else Verdict.ABSENT
+
+    def verdict_of_valid(self, variant: str) -> Verdict:
+        """The same, if this label is valid."""
+        recorded = self.recorded(variant)
         if recorded is None or not self.ruleset.is_eligible(variant):
             return Verdict.ABSENT
         if not self.is_clear(recorded):
             return Verdict.ABSENT if self.ruleset.is_barred(variant) else Verdict.UNCLEAR
-        disposition = self.ruleset.disposition(variant, recorded[0])
-        if disposition == INVALID:
-            return Verdict.ABSENT
-        return Verdict.BLOCKED if disposition == BLOCKED else Verdict.ALLOCATABLE
+        verdicts = {INVALID: Verdict.ABSENT, BLOCKED: Verdict.BLOCKED}
+        return verdicts.get(self.ruleset.disposition(variant, recorded[0]), Verdict.ALLOCATABLE)

@@ -1,12 +1,13 @@
 """The properties of Unicode that a class of RFC 7940 may name (its section 6.2.3), from Unicode's own files: those of
-Debian's package unicode-data, or of the folder that UNICODE_DATA names. Nothing of the program or of its tables comes
-from here."""
+Debian's package unicode-data, or of the folder that UNICODE_DATA names. Where these aren't, Python's own data tells of
+three properties. Nothing of the program or of its tables comes from here."""
 
 import bisect
 import functools
 import os
 import pathlib
 import re
+import unicodedata
 from collections.abc import Callable
 
 FOLDER = pathlib.Path(os.environ.get("UNICODE_DATA", "/usr/share/unicode"))
@@ -18,6 +19,14 @@ FILES = {
 # A line about code points: one or a range, and a value. Those without a line of their own have that of the last
 # '@missing'.
 LINE = re.compile(r"(# @missing: )?([0-9A-F]{4,6})(?:\.\.([0-9A-F]{4,6}))? *; *(\w+)")
+
+# Those that Python tells, and their values as it names them. A category may be named by its first letter.
+OF_PYTHON: dict[str, tuple[Callable[[str], str], str]] = {
+    "gc": (unicodedata.category, "L[ulmto]?|M[nce]?|N[dlo]?|P[cdseifo]?|S[mcko]?|Z[slp]?|C[cfosn]?"),
+    "ccc": (lambda letter: str(unicodedata.combining(letter)), "[0-9]{1,3}"),
+    "bc": (unicodedata.bidirectional, "L|R|AL|EN|ES|ET|AN|CS|NSM|BN|B|S|WS|ON"),
+}
+LONG_NAMES = {"General_Category": "gc", "Canonical_Combining_Class": "ccc", "Bidi_Class": "bc"}
 
 Row = tuple[int, int, str]
 
@@ -65,6 +74,8 @@ def is_assigned(point: int) -> bool:
 def test_of(name: str) -> Callable[[int], bool]:
     """Whether a code point has the property and value that are named so: 'gc:Mn', 'Script:Greek', 'ccc:9'."""
     given, _, value = name.partition(":")
+    if not FOLDER.exists() and (found := test_by_python(LONG_NAMES.get(given, given), value)):
+        return found
     aliases = [[field.strip() for field in line.split(";")] for line in lines_of("PropertyAliases.txt")]
     short = next((fields[0] for fields in aliases if given in fields), "")
     if short not in FILES:
@@ -81,3 +92,13 @@ def test_of(name: str) -> Callable[[int], bool]:
         return next(value for first, last, value in near + missing if first <= point <= last) in names
 
     return has
+
+
+def test_by_python(short: str, value: str) -> Callable[[int], bool] | None:
+    """The same by Python's own data, if they tell it."""
+    value_of, values = OF_PYTHON.get(short, (str, "(?!)"))
+    if not re.fullmatch(values, value):
+        return None
+    if short == "gc":
+        return lambda point: value_of(chr(point)).startswith(value)
+    return lambda point: value_of(chr(point)) == value
