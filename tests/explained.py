@@ -7,6 +7,7 @@ the context of a code point, RFC 5893 for the Bidi rule, RFC 5891 for the others
 and the exit status is 0 where nothing failed."""
 
 import os
+import re
 import subprocess
 import sys
 
@@ -497,6 +498,13 @@ def tells_which_words_cannot_be_used(folder):
         expect(words, b"", b"", b"idn2: 50 usage\n", 2)
         expect([*words, "--", "--explain"], b"", b"", b"idn2: 50 usage\n", 2)
     expect(["--explain", "--explain", "x"], b"", b"", b"idn2: 50 usage: --explain is given twice\n", 2)
+    # No option of the help is taken for the unknown one, in none of its forms.
+    rows = re.findall(r"^ +(?:(-\w), )?(--[\w-]+)( <\w+>)?  ", run(["--help"]).stdout.decode(), re.MULTILINE)
+    assert len(rows) > 12, rows
+    for short, long, value in rows:
+        if long not in ("--explain", "--help", "--version"):
+            for option in filter(None, (short, long + "=1" if value else long)):
+                expect([option, "--explain", "--foo"], b"", b"", b"idn2: 50 usage: unknown option '--foo'\n", 2)
 
 
 def tells_which_file_cannot_be_read(folder):

@@ -10,10 +10,11 @@ import functools
 import glob
 import os
 import re
+import shutil
 import subprocess
 import sys
 
-from program import LIMIT, PROGRAM, ROOT, TABLES, expect, is_installed, make, manual_blocks, run, run_tests, sessions_of, text_of
+from program import LIMIT, PROGRAM, ROOT, TABLES, expect, is_installed, is_there, make, manual_blocks, run, run_tests, sessions_of, text_of
 
 sys.path += [os.path.join(ROOT, "conformance"), os.path.join(ROOT, "tables")]
 
@@ -190,6 +191,18 @@ def has_the_options_of_the_help_in_each_page(folder):
     assert set(re.findall(r"`(--?[A-Za-z][\w-]*)", cells)) == forms, cells
     named = set(re.findall(r"(?<![\w-])--?[A-Za-z][\w-]*", synopsis))
     assert {form for form in forms if form.startswith("--")} - named == SAID_BY_SHORT_FORMS and named <= forms, named
+
+
+def has_the_names_of_the_definition(folder):
+    """The manual page under OPTIONS, in the order of specs/Names.antt, but for the two that clap adds."""
+    definition = text_of("crates/idn2_options/specs/Names.antt")
+    letters = {name: chr(int(code)) for name, code in re.findall(r"^(\w+)_letter = (\d+)$", definition, re.MULTILINE)}
+    named = [(letters.get(name), word) for name, word in re.findall(r'^(\w+)_name = codes "([\w-]+)"$', definition, re.MULTILINE)]
+    assert named.pop() == (None, "STRINGS"), named
+    options = re.search(r"^\.SH OPTIONS\n(.*?)^\.SH ", text_of("docs", "idn2.1").replace("\\-", "-"), re.MULTILINE | re.DOTALL).group(1)
+    shown = re.findall(r"^\.TP\n\.[A-Z]+ (?:-(\w) ,\\~ )?--([\w-]+)", options, re.MULTILINE)
+    assert len(named) > 12 and [(letter or "", name) for letter, name in named] == shown[:-2], (named, shown)
+    assert shown[-2:] == [("h", "help"), ("V", "version")], shown
 
 
 # What stands for each word in italics in a form of a cause, and what has no form of its own.
@@ -555,6 +568,15 @@ def names_only_paths_that_are_there(folder):
     assert len(named) > 50 and not absent, absent
 
 
+def names_the_logic_that_proves_it(folder):
+    """The README, as the kit tells it that is here. Proofs rest on the logic; another kit may have the same one."""
+    rt = os.environ.get("RT", "rt")
+    if is_there("the Rattle kit", shutil.which(rt)):
+        kit, logic = re.search(r"^    (rattle-kit-\w+) (logic [0-9a-f]+)$", text_of("README.md"), re.MULTILINE).groups()
+        told = subprocess.run([rt, "version"], capture_output=True, encoding="utf-8", timeout=LIMIT).stdout.strip()
+        assert told.partition(" ")[2] == logic, (kit, logic, told)
+
+
 @runs_the_program
 def ends_as_the_readme_shows(folder):
     """What `make run` prints where the program is proved."""
@@ -729,6 +751,7 @@ TESTS = [
     breaks_no_option_of_the_manual_page,
     shows_help_in_80_columns,
     has_the_options_of_the_help_in_each_page,
+    has_the_names_of_the_definition,
     lists_each_form_of_a_cause,
     names_what_comes_with_the_program,
     answers_alike_in_each_locale,
@@ -741,6 +764,7 @@ TESTS = [
     names_what_is_proved,
     reads_as_much_of_a_file_as_can_matter,
     names_only_paths_that_are_there,
+    names_the_logic_that_proves_it,
     ends_as_the_readme_shows,
     runs_the_main_job_without_a_proof_until_make_has_made_it,
     names_what_it_skipped_in_its_last_lines,

@@ -83,6 +83,7 @@ def test_tells_what_can_not_be_used(bare: Place) -> None:
         (None, "table.txt: No such file or directory: mend the path of de in [tables]"),
         ("", "table.txt: line 1: no entry in it"),
         ("# nothing\n", "table.txt: line 1: no entry in it"),
+        ("%version 3\n%set a 0061\n", "table.txt: line 1: no entry in it"),
         ("0061\n0063||0064\n", "table.txt: line 2: 30 table syntax at byte 6"),
         ("0061\n", "register.db: there is no register: idn2-registry load FILE makes it"),
     )
