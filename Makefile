@@ -25,19 +25,19 @@ all:
 	cd crates/idn2 && $(RT) run < stdin > /dev/null
 	@mv $(PROVED).begun $(PROVED)
 
-# The main job, the variants of a label under a table, in about a minute: by the program, if nothing has changed since its
-# proof began, else by a build without any proof, which isn't kept.
+# The main job, the variants of a label under a table: by the program, if nothing has changed since its proof began, else by a
+# build without any proof, which isn't kept.
 run:
 	@echo 'idn2 --variants tables/german.txt strasse'
 	@if test -x $(PROGRAM) && changed=$$(find $(SOURCES) -cnewer $(PROVED) 2> /dev/null) && test -z "$$changed"; then \
 	    $(PROGRAM) --variants tables/german.txt strasse && echo proved; \
 	else \
-	    echo 'builds without a proof, for about a minute' >&2; \
+	    echo 'builds without a proof' >&2; \
 	    (cd crates/idn2 && $(RT) try -- --variants '$(CURDIR)/tables/german.txt' strasse) && \
-	        echo 'not proved yet: make proves it, in about half an hour'; \
+	        echo 'not proved yet: make proves it'; \
 	fi
 
-# The gate: proves everything from nothing, tries the wrong bodies, runs the programs and the tests.
+# The gate: proves everything from nothing, tries the mutants, runs the programs and the tests.
 test:
 	RT=$(RT) LANES=$(LANES) tests/gate
 
@@ -46,7 +46,7 @@ packages:
 	apt-get update && DEBIAN_FRONTEND=noninteractive apt-get install -y --no-upgrade --no-install-recommends \
 	    $$(sed 's/#.*//' tests/packages.txt)
 
-# One crate while you work on it: proves what changed in it, tries its wrong bodies, and runs the tests of what is called
+# One crate while you work on it: proves what changed in it, tries its mutants, and runs the tests of what is called
 # from outside, without proving these: make test-crate CRATE=idn_label
 test-crate:
 	@test -d 'crates/$(CRATE)/src' || { echo 'CRATE names no folder of crates/: make test-crate CRATE=idn_label' >&2; exit 2; }
@@ -58,7 +58,7 @@ test-crate:
 	[ ! -d crates/$(CRATE)/planted ] || RT=$(RT) IS_PROVED=1 python3 tests/planted.py planted $(CRATE)
 	for rows in label_rows table_rows idn2_rows; do (cd crates/$$rows && $(RT) try --test) || exit 1; done
 
-# The wrong bodies that the gate leaves out, of all crates or of those that CRATES names.
+# The mutants that the gate leaves out, of all crates or of those that CRATES names.
 wrong-bodies:
 	cd crates/idn2_cli && $(RT) all check --jobs $(LANES)
 	RT=$(RT) LANES=$(LANES) IS_PROVED=1 python3 tests/planted.py wrong-bodies $(CRATES)
@@ -132,7 +132,7 @@ bench: all
 	python3 bench/rulesets.py
 	python3 bench/registry.py
 
-# Compares the program with libidn2, with a second writing of the rules and of the table notation, and with Unicode's
+# Compares the program with libidn2, with a reference implementation of the rules and of the table notation, and with Unicode's
 # IDNA test file where IDNA_TEST_FILE names it.
 conformance: all
 	python3 conformance/compare.py
@@ -146,7 +146,7 @@ evaluator: all
 	@test -f '$(RULESETS)/answers.txt' || { echo 'RULESETS names no folder with answers.txt: make evaluator RULESETS=FOLDER' >&2; exit 2; }
 	python3 conformance/evaluator_answers.py '$(RULESETS)'
 
-# Compares the program with a second writing of its rules on random input, for so many seconds: make fuzz SECONDS=600
+# Compares the program with a reference implementation of its rules on random input, for so many seconds: make fuzz SECONDS=600
 SECONDS := 60
 fuzz: all
 	python3 conformance/fuzz.py --seconds $(SECONDS)

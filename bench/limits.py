@@ -6,10 +6,10 @@ least of some rounds, in microseconds of processor time, less a run that stops a
 
     a step, Han             labels under tables/han.txt, of which each has a line. A step, its test and its line
     a test, ß               50 `ß` under tables/german.txt: of what is tested, no A-label fits
-    a step, passed over     a label of which 4,194,304 hopeless beginnings lie before the first variant
+    a step, passed over     a label of which 4,194,304 dead prefixes lie before the first variant
     a step, slowest         the slowest table that was found: a step goes through 60 rows, and in each of them nearly all
-                            places of the net are reached
-    a jump, slowest         the same label and table, each jump from a text that is hopeless
+                            places of the variant graph are reached
+    a jump, slowest         the same label and table, each jump from a text that begins with a dead prefix
 
 The table of the last two is made here.
 """
@@ -37,9 +37,9 @@ def digits(folder):
 
 
 def slowest(folder):
-    """A step turns off at a Hebrew letter, and the `b` after these makes the beginning hopeless: so it goes through all
+    """A step turns off at a Hebrew letter, and the `b` after these makes the beginning a dead prefix: so it goes through all
     rows. `q` alone leads to the end, so they are as many as there can be; and one to eight `z` are one to eight `b`, so
-    nearly each place of the net is reached in each row."""
+    nearly each place of the variant graph is reached in each row."""
     replacements = [number * "b" for number in range(1, 9)] + [7 * "b" + last for last in "cdefghij"]
     entries = [entry(number * "z", replacements) for number in range(1, 9)]
     table = write(folder, "slowest", [entry("p", HEBREW), *entries, entry("q")])

@@ -1,7 +1,7 @@
 #!/usr/bin/env python3
-"""Compares `idn2 --check-table` with the second writing of the notation: python3 conformance/check_tables.py
+"""Compares `idn2 --check-table` with the reference implementation of the notation: python3 conformance/check_tables.py
 
-The second writing is tables/check.py. Both are given the example tables of tables/, texts at the edges of the notation
+The reference implementation is tables/check.py. Both are given the example tables of tables/, texts at the edges of the notation
 and of its limits, and random texts from a fixed seed, without `--standard` and with it. What is printed, the message of
 a faulty table and the status must be the same, byte for byte. The classes of code points are those of Unicode's data
 here, so the texts have no code point that is newer.
@@ -107,7 +107,7 @@ def expected(text, classes):
 
 
 def main():
-    words = argparse.ArgumentParser(description="Compares --check-table with a second writing of the notation.")
+    words = argparse.ArgumentParser(description="Compares --check-table with a reference implementation of the notation.")
     words.add_argument("--program", default=PROGRAM, type=pathlib.Path, help="our program")
     words.add_argument("--random", default=500, type=int, help="random tables")
     options = words.parse_args()

@@ -86,11 +86,11 @@ def compare(program, words, lines, ask, known_kinds, facts):
 
 
 def verify(lines, our, ask, registration):
-    """Compares our answers with the second writing of the rules; answers how many differ."""
+    """Compares our answers with the reference implementation of the rules; answers how many differ."""
     known = [(line, answer) for line, answer in zip(lines, our)
              if registration.knows("".join([line, *kinds.decoded_labels(line)]))]
     wrong = [(line, answer, ask(line)) for line, answer in known if answer != ask(line)]
-    print(f"  {len(known):>7,}  lines whose text or number was compared with a second writing of the rules")
+    print(f"  {len(known):>7,}  lines whose text or number was compared with a reference implementation of the rules")
     if wrong:
         print(f"  {len(wrong):>7,}  OF THEM ANSWERED OTHERWISE")
         for line, answer, expected in wrong[:SHOWN]:

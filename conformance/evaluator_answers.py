@@ -5,7 +5,7 @@ FOLDER has rulesets in XML, and answers.txt with a line for each label: the rule
 'invalid' or the variants that the ruleset finds valid, the label itself among them, each with '=allocatable' or '=blocked',
 parted by blanks. Labels are written as code points in hexadecimal, joined by hyphens. This project's own evaluator,
 tables/rfc7940, answers from the XML. tables/from_lgr.py converts each ruleset, and verifies it with drawn labels; the program lists
-its labels; the second writing, ruleset_labels.py, tells the same without it. What RFC 5891 refuses is left out on all sides. The
+its labels; the reference implementation, ruleset_labels.py, tells the same without it. What RFC 5891 refuses is left out on all sides. The
 status is 0 where all answers agree."""
 
 import collections
@@ -74,7 +74,7 @@ def answer_of_evaluator(asked):
     return {variant: verdict.value for variant, verdict in verdicts.items() if verdict is not Verdict.ABSENT}
 
 
-def answers_of_second_writing(text, labels):
+def answers_of_reference(text, labels):
     ruleset = RulesetLabels(reading.read(text, lambda point: True), MOST_SPELLED)
     return {label: ruleset.answer(label) for label in labels}
 
@@ -103,11 +103,11 @@ def differences(wanted, found):
 
 
 def differing(name, ruleset, text, wanted):
-    """The labels of a file that the evaluator, the second writing or the program answers otherwise; each is told."""
+    """The labels of a file that the evaluator, the reference implementation or the program answers otherwise; each is told."""
     labels, found = sorted(wanted), set()
     known = sorted(registrable(labels))
     for who, answers in (("the evaluator", answers_of_evaluator(ruleset, labels)),
-                         ("the second writing", answers_of_second_writing(text, labels)),
+                         ("the reference implementation", answers_of_reference(text, labels)),
                          ("the program", answers_of_program(text, known))):
         different = differences(wanted, answers)
         found.update(different)

@@ -1,5 +1,5 @@
 #!/usr/bin/env python3
-"""Compares the built program with a second writing of its rules on random input: python3 conformance/fuzz.py
+"""Compares the built program with a reference implementation of its rules on random input: python3 conformance/fuzz.py
 
 It draws words, tables, labels, registered labels, names and bytes from a seed, which it prints, until the given number
 of seconds is over. Each run's output, messages and status must be those of second_run.py, byte for byte, in half of the
@@ -103,7 +103,7 @@ class Fuzz:
         if difference is not Unknown:
             self.counts[kind] += 1
             return difference
-        self.counts["not known to the second writing"] += 1
+        self.counts["not known to the reference implementation"] += 1
         return None
 
     def compare(self, words, given, **files):
@@ -406,7 +406,7 @@ class Fuzz:
 
 
 def is_as_wanted(found, wanted):
-    """Whether a run's output, messages and status are those of the second writing, which of help and of the version knows only
+    """Whether a run's output, messages and status are those of the reference implementation, which of help and of the version knows only
     that something is shown."""
     return found == wanted or (wanted[0] is None and bool(found[0]) and found[1:] == wanted[1:])
 
@@ -433,7 +433,7 @@ def cut(answer):
 
 
 def main():
-    words = argparse.ArgumentParser(description="Compares the program with a second writing of its rules.")
+    words = argparse.ArgumentParser(description="Compares the program with a reference implementation of its rules.")
     words.add_argument("--program", default=PROGRAM, type=pathlib.Path, help="our program")
     words.add_argument("--seconds", default=60, type=int, help="how long")
     words.add_argument("--seed", default=random.randrange(10**9), type=int, help="where the random input begins")

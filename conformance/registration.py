@@ -114,7 +114,7 @@ class Registration:
         }
         return next((number for number, is_there in faults.items() if is_there), None)
 
-    def is_hopeless(self, points):
+    def is_dead_prefix(self, points):
         """A test of the hyphens, of a leading mark or of the Bidi rule has failed, whatever follows."""
         classes = {self.known.bidi_class(point) for point in points}
         begins_right_to_left = self.known.bidi_class(points[0]) in ("R", "AL")

@@ -11,7 +11,7 @@ SPELLED_LIMIT = 1_000
 
 
 class Unknown(Exception):
-    """The second writing can't tell. Here: a label spells more labels than are looked at."""
+    """The reference implementation can't tell. Here: a label spells more labels than are looked at."""
 
 
 class RulesetLabels:
@@ -19,7 +19,7 @@ class RulesetLabels:
         self.ruleset, self.most_spelled = ruleset, most_spelled
         self.entries = {text_of(source): entry for source, entry in ruleset.entries.items()}
         self.inside = {source for source, entry in self.entries.items() if not entry.is_outside}
-        self.pieces = self.all_pieces()
+        self.segments = self.all_segments()
 
     # Patterns: in which places of a label a part can end that begins in one of some places.
 
@@ -67,30 +67,30 @@ class RulesetLabels:
 
     # Valid labels.
 
-    def all_pieces(self):
+    def all_segments(self):
         """Each with its condition: the sources, and the variants that can't be cut into sources."""
-        pieces = {source: entry.source.condition for source, entry in self.entries.items()}
+        segments = {source: entry.source.condition for source, entry in self.entries.items()}
         variants = {text_of(variant.points) for entry in self.entries.values() for variant in entry.variants}
-        pieces.update((variant, None) for variant in variants if not is_cut(variant, self.entries))
-        return pieces
+        segments.update((variant, None) for variant in variants if not is_cut(variant, self.entries))
+        return segments
 
     def cause(self, label):
         """Why a label that is made of sources may not be asked about: the furthest place to which sources that may stand reach
         and where one may not, after which the rest is made of sources, with the condition of the longest such source there; or the
         number of the first demand that is broken, from 1, and that demand."""
-        holds = lambda source, start: self.holds(self.pieces[source], label, start, start + len(source))
+        holds = lambda source, start: self.holds(self.segments[source], label, start, start + len(source))
         fits = reached(label, self.inside, holds)
         if len(label) not in fits:
             ends_well = lambda end: len(label) - end in reached(label[end:], self.inside, lambda source, start: True)
             misplaced = [(start, len(source), source) for start in fits for source in self.inside if label.startswith(source, start)
                          and not holds(source, start) and ends_well(start + len(source))]
             start, _, source = max(misplaced)
-            return start, self.pieces[source]
+            return start, self.segments[source]
         return next((number, demand) for number, demand in enumerate(self.ruleset.demands, 1) if not self.meets(demand, label))
 
     def is_valid(self, label):
-        holds = lambda piece, start: self.holds(self.pieces[piece], label, start, start + len(piece))
-        return self.meets_demands(label) and len(label) in reached(label, self.pieces, holds)
+        holds = lambda segment, start: self.holds(self.segments[segment], label, start, start + len(segment))
+        return self.meets_demands(label) and len(label) in reached(label, self.segments, holds)
 
     def meets_demands(self, label):
         return all(self.meets(demand, label) for demand in self.ruleset.demands)
@@ -155,15 +155,15 @@ class RulesetLabels:
 
     # Beginnings of labels that a listing passes over.
 
-    def is_lost(self, beginning):
-        """Whether the ruleset has ruled out each label that begins so: a demand is broken whatever follows, or no piece that
+    def is_dead_prefix(self, beginning):
+        """Whether the ruleset has ruled out each label that begins so: a demand is broken whatever follows, or no segment that
         might go on ends near the end."""
         if any(demand.word == "%never" and not has_end(demand.pattern) and self.is_somewhere(demand.pattern, beginning)
                for demand in self.ruleset.demands):
             return True
-        may_stand = lambda piece, start: not self.is_barred(self.pieces[piece], beginning, start)
-        first_of_last = len(beginning) - max(map(len, self.pieces), default=0) + 1
-        return not any(place >= first_of_last for place in reached(beginning, self.pieces, may_stand))
+        may_stand = lambda segment, start: not self.is_barred(self.segments[segment], beginning, start)
+        first_of_last = len(beginning) - max(map(len, self.segments), default=0) + 1
+        return not any(place >= first_of_last for place in reached(beginning, self.segments, may_stand))
 
     def is_barred(self, condition, label, start):
         """Whether the condition can't hold of a part that begins there, whatever follows."""
@@ -180,13 +180,13 @@ def text_of(points):
     return "".join(map(chr, points))
 
 
-def reached(label, pieces, may_stand):
-    """The places that are reached from the first by pieces that may stand where they begin."""
+def reached(label, segments, may_stand):
+    """The places that are reached from the first by segments that may stand where they begin."""
     places = {0}
     for start in range(len(label)):
         if start in places:
             places |= {end for end in ends_from(start, label)
-                       if label[start:end] in pieces and may_stand(label[start:end], start)}
+                       if label[start:end] in segments and may_stand(label[start:end], start)}
     return places
 
 

@@ -29,7 +29,7 @@ RRA_AND_HALANT = ("%set C 0915..0930 0932..0939\n%rule halant @C _\n%rule ya _ 0
 CONSONANTS_BY_TURNS = "%set C 0061..0063\n%rule x ^ (@C 0068)* @C _\n0061..0063\n0068\n0065 when x\n"
 ENDS_IN_PAIRS = "%never (^ / 0062) 0061 (0063 0063)* $\n0061..0063\n"
 ALWAYS = "%rule always _\n0061 when always\n0062 unless always\n"
-LOST = "%rule x 0061 _\n0061|!0063\n0063\n0062 when x\n"
+DEAD = "%rule x 0061 _\n0061|!0063\n0063\n0062 when x\n"
 
 # The ruleset, and for each label the words, the label, and the lines that are listed, their fields parted by blanks here;
 # or the number by which the label is refused.
@@ -122,8 +122,8 @@ LISTINGS = [
     (CONSONANTS_BY_TURNS, [([], "ahbhce", "ahbhce ahbhce allocatable, #end 1"), ([], "aabe", 41)]),
     (ENDS_IN_PAIRS, [([], "acb", "acb acb allocatable, #end 1"), ([], "cbacc", 41)]),
     (ALWAYS, [([], "aa", "aa aa allocatable, #end 1"), ([], "ab", 41)]),
-    # A beginning that the conditions of pieces rule out is not tested.
-    (LOST, [
+    # A beginning that the conditions of segments rule out is not tested.
+    (DEAD, [
         ([], "abb", 41),
         ([], "aba", "aba aba allocatable, abc abc blocked, #end 2"),
         (["--tries", "3"], "aba", "aba aba allocatable, abc abc blocked, #end 2"),

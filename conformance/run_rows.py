@@ -303,7 +303,7 @@ OF_RULESETS = [
     ([*RULESET, "--json"], SIGNS, "क\u093E\u093E\n",
      '{"line":1,"input":"क\u093E\u093E","refusal":{"number":41,"text":"not valid under the table",'
      '"code_point":"U+093E","place":3,"condition":"when","rule":"sign"}}\n', "", 1),
-    # A beginning with both kinds of digits is lost: `--tries` doesn't count the labels after it.
+    # A beginning with both kinds of digits is a dead prefix: `--tries` doesn't count the labels after it.
     ([*RULESET, "--tries", "3"], DIGITS, "01\n",
      "01\t01\tallocatable\n०१\txn--d4bc\tblocked\n#end 2\n", "", 0),
     ([*RULESET, "--explain"], DIGITS, "0१\n",
@@ -345,7 +345,7 @@ BY_EITHER = [
      "#table 34 0\n", "", 0),
     ([*RULESET, "--standard"], ADLAM_RULESET, "\U0001E922\n\U0001E922\U0001E928\n",
      "\U0001E922\U0001E928\txn--9d6hma\tallocatable\n#end 1\n", refused((1, "41 not valid under the table")), 1),
-    # By Unicode a beginning with the sign is not hopeless: it is tested, listed, and the one that is stopped at.
+    # By Unicode a label that begins with the sign has no dead prefix: it is tested, listed, and the one that is stopped at.
     (LIST, SIGN, "\u05D1\u05D0\u05D1\n",
      SIGN_LAST + "#end 1\n", "", 0),
     ([*LIST, "--standard"], SIGN, "\u05D1\u05D0\u05D1\n",

@@ -299,7 +299,7 @@ class Run:
         labels, has_third_field = table
         after = [each for each in candidates if each > options.after]
         variants = [each for each in after if self.is_variant(labels, each)]
-        tested = [each for each in after if self.lost_beginning(labels, each) is None]
+        tested = [each for each in after if self.dead_prefix(labels, each) is None]
         visited = [each for last, each in zip([None, *after], after) if self.is_visited(labels, last, each)]
         if registered is not None:
             variants, tested, visited = [each for each in variants if each in registered], [], []
@@ -315,15 +315,15 @@ class Run:
         field = lambda each: "" if not has_third_field else "\tallocatable" if each in allocatable else "\tblocked"
         return [f"{each}\t{a_label(each)}{field(each)}" for each in variants] + [trailer], None
 
-    def lost_beginning(self, labels, label):
+    def dead_prefix(self, labels, label):
         """How many letters the shortest beginning of the label has that no variant begins with, or None."""
         beginnings = (label[:count] for count in range(1, len(label) + 1))
-        is_lost = lambda each: self.registration.is_hopeless([ord(letter) for letter in each]) or labels.is_lost(each)
-        return next((len(each) for each in beginnings if is_lost(each)), None)
+        is_dead = lambda each: self.registration.is_dead_prefix([ord(letter) for letter in each]) or labels.is_dead_prefix(each)
+        return next((len(each) for each in beginnings if is_dead(each)), None)
 
     def is_visited(self, labels, last, label):
-        """A step comes to each label that is tested, and to one whose lost beginning the candidate before it hasn't."""
-        count = self.lost_beginning(labels, label)
+        """A step comes to each label that is tested, and to one whose dead prefix the candidate before it hasn't."""
+        count = self.dead_prefix(labels, label)
         return count is None or last is None or last[:count] != label[:count]
 
     def is_variant(self, labels, label):

@@ -1,7 +1,7 @@
 #!/usr/bin/env python3
 """Worked rows of the notation, of listings and of jumps: python3 conformance/worked_rows.py
 
-Each row is what a run is given with what must be printed for it, worked out by hand. The second writing (second_run.py and
+Each row is what a run is given with what must be printed for it, worked out by hand. The reference implementation (second_run.py and
 tables/check.py) must answer so, and so must the program, where it is built.
 """
 
@@ -264,12 +264,12 @@ def program_answer(program, words, given, files):
 
 
 def answers(second, program, words, given, files):
-    """Who was asked, and the answer: the second writing where it can tell, which has no objects, and the program where it is
+    """Who was asked, and the answer: the reference implementation where it can tell, which has no objects, and the program where it is
     built."""
     try:
         if "--json" not in words:
             output, messages, status = second.answer(words, given, files)
-            yield "the second writing", (output.decode(), messages.decode(), status)
+            yield "the reference implementation", (output.decode(), messages.decode(), status)
     except Unknown:
         pass
     if program.exists():
@@ -277,7 +277,7 @@ def answers(second, program, words, given, files):
 
 
 def canonical_texts(classes):
-    """Each text, what the second writing makes of it, and what is expected."""
+    """Each text, what the reference implementation makes of it, and what is expected."""
     for table, wanted in CANONICAL:
         yield table, check.canonical_text(check.read(table.encode(), classes)), wanted
     for ruleset, wanted in ruleset_rows.CANONICAL:
@@ -286,7 +286,7 @@ def canonical_texts(classes):
 
 
 def main():
-    words = argparse.ArgumentParser(description="Asks the second writing, and the program, for worked rows.")
+    words = argparse.ArgumentParser(description="Asks the reference implementation, and the program, for worked rows.")
     words.add_argument("--program", default=PROGRAM, type=pathlib.Path, help="our program")
     program, classes = words.parse_args().program, Classes()
     second, wrong, asked = SecondWriting.of(classes), 0, collections.Counter()
@@ -305,9 +305,9 @@ def main():
             wrong += 1
             print(f"{table!r}: canonical text {found!r}, expected {wanted!r}")
     if not program.exists():
-        print(f"{program} is not there, so the second writing alone was asked")
+        print(f"{program} is not there, so the reference implementation alone was asked")
     print(f"{asked['worked rows']} worked rows and {asked['canonical texts']} canonical texts, {wrong} answered otherwise; "
-          f"asked of the second writing {asked['the second writing']}, of the program {asked['the program']}")
+          f"asked of the reference implementation {asked['the reference implementation']}, of the program {asked['the program']}")
     return 1 if wrong else 0
 
 

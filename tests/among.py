@@ -67,7 +67,7 @@ JUMPS = (
     ("0061|0061-0061\n", "a" * 63 + "\n" + "a" * 63 + "\t" + "a" * 64 + "\n", "a" * 63 + "\n#end\n", ""),
     # The version of the table makes no difference, and a blocked variant is an answer like any other.
     (ALIKE, "toss\nto\tt1\n", "t0ss\nto\n", ""),
-    # One net for each line, whatever was asked before.
+    # One variant graph for each line, whatever was asked before.
     (GERMAN, "sss\tßs\nhaus\nsss\tsss\n", "ßs\nhaus\nsss\n", ""),
     # The label is refused by its first fault, then by 40; the text never is.
     (GERMAN, "Sss\tsss\n\tsss\n-s\ts\nстол\tсто\nsss\tSTRASSE!\n" + "s" * 64 + "\ts\nxn--zca\txn\n", "sss\n",

@@ -2,7 +2,7 @@
 """Makes rulesets of version 3 of the table notation with tables/from_lgr.py, and asks them for labels.
 
 Each part of RFC 7940 has a small ruleset here (converted_rows.py), with the text that it becomes and with answers that the RFC
-gives. Random rulesets (rich_ruleset.py) are asked beside a plain reading of the RFC (plain_ruleset.py). The second writing
+gives. Random rulesets (rich_ruleset.py) are asked beside a plain reading of the RFC (plain_ruleset.py). The reference implementation
 (conformance/ruleset_labels.py) answers, and the program, which has to say the same. And a converter that was made wrong on
 purpose has to print nothing. The last line is 'N passed, M failed', and the exit status is 0 where nothing failed."""
 

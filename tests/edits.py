@@ -1,5 +1,5 @@
 #!/usr/bin/env python3
-"""Tests that each wrong body can be applied, also those that the gate doesn't try: each text that an edit replaces stands
+"""Tests that each mutant can be applied, also those that the gate doesn't try: each text that an edit replaces stands
 exactly once in its file. And that each says in its first line what it breaks, 'breaks: FUNCTION, clause NAME', or 'its clause'
 where that has no name, and perhaps ': ' and an input at which it does; that this function and this clause are there; and that it
 changes the body of this function, if it changes bodies alone. Whether the checker refuses the edit, and at which clause, is

@@ -47,7 +47,7 @@ class Case(NamedTuple):
 
     def whole(self):
         """What stands on the output and on the messages, and the status."""
-        return *written(self.pieces()), self.status
+        return *written(self.output_lines()), self.status
 
     def given(self):
         return "".join(line for line, _, _ in self.lines).encode()
@@ -57,17 +57,17 @@ class Case(NamedTuple):
         if self.registered is not None:
             table_file(folder, self.registered, "registered")
 
-    def pieces(self):
+    def output_lines(self):
         """What is written, in order: lines for the output, at True, and messages."""
         for _, answer, message in self.lines:
             yield from ((True, line.encode()) for line in answer.splitlines(keepends=True))
             yield from ((False, line.encode()) for line in message.splitlines(keepends=True))
 
 
-def written(pieces):
+def written(lines):
     """What stands on the output and on the messages."""
-    pieces = list(pieces)
-    return tuple(b"".join(text for is_answer, text in pieces if is_answer == wanted) for wanted in (True, False))
+    lines = list(lines)
+    return tuple(b"".join(text for is_answer, text in lines if is_answer == wanted) for wanted in (True, False))
 
 
 AMONG, JUMP = ["--variants", "table", "--among", "registered"], ["--variants", "table", "--jump"]
@@ -286,10 +286,10 @@ class Refusing:
 
 
 def each_growth_is_refused(folder):
-    """What stands is what was written before some piece, and then the one message."""
+    """What stands is what was written before some output line, and then the one message."""
     def wanted(case, _):
-        pieces = list(case.pieces())
-        stops = [written(pieces[:count]) for count in range(len(pieces) + 1)]
+        lines = list(case.output_lines())
+        stops = [written(lines[:count]) for count in range(len(lines) + 1)]
         return [(output, messages + MEMORY, 4) for output, messages in stops]
     for once in (0, 1):
         Refusing(folder).each("GROWTH", wanted, ONCE=once)
@@ -300,7 +300,7 @@ def each_read_of_the_input_is_refused(folder):
     for piece in (1, 4096):
         def wanted(case, number):
             before = case.given()[:(number - 1) * piece].count(b"\n")
-            output, messages = written(Case(case.words, b"", case.lines[:before], 0).pieces())
+            output, messages = written(Case(case.words, b"", case.lines[:before], 0).output_lines())
             return [(output, messages + READ_FAULT, 3)]
         for once in (0, 1):
             Refusing(folder).each("READ", wanted, FROM=0, PIECE=piece, ONCE=once)
@@ -323,12 +323,12 @@ def each_read_of_a_file_is_refused(folder):
 
 def stopped_at(case, is_of_output, number):
     """What stands before a byte of the output, or of the messages, from 1: of both, in the order of writing."""
-    pieces, count = [], 0
-    for is_answer, text in case.pieces():
+    lines, count = [], 0
+    for is_answer, text in case.output_lines():
         count += len(text) * (is_answer == is_of_output)
         if count >= number:
-            return written([*pieces, (is_answer, text[:len(text) - (count - number) - 1])])
-        pieces.append((is_answer, text))
+            return written([*lines, (is_answer, text[:len(text) - (count - number) - 1])])
+        lines.append((is_answer, text))
 
 
 def each_byte_of_the_output_is_refused(folder):
@@ -499,7 +499,7 @@ def serves_hostile_rulesets(folder):
 
 
 def lists_in_the_largest_nets_of_rulesets(folder):
-    """One net for each of 8 tags: eight sources begin at each place, each with sixteen variants of eight code points."""
+    """One variant graph for each of 8 tags: eight sources begin at each place, each with sixteen variants of eight code points."""
     tags = "stuvwxyz"
     with open(table_of_the_largest_nets(folder), encoding="ascii") as file:
         entries = [line.replace(":", f" as {','.join(tags)}:") for line in file.read().splitlines()]
@@ -537,7 +537,7 @@ def lists_in_the_largest_nets(folder):
 
 
 def collides_and_jumps_in_the_largest_nets(folder):
-    """In the largest net and among some thousand labels, or with 2^62 variants and among half a million: at once. The one
+    """In the largest variant graph and among some thousand labels, or with 2^62 variants and among half a million: at once. The one
     registered label that is a variant is told by eye."""
     largest, halves = table_of_the_largest_nets(folder), table_file(folder, b"0061|0062\n0062|0061\n", "halves.txt")
     found, found_of_halves = b"bbbbbbb8" * 7 + b"a" * 7, b"ab" * 31

@@ -35,11 +35,15 @@ DECIDED = (r"`[^`]*`", r"RFC \d+(, section \d+)?", "UTS #46", r"docs/idn2\.1", r
 # Bounds that documents state, each with the clause of a contract or a definition that has it.
 EDGES = ("crates/variant_list/src/net.rt", "result ≤ 68544")
 JUMP = ("crates/variant_list/src/search.rt", "≤ looks.old + 189 * length self.old.net.edges")
+FITS = ("crates/idn_punycode/src/lengths.rt", "utf8_len ≤ 30 → IsTrue result")
 FILE = ("crates/registered_labels/src/labels.rt", "const MAX_TEXT_LEN: usize = 0xFFFF_FFFF;")
 BOUNDS = {
     ("docs/DECISIONS.md", "at most 4,294,967,295 bytes"): FILE,
     ("docs/idn2.1", "that ends after byte 4,294,967,295"): FILE,
-    ("docs/PROOFS.md", "how many edges its net has, at most 68,544"): EDGES,
+    ("docs/DECISIONS.md", "the octets of the label in UTF-8, where there are at most 30"): FITS,
+    ("docs/PROOFS.md", "up to 30 octets the answer is yes"): FITS,
+    ("docs/DECISIONS.md", "A name of at most 254 ASCII letters"): ("crates/idn_label/src/query/ldh.rt", "len ≤ 254"),
+    ("docs/PROOFS.md", "how many edges its variant graph has, at most 68,544"): EDGES,
     ("docs/LISTING.md", "at most 68,544 edges"): EDGES,
     ("docs/PROOFS.md", "tests at most 256 times as many edges"):
         ("crates/variant_list/src/cursor.rt", "≤ 256 * self.old.net.edges"),
@@ -213,7 +217,7 @@ NEVER_TOLD = ("12", "NFC ends")
 
 
 def form_of(macro, words):
-    """The pieces of a line of the manual page that are bold or in italics, up to one that is neither."""
+    """The parts of a line of the manual page that are bold or in italics, up to one that is neither."""
     for font, word in zip(macro * len(words), words):
         word, is_last, _ = word.strip('"').replace("\\~", " ").replace("\\-", "-").replace("\\(aq", "'").partition("\\fR")
         if font == "R":
@@ -586,7 +590,7 @@ def ends_as_the_readme_shows(folder):
     assert done.stdout == re.sub("(?m)^    ", "", shown), (shown, done)
 
 
-NOT_PROVED = "not proved yet: make proves it, in about half an hour"
+NOT_PROVED = "not proved yet: make proves it"
 
 
 def runs_the_main_job_without_a_proof_until_make_has_made_it(folder):
@@ -725,7 +729,7 @@ def quotes_definitions_as_they_stand(folder):
     """Each definition that the tour quotes is all of one in its file, and the twelve to believe first are among them."""
     text = text_of("docs", "DEFINITIONS.md")
     quotes = quoted.quotes(text)
-    assert text.count("```antt\n") == len(quoted.BLOCK.findall(text)) and len(quotes) > 80, len(quotes)
+    assert text.count("```antt\n") == len(quoted.BLOCK.findall(text)) and len(quotes) > 30, len(quotes)
     changed = [(file, quoted.name_of(part)) for file, part in quotes if part not in quoted.definitions(file).values()]
     assert not changed, (changed, "python3 tests/quoted.py --write")
     first = re.findall(r"^\| \d+ \| \[`(\w+)`\]", text, re.MULTILINE)

@@ -1,5 +1,5 @@
 #!/usr/bin/env python3
-"""Tries wrong bodies, many in one check: python3 tests/planted.py FOLDER [CRATE..], with FOLDER must-fail, planted or wrong-bodies;
+"""Tries mutants, many in one check: python3 tests/planted.py FOLDER [CRATE..], with FOLDER must-fail, planted or wrong-bodies;
 --all for the crates are all of them, as is none, and --changed those that aren't as in the last green run of the gate.
 
 Each edit below crates/*/FOLDER must be refused at a goal of a function that it edits. To read a crate costs more than to

@@ -241,7 +241,7 @@ def resumes_where_it_stopped(folder):
 
 
 def stops_at_the_label_of_its_last_step(folder):
-    """A step comes to a tested label, or goes over all that share a hopeless beginning. Runs of two steps each, every one from
+    """A step comes to a tested label, or goes over all that share a dead prefix. Runs of two steps each, every one from
     the stop of the one before, list what one run lists."""
     words = ["--variants", table_file(folder, b"0061|002D\n")]
     for steps, lines in (("2", "#stop 0 a--"), ("3", "a-a\ta-a\n#stop 1 a-a"), ("5", "a-a\ta-a\naaa\taaa\n#stop 2 aaa"),

@@ -1,5 +1,5 @@
 #!/usr/bin/env python3
-"""Tests in which crates the gate plants wrong bodies by hand: in those that aren't as in its last green run; and how the first
+"""Tests in which crates the gate plants mutants by hand: in those that aren't as in its last green run; and how the first
 line of an edit is compared with the checker's report. The last line is 'N passed, M failed', and the exit status is 0 where
 nothing failed."""
 

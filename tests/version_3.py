@@ -1,7 +1,7 @@
 #!/usr/bin/env python3
-"""Asks the second writing of rulesets (conformance/ruleset_labels.py, tables/notation/) for the worked rows of version 3, and the
+"""Asks the reference implementation of rulesets (conformance/ruleset_labels.py, tables/notation/) for the worked rows of version 3, and the
 program for what the rulesets of tables/rulesets/ and of docs/NOTATION.md say. Which labels may be registered, and which code
-points may stand in a table, the program tells the second writing. The last line is 'N passed, M failed', and the exit status
+points may stand in a table, the program tells the reference implementation. The last line is 'N passed, M failed', and the exit status
 is 0 where nothing failed."""
 
 import functools
@@ -28,7 +28,7 @@ DISALLOWED, UNASSIGNED = 10, 11
 
 
 class ByProgram:
-    """What the second writing asks of labels and code points, by the program's registration."""
+    """What the reference implementation asks of labels and code points, by the program's registration."""
 
     @functools.cache
     def first_fault(self, label):
@@ -38,8 +38,8 @@ class ByProgram:
     def knows(self, label):
         return True
 
-    def is_hopeless(self, points):
-        """No beginning of a label in the rows is hopeless."""
+    def is_dead_prefix(self, points):
+        """No label in the rows has a dead prefix."""
         return False
 
     @functools.cached_property
@@ -63,7 +63,7 @@ def told(answer):
     return tuple(each[:400] if isinstance(each, str) else each for each in answer)
 
 
-def second_writing_answers(folder):
+def reference_implementation_answers(folder):
     """All but one row, whose label spells a million labels."""
     second, unknown = SecondWriting(Run(BY_PROGRAM, BY_PROGRAM)), []
     for words, given, files, wanted in ruleset_rows.rows():
@@ -77,7 +77,7 @@ def second_writing_answers(folder):
     assert unknown == ["0" * 20 + "\n"], unknown
 
 
-def second_writing_spells(folder):
+def reference_implementation_spells(folder):
     """The canonical text of a ruleset, which is read as the same one."""
     for text, wanted in ruleset_rows.CANONICAL:
         ruleset = reading.read((ruleset_rows.VERSION_LINE + text).encode(), BY_PROGRAM.may_stand)
@@ -268,8 +268,8 @@ def finds_collisions_by_least_variants(folder):
 
 
 TESTS = [
-    second_writing_answers,
-    second_writing_spells,
+    reference_implementation_answers,
+    reference_implementation_spells,
     example_rulesets_hold,
     notation_shows_a_ruleset,
     chinese_ruleset_is_as_others_have_it,

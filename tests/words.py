@@ -1,7 +1,6 @@
 #!/usr/bin/env python3
-"""Tests that documents and comments use the words of docs/GLOSSARY.md: none of those that its column 'Not' has, but
-for its exceptions. It reads text alone, in a second or two. The last line is 'N passed, M failed', and the exit status is
-0 where nothing failed."""
+"""Tests that documents and comments have none of the words in the column 'Not' of docs/GLOSSARY.md. It reads text alone, in a
+second or two. The last line is 'N passed, M failed', and the exit status is 0 where nothing failed."""
 
 import functools
 import glob
@@ -24,45 +23,37 @@ def paths(patterns):
     return sorted(path for path in found if os.path.isfile(path))
 
 
-def rows(section):
-    """The cells of each row of the tables in a section of the glossary, without the heads."""
-    lines = [line for line in section.splitlines() if line.startswith("| ")]
-    bodies = [line for line in lines if not line.startswith(("| Word |", "| Words |"))]
-    return [[cell.strip() for cell in line.strip("|").split("|")] for line in bodies]
+def rows(text):
+    """The cells of each row of the tables of the glossary, without the heads."""
+    lines = [line for line in text.splitlines() if line.startswith("| ") and not line.startswith("| Word |")]
+    return [[cell.strip() for cell in line.strip("|").split("|")] for line in lines]
 
 
 @functools.cache
-def glossary():
-    """The words that aren't used, each with the word that is; and the exceptions, as (words, where)."""
-    words, _, exceptions = text_of(GLOSSARY).partition("\n## Exceptions\n")
-    unused = {word: row[0] for row in rows(words) for word in row[2].split(", ") if word}
-    return unused, [(row[0].split(", "), row[1].split(", ")) for row in rows(exceptions)]
+def unused():
+    """The words that aren't used, each with the word that is."""
+    return {word: row[0] for row in rows(text_of(GLOSSARY)) for word in row[2].split(", ") if word}
 
 
 @functools.cache
 def pattern(*words):
-    """Any of the words, as they stand or with a capital, one or several of the thing; those in capitals alone only so."""
-    forms = (re.escape(word) if word.isupper() else f"[{word[0].upper()}{word[0]}]{re.escape(word[1:])}" for word in words)
+    """Any of the words, as they stand or with a capital, one or several of the thing."""
+    forms = (f"[{word[0].upper()}{word[0]}]{re.escape(word[1:])}" for word in words)
     return re.compile(rf"\b(?:{'|'.join(forms)})(?:e?s)?(?!\w)")
 
 
-def unused_in(text, kind):
-    """The words in a text that aren't used, each with what is said in its place, after the exceptions are taken away."""
-    unused, exceptions = glossary()
-    for words, places in exceptions:
-        if {"everywhere", kind} & set(places):
-            text = pattern(*words).sub("", text)
-    if not pattern(*unused).search(text):
+def unused_in(text):
+    """The words in a text that aren't used, each with what is said in its place."""
+    if not pattern(*unused()).search(text):
         return []
-    return [f"{word}: say {said}" for word, said in unused.items() if pattern(word).search(text)]
+    return [f"{word}: say {said}" for word, said in unused().items() if pattern(word).search(text)]
 
 
 def prose_of(path):
     """The text of a document without sessions, scripts, what stands between backticks, and paths."""
     text = text_of(path)
     if path == GLOSSARY:
-        text = "\n".join(line.rpartition(" | ")[0] if line.startswith("| ") else line
-                         for line in text.partition("\n## Exceptions\n")[0].splitlines())
+        text = "\n".join(line.rpartition(" | ")[0] if line.startswith("| ") else line for line in text.splitlines())
     for fence in (r"^```.*?^```$", r"^\.EX\n.*?^\.EE$"):
         text = re.sub(fence, "", text, flags=re.MULTILINE | re.DOTALL)
     if os.path.basename(path) != "DECISIONS.md":
@@ -80,29 +71,28 @@ def comments_of(path):
     return re.sub(r"`[^`]*`|[\w.]*/[\w./-]+", "", "\n".join(found))
 
 
-def expect_none(kind, texts):
-    """None in these texts, by their paths; an exception may be for the kind of text."""
-    found = {os.path.relpath(path, ROOT): words for path, text in texts if (words := unused_in(text, kind))}
+def expect_none(texts):
+    """None in these texts, by their paths."""
+    found = {os.path.relpath(path, ROOT): words for path, text in texts if (words := unused_in(text))}
     assert not found, found
 
 
 def stand_in_documents(folder):
     documents = paths(DOCUMENTS)
     assert len(documents) > 10, documents
-    expect_none("documents", ((path, prose_of(path)) for path in documents))
+    expect_none(((path, prose_of(path)) for path in documents))
 
 
 def stand_in_comments(folder):
-    expect_none("comments", ((path, comments_of(path)) for path in paths(SOURCES)))
+    expect_none(((path, comments_of(path)) for path in paths(SOURCES)))
 
 
 def are_listed_once(folder):
     """No word is on the list of two ideas, or used for one and not for another."""
-    words = [row[0] for row in rows(text_of(GLOSSARY).partition("\n## Exceptions\n")[0])]
-    unused, _ = glossary()
-    listed = [word for row in rows(text_of(GLOSSARY).partition("\n## Exceptions\n")[0]) for word in row[2].split(", ") if word]
-    assert len(listed) > 40 and len(listed) == len(set(listed)) and len(words) == len(set(words)), (listed, words)
-    assert not set(words) & set(unused), set(words) & set(unused)
+    words = [word for row in rows(text_of(GLOSSARY)) for word in row[0].split(", ")]
+    listed = [word for row in rows(text_of(GLOSSARY)) for word in row[2].split(", ") if word]
+    assert listed and len(listed) == len(set(listed)) and len(words) == len(set(words)), (listed, words)
+    assert not set(words) & set(listed), set(words) & set(listed)
 
 
 if __name__ == "__main__":
