@@ -360,25 +360,51 @@ BY_EITHER = [
     ([*LIST, "--standard"], MARK, "\u05D0\u05D1\n",
      "\u05D0\u05D1\txn--4dbc\n#end 1\n", "", 0),
     # The causes, of the name as a whole, too.
-    (["-r", "--explain"], "", "\u05D0\u02C6\n\u0712\u200C\u0712\n\U0001E922\n",
+    (["-r", "--explain"], "", "\u05D0\u02C6\n\u02C6\u05D0\n\u0712\u200C\u0712\n\U0001E922\n",
      "", refused((1, "17 Bidi rule broken: U+02C6 at place 2 is L: RFC 5893 2, condition 2"),
-                 (2, "15 joiner out of context: U+200C at place 2: RFC 5892 A.1"),
-                 (3, "10 disallowed code point: U+1E922 at place 1: outside the profile")), 1),
-    (["-r", "--explain", "--standard"], "", "\u05D0\u02C6\n\u05D0\u0CBF\n\u0628\u0883\u200C\u0628\n\U0001E900\n",
+                 (2, "17 Bidi rule broken: U+05D0 at place 2 is R: RFC 5893 2, condition 5"),
+                 (3, "15 joiner out of context: U+200C at place 2: RFC 5892 A.1"),
+                 (4, "10 disallowed code point: U+1E922 at place 1: outside the profile")), 1),
+    (["-r", "--explain", "--standard"], "",
+     "\u05D0\u02C6\n\u02C6\u05D0\n\u05D0\u0CBF\n\U0001E922a\n1\U0001E922\n\U00010D00\u06F0\U00010D30\n"
+     "\u0628\u0883\u200C\u0628\n\U0001E900\n",
      "", refused((1, "17 Bidi rule broken: U+02C6 at place 2 is ON: RFC 5893 2, condition 3"),
-                 (2, "17 Bidi rule broken: U+0CBF at place 2 is L: RFC 5893 2, condition 2"),
-                 (3, "15 joiner out of context: U+200C at place 3: RFC 5892 A.1"),
-                 (4, "10 disallowed code point: U+1E900 at place 1: RFC 5892 2.2 Unstable")), 1),
-    (["-d", "--explain", "--standard"], "", "0a.xn--4db\nxn--4db.a-\nxn--a-k7a.xn--4db\nxn--4db466a\n",
+                 (2, "17 Bidi rule broken: U+02C6 at place 1 is ON: RFC 5893 2, condition 1"),
+                 (3, "17 Bidi rule broken: U+0CBF at place 2 is L: RFC 5893 2, condition 2"),
+                 (4, "17 Bidi rule broken: U+0061 at place 2 is L: RFC 5893 2, condition 2"),
+                 (5, "17 Bidi rule broken: U+0031 at place 1 is EN: RFC 5893 2, condition 1"),
+                 (6, "17 Bidi rule broken: U+10D30 at place 3 is AN: RFC 5893 2, condition 4"),
+                 (7, "15 joiner out of context: U+200C at place 3: RFC 5892 A.1"),
+                 (8, "10 disallowed code point: U+1E900 at place 1: RFC 5892 2.2 Unstable")), 1),
+    (["-d", "--explain", "--standard"], "", "0a.xn--4db\nxn--4db.a-\nxn--a-k7a.xn--4db\nxn--4db466a\n_x.xn--4db\n",
      "", refused((1, "17 Bidi rule broken: label 1: U+0030 at place 1 is EN: RFC 5893 2, condition 1"),
                  (2, "17 Bidi rule broken: label 2: U+002D at place 2 is ES: RFC 5893 2, condition 6"),
                  (3, "17 Bidi rule broken: label 1, decoded: U+02C6 at place 2 is ON: RFC 5893 2, condition 6"),
-                 (4, "17 Bidi rule broken: label 1, decoded: U+0CBF at place 2 is L: RFC 5893 2, condition 2")), 1),
+                 (4, "17 Bidi rule broken: label 1, decoded: U+0CBF at place 2 is L: RFC 5893 2, condition 2"),
+                 (5, "17 Bidi rule broken: label 1: U+005F at place 1 is ON: RFC 5893 2, condition 1")), 1),
     (["-d", "--explain", "--standard"], "", "\n.\n0a._x\n",
      ".\n0a._x\n", refused((1, "3 empty")), 1),
     (["-d", "--json", "--standard"], "", "xn--4db.a-\n",
      '{"line":1,"input":"xn--4db.a-","refusal":{"number":17,"text":"Bidi rule broken","label":2,"code_point":"U+002D",'
      '"place":2,"rule":"RFC 5893 2 condition 6","bidi_class":"ES"}}\n', "", 1),
+]
+
+# Listings that are kept to one registered label, by the profile and by the standards alone.
+AMONG = [
+    # A script that the profile leaves out is refused in the file, too.
+    ([], "0061\n", "\U0001E923\U0001E928", "a\n",
+     "", "idn2: registered line 1: 10 disallowed code point\n", 2),
+    (["--standard"], ADLAM, "\U0001E923\U0001E928", "\U0001E922\U0001E928\n",
+     "\U0001E923\U0001E928\txn--be6hka\n#end 1\n", "", 0),
+    # A sign may stand within a label by Unicode, and a mark that is L there by the profile.
+    ([], SIGN, "\u05D1\u02C6\u05D1", "\u05D1\u05D0\u05D1\n",
+     "", "idn2: registered line 1: 17 Bidi rule broken\n", 2),
+    (["--standard"], SIGN, "\u05D1\u02C6\u05D1", "\u05D1\u05D0\u05D1\n",
+     SIGN_WITHIN + "#end 1\n", "", 0),
+    ([], MARK, "\u05D0\u0CBF", "\u05D0\u05D1\n",
+     "\u05D0\u0CBF\txn--4db466a\n#end 1\n", "", 0),
+    (["--standard", "--explain"], MARK, "\u05D0\u0CBF", "\u05D0\u05D1\n",
+     "", "idn2: registered line 1: 17 Bidi rule broken: U+0CBF at place 2 is L: RFC 5893 2, condition 2\n", 2),
 ]
 
 
@@ -387,6 +413,8 @@ def rows():
     for words, table, given, output, messages, status in [*REGISTERED, *DECODED, *LOOKED_UP, *LINES, *LISTED, *BOUNDED,
                                                           *LONG_VARIANTS, *OF_VERSION_2, *OF_RULESETS, *BY_EITHER]:
         yield words, given, {"t": table}, (output, messages, status)
+    for words, table, label, given, output, messages, status in AMONG:
+        yield [*LIST, "--among", "r", *words], given, {"t": table, "r": label + "\n"}, (output, messages, status)
     for count in (1, 99):
         yield ["-r", *["a"] * count], "not read\n", {}, ("a\n" * count, "", 0)
     for words, output in MODES:

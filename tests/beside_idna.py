@@ -3,8 +3,9 @@
 
 Each code point alone, pairs and triples of code points of each Bidi class and joining type, and whole names: the two may differ
 only where a code point is newer than the other's Unicode version, by its age in Unicode's data, or had other properties then.
-The last line is 'N passed, M failed', and the exit status is 0 where nothing failed."""
+Those are listed by their age. The last line is 'N passed, M failed', and the exit status is 0 where nothing failed."""
 
+import bisect
 import collections
 import functools
 import os
@@ -19,6 +20,7 @@ from program import LIMIT, ROOT, is_there, python_with, run, run_tests
 sys.path += [os.path.join(ROOT, "conformance"), os.path.join(ROOT, "tables")]
 
 import unicode_data
+from kit_data import Kit, ranges_in
 from registration import CHANGED, a_label
 from rules import UnicodeProperties
 
@@ -89,15 +91,28 @@ def numbers_of(version: str) -> tuple[int, ...]:
 
 
 @functools.cache
-def ages() -> dict[int, str]:
-    """The Unicode version that first had each code point, of those that the data here know."""
-    return {point: age for first, last, age in unicode_data.properties("DerivedAge.txt") for point in range(first, last + 1)}
+def ages() -> list[tuple[int, int, str]]:
+    """(first, last, Unicode version) of the code points that each version added, by the data from which the program is built."""
+    rows = ranges_in(Kit().folder / "ucd_age/specs/AgeRows.antt", "age_rows")
+    return [(first, last, value.removeprefix("V").replace("_", ".")) for first, last, value in rows]
 
 
-def newest_age(text: str) -> str:
-    """Of the code points of a text the newest age, 'later' for one that is newer than the data here."""
-    found = [ages().get(ord(letter), "later") for letter in text]
-    return "later" if "later" in found else max(found, key=numbers_of, default="1.1")
+def row_of(letter: str) -> tuple[int, int, str]:
+    """Where the ages have a code point. One that they don't have is of the first version: no program may know it."""
+    place = bisect.bisect(ages(), ord(letter), key=lambda row: row[0]) - 1
+    first, last, age = ages()[place]
+    return (first, last, age) if ord(letter) <= last else (ord(letter), ord(letter), "1.1")
+
+
+def newest(text: str) -> str:
+    """The newest code point of a text; of the empty text a letter of the first version."""
+    return max(text or "a", key=lambda letter: numbers_of(row_of(letter)[2]))
+
+
+def listed(letters: set[str]) -> str:
+    """Code points of one age: how many, and of which ranges that the version added."""
+    ranges = sorted({row_of(letter)[:2] for letter in letters})
+    return f"{len(letters):,} of " + ", ".join(f"{first:04X}" + f"..{last:04X}" * (first < last) for first, last in ranges)
 
 
 def decoded(name: str) -> str:
@@ -108,19 +123,23 @@ def decoded(name: str) -> str:
 def expect_alike(mode: str, lines: list[str], texts: list[str]) -> None:
     """Both answer each line alike but where the text that it stands for has a code point that idna doesn't know."""
     known, theirs = by_idna(mode, lines)
-    ours, by_age, wrong = by_program(f"--{mode}", lines), collections.Counter(), []
+    ours, newer, changed, wrong = by_program(f"--{mode}", lines), collections.defaultdict(set), set(), []
     for line, text, our, their in zip(lines, texts, ours, theirs):
         if our != their:
-            age = newest_age(text)
-            if age == "later" or numbers_of(age) > numbers_of(known):
-                by_age[age] += 1
+            letter = newest(text)
+            age = row_of(letter)[2]
+            if numbers_of(age) > numbers_of(known):
+                newer[age].add(letter)
             elif set(text) & set(CHANGED):
-                by_age["changed since"] += 1
+                changed |= set(text) & set(CHANGED)
             else:
                 wrong.append((line, [f"{ord(letter):04X}" for letter in text], our, their))
     accepted = sum(map(bool, ours))
-    print(f"{mode}: {len(lines):,} lines, {accepted:,} answered; "
-          f"idna knows Unicode {known}; other answers by age: {dict(by_age)}")
+    print(f"{mode}: {len(lines):,} lines, {accepted:,} answered; idna knows Unicode {known}. Other answers, by what is newer:")
+    for age in sorted(newer, key=numbers_of):
+        print(f"  {age}: {listed(newer[age])}")
+    if changed:
+        print("  other properties then: " + ", ".join(f"{ord(letter):04X}" for letter in sorted(changed)))
     assert not wrong, (len(wrong), wrong[:10])
     assert accepted > len(lines) // 20, accepted
 
@@ -130,14 +149,10 @@ def is_known() -> bool:
 
 
 def answers_each_code_point(folder):
-    """Those that neither this Python's data nor the program know are refused by both, or newer."""
     if not is_known():
         return
     every = [chr(point) for point in range(0x110000) if not 0xD800 <= point <= 0xDFFF and chr(point) not in NO_LINES]
-    ours = by_program("--register", every)
-    asked = [letter for letter, answer in zip(every, ours) if answer or unicodedata.category(letter) not in ("Cn", "Co")]
-    assert len(asked) > 140_000, len(asked)
-    expect_alike("register", asked, asked)
+    expect_alike("register", every, every)
 
 
 @functools.cache

@@ -81,12 +81,13 @@ def libraries():
 
 
 def check_of(crate, built):
-    """The command that checks a library over those that were built of the crates below it; None where one of them lacks."""
+    """The command that checks a crate over the libraries that were built of those below it; None where one of them lacks."""
     used = crates()[crate]
     below = sorted(reach(used) & {*crates()})
     if not {*below} <= {*built}:
         return None
-    command = [os.path.join(KIT, "bin", "rattle"), "check", "--crate-name", crate, "src/lib.rt", "--jobs", "1",
+    root = next(root for root in ("src/lib.rt", "src/main.rt") if os.path.isfile(os.path.join(CRATES, crate, root)))
+    command = [os.path.join(KIT, "bin", "rattle"), "check", "--crate-name", crate, root, "--jobs", "1",
                "--antt-project", f"{KIT}/rattle/logic/antt-project.json", "--logic-built", f"{KIT}/logic_built"]
     for name in ["std", *used]:
         command += ["--extern", f"{name}={built.get(name, f'{KIT}/rlibs')}/{name}.rlib"]
@@ -119,7 +120,8 @@ class Copy:
         self.command = [*command, "--incremental", self.work]
         self.seconds = 0.0
         for part in ("src", "specs", "proofs"):
-            shutil.copytree(os.path.join(CRATES, crate, part), os.path.join(self.folder, part))
+            if os.path.isdir(os.path.join(CRATES, crate, part)):
+                shutil.copytree(os.path.join(CRATES, crate, part), os.path.join(self.folder, part))
         kept = os.path.join(CRATES, crate, "out", "incremental")
         if os.path.isdir(kept):
             shutil.copytree(kept, self.work, copy_function=link_or_copy)

@@ -4,7 +4,7 @@ use Rattle.std.specs.List.{list_any, list_all}
 use Rattle.std.proofs.lemmas.Bool.{false_from_ne_true, both_ways, or_cases}
 use Rattle.std.proofs.lemmas.List.{map-append}
 use Rattle.idn_class.specs.declared.bidi_class.BidiClass.{BidiClass}
-use Rattle.idn_class.specs.declared.bidi_class.BidiClass.TheVariants.{R, AL, AN, L}
+use Rattle.idn_class.specs.declared.bidi_class.BidiClass.TheVariants.{R, AL, AN}
 use Rattle.idn_class.specs.declared.properties.Properties.{Properties}
 use Rattle.idn_class.specs.declared.properties.Properties.TheVariants.{Profile, Unicode}
 use Rattle.idn_class.specs.BidiClass.{bidi_class}

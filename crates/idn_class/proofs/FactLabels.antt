@@ -1,11 +1,10 @@
 -- A label of which no code point has a fact passes the test that the fact stands for.
-use Rattle.std.proofs.Common.{◌≡◌, ℕ, ◌≤◌, Bool, true, false, ◌==◌, nat_le, not, cond, List, [], ◌∷◌, map, All, get_or, refl, sym, ap, ◌∙◌, eqb-true, arith}
+use Rattle.std.proofs.Common.{◌≡◌, ℕ, ◌≤◌, Bool, true, false, ◌==◌, nat_le, not, cond, List, [], ◌∷◌, map, All, get_or, Some, refl, sym, ap, ◌∙◌, eqb-true, arith}
 use Rattle.std.specs.List.{list_any}
 use Rattle.std.proofs.lemmas.Bool.{and_parts, true≢false, not-false, or_parts}
 use Rattle.std.proofs.lemmas.Bool.Decides.{nat_tests}
 use Rattle.std.proofs.lemmas.List.Elements.{All-nil, All-cons, All-weaker, All-map}
 use Rattle.std.proofs.lemmas.List.Folds.{list_any_none}
-use Rattle.ucd_bidi.specs.BidiClass.{bidi_class as unicode_bidi_class}
 use Rattle.ucd_idna_map.specs.IdnaStatus.{idna_status}
 use Rattle.ucd_normal.specs.declared.forms.Form.TheVariants.{Nfc}
 use Rattle.ucd_normal.specs.declared.forms.QuickCheck.TheVariants.{Yes}
@@ -18,11 +17,14 @@ use Rattle.idn_class.specs.declared.class.Class.{Class}
 use Rattle.idn_class.specs.declared.class.Class.TheVariants.{Contextj as Contextj_class, Contexto as Contexto_class, Disallowed as Disallowed_class}
 use Rattle.idn_class.specs.declared.facts.Fact.{Fact}
 use Rattle.idn_class.specs.declared.facts.Fact.TheVariants.{MayBeBarred, Contextj, Contexto, MayCompose, Mark, RightToLeft, NotKept}
-use Rattle.idn_class.specs.BidiClass.{profile_bidi_class, bidi_class, named_class, standard_bidi_class}
+use Rattle.idn_class.specs.Barring.{is_barred}
+use Rattle.idn_class.specs.BidiClass.{bidi_class}
 use Rattle.idn_class.specs.BidiRule.{is_rtl_class}
 use Rattle.idn_class.specs.Class.{class_of, is_left_open, is_scalar, is_outside_profile}
 use Rattle.idn_class.specs.ContextO.{is_arabic_digit, is_extended_arabic_digit}
-use Rattle.idn_class.specs.Facts.{is_barred_class, is_contextj, is_contexto, is_yes, is_unicode_rtl_class, is_kept_status, is_so, has_fact}
+use Rattle.idn_class.specs.Facts.{is_contextj, is_contexto, is_yes, is_kept_status, is_so, has_fact}
+use Rattle.idn_class.specs.declared.direction.Direction.TheVariants.{Ltr}
+use Rattle.idn_class.specs.Directions.{lengthened}
 use Rattle.idn_class.specs.LeadingMark.{is_mark}
 use Rattle.idn_class.specs.WorkedRows.{HasClasses}
 use Rattle.idn_class.specs.Tests.{leading_mark, contextj_ok, contexto_ok, bidi_ok}
@@ -32,8 +34,6 @@ use Rattle.idn_class.proofs.ContextOTests.{contexto_ok-PassesContextO}
 use Rattle.idn_class.proofs.ClassNumbers.{is_yes-true}
 use Rattle.idn_class.specs.declared.properties.Properties.{Properties}
 use Rattle.idn_class.specs.declared.properties.Properties.TheVariants.{Profile, Unicode}
-use Rattle.ucd_bidi.specs.declared.BidiClass.{BidiClass as UnicodeBidiClass}
-use Rattle.ucd_bidi.specs.declared.BidiClass.TheVariants as unicode
 
 -- ---- code points
 
@@ -42,29 +42,26 @@ pub without : (fact : Fact) (c : ℕ) → has_fact fact c ≡ false → is_so fa
 without fact c none = (or_parts (nat_le 0x11_0000 c) (is_so fact c) none).1
 
 -- what may be registered by the profile has the same class by the standard
-same_class : (s o : Bool) (rest : Class) → is_barred_class (cond (not s) Disallowed_class (cond o Disallowed_class rest)) ≡ false
+same_class : (s o : Bool) (rest : Class) → is_barred (cond (not s) Disallowed_class (cond o Disallowed_class rest)) ≡ false
     → cond (not s) Disallowed_class (cond false Disallowed_class rest) ≡ cond (not s) Disallowed_class (cond o Disallowed_class rest)
 same_class false o rest free = refl
 same_class true true rest free = let clash : true ≡ false = free in cc
 same_class true false rest free = refl
 
-pub class_of-standard : (c : ℕ) → is_barred_class (class_of Profile c) ≡ false → class_of Unicode c ≡ class_of Profile c
+pub class_of-standard : (c : ℕ) → is_barred (class_of Profile c) ≡ false → class_of Unicode c ≡ class_of Profile c
 unfolding class_of
 class_of-standard c free = same_class (is_scalar c) (is_outside_profile c) _ free
 
-pub unbarred_by : (properties : Properties) (c : ℕ) → is_barred_class (class_of Profile c) ≡ false → is_barred_class (class_of properties c) ≡ false
+-- and so has what the profile covers
+pub class_of-covered : (c : ℕ) → is_outside_profile c ≡ false → class_of Unicode c ≡ class_of Profile c
+unfolding class_of
+class_of-covered c covered = rw covered refl
+
+pub unbarred_by : (properties : Properties) (c : ℕ) → is_barred (class_of Profile c) ≡ false → is_barred (class_of properties c) ≡ false
 unbarred_by Profile c free = free
-unbarred_by Unicode c free = ap is_barred_class (class_of-standard c free) ∙ free
+unbarred_by Unicode c free = ap is_barred (class_of-standard c free) ∙ free
 
--- what makes the rule apply by Unicode is R, AL or AN
-named_rtl : (class : UnicodeBidiClass) → is_rtl_class (named_class class) ≡ is_unicode_rtl_class class
-named_rtl unicode.LeftToRight = refl
-named_rtl unicode.RightToLeft = refl
-named_rtl unicode.ArabicLetter = refl
-named_rtl unicode.ArabicNumber = refl
-named_rtl _ = refl
-
-pub class_without : (c : ℕ) → has_fact MayBeBarred c ≡ false → (is_barred_class (class_of Profile c) ≡ false) × (is_left_open c ≡ false)
+pub class_without : (c : ℕ) → has_fact MayBeBarred c ≡ false → (is_barred (class_of Profile c) ≡ false) × (is_left_open c ≡ false)
 unfolding is_so
 class_without c none = or_parts _ _ (without MayBeBarred c none)
 
@@ -86,18 +83,20 @@ pub mark_without : (c : ℕ) → has_fact Mark c ≡ false → is_mark c ≡ fal
 unfolding is_so
 mark_without c none = without Mark c none
 
-pub rtl_without : (c : ℕ) → has_fact RightToLeft c ≡ false → (is_rtl_class (profile_bidi_class c) ≡ false) × (is_unicode_rtl_class (unicode_bidi_class c) ≡ false)
+pub rtl_without : (properties : Properties) (c : ℕ) → has_fact RightToLeft c ≡ false → is_rtl_class (bidi_class properties c) ≡ false
 unfolding is_so
-rtl_without c none = or_parts _ _ (without RightToLeft c none)
+rtl_without Profile c none = (or_parts _ _ (without RightToLeft c none)).0
+rtl_without Unicode c none = (or_parts _ _ (without RightToLeft c none)).1
+
+-- a code point that is neither R, AL nor AN keeps the direction of an LTR label
+pub lengthened-ltr : (properties : Properties) (c : ℕ) → has_fact RightToLeft c ≡ false → lengthened properties Ltr c ≡ Some Ltr
+lengthened-ltr properties c none = rw (rtl_without properties c none) refl
+
+pub ruleset left_to_right = (lengthened-ltr)
 
 pub kept_without : (c : ℕ) → has_fact NotKept c ≡ false → is_kept_status (idna_status c) ≡ true
 unfolding is_so
 kept_without c none = not-false _ (without NotKept c none)
-
-pub rtl_without_by : (properties : Properties) (c : ℕ) → has_fact RightToLeft c ≡ false → is_rtl_class (bidi_class properties c) ≡ false
-unfolding standard_bidi_class
-rtl_without_by Profile c none = (rtl_without c none).0
-rtl_without_by Unicode c none = named_rtl (unicode_bidi_class c) ∙ (rtl_without c none).1
 
 -- ---- the code points that have a rule of their own
 
@@ -184,7 +183,7 @@ contexto_ok-lacks label none =
 pub bidi_ok-lacks : (properties : Properties) (label : List ℕ) → Lacks RightToLeft label → bidi_ok properties label ≡ true
 unfolding bidi_ok
 bidi_ok-lacks properties label lacks =
-    let none : list_any is_rtl_class (map (bidi_class properties) label) ≡ false = list_any_none is_rtl_class (map (bidi_class properties) label) (All-map (λ class. is_rtl_class class ≡ false) (bidi_class properties) label (All-weaker (λ c. has_fact RightToLeft c ≡ false) (λ c. is_rtl_class (bidi_class properties c) ≡ false) (λ c h. rtl_without_by properties c h) label (each_lacks RightToLeft label lacks))) in
+    let none : list_any is_rtl_class (map (bidi_class properties) label) ≡ false = list_any_none is_rtl_class (map (bidi_class properties) label) (All-map (λ class. is_rtl_class class ≡ false) (bidi_class properties) label (All-weaker (λ c. has_fact RightToLeft c ≡ false) (λ c. is_rtl_class (bidi_class properties c) ≡ false) (λ c h. rtl_without properties c h) label (each_lacks RightToLeft label lacks))) in
     rw none refl
 
 -- the quick check of NFC passes it

@@ -21,17 +21,18 @@ use Rattle.ucd_normal.proofs.CanonicalCombiningClassLemmas.{canonical_combining_
 use Rattle.ucd_normal.proofs.QuickCheckLemmas.{quick_check_stepped}
 use Rattle.idn_class.specs.declared.bidi_class.BidiClass.{BidiClass}
 use Rattle.idn_class.specs.declared.bidi_class.BidiClass.TheVariants.{L, R, AL, AN, EN, ES, BN, NSM}
-use Rattle.idn_class.specs.BidiClass.{is_boundary_neutral, is_european_separator, is_european_number, is_arabic_number, is_nonspacing_or_enclosing, is_nonspacing, is_right_to_left, is_arabic_letter, profile_bidi_class}
+use Rattle.idn_class.specs.Barring.{is_barred}
+use Rattle.idn_class.specs.BidiClass.{is_boundary_neutral, is_european_separator, is_european_number, is_arabic_number, is_nonspacing_or_enclosing, is_nonspacing, is_right_to_left, is_arabic_letter, profile_bidi_class, named_class, standard_bidi_class, bidi_class}
 use Rattle.idn_class.specs.BidiRule.{is_rtl_class}
 use Rattle.idn_class.specs.Class.{class_of, is_unstable, is_pvalid_exception, is_letter_or_digit, is_undecided, is_stability_open, is_left_open}
 use Rattle.idn_class.specs.declared.class.Class.{Class}
 use Rattle.idn_class.specs.declared.class.Class.TheVariants.{Pvalid, Disallowed, Unassigned}
 use Rattle.idn_class.specs.declared.facts.Fact.{Fact}
 use Rattle.idn_class.specs.declared.facts.Fact.TheVariants.{MayBeBarred, Contextj, Contexto, MayCompose, Mark, RightToLeft, NotKept}
-use Rattle.idn_class.specs.Facts.{is_barred_class, is_contextj, is_contexto, is_yes, is_unicode_rtl_class, is_kept_status, is_so, place_of}
+use Rattle.idn_class.specs.Facts.{is_contextj, is_contexto, is_yes, is_kept_status, is_so, place_of}
 use Rattle.idn_class.specs.LeadingMark.{is_mark_category, is_mark}
 use Rattle.idn_class.proofs.ClassNumbers.{class_from_number, class_number, class_number_stepped, from_number, from_five, five_open}
-use Rattle.idn_class.specs.declared.properties.Properties.TheVariants.{Profile}
+use Rattle.idn_class.specs.declared.properties.Properties.TheVariants.{Profile, Unicode}
 
 -- ---- the parts
 
@@ -54,16 +55,17 @@ nonspacing_stepped : Stepped is_nonspacing
 unfolding is_nonspacing general_category_stepped
 nonspacing_stepped = map_stepped is_nonspacing_or_enclosing general_category general_category_stepped
 
-rtl_stepped : Stepped (λ c. is_rtl_class (profile_bidi_class c))
+-- Bidi_Class by the profile
+unfoldable pub profile_bidi_class_stepped : Stepped profile_bidi_class
 unfolding profile_bidi_class is_boundary_neutral is_european_separator is_european_number is_arabic_number is_right_to_left is_arabic_letter rises_from nonspacing_stepped
-rtl_stepped =
+profile_bidi_class_stepped =
     let al = map_stepped (λ b. cond b AL L) is_arabic_letter (of_ranges ((0x600, 0x7BF) ∷ (0x860, 0x8FF) ∷ []) refl) in
     let r = either_class R is_right_to_left _ (of_ranges ((0x590, 0x5FF) ∷ (0x7C0, 0x85F) ∷ []) refl) al in
     let nsm = either_class NSM is_nonspacing _ nonspacing_stepped r in
     let an = either_class AN is_arabic_number _ (of_ranges ((0x660, 0x669) ∷ []) refl) nsm in
     let en = either_class EN is_european_number _ (of_ranges ((0x30, 0x39) ∷ (0x6F0, 0x6F9) ∷ []) refl) an in
     let es = either_class ES is_european_separator _ (of_ranges ((0x2D, 0x2D) ∷ []) refl) en in
-    map_stepped is_rtl_class profile_bidi_class (either_class BN is_boundary_neutral _ (of_ranges ((0x200C, 0x200D) ∷ []) refl) es)
+    either_class BN is_boundary_neutral _ (of_ranges ((0x200C, 0x200D) ∷ []) refl) es
 
 -- ---- the facts by steps
 
@@ -76,12 +78,12 @@ by_number test c = test (class_from_number (class_number Profile c))
 
 -- the fact again, by the number of the class
 abbrev so_by_steps : Fact → ℕ → Bool
-so_by_steps MayBeBarred c = by_number is_barred_class c || is_left_open c
+so_by_steps MayBeBarred c = by_number is_barred c || is_left_open c
 so_by_steps Contextj c = by_number is_contextj c
 so_by_steps Contexto c = by_number is_contexto c
 so_by_steps MayCompose c = not (is_yes (quick_check Nfc c) && (canonical_combining_class c == 0))
 so_by_steps Mark c = is_mark c
-so_by_steps RightToLeft c = is_rtl_class (profile_bidi_class c) || is_unicode_rtl_class (unicode_bidi_class c)
+so_by_steps RightToLeft c = is_rtl_class (bidi_class Profile c) || is_rtl_class (bidi_class Unicode c)
 so_by_steps NotKept c = not (is_kept_status (idna_status c))
 
 by_number_stepped : (test : Class → Bool) → Stepped (by_number test)
@@ -93,22 +95,24 @@ unfolding quick_check_stepped canonical_combining_class_stepped
 compose_stepped =
     zip_stepped (λ check (n : ℕ). not (is_yes check && (n == 0))) (quick_check Nfc) canonical_combining_class (quick_check_stepped Nfc) canonical_combining_class_stepped
 
-either_rtl_stepped : Stepped (so_by_steps RightToLeft)
-unfolding unicode_bidi_class_stepped rtl_stepped
-either_rtl_stepped = or_stepped _ _ rtl_stepped (map_stepped is_unicode_rtl_class unicode_bidi_class unicode_bidi_class_stepped)
+rtl_stepped : Stepped (so_by_steps RightToLeft)
+unfolding standard_bidi_class unicode_bidi_class_stepped profile_bidi_class_stepped
+rtl_stepped =
+    or_stepped _ _ (map_stepped is_rtl_class profile_bidi_class profile_bidi_class_stepped)
+    (map_stepped (λ class. is_rtl_class (named_class class)) unicode_bidi_class unicode_bidi_class_stepped)
 
 kept_stepped : Stepped (so_by_steps NotKept)
 unfolding idna_status_stepped
 kept_stepped = map_stepped (λ status. not (is_kept_status status)) idna_status idna_status_stepped
 
 so_stepped : (fact : Fact) → Stepped (so_by_steps fact)
-unfolding by_number_stepped left_open_stepped compose_stepped mark_stepped either_rtl_stepped kept_stepped
-so_stepped MayBeBarred = or_stepped _ _ (by_number_stepped is_barred_class) left_open_stepped
+unfolding by_number_stepped left_open_stepped compose_stepped mark_stepped rtl_stepped kept_stepped
+so_stepped MayBeBarred = or_stepped _ _ (by_number_stepped is_barred) left_open_stepped
 so_stepped Contextj = by_number_stepped is_contextj
 so_stepped Contexto = by_number_stepped is_contexto
 so_stepped MayCompose = compose_stepped
 so_stepped Mark = mark_stepped
-so_stepped RightToLeft = either_rtl_stepped
+so_stepped RightToLeft = rtl_stepped
 so_stepped NotKept = kept_stepped
 
 -- ---- the number of the table: a bit for each fact that is absent
@@ -216,13 +220,13 @@ by_number-class_of test disallowed pvalid c =
     stable true = disallowed
     stable false = pvalid
 
-barred : (c : ℕ) → (by_number is_barred_class c || is_left_open c) ≡ (is_barred_class (class_of Profile c) || is_left_open c)
+barred : (c : ℕ) → (by_number is_barred c || is_left_open c) ≡ (is_barred (class_of Profile c) || is_left_open c)
 barred c =
     elim (cases_Bool (is_left_open c)) [
       | inl left_open ↦ or_right _ _ left_open ∙ sym (or_right _ _ left_open)
       | inr closed ↦
           let known : class_number Profile c ≢ 5 = λ five. true≢false (sym (five_open Profile c (class_number Profile c) refl five) ∙ closed) in
-          ap (λ class. is_barred_class class || is_left_open c) (from_number Profile c (class_number Profile c) refl known)
+          ap (λ class. is_barred class || is_left_open c) (from_number Profile c (class_number Profile c) refl known)
     ]
 
 pub so_by_steps-is_so : (fact : Fact) (c : ℕ) → so_by_steps fact c ≡ is_so fact c

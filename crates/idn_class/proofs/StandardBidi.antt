@@ -1,23 +1,21 @@
 -- The Bidi rule of the profile and of Unicode: of what the profile permits, but for eight marks, the class is the same, or L where Unicode has a class that
 -- makes no label right-to-left.
-use Rattle.std.proofs.Common.{◌≡◌, ◌≢◌, ℕ, zero, suc, Bool, true, false, not, ◌&&◌, ◌||◌, cond, List, [], ◌∷◌, map, All, refl, sym, ap, ap₂, subst, ◌∙◌, arith}
+use Rattle.std.proofs.Common.{◌≡◌, ◌≢◌, ℕ, zero, suc, Bool, true, false, not, ◌&&◌, ◌||◌, List, [], ◌∷◌, map, All, refl, sym, ap, ap₂, subst, ◌∙◌, arith}
 use Rattle.std.specs.List.{AllByRecursion, list_any, list_all}
 use Rattle.std.proofs.lemmas.Bool.{and_parts, both_ways}
 use Rattle.std.proofs.lemmas.List.Elements.{recursion_from_All}
 use Rattle.ucd_table.proofs.Computing.{tables}
 use Rattle.ucd_table.proofs.RangedFacts.{points_ok}
-use Rattle.ucd_table.proofs.Stepped.{Stepped, of_ranges, map_stepped, zip_stepped}
+use Rattle.ucd_table.proofs.Stepped.{Stepped, of_ranges, zip_stepped}
 use Rattle.ucd_table.proofs.StepsLemmas.{rises_from}
-use Rattle.unicode.specs.GeneralCategory.{general_category}
-use Rattle.unicode.proofs.GeneralCategoryLemmas.{general_category_stepped}
 use Rattle.ucd_bidi.specs.declared.BidiClass.{BidiClass as UnicodeBidiClass}
 use Rattle.ucd_bidi.specs.BidiClass.{bidi_class as unicode_bidi_class}
 use Rattle.ucd_bidi.proofs.BidiClassLemmas.{bidi_class_stepped as unicode_bidi_class_stepped}
 use Rattle.idn_class.specs.declared.bidi_class.BidiClass.{BidiClass}
-use Rattle.idn_class.specs.declared.bidi_class.BidiClass.TheVariants.{L, R, AL, AN, EN, ES, CS, ET, ON, BN, NSM, Other}
+use Rattle.idn_class.specs.declared.bidi_class.BidiClass.TheVariants.{L, R, AL, AN, EN, ES, BN, NSM}
 use Rattle.idn_class.specs.declared.properties.Properties.TheVariants.{Profile, Unicode}
 use Rattle.idn_class.specs.Barring.{is_barred}
-use Rattle.idn_class.specs.BidiClass.{is_boundary_neutral, is_european_separator, is_european_number, is_arabic_number, is_nonspacing_or_enclosing, is_nonspacing, is_right_to_left, is_arabic_letter, profile_bidi_class, named_class, standard_bidi_class}
+use Rattle.idn_class.specs.BidiClass.{profile_bidi_class, named_class, standard_bidi_class}
 use Rattle.idn_class.specs.BidiRule.{is_rtl_class, is_allowed_in_rtl, is_end_of_rtl, PassesBidiRule}
 use Rattle.idn_class.specs.Class.{class_of}
 use Rattle.idn_class.specs.Profile.{is_left_to_right_mark, left_to_right_marks}
@@ -26,19 +24,9 @@ use Rattle.idn_class.proofs.BidiTests.{bidi_ok-PassesBidiRule}
 use Rattle.idn_class.proofs.CategoryLemmas.{none_fails}
 use Rattle.idn_class.proofs.ClassNumbers.{class_from_number, class_number, class_number_stepped, from_number}
 use Rattle.idn_class.proofs.DeadBeginnings.{asked_as_rtl, fails}
+use Rattle.idn_class.proofs.FactSteps.{profile_bidi_class_stepped}
 
 -- ---- by code point
-
-listed_stepped : Stepped profile_bidi_class
-unfolding profile_bidi_class is_boundary_neutral is_european_separator is_european_number is_arabic_number is_nonspacing is_right_to_left is_arabic_letter rises_from general_category_stepped
-listed_stepped =
-    let al = map_stepped (λ b. cond b AL L) is_arabic_letter (of_ranges ((0x600, 0x7BF) ∷ (0x860, 0x8FF) ∷ []) refl) in
-    let r = zip_stepped (λ b other. cond b R other) is_right_to_left _ (of_ranges ((0x590, 0x5FF) ∷ (0x7C0, 0x85F) ∷ []) refl) al in
-    let nsm = zip_stepped (λ b other. cond b NSM other) is_nonspacing _ (map_stepped is_nonspacing_or_enclosing general_category general_category_stepped) r in
-    let an = zip_stepped (λ b other. cond b AN other) is_arabic_number _ (of_ranges ((0x660, 0x669) ∷ []) refl) nsm in
-    let en = zip_stepped (λ b other. cond b EN other) is_european_number _ (of_ranges ((0x30, 0x39) ∷ (0x6F0, 0x6F9) ∷ []) refl) an in
-    let es = zip_stepped (λ b other. cond b ES other) is_european_separator _ (of_ranges ((0x2D, 0x2D) ∷ []) refl) en in
-    zip_stepped (λ b other. cond b BN other) is_boundary_neutral _ (of_ranges ((0x200C, 0x200D) ∷ []) refl) es
 
 marks_stepped : Stepped is_left_to_right_mark
 unfolding is_left_to_right_mark rises_from
@@ -76,11 +64,11 @@ unfolding class_number_stepped marks_stepped
 asked_stepped = zip_stepped (λ n mark. may_be n && not mark) (class_number Profile) is_left_to_right_mark class_number_stepped marks_stepped
 
 classes_agree : (c : ℕ) → agrees (is_asked c) (profile_bidi_class c) (unicode_bidi_class c) ≡ true
-unfolding tables points_ok asked_stepped listed_stepped unicode_bidi_class_stepped
+unfolding tables points_ok asked_stepped profile_bidi_class_stepped unicode_bidi_class_stepped
 classes_agree =
     none_fails _
     (zip_stepped (λ asked (classes : BidiClass × UnicodeBidiClass). agrees asked classes.0 classes.1) is_asked (λ c. (profile_bidi_class c, unicode_bidi_class c)) asked_stepped
-    (zip_stepped (λ class kit. (class, kit)) profile_bidi_class unicode_bidi_class listed_stepped unicode_bidi_class_stepped)) refl
+    (zip_stepped (λ class kit. (class, kit)) profile_bidi_class unicode_bidi_class profile_bidi_class_stepped unicode_bidi_class_stepped)) refl
 
 allowed : (n : ℕ) → (n ≢ 5 → is_barred (class_from_number n) ≡ false) → may_be n ≡ true
 allowed zero h = let clash : true ≡ false = h (λ five. absurd (omega arith)) in cc

@@ -3,9 +3,6 @@
 use Rattle.std.specs.Prelude.{◌≡◌, ℕ, Bool, true, false, ◌&&◌, ◌||◌, ◌==◌, not, nat_le, List}
 use Rattle.std.specs.Int.{bit_at}
 use Rattle.std.specs.List.{list_any}
-use Rattle.ucd_bidi.specs.declared.BidiClass.{BidiClass as UnicodeBidiClass}
-use Rattle.ucd_bidi.specs.declared.BidiClass.TheVariants.{RightToLeft as UnicodeRightToLeft, ArabicLetter, ArabicNumber}
-use Rattle.ucd_bidi.specs.BidiClass.{bidi_class as unicode_bidi_class}
 use Rattle.ucd_idna_map.specs.declared.IdnaStatus.{IdnaStatus}
 use Rattle.ucd_idna_map.specs.declared.IdnaStatus.TheVariants.{Valid, Deviation}
 use Rattle.ucd_idna_map.specs.IdnaStatus.{idna_status}
@@ -19,17 +16,12 @@ use Rattle.idn_class.specs.declared.class.Class.TheVariants as classes
 use Rattle.idn_class.specs.declared.facts.Fact.{Fact}
 use Rattle.idn_class.specs.declared.facts.Fact.TheVariants.{MayBeBarred, Contextj, Contexto, MayCompose, Mark, RightToLeft, NotKept}
 use Rattle.idn_class.specs.declared.facts.Facts.{Facts}
-use Rattle.idn_class.specs.BidiClass.{profile_bidi_class}
+use Rattle.idn_class.specs.Barring.{is_barred}
+use Rattle.idn_class.specs.BidiClass.{bidi_class}
 use Rattle.idn_class.specs.BidiRule.{is_rtl_class}
 use Rattle.idn_class.specs.Class.{class_of, is_left_open}
 use Rattle.idn_class.specs.LeadingMark.{is_mark}
-use Rattle.idn_class.specs.declared.properties.Properties.TheVariants.{Profile}
-
--- DISALLOWED or UNASSIGNED (RFC 5892, section 1)
-abbrev pub is_barred_class : Class → Bool
-is_barred_class classes.Disallowed = true
-is_barred_class classes.Unassigned = true
-is_barred_class _ = false
+use Rattle.idn_class.specs.declared.properties.Properties.TheVariants.{Profile, Unicode}
 
 abbrev pub is_contextj : Class → Bool
 is_contextj classes.Contextj = true
@@ -43,14 +35,6 @@ abbrev pub is_yes : QuickCheck → Bool
 is_yes Yes = true
 is_yes _ = false
 
--- R, AL or AN by Unicode's own Bidi_Class, which UTS 46 uses. The kit's `idna`, which this crate does not use, defines
--- it in the same way
-abbrev pub is_unicode_rtl_class : UnicodeBidiClass → Bool
-is_unicode_rtl_class UnicodeRightToLeft = true
-is_unicode_rtl_class ArabicLetter = true
-is_unicode_rtl_class ArabicNumber = true
-is_unicode_rtl_class _ = false
-
 -- UTS 46 maps the code point to itself; it does so with a deviation character too, where processing is not transitional
 abbrev pub is_kept_status : IdnaStatus → Bool
 is_kept_status Valid = true
@@ -60,7 +44,7 @@ is_kept_status _ = false
 -- a code point has the fact
 unfoldable pub is_so : Fact → ℕ → Bool
 -- it may not be registered, or no look-up says whether it may
-is_so MayBeBarred c = is_barred_class (class_of Profile c) || is_left_open c
+is_so MayBeBarred c = is_barred (class_of Profile c) || is_left_open c
 -- a joiner, or another code point that needs a context (RFC 5892, appendix A)
 is_so Contextj c = is_contextj (class_of Profile c)
 is_so Contexto c = is_contexto (class_of Profile c)
@@ -69,7 +53,7 @@ is_so MayCompose c = not (is_yes (quick_check Nfc c) && (canonical_combining_cla
 -- it may not begin a label (RFC 5891, section 4.2.3.2)
 is_so Mark c = is_mark c
 -- it makes the Bidi rule apply, by the profile or by Unicode (RFC 5893, section 2)
-is_so RightToLeft c = is_rtl_class (profile_bidi_class c) || is_unicode_rtl_class (unicode_bidi_class c)
+is_so RightToLeft c = is_rtl_class (bidi_class Profile c) || is_rtl_class (bidi_class Unicode c)
 -- UTS 46 maps it to another text, ignores it or disallows it
 is_so NotKept c = not (is_kept_status (idna_status c))
 

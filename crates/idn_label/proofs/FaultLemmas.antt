@@ -15,7 +15,8 @@ use Rattle.idn_class.specs.declared.class.Class.{Class}
 use Rattle.idn_class.specs.declared.class.Class.TheVariants as classes
 use Rattle.idn_class.specs.declared.facts.Fact.TheVariants.{MayBeBarred}
 use Rattle.idn_class.specs.Class.{class_of, is_scalar}
-use Rattle.idn_class.specs.Facts.{is_barred_class, has_fact}
+use Rattle.idn_class.specs.Barring.{is_barred}
+use Rattle.idn_class.specs.Facts.{has_fact}
 use Rattle.idn_class.proofs.ClassNumbers.{class_of-no_scalar}
 use Rattle.idn_class.proofs.FactLabels.{Lacks, each_lacks, class_without, unbarred_by}
 use Rattle.idn_label.specs.ALabel.{a_label_of}
@@ -86,7 +87,7 @@ module _ (properties : Properties) where
   pub permitted_scalars : (label : List ℕ) → code_point_fault properties label ≡ None → AreScalarValues label
   permitted_scalars label none = All-weaker _ IsScalarValue permitted_scalar label (permitted properties label none)
 
-unbarred : (class : Class) → is_barred_class class ≡ false → fault_of_class class ≡ None
+unbarred : (class : Class) → is_barred class ≡ false → fault_of_class class ≡ None
 unbarred classes.Disallowed barred = absurd (true≢false barred)
 unbarred classes.Unassigned barred = absurd (true≢false barred)
 unbarred _ barred = refl

@@ -16,7 +16,7 @@ use Rattle.idn_class.specs.Tests.{is_en, is_an, is_nsm, ends_in, rtl_passes, ltr
 
 -- ---- one class
 
-rtl_named : (k : Kit) → is_rtl_class (named_class k) ≡ idna.is_rtl k
+pub rtl_named : (k : Kit) → is_rtl_class (named_class k) ≡ idna.is_rtl k
 rtl_named kit.RightToLeft = refl
 rtl_named kit.ArabicLetter = refl
 rtl_named kit.ArabicNumber = refl

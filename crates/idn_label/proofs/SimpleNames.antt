@@ -11,8 +11,6 @@ use Rattle.std.proofs.lemmas.List.Folds.{list_any_none}
 use Rattle.std.proofs.lemmas.List.Sums.{list_all-from_AllPass}
 use Rattle.std.proofs.lemmas.Str.{is_utf8-from_IsUtf8}
 use Rattle.ucd_bidi.specs.BidiClass.{bidi_class}
-use Rattle.ucd_bidi.specs.declared.BidiClass.{BidiClass}
-use Rattle.ucd_bidi.specs.declared.BidiClass.TheVariants.{RightToLeft as RightToLeft_class, ArabicLetter, ArabicNumber}
 use Rattle.ucd_normal.specs.declared.forms.Form.TheVariants.{Nfc}
 use Rattle.unicode_normalization.specs.Forms.{nfc}
 use Rattle.unicode_normalization.proofs.FormsLemmas.{is_in_form_from}
@@ -35,10 +33,13 @@ use Rattle.idn_label.specs.ALabel.{a_label_of}
 use Rattle.idn_label.specs.LdhNames.{may_end}
 use Rattle.idn_class.specs.declared.facts.Facts.{Facts}
 use Rattle.idn_class.specs.declared.facts.Fact.TheVariants.{RightToLeft}
-use Rattle.idn_class.specs.Facts.{contains, has_fact, is_unicode_rtl_class, AreFactsOf}
+use Rattle.idn_class.specs.BidiClass.{standard_bidi_class}
+use Rattle.idn_class.specs.declared.properties.Properties.TheVariants.{Unicode}
+use Rattle.idn_class.specs.Facts.{contains, has_fact, AreFactsOf}
 use Rattle.idn_class.proofs.FactLabels.{each_lacks, rtl_without}
 use Rattle.idn_label.specs.inner.SimpleNames.{IsTested, PassesInName}
 use Rattle.idn_label.specs.LabelEnds.{EndsLabel}
+use Rattle.idn_label.proofs.KitBidiRule.{rtl_named}
 use Rattle.idn_label.proofs.LabelsByPlace.{label_before, label_last}
 use Rattle.idn_label.proofs.NameLengths.{has_length, All-parts, join_terminated, measured}
 
@@ -117,18 +118,12 @@ ascii_label-known label l =
 
 -- ---- the Bidi rule
 
-pub rtl : (class : BidiClass) → is_unicode_rtl_class class ≡ is_rtl class
-rtl RightToLeft_class = refl
-rtl ArabicLetter = refl
-rtl ArabicNumber = refl
-rtl _ = refl
-
 pub left_to_right-full_stop : is_rtl (bidi_class full_stop) ≡ false
 unfolding tables bidi_class bidi_class_rows
 left_to_right-full_stop = refl
 
 passes_bidi-tested : (facts : Facts) (name : List ℕ) → AreFactsOf facts name → All (IsTested facts) (labels_of name) → passes_bidi (labels_of name) ≡ true
-unfolding is_bidi_domain
+unfolding is_bidi_domain standard_bidi_class
 passes_bidi-tested facts name are tested =
     let p = λ (c : ℕ). is_rtl (bidi_class c) in
     elim (cases_Bool (contains facts RightToLeft)) [
@@ -140,7 +135,7 @@ passes_bidi-tested facts name are tested =
           or_left _ _
           (not_from_false _
           (list_any-labels_of p name left_to_right-full_stop
-          ∙ list_any_none p name (All-weaker (λ c. has_fact RightToLeft c ≡ false) (λ c. p c ≡ false) (λ c h. sym (rtl (bidi_class c)) ∙ (rtl_without c h).1) name lacks)))
+          ∙ list_any_none p name (All-weaker (λ c. has_fact RightToLeft c ≡ false) (λ c. p c ≡ false) (λ c h. sym (rtl_named (bidi_class c)) ∙ rtl_without Unicode c h) name lacks)))
     ]
 
 -- ---- names

@@ -21,11 +21,12 @@ use Rattle.idna.specs.Uts46.{map_by, map_char}
 use Rattle.idna.specs.Validity.{begins_with_mark, is_valid_status}
 use Rattle.idn_class.proofs.ComputedLabels.{rules, in_table, class_of-in_table}
 use Rattle.idn_class.specs.declared.class.Class.TheVariants.{Pvalid, Contextj, Disallowed}
+use Rattle.idn_class.specs.Barring.{is_barred}
 use Rattle.idn_class.specs.Class.{class_of}
 use Rattle.idn_class.specs.declared.facts.Fact.{Fact}
 use Rattle.idn_class.specs.declared.facts.Fact.TheVariants.{MayBeBarred, Contextj as fact_Contextj, Mark as Mark_fact, NotKept}
 use Rattle.idn_class.specs.declared.facts.Facts.{Facts}
-use Rattle.idn_class.specs.Facts.{is_barred_class, is_contextj, is_kept_status, contains, has_fact, AreFactsOf}
+use Rattle.idn_class.specs.Facts.{is_contextj, is_kept_status, contains, has_fact, AreFactsOf}
 use Rattle.idn_class.proofs.FactTrie.{IsSimple}
 use Rattle.idn_class.proofs.FactLabels.{class_without, contextj_without, mark_without, kept_without, each_lacks}
 use Rattle.idn_class.specs.LeadingMark.{is_mark_category, is_mark}
@@ -53,17 +54,17 @@ other_class : (c d : ℕ) → is_contextj (class_of Profile c) ≡ false → is_
 other_class c d not is = ne_eqb c d (λ e. false≢true (sym not ∙ ap (λ x. is_contextj (class_of Profile x)) e ∙ is))
 
 -- of the ASCII code points only those of LDH are not barred
-ldh_class : (c : ℕ) → c < 128 → is_barred_class (class_of Profile c) ≡ false → is_ldh_point c ≡ true
-ldh_class c low is = by_test (is_ldh_point c) (ap is_barred_class (sym (class_of-ascii Profile c low)) ∙ is)
+ldh_class : (c : ℕ) → c < 128 → is_barred (class_of Profile c) ≡ false → is_ldh_point c ≡ true
+ldh_class c low is = by_test (is_ldh_point c) (ap is_barred (sym (class_of-ascii Profile c low)) ∙ is)
   where
-    by_test : (b : Bool) → is_barred_class (cond b Pvalid Disallowed) ≡ false → b ≡ true
+    by_test : (b : Bool) → is_barred (cond b Pvalid Disallowed) ≡ false → b ≡ true
     by_test true h = refl
     by_test false h = absurd (false≢true (sym h))
 
 allowed_ldh : (c : ℕ) → is_ldh_point c ≡ true → may_be_denied c ≡ false
 allowed_ldh c ldh = grind (arith, nat_tests)
 
-allowed_simple : (c : ℕ) → is_barred_class (class_of Profile c) ≡ false → may_be_denied c ≡ false
+allowed_simple : (c : ℕ) → is_barred (class_of Profile c) ≡ false → may_be_denied c ≡ false
 allowed_simple c is =
     elim (cases_lt c 128) [
       | inl low ↦ allowed_ldh c (ldh_class c low is)

@@ -10,7 +10,6 @@ use Rattle.idn_class.specs.declared.class.Class.TheVariants.{Pvalid}
 use Rattle.idn_class.specs.declared.properties.Properties.TheVariants.{Profile, Unicode}
 use Rattle.idn_class.specs.Barring.{is_barred}
 use Rattle.idn_class.specs.Class.{class_of}
-use Rattle.idn_class.specs.Facts.{is_barred_class}
 use Rattle.idn_class.specs.Profile.{is_left_to_right_mark, left_to_right_marks}
 use Rattle.idn_class.specs.Tests.{bidi_ok}
 use Rattle.idn_class.proofs.ComputedLabels.{rules, in_table, map-class_of-in_table}
@@ -27,18 +26,18 @@ use Rattle.idn_label.proofs.RequirementLemmas.{MeetsRequirements-registrable, re
 
 -- ---- the classes of what is permitted
 
-free_class : (class : Class) → fault_of_class class ≡ None → (is_barred class ≡ false) × (is_barred_class class ≡ false)
-free_class classes.Pvalid h = (refl, refl)
-free_class classes.Contextj h = (refl, refl)
-free_class classes.Contexto h = (refl, refl)
+free_class : (class : Class) → fault_of_class class ≡ None → is_barred class ≡ false
+free_class classes.Pvalid h = refl
+free_class classes.Contextj h = refl
+free_class classes.Contexto h = refl
 free_class classes.Disallowed h = cc
 free_class classes.Unassigned h = cc
 
 permitted_standard : (c : ℕ) → fault_of_class (class_of Profile c) ≡ None → fault_of_class (class_of Unicode c) ≡ None
-permitted_standard c free = ap fault_of_class (class_of-standard c (free_class (class_of Profile c) free).1) ∙ free
+permitted_standard c free = ap fault_of_class (class_of-standard c (free_class (class_of Profile c) free)) ∙ free
 
 unbarred : (c : ℕ) → fault_of_class (class_of Profile c) ≡ None → is_barred (class_of Profile c) ≡ false
-unbarred c free = (free_class (class_of Profile c) free).0
+unbarred c free = free_class (class_of Profile c) free
 
 -- ---- labels without such marks
 

@@ -35,7 +35,7 @@ fn passes(
     let tested = test_label(alloc, &points);
     assert_eq!(rt; told(&tested), expected, "{label}");
     if tested.is_ok() {
-        let a_label = encode_label(&points, Properties::Profile);
+        let a_label = encode_label(&points);
         assert_eq!(rt; Ok(a_label.as_str()), expected, "{label}");
     }
     Ok(())

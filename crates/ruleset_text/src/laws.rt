@@ -25,7 +25,7 @@ ghost use Rattle.ruleset_text.specs.SpanWords.{SpellSet};
 ghost use Rattle.ruleset_text.specs.Spans.{span, spans_in, spans_of};
 ghost use Rattle.ruleset_text.specs.Tokens.{tokens_of};
 ghost use Rattle.ruleset_text.specs.WellFormed.{AreDefinitions};
-ghost use Rattle.idn_class.specs.declared.properties.Properties.TheVariants.{Profile};
+ghost use Rattle.idn_class.specs.declared.properties.Properties.{Properties};
 
 /// The function that reads a pattern tells exactly what the grammar says; so tokens spell one pattern at most.
 pub fn reading_a_pattern_is_exact()
@@ -59,7 +59,7 @@ pub fn canonical_text_is_read_back()
 
 /// What lines define has no fault: none is in what no line defines, and a line adds none.
 pub fn what_lines_define_has_no_fault()
-    ensures nothing { AreDefinitions (nothing_defined Profile) }
+    ensures nothing { (properties : Properties) → AreDefinitions (nothing_defined properties) }
     ensures more { (d e : Definitions) (limit : ℕ) (keyword : Keyword) (words : List (List ℕ)) → AreDefinitions d → defined limit d keyword words ≡ Ok e → AreDefinitions e }
 {}
 

@@ -16,7 +16,7 @@ use Rattle.variant_table.specs.WellFormed.{is_table_class, IsPointBy, HasPointsB
 use Rattle.idn_class.specs.Class.{class_of, is_scalar}
 use Rattle.idn_class.specs.declared.class.Class.{Class}
 use Rattle.idn_class.specs.declared.class.Class.TheVariants as classes
-use Rattle.idn_class.specs.Facts.{is_barred_class}
+use Rattle.idn_class.specs.Barring.{is_barred}
 use Rattle.idn_class.proofs.FactLabels.{unbarred_by}
 use Rattle.idn_class.proofs.ClassNumbers.{class_of-no_scalar, is_scalar-out}
 use Rattle.std.proofs.lemmas.List.{length-map}
@@ -64,14 +64,14 @@ scalar_of_class p c h = by_cases (is_scalar_value c) refl
     by_cases false e = (let f : true ≡ false = sym h ∙ ap is_table_class (class_of-no_scalar p c (no_scalar c e)) in absurd cc)
 
 -- what the profile lets a table hold the standard does, too
-table_free : (class : Class) → is_table_class class ≡ true → is_barred_class class ≡ false
+table_free : (class : Class) → is_table_class class ≡ true → is_barred class ≡ false
 table_free classes.Disallowed h = cc
 table_free classes.Unassigned h = cc
 table_free classes.Pvalid h = refl
 table_free classes.Contextj h = refl
 table_free classes.Contexto h = refl
 
-free_table : (class : Class) → is_barred_class class ≡ false → is_table_class class ≡ true
+free_table : (class : Class) → is_barred class ≡ false → is_table_class class ≡ true
 free_table classes.Disallowed h = cc
 free_table classes.Unassigned h = cc
 free_table classes.Pvalid h = refl

@@ -61,7 +61,7 @@ pub(crate) fn write_collisions<W: Sink, E: Sink>(
         if !is_valid_by(validity, label, shared) {
             continue;
         }
-        let a_label = encode_label(label, options.properties);
+        let a_label = encode_label(label);
         let disposition = dispositions.of_variant(label);
         write_variant(asked, label, &a_label, disposition, &mut line, console)?;
         count += 1;

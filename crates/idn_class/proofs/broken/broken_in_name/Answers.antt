@@ -1,4 +1,4 @@
-use Rattle.std.proofs.Common.{sym, ap, ◌∙◌, inl, inr, arith}
+use Rattle.std.proofs.Common.{sym, ◌∙◌, inl, inr, arith}
 use Rattle.idn_class.proofs.CauseLemmas.{in_name-empty, in_name-ltr, in_name-rtl, in_name-first}
 use Rattle.idn_class.proofs.broken.broken_in_name.Goals as goal
 

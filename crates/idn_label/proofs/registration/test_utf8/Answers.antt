@@ -1,7 +1,7 @@
 use Rattle.std.proofs.Common.{◌≡◌, ℕ, Bool, true, false, List, [], ◌∷◌, length, Option, Some, None, Err, refl, sym, ap, ap₂, subst, ◌∙◌}
 use Rattle.std.specs.List.{list_all}
 use Rattle.std.proofs.lemmas.Bool.{not-false, not-true}
-use Rattle.std.proofs.lemmas.Result.{IfErr-weaker, err_from_is_err_and}
+use Rattle.std.proofs.lemmas.Result.{IfErr-weaker, err_from_is_err_and, on_ok_weaker}
 use Rattle.idn_text.specs.declared.refusal.Refusal.{Refusal}
 use Rattle.idn_text.specs.declared.refusal.Refusal.TheVariants.{LabelTooLong, Memory}
 use Rattle.idn_text.specs.Points.{IsUtf8Of}
@@ -21,11 +21,11 @@ module _ (properties : Properties) where
   ldh_fault label ldh = utf8_fault-ascii properties label (is_all_ascii-octets label (is_all_ascii-points label (ascii_points label ldh)))
 
 pub returns-then-is_ldh-clause-passes : goal.returns-then-is_ldh-clause-passes
-returns-then-is_ldh-clause-passes c = rw (ldh_fault c.args.properties c.args.label.now (c.requires.ldh c.if-is_ldh.true)) c.check_ldh.ensures.registrable
+returns-then-is_ldh-clause-passes c = rw (ldh_fault c.args.properties c.args.label.now (c.requires.ldh c.if-is_ldh.true)) (on_ok_weaker c.check_ldh.result (λ each. each c.args.properties) c.check_ldh.ensures.registrable)
 
 pub returns-then-is_ldh-clause-fault : goal.returns-then-is_ldh-clause-fault
 returns-then-is_ldh-clause-fault c =
-    rw (ldh_fault c.args.properties c.args.label.now (c.requires.ldh c.if-is_ldh.true)) (IfErr-weaker c.check_ldh.result _ _ (λ refusal fault other. fault) c.check_ldh.ensures.fault)
+    rw (ldh_fault c.args.properties c.args.label.now (c.requires.ldh c.if-is_ldh.true)) (IfErr-weaker c.check_ldh.result _ _ (λ refusal fault other. fault c.args.properties) c.check_ldh.ensures.fault)
 
 pub check_ldh-requires : goal.check_ldh-requires
 check_ldh-requires c = c.requires.ldh c.if-is_ldh.true

@@ -66,7 +66,7 @@ returns-in_err-write_variant-clause-written g c =
     (emits_as _ _ Output _ _ c.write_variant.result (line_is (said_text c.args.asked.now.form (asked_line c.args.asked.now)) c.label-label.result.now (told c.label-label.result.now c.of_variant-disposition.ensures.field c.collisions.invariant.same)) c.write_variant.ensures.written) (c.in_err-write_variant.was ∙ ap Err (sym p.2)))
 
 pub encode_label-a_label-requires : goal.encode_label-a_label-requires
-encode_label-a_label-requires g c = subst (λ (o : Settings). IsRegistrable o.properties c.label-label.result.now) (sym c.options.view_is) (under_way-registrable c.args.options.now.properties (filter_by c.args.options.now.properties (ruling_in c.args.validity.now)) (said_text c.args.asked.now.form (asked_line c.args.asked.now)) (field_by c.args.dispositions.now) c.collisions.search c.advance.new.self c.label-label.result.now c.collisions.invariant.under_way c.in-Some.ensures.goes_on.found c.label-label.ensures)
+encode_label-a_label-requires g c = (c.args.options.now.properties, under_way-registrable c.args.options.now.properties (filter_by c.args.options.now.properties (ruling_in c.args.validity.now)) (said_text c.args.asked.now.form (asked_line c.args.asked.now)) (field_by c.args.dispositions.now) c.collisions.search c.advance.new.self c.label-label.result.now c.collisions.invariant.under_way c.in-Some.ensures.goes_on.found c.label-label.ensures)
 
 pub write_variant-requires-clause-registrable : goal.write_variant-requires-clause-registrable
 write_variant-requires-clause-registrable g c = (c.args.options.now.properties, under_way-registrable c.args.options.now.properties (filter_by c.args.options.now.properties (ruling_in c.args.validity.now)) (said_text c.args.asked.now.form (asked_line c.args.asked.now)) (field_by c.args.dispositions.now) c.collisions.search c.advance.new.self c.label-label.result.now c.collisions.invariant.under_way c.in-Some.ensures.goes_on.found c.label-label.ensures)
