@@ -31,4 +31,6 @@ pub mod EntryForms
 pub mod EntryText
 pub mod EntrySteps
 pub mod EntryWords
+pub mod EntryParts
+pub mod EntryStops
 pub mod inner

@@ -11,6 +11,7 @@ mod definitions;
 mod definitions_text;
 mod entry_form;
 mod entry_laws;
+mod entry_parts;
 mod entry_reading;
 mod fault;
 mod keyword;
@@ -34,7 +35,8 @@ pub use definition_reading::{read_contexts, read_definition, read_demand, read_n
 pub use definitions::{Definitions, Demand};
 pub use entry_form::{EntryForm, Mapped, NamedCondition};
 pub use entry_laws::{canonical_entries_are_read_back, reading_an_entry_is_exact};
-pub use entry_reading::{EntryState, EntryWord, read_entry, word_of};
+pub use entry_parts::EntryParts;
+pub use entry_reading::{EntryWord, read_entry, word_of};
 pub use fault::{DefinitionFault, FaultPlace, Found, ReadError, WordFault};
 pub use keyword::{Keyword, keyword_of};
 pub use laws::{

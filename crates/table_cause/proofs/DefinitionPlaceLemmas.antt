@@ -46,7 +46,10 @@ use Rattle.ruleset_text.proofs.StopLemmas.{run_none, run_append}
 use Rattle.ruleset_text.proofs.UseLemmas.{signed_next, opens, opens_items, opens_whole, less_one, IsCut, part_cut}
 use Rattle.ruleset_text.specs.Stops.{next, run, Begins}
 use Rattle.ruleset_text.proofs.PlacedLemmas.{unplaced-from}
-use Rattle.table_cause.proofs.WrongPlaceLemmas.{point_bound, none_some, same_place}
+use Rattle.ruleset_text.proofs.EntryStopLemmas.{point_bound, none_some}
+
+same_place : (w : Placed) (place n : ℕ) → (let o : Option WrongPlace = Some (Lexeme w.place (length w.lexeme)) in o) ≡ Some (Lexeme place n) → (w.place ≡ place) × (length w.lexeme ≡ n)
+same_place w place n e = (cc, cc)
 
 -- what f says of a state, if there is one
 abbrev if_some : {X : Type 0} → Option X → (X → Bool) → Bool
