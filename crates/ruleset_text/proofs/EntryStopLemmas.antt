@@ -18,14 +18,14 @@ use Rattle.ruleset_text.specs.declared.fault.FaultPlace.TheVariants.{Lexeme, End
 use Rattle.ruleset_text.specs.Entries.{EntryForm, Mapped}
 use Rattle.ruleset_text.specs.EntryParts.{has_parts}
 use Rattle.ruleset_text.specs.EntryText.{IsForm}
-use Rattle.ruleset_text.specs.EntryWords.{AreWords, entry_words, point_of, IsEntryLine}
+use Rattle.ruleset_text.specs.EntryWords.{AreWords, entry_words, point_of}
 use Rattle.ruleset_text.specs.EntrySteps.{State, start, word_of, marked, at_point, at_last, begin_by, is_first, may_be_range, with_done, separated, after_rule, after_tags, after_tag, after_points, after_point, at_tag, at_rule, with_phase, step_by, step, stepped, state_after, is_begin, is_new, is_lacking, step_in, is_complete, ended, entry_at, entry_in, entry_read}
 use Rattle.ruleset_text.specs.EntryStops.{AreEntry, IsEntryOf, IsEntryStop, FitsNames}
 use Rattle.ruleset_text.specs.Lexemes.{is_blank, is_joined, lexemes}
-use Rattle.ruleset_text.specs.LineStops.{place_of, IsLineStop, or_end, at_lexeme, read_from}
+use Rattle.ruleset_text.specs.LineStops.{place_of, or_end, at_lexeme, read_from}
 use Rattle.ruleset_text.specs.Names.{is_name, is_name_byte, is_one_of}
 use Rattle.ruleset_text.specs.PlacedLexemes.{Placed, onto_placed, placed_from, placed_lexemes, unplaced}
-use Rattle.ruleset_text.specs.Stops.{next, run, Begins, IsStop}
+use Rattle.ruleset_text.specs.Stops.{run, Begins, IsStop}
 use Rattle.ruleset_text.specs.Tokens.{without_prefix}
 use Rattle.ruleset_text.proofs.EntryLemmas.{none_after}
 use Rattle.ruleset_text.proofs.EntryPartLemmas.{AllHad, had_by_form, form_by_had}

@@ -76,11 +76,7 @@ struct EntryState {
 // Always inline, so that it is where a table is read, whoever else calls it. So are each step and the end.
 #[inline(always)]
 #[tactic(auto, unfolding(crate::specs::EntrySteps::entry_read))]
-pub fn read_entry(
-    alloc: Global,
-    parts: EntryParts,
-    line: &[u8],
-) -> Result<EntryForm, ReadError>
+pub fn read_entry(alloc: Global, parts: EntryParts, line: &[u8]) -> Result<EntryForm, ReadError>
     ensures { Gives forms.entry_form result (steps.entry_read parts line.now) }
 {
     let mut state = EntryState::new(alloc);
@@ -124,12 +120,7 @@ impl EntryState {
 
     /// A word of a part that is lacking may stand nowhere.
     #[inline(always)]
-    fn step(
-        &mut self,
-        alloc: Global,
-        parts: EntryParts,
-        lexeme: &[u8],
-    ) -> Result<bool, AllocError>
+    fn step(&mut self, alloc: Global, parts: EntryParts, lexeme: &[u8]) -> Result<bool, AllocError>
         ensures { IfOk result (λ taken. steps.step_in parts (steps.state self.old) lexeme.now ≡ taken_as taken (steps.state self.new)) }
     {
         let word = word_of(lexeme);
@@ -141,12 +132,7 @@ impl EntryState {
 
     /// Takes a lexeme, which is this word.
     #[inline(always)]
-    fn take(
-        &mut self,
-        alloc: Global,
-        word: EntryWord,
-        lexeme: &[u8],
-    ) -> Result<bool, AllocError>
+    fn take(&mut self, alloc: Global, word: EntryWord, lexeme: &[u8]) -> Result<bool, AllocError>
         requires { word ≡ steps.word_of lexeme.now }
         ensures { IfOk result (λ taken. steps.step (steps.state self.old) lexeme.now ≡ taken_as taken (steps.state self.new)) }
     {

@@ -1,7 +1,6 @@
 -- What the places are that are told of a faulty line.
 use Rattle.std.specs.Prelude.{◌≡◌, ◌⊎◌, ℕ, true, false, List, ◌∷◌, ◌++◌, IsTrue}
 use Rattle.std.specs.List.{AllByRecursion}
-use Rattle.table_cause.specs.declared.entry_place.WrongPlace.{WrongPlace}
 use Rattle.table_cause.specs.declared.entry_place.WrongPlace.TheVariants as wrong
 use Rattle.table_cause.specs.WrongDefinitions as definitions
 use Rattle.table_cause.specs.declared.line_point.LinePoint.{LinePoint}

@@ -257,13 +257,7 @@ fn entry_place(
     ensures { IfOk result (λ place. place ≡ places.entry_place properties version fault line.now) }
 {
     match read_entry(alloc, version.entry_parts(), line) {
-        Ok(form) => form_place(
-            alloc,
-            fault,
-            &form,
-            &line_points(alloc, line)?,
-            properties,
-        ),
+        Ok(form) => form_place(alloc, fault, &form, &line_points(alloc, line)?, properties),
         Err(ReadError::Stop(_)) => Ok(None),
         Err(ReadError::Memory) => Err(AllocError),
     }

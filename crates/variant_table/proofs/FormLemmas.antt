@@ -12,7 +12,7 @@ use Rattle.ruleset_text.specs.Definitions.{Definitions}
 use Rattle.ruleset_text.specs.Entries.{Mapped, EntryForm}
 use Rattle.ruleset_text.specs.EntrySteps.{entry_in}
 use Rattle.ruleset_text.specs.EntryText.{IsSequence, IsMapped, IsForm}
-use Rattle.ruleset_text.specs.EntryWords.{Word, Point, Hyphen, Bar, AreWords, mark_words, sequence_words, last_words, tags_words, condition_words, mapped_words, variants_words, entry_words, point_of, IsEntryLine}
+use Rattle.ruleset_text.specs.EntryWords.{Word, Point, Hyphen, Bar, AreWords, mark_words, sequence_words, last_words, tags_words, condition_words, mapped_words, variants_words, entry_words, point_of}
 use Rattle.ruleset_text.specs.Lexemes.{is_blank, is_joined, lexemes}
 use Rattle.ruleset_text.specs.Tokens.{without_prefix}
 use Rattle.ruleset_text.proofs.EntryExactLemmas.{entry_read, entry_spelled, one_form}

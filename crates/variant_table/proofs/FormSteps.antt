@@ -1,6 +1,6 @@
 -- Sources and variants of a form, one after another.
-use Rattle.std.proofs.Common.{◌≡◌, ℕ, zero, suc, ◌+◌, ◌<◌, ◌≤◌, Bool, true, false, ◌&&◌, List, [], ◌∷◌, ◌++◌, length, length-append, map, take, drop, get_or, refl, sym, ap, subst, ◌∙◌, arith}
-use Rattle.std.specs.Prelude.{slice_index, slice_index_or, Option, Some, None}
+use Rattle.std.proofs.Common.{◌≡◌, ℕ, zero, suc, ◌+◌, ◌<◌, ◌≤◌, Bool, true, false, ◌&&◌, List, [], ◌∷◌, ◌++◌, length, length-append, map, take, get_or, refl, sym, ap, subst, ◌∙◌, arith}
+use Rattle.std.specs.Prelude.{slice_index, slice_index_or, Option, Some}
 use Rattle.std.specs.List.{AllByRecursion, list_all}
 use Rattle.std.proofs.lemmas.Bool.{and_parts}
 use Rattle.std.proofs.lemmas.List.{map-append, take_more}
@@ -11,7 +11,6 @@ use Rattle.ruleset_text.specs.EntryForms.{mapped}
 use Rattle.ruleset_text.specs.Names.{AreNames, is_one_of, number_of}
 use Rattle.ruleset_text.specs.EntryText.{IsForm, MayHaveTags}
 use Rattle.variant_table.specs.Forms.{variant_of}
-use Rattle.variant_table.proofs.ListLemmas.{drop_item, drop_all}
 use Rattle.variant_table.proofs.NumberLemmas.{few_numbers, numbers_below, numbers_apart, number_after, one_of}
 
 -- ---- their sequences

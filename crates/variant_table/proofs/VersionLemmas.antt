@@ -4,7 +4,7 @@ use Rattle.std.specs.Prelude.{is_some}
 use Rattle.std.specs.List.{list_all}
 use Rattle.std.proofs.Math.Bool.{and-true}
 use Rattle.ruleset_text.specs.Entries.{Mapped, EntryForm}
-use Rattle.ruleset_text.specs.EntryParts.{is_within, are_within, has_parts, has_tags}
+use Rattle.ruleset_text.specs.EntryParts.{is_within, are_within, has_tags}
 use Rattle.variant_table.specs.declared.version.Version.{Version}
 use Rattle.variant_table.specs.declared.version.Version.TheVariants.{One, Two, Three}
 use Rattle.variant_table.specs.Forms.{parts_of, has_form}

@@ -6,7 +6,7 @@ use Rattle.variant_table.specs.Entries.{TableValue}
 use Rattle.variant_table.specs.inner.Readers.{so_far}
 use Rattle.variant_table.specs.Limits.{text_limit}
 use Rattle.variant_table.specs.Versions.{version_of, head_of}
-use Rattle.variant_table.specs.Reading.{with_lines, table_of_text}
+use Rattle.variant_table.specs.Reading.{table_of_text}
 use Rattle.variant_table.specs.inner.ReadingSteps.{FailsIn}
 use Rattle.variant_table.proofs.FaultlessLemmas.{head_within}
 use Rattle.variant_table.proofs.ReadLemmas.{lines_begin, lines_lack, lines_counted, lines_step, lines_fail, lines_end}
