@@ -77,7 +77,7 @@ def place_in(line, version, number, may_stand, before=()):
         return definition_place(line, found, number, may_stand, [lexemes_of(each) for each in before])
     if number == SYNTAX:
         return wrong_place(line, found, lambda lexemes: begins_a_form(lexemes, version))
-    if not is_whole([lexeme for _, lexeme in found], 3):
+    if not is_whole([lexeme for _, lexeme in found], version):
         return None
     if number == NO_SUCH_NAME:
         return unknown_name(found, [lexemes_of(each) for each in before])

@@ -1,10 +1,7 @@
 -- Reading an entry is exact: it gives what the grammar says of a line, and nothing else.
-use Rattle.std.proofs.Common.{◌≡◌, ℕ, List, Option, Some, None, Result, Ok, Err, refl, sym, ◌∙◌}
-use Rattle.std.specs.Prelude.{◌↔◌, IfOk, MatchOption}
-use Rattle.std.specs.Option.{option_map}
-use Rattle.ruleset_text.specs.declared.entry_form.EntryForm as declared
+use Rattle.std.proofs.Common.{◌≡◌, ℕ, List, Some, sym, ◌∙◌}
+use Rattle.std.specs.Prelude.{◌↔◌}
 use Rattle.ruleset_text.specs.Entries.{EntryForm}
-use Rattle.ruleset_text.specs.EntryForms.{entry_form}
 use Rattle.ruleset_text.specs.EntryWords.{IsEntryLine}
 use Rattle.ruleset_text.specs.EntrySteps.{entry_in}
 use Rattle.ruleset_text.specs.Lexemes.{lexemes}
@@ -26,32 +23,3 @@ one_form form other line is too = same (sym (entry_read form line is) ∙ entry_
   where
     same : Some form ≡ Some other → form ≡ other
     same e = cc
-
--- a line that spells none gives none
-pub none_read : (line : List ℕ) → ((form : EntryForm) → IsEntryLine form line → ⊥) → entry_in (lexemes line) ≡ None
-none_read line spelled_by_none = by_form (entry_in (lexemes line)) refl
-  where
-    by_form : (o : Option EntryForm) → entry_in (lexemes line) ≡ o → o ≡ None
-    by_form None e = refl
-    by_form (Some form) e = absurd (spelled_by_none form (entry_spelled form line e))
-
--- the line spells what was found, or nothing where nothing was
-abbrev pub Spells : List ℕ → Option declared.EntryForm → Type 0
-Spells line found = MatchOption found ((form : EntryForm) → IsEntryLine form line → ⊥) (λ read. IsEntryLine (entry_form read) line)
-
--- what `read_entry` ensures, as an equation
-pub found_read : (line : List ℕ) (found : Option declared.EntryForm) → Spells line found → entry_in (lexemes line) ≡ option_map entry_form found
-found_read line None spelled_by_none = none_read line spelled_by_none
-found_read line (Some read) is = entry_read (entry_form read) line is
-
--- and from one
-none_some : (form : EntryForm) → None ≡ Some form → ⊥
-none_some form e = cc
-
-pub read_found : (line : List ℕ) (found : Option declared.EntryForm) → entry_in (lexemes line) ≡ option_map entry_form found → Spells line found
-read_found line None e = λ form is. none_some form (sym e ∙ entry_read form line is)
-read_found line (Some read) e = entry_spelled (entry_form read) line e
-
-pub all_found : {E : Type 0} (line : List ℕ) (result : Result (Option declared.EntryForm) E) → IfOk result (λ found. entry_in (lexemes line) ≡ option_map entry_form found) → IfOk result (Spells line)
-all_found line (Ok found) e = read_found line found e
-all_found line (Err e) is = tt

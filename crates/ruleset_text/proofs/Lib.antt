@@ -31,5 +31,7 @@ pub mod EntryReadLemmas
 pub mod EntrySpelledLemmas
 pub mod EntryExactLemmas
 pub mod EntryBackLemmas
+pub mod EntryPartLemmas
+pub mod EntryStopLemmas
 pub mod DefinitionsTextLemmas
 pub mod LineBytes

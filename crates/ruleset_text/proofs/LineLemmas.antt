@@ -17,7 +17,7 @@ use Rattle.ruleset_text.specs.Tokens.{token_of, tokens_in, tokens_of}
 use Rattle.ruleset_text.specs.PatternPlaces.{ArePattern, is_used, tokens_at, IsPatternStop}
 use Rattle.ruleset_text.specs.PatternSigns.{State, start, step_in, ended_in}
 use Rattle.ruleset_text.specs.Pieces.{taken_as}
-use Rattle.ruleset_text.specs.PlacedLexemes.{Placed, placed_lexemes, unplaced}
+use Rattle.ruleset_text.specs.PlacedLexemes.{Placed, placed_lexemes}
 use Rattle.ruleset_text.specs.Stops.{run}
 use Rattle.ruleset_text.proofs.UseLemmas.{read_used, reader}
 use Rattle.ruleset_text.proofs.PlacedLemmas.{unplaced-from}

@@ -1,16 +1,20 @@
 -- Reading the form of an entry or of a range, from the first lexeme to the last.
-use Rattle.std.specs.Prelude.{ℕ, nat_le, ◌==◌, ◌&&◌, not, Bool, true, false, Option, Some, None, is_some, List, [], ◌∷◌, ◌++◌, length, slice_index, bytes_eq, codes, map, if◌then◌else◌}
+use Rattle.std.specs.Prelude.{ℕ, nat_le, ◌==◌, ◌&&◌, not, Bool, true, false, Option, Some, None, is_some, List, [], ◌∷◌, ◌++◌, length, slice_index, bytes_eq, codes, map, if◌then◌else◌, Result}
 use Rattle.label_patterns.specs.declared.condition.ConditionKind.{ConditionKind}
 use Rattle.label_patterns.specs.declared.condition.ConditionKind.TheVariants as condition
+use Rattle.ruleset_text.specs.declared.entry_parts.EntryParts.{EntryParts}
 use Rattle.ruleset_text.specs.declared.entry_reading.EntryState as reading
 use Rattle.ruleset_text.specs.declared.entry_reading.EntryWord.{EntryWord}
 use Rattle.ruleset_text.specs.declared.entry_reading.EntryWord.TheVariants as word
 use Rattle.ruleset_text.specs.declared.entry_reading.Phase.{Phase}
 use Rattle.ruleset_text.specs.declared.entry_reading.Phase.TheVariants as phase
+use Rattle.ruleset_text.specs.declared.fault.FaultPlace.{FaultPlace}
 use Rattle.ruleset_text.specs.Entries.{Mapped, EntryForm}
 use Rattle.ruleset_text.specs.EntryForms.{mapped}
 use Rattle.ruleset_text.specs.EntryWords.{point_of}
+use Rattle.ruleset_text.specs.LineStops.{read_from}
 use Rattle.ruleset_text.specs.Names.{is_name, is_one_of}
+use Rattle.ruleset_text.specs.PlacedLexemes.{placed_lexemes}
 
 -- what was read: those that are complete, the one that isn't, the last code point of a range, and what was read last
 pub record State : Type 0 where
@@ -136,6 +140,29 @@ step_by phase.Rule s w = after_rule s (word_of w)
 abbrev pub step : State → List ℕ → Option State
 step s w = step_by s.phase s w
 
+-- nothing of the line was read
+abbrev pub is_begin : Phase → Bool
+is_begin phase.Begin = true
+is_begin e = false
+
+abbrev pub is_new : State → Bool
+is_new s = is_first s.done && is_begin s.phase
+
+-- the word is of none of the parts: '!' before the source, with which a line begins, or before a variant; '..'; a word of tags or
+-- conditions
+abbrev pub is_lacking : EntryParts → Bool → EntryWord → Bool
+is_lacking parts true word.Mark = not parts.outside
+is_lacking parts false word.Mark = not parts.blocked
+is_lacking parts first word.Range = not parts.ranges
+is_lacking parts first word.As = not parts.named
+is_lacking parts first word.When = not parts.named
+is_lacking parts first word.Unless = not parts.named
+is_lacking parts first e = false
+
+-- the same in an entry or a range with no other parts
+abbrev pub step_in : EntryParts → State → List ℕ → Option State
+step_in parts s w = if is_lacking parts (is_new s) (word_of w) then None else step s w
+
 abbrev pub stepped : Option State → List ℕ → Option State
 stepped None w = None
 stepped (Some s) w = step s w
@@ -162,3 +189,7 @@ entry_at (Some s) = ended s
 -- the entry or the range that lexemes spell, if they spell one
 unfoldable pub entry_in : List (List ℕ) → Option EntryForm
 entry_in words = entry_at (state_after (Some start) words)
+
+-- the entry or the range with no other parts that a line spells, or where the line stops being one
+unfoldable pub entry_read : EntryParts → List ℕ → Result EntryForm FaultPlace
+entry_read parts line = read_from (step_in parts) ended (length line) start (placed_lexemes line)

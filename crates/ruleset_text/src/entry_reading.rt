@@ -1,15 +1,17 @@
 //! Reading the form of an entry or of a range, lexeme by lexeme.
-ghost use Rattle.std.specs.Prelude.{◌≡◌, true, IfOk, OnOk, MatchOption, slice_index};
+ghost use Rattle.std.specs.Prelude.{◌≡◌, true, IfOk, OnOk, slice_index};
 ghost use Rattle.std.specs.Option.{option_map};
-ghost use Rattle.ruleset_text.specs.Entries as entries;
 ghost use Rattle.ruleset_text.specs.EntryForms as forms;
-ghost use Rattle.ruleset_text.specs.EntryWords.{IsEntryLine, point_of};
+ghost use Rattle.ruleset_text.specs.EntryWords.{point_of};
 ghost use Rattle.ruleset_text.specs.EntrySteps as steps;
+ghost use Rattle.ruleset_text.specs.LineStops.{Gives};
 ghost use Rattle.ruleset_text.specs.inner.EntryTaken.{taken_as};
 
 use crate::entry_form::{EntryForm, Mapped, NamedCondition};
-use crate::lexemes::next_lexeme;
+use crate::entry_parts::EntryParts;
+use crate::fault::{FaultPlace, ReadError};
 use crate::names::{Name, is_name, is_one_of};
+use crate::placed::PlacedLexemes;
 use crate::tokens::without_prefix;
 use idn_text::hex_point;
 use label_patterns::ConditionKind;
@@ -62,28 +64,32 @@ enum Phase {
 
 /// What was read of a line: the source and the variants that are complete, and the one that isn't.
 #[derive(Drop)]
-pub struct EntryState {
+struct EntryState {
     done: Vec<Mapped>,
     current: Mapped,
     last: Option<u32>,
     phase: Phase,
 }
 
-/// The entry or the range that a text spells, or none if it spells none. Tags and rules go by their names.
+/// The entry or the range that a line spells, with no other parts than these; or where the line stops being one, which law
+/// `reading_an_entry_is_exact` says. Tags and rules go by their names.
 // Always inline, so that it is where a table is read, whoever else calls it. So are each step and the end.
 #[inline(always)]
-pub fn read_entry(alloc: Global, text: &[u8]) -> Result<Option<EntryForm>, AllocError>
-    ensures { IfOk result (λ found. MatchOption found ((form : entries.EntryForm) → IsEntryLine form text.now → ⊥) (λ read. IsEntryLine (forms.entry_form read) text.now)) }
+#[tactic(auto, unfolding(crate::specs::EntrySteps::entry_read))]
+pub fn read_entry(alloc: Global, parts: EntryParts, line: &[u8]) -> Result<EntryForm, ReadError>
+    ensures { Gives forms.entry_form result (steps.entry_read parts line.now) }
 {
     let mut state = EntryState::new(alloc);
-    let mut rest = text;
-    while let Some((lexeme, others)) = next_lexeme(rest) {
-        if !state.step(alloc, lexeme)? {
-            return Ok(None);
+    let mut lexemes = PlacedLexemes::new(line);
+    while let Some((place, lexeme)) = lexemes.next() {
+        if !state.step(alloc, parts, lexeme)? {
+            return Err(ReadError::Stop(FaultPlace::Lexeme(place, lexeme.len())));
         }
-        rest = others;
     }
-    state.ended()
+    match state.ended()? {
+        Some(form) => Ok(form),
+        None => Err(ReadError::Stop(FaultPlace::End(line.len()))),
+    }
 }
 
 fn nothing(alloc: Global) -> Mapped
@@ -101,7 +107,7 @@ fn nothing(alloc: Global) -> Mapped
 /// the state is of no use any more.
 impl EntryState {
     /// Nothing was read.
-    pub fn new(alloc: Global) -> Self
+    fn new(alloc: Global) -> Self
         ensures { steps.state result ≡ steps.start }
     {
         EntryState {
@@ -112,23 +118,44 @@ impl EntryState {
         }
     }
 
+    /// A word of a part that is lacking may stand nowhere.
     #[inline(always)]
-    pub fn step(&mut self, alloc: Global, lexeme: &[u8]) -> Result<bool, AllocError>
+    fn step(&mut self, alloc: Global, parts: EntryParts, lexeme: &[u8]) -> Result<bool, AllocError>
+        ensures { IfOk result (λ taken. steps.step_in parts (steps.state self.old) lexeme.now ≡ taken_as taken (steps.state self.new)) }
+    {
+        let word = word_of(lexeme);
+        if is_lacking(parts, self.is_new(), word) {
+            return Ok(false);
+        }
+        self.take(alloc, word, lexeme)
+    }
+
+    /// Takes a lexeme, which is this word.
+    #[inline(always)]
+    fn take(&mut self, alloc: Global, word: EntryWord, lexeme: &[u8]) -> Result<bool, AllocError>
+        requires { word ≡ steps.word_of lexeme.now }
         ensures { IfOk result (λ taken. steps.step (steps.state self.old) lexeme.now ≡ taken_as taken (steps.state self.new)) }
     {
         match self.phase {
-            Phase::Begin => self.begin(lexeme),
+            Phase::Begin => self.begin(word, lexeme),
             Phase::Mark => self.take_point(lexeme),
-            Phase::Point => self.after_point(alloc, lexeme),
+            Phase::Point => self.after_point(alloc, word),
             Phase::Hyphen => self.take_point(lexeme),
             Phase::Range => Ok(self.take_last(lexeme)),
-            Phase::Last => self.after_points(alloc, word_of(lexeme)),
+            Phase::Last => self.after_points(alloc, word),
             Phase::As => self.take_tag(alloc, lexeme),
-            Phase::Tag => self.after_tag(alloc, word_of(lexeme)),
+            Phase::Tag => self.after_tag(alloc, word),
             Phase::When => self.take_rule(alloc, ConditionKind::When, lexeme),
             Phase::Unless => self.take_rule(alloc, ConditionKind::Unless, lexeme),
-            Phase::Rule => self.after_rule(alloc, word_of(lexeme)),
+            Phase::Rule => self.after_rule(alloc, word),
         }
+    }
+
+    /// Whether nothing of the line was read.
+    fn is_new(&self) -> bool
+        ensures { result ≡ steps.is_new (steps.state self.now) }
+    {
+        self.done.is_empty() && matches!(self.phase, Phase::Begin)
     }
 
     /// Goes on to another phase.
@@ -140,10 +167,10 @@ impl EntryState {
         true
     }
 
-    fn begin(&mut self, lexeme: &[u8]) -> Result<bool, AllocError>
-        ensures { IfOk result (λ taken. steps.begin (steps.state self.old) lexeme.now ≡ taken_as taken (steps.state self.new)) }
+    fn begin(&mut self, word: EntryWord, lexeme: &[u8]) -> Result<bool, AllocError>
+        ensures { IfOk result (λ taken. steps.begin_by (steps.state self.old) word lexeme.now ≡ taken_as taken (steps.state self.new)) }
     {
-        match word_of(lexeme) {
+        match word {
             EntryWord::Mark => {
                 self.current.marked = true;
                 self.phase = Phase::Mark;
@@ -164,10 +191,10 @@ impl EntryState {
         Ok(true)
     }
 
-    fn after_point(&mut self, alloc: Global, lexeme: &[u8]) -> Result<bool, AllocError>
-        ensures { IfOk result (λ taken. steps.after_point (steps.state self.old) (steps.word_of lexeme.now) ≡ taken_as taken (steps.state self.new)) }
+    fn after_point(&mut self, alloc: Global, word: EntryWord) -> Result<bool, AllocError>
+        ensures { IfOk result (λ taken. steps.after_point (steps.state self.old) word ≡ taken_as taken (steps.state self.new)) }
     {
-        match word_of(lexeme) {
+        match word {
             EntryWord::Hyphen => Ok(self.go_on(Phase::Hyphen)),
             EntryWord::Range => Ok(self.may_be_range() && self.go_on(Phase::Range)),
             word => self.after_points(alloc, word),
@@ -280,13 +307,6 @@ impl EntryState {
         Ok(())
     }
 
-    /// Whether nothing is left open.
-    pub fn is_complete(&self) -> bool
-        ensures { result ≡ steps.is_complete self.now.phase }
-    {
-        is_complete(self.phase)
-    }
-
     /// The form, if nothing is left open.
     #[inline(always)]
     fn ended(self) -> Result<Option<EntryForm>, AllocError>
@@ -304,6 +324,24 @@ impl EntryState {
         let mut mapped = done;
         mapped.push(current)?;
         Ok(Some(EntryForm { mapped, last }))
+    }
+}
+
+/// Whether a word is of none of the parts. The first word of a line is that of the source.
+fn is_lacking(parts: EntryParts, first: bool, word: EntryWord) -> bool
+    ensures { result ≡ steps.is_lacking parts first word }
+{
+    match word {
+        EntryWord::Mark => {
+            if first {
+                !parts.outside
+            } else {
+                !parts.blocked
+            }
+        }
+        EntryWord::Range => !parts.ranges,
+        EntryWord::As | EntryWord::When | EntryWord::Unless => !parts.named,
+        _ => false,
     }
 }
 

@@ -11,6 +11,7 @@ mod definitions;
 mod definitions_text;
 mod entry_form;
 mod entry_laws;
+mod entry_parts;
 mod entry_reading;
 mod fault;
 mod keyword;
@@ -34,8 +35,9 @@ pub use definition_reading::{read_contexts, read_definition, read_demand, read_n
 pub use definitions::{Definitions, Demand};
 pub use entry_form::{EntryForm, Mapped, NamedCondition};
 pub use entry_laws::{canonical_entries_are_read_back, reading_an_entry_is_exact};
-pub use entry_reading::{EntryState, EntryWord, read_entry, word_of};
-pub use fault::DefinitionFault;
+pub use entry_parts::EntryParts;
+pub use entry_reading::{EntryWord, read_entry, word_of};
+pub use fault::{DefinitionFault, FaultPlace, Found, ReadError, WordFault};
 pub use keyword::{Keyword, keyword_of};
 pub use laws::{
     canonical_lines_are_read_back, canonical_text_is_read_back, definitions_compute_the_entries,

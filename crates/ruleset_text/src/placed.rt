@@ -37,6 +37,8 @@ impl<'a> PlacedLexemes<'a> {
     }
 
     /// The next lexeme, and before it its place.
+    // Always inline, as what it calls: an entry is read by it.
+    #[inline(always)]
     pub fn next(&mut self) -> Option<(usize, &'a [u8])>
         ensures { MatchOption result (self.old ≡ []) (λ found. self.old ≡ record { place = found.0; lexeme = found.1.now } ∷ self.new) }
     {

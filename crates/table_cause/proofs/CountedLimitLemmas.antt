@@ -38,7 +38,7 @@ use Rattle.ruleset_text.specs.PlacedLexemes.{Placed, placed_lexemes, unplaced}
 use Rattle.table_cause.specs.WrongDefinitions.{definition_by, definition_in}
 use Rattle.table_cause.proofs.PastLimitLemmas.{atoms_counted, some_past}
 use Rattle.ruleset_text.proofs.PlacedLemmas.{unplaced-from}
-use Rattle.table_cause.proofs.WrongPlaceLemmas.{none_some}
+use Rattle.ruleset_text.proofs.EntryStopLemmas.{none_some}
 use Rattle.idn_class.specs.declared.properties.Properties.{Properties}
 
 -- ---- what a definition is, by its keyword

@@ -19,7 +19,7 @@ use Rattle.ruleset_text.specs.Spans.{spans_in}
 use Rattle.table_cause.specs.DefinitionPlaces.{and_name, first_keyword, names_defined}
 use Rattle.table_cause.specs.LineNames.{defined_name, is_keyword}
 use Rattle.table_cause.proofs.CountedLimitLemmas.{first_none, found_added}
-use Rattle.table_cause.proofs.WrongPlaceLemmas.{none_some}
+use Rattle.ruleset_text.proofs.EntryStopLemmas.{none_some}
 use Rattle.variant_table.specs.declared.version.Notation.TheVariants.{Ruleset}
 use Rattle.variant_table.specs.declared.version.Version.TheVariants.{Three}
 use Rattle.variant_table.specs.DefinitionLines.{keyword_in, room_for_definitions, with_after}

@@ -1,5 +1,5 @@
 -- The place at which a line stops defining something is where the grammar says.
-use Rattle.std.proofs.Common.{◌≡◌, ℕ, zero, suc, ◌+◌, ◌-◌, ◌<◌, ◌≤◌, nat_le, nat_lt, ◌==◌, Bool, true, false, not, ◌&&◌, ◌||◌, cond, List, [], ◌∷◌, ◌++◌, length, map, Option, Some, None, refl, sym, ap, subst, ◌∙◌, append_assoc, append-nil, arith}
+use Rattle.std.proofs.Common.{◌≡◌, ℕ, zero, suc, ◌+◌, ◌-◌, ◌<◌, ◌≤◌, nat_le, nat_lt, ◌==◌, Bool, true, false, not, ◌&&◌, ◌||◌, cond, List, [], ◌∷◌, ◌++◌, length, map, Option, Some, None, refl, sym, ap, subst, ◌∙◌, append-nil, arith}
 use Rattle.std.specs.Prelude.{◌↔◌, bytes_eq, is_some, codes}
 use Rattle.std.specs.Option.{option_map}
 use Rattle.std.proofs.lemmas.Bool.Decides.{nat_tests}
@@ -28,7 +28,7 @@ use Rattle.ruleset_text.specs.Definition as words
 use Rattle.ruleset_text.specs.Definition.{Definition, definition_of, keyword_of, if_such, demand_in, contexts_in, tag_in, set_in, rule_in}
 use Rattle.table_cause.specs.WrongDefinitions.{definition_by, definition_in, Define, IsWrongLexeme, IsWrongPlace}
 use Rattle.ruleset_text.specs.EntryWords.{point_of}
-use Rattle.ruleset_text.specs.Grammar.{Is, Atom, Item, Branch, Whole, tokens}
+use Rattle.ruleset_text.specs.Grammar.{Is, Atom, Item, Whole, tokens}
 use Rattle.table_cause.specs.DefinitionWrongSteps.{is_nothing, is_atom, no_pattern, if_may, last_step, with_token, pattern_step, is_pattern, held_step, are_spans, at_keyword, after_name, in_spans, in_pattern, step, is_whole, open_end, stopped_at, wrong_from, wrong_definition}
 use Rattle.ruleset_text.specs.Lexemes.{lexemes}
 use Rattle.ruleset_text.specs.Names.{is_name, number_of}
@@ -46,7 +46,10 @@ use Rattle.ruleset_text.proofs.StopLemmas.{run_none, run_append}
 use Rattle.ruleset_text.proofs.UseLemmas.{signed_next, opens, opens_items, opens_whole, less_one, IsCut, part_cut}
 use Rattle.ruleset_text.specs.Stops.{next, run, Begins}
 use Rattle.ruleset_text.proofs.PlacedLemmas.{unplaced-from}
-use Rattle.table_cause.proofs.WrongPlaceLemmas.{point_bound, none_some, same_place}
+use Rattle.ruleset_text.proofs.EntryStopLemmas.{point_bound, none_some}
+
+same_place : (w : Placed) (place n : ℕ) → (let o : Option WrongPlace = Some (Lexeme w.place (length w.lexeme)) in o) ≡ Some (Lexeme place n) → (w.place ≡ place) × (length w.lexeme ≡ n)
+same_place w place n e = (cc, cc)
 
 -- what f says of a state, if there is one
 abbrev if_some : {X : Type 0} → Option X → (X → Bool) → Bool

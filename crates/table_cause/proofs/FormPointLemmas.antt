@@ -23,7 +23,7 @@ use Rattle.table_cause.specs.declared.line_point.LinePoint.{LinePoint}
 use Rattle.table_cause.specs.ExpectedNames.{expected_after, without_names}
 use Rattle.table_cause.specs.LinePoints.{and_point, is_separator, line_points, points_from}
 use Rattle.ruleset_text.specs.PlacedLexemes.{Placed, placed_lexemes, unplaced}
-use Rattle.table_cause.proofs.EntryPartLemmas.{IsNoWord, point_word}
+use Rattle.ruleset_text.proofs.EntryPartLemmas.{IsNoWord, point_word}
 use Rattle.ruleset_text.proofs.PlacedLemmas.{unplaced-from}
 
 -- ---- code points without their places

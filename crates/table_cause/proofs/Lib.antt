@@ -1,8 +1,4 @@
--- The parts that an entry has.
-pub mod EntryPartLemmas
--- Where a line stops being an entry or a range.
-pub mod WrongPlaceLemmas
--- The same of a line that is to define something.
+-- Where a line stops that is to define something.
 pub mod DefinitionPlaceLemmas
 -- Where the pattern of a line goes past a limit.
 pub mod PastLimitLemmas

@@ -36,7 +36,7 @@ use Rattle.table_cause.specs.WrongDefinitions.{Define, definition_by, definition
 use Rattle.table_cause.proofs.DefinitionPlaceLemmas.{shaped, shaped_pattern, some_is}
 use Rattle.ruleset_text.proofs.SignLemmas.{suc_zero, out_of}
 use Rattle.ruleset_text.proofs.PlacedLemmas.{unplaced-from}
-use Rattle.table_cause.proofs.WrongPlaceLemmas.{none_some}
+use Rattle.ruleset_text.proofs.EntryStopLemmas.{none_some}
 
 -- ---- tokens of which none is too deep
 

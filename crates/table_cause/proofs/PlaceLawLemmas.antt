@@ -1,91 +1,30 @@
 -- The places that are told are those that are defined.
-use Rattle.std.proofs.Common.{◌≡◌, inl, inr, ℕ, Bool, true, false, cond, not, ◌&&◌, List, [], ◌∷◌, ◌++◌, Option, Some, None, refl, sym, ap, subst, ◌∙◌}
-use Rattle.std.specs.Prelude.{◌↔◌, find, is_some, option_map}
-use Rattle.std.specs.List.{AllByRecursion, list_all}
-use Rattle.std.proofs.Math.Bool.{and-true}
+use Rattle.std.proofs.Common.{◌≡◌, inl, inr, ℕ, Bool, true, false, cond, List, [], ◌∷◌, ◌++◌, Option, Some, None, Result, Ok, Err, refl, sym, ap, subst, ◌∙◌}
+use Rattle.std.specs.Prelude.{◌↔◌, find, option_map}
+use Rattle.std.specs.List.{AllByRecursion}
+use Rattle.std.specs.Result.{result_err}
 use Rattle.table_cause.specs.declared.entry_place.WrongPlace.{WrongPlace}
 use Rattle.table_cause.specs.declared.entry_place.WrongPlace.TheVariants as wrong
 use Rattle.table_cause.specs.declared.line_point.LinePoint.{LinePoint}
-use Rattle.ruleset_text.specs.Entries.{Mapped, EntryForm}
-use Rattle.table_cause.specs.EntryParts.{is_within, are_within, has_parts, has_tags}
-use Rattle.table_cause.specs.WrongPlaces.{FitsNames}
-use Rattle.table_cause.specs.WrongSteps.{wrong_place}
+use Rattle.ruleset_text.specs.Entries.{EntryForm}
+use Rattle.ruleset_text.specs.EntrySteps.{entry_read}
+use Rattle.ruleset_text.specs.EntryStops.{FitsNames}
+use Rattle.ruleset_text.proofs.EntryStopLemmas.{the_stop}
 use Rattle.table_cause.specs.DefinitionWrongSteps.{wrong_definition}
 use Rattle.table_cause.proofs.DefinitionPlaceLemmas.{the_wrong_place as of_definition}
-use Rattle.table_cause.proofs.WrongPlaceLemmas.{the_wrong_place}
-use Rattle.table_cause.specs.declared.place.FaultPlace.{FaultPlace}
-use Rattle.table_cause.specs.declared.place.FaultPlace.TheVariants.{Lexeme, End, Point, InRange, Variant, Source, Byte, NinthPoint, SeventeenthVariant}
+use Rattle.ruleset_text.specs.declared.fault.FaultPlace.{FaultPlace}
+use Rattle.ruleset_text.specs.declared.fault.FaultPlace.TheVariants.{Lexeme, End, Point, InRange, Variant, Source, Byte, NinthPoint, SeventeenthVariant}
 use Rattle.variant_table.specs.declared.version.Version.{Version}
-use Rattle.variant_table.specs.declared.version.Version.TheVariants.{One, Two, Three}
-use Rattle.table_cause.specs.FaultPlaces.{as_fault, is_bad_point, defines, parts_of, point_place, syntax_place}
-use Rattle.variant_table.specs.Forms.{is_plain, is_bare, begins_marked, has_form}
-use Rattle.table_cause.specs.ToldPlaces.{IsFirstBad, IsFirstBadPoint, IsSyntaxPlace, IsWrongIn}
+use Rattle.variant_table.specs.Forms.{parts_of}
+use Rattle.table_cause.specs.FaultPlaces.{as_fault, is_bad_point, defines, point_place, syntax_place}
+use Rattle.table_cause.specs.ToldPlaces.{IsDefinitionPlace, IsFirstBad, IsFirstBadPoint, IsSyntaxPlace}
 use Rattle.idn_class.specs.declared.properties.Properties.{Properties}
-
--- ---- the parts of a version
-
-plain_within : (tags : List (List ℕ)) (m : Mapped) → m.tags ≡ tags → is_within false true m ≡ is_plain m
-plain_within [] m e = ap (λ (l : List (List ℕ)). not (has_tags l) && not (is_some m.condition) && true) e ∙ and-true (true && not (is_some m.condition)) ∙ sym (ap (λ (l : List (List ℕ)). is_plain (record m { tags = l })) e)
-plain_within (tag ∷ tags) m e = ap (λ (l : List (List ℕ)). not (has_tags l) && not (is_some m.condition) && true) e ∙ sym (ap (λ (l : List (List ℕ)). is_plain (record m { tags = l })) e)
-
-bare_within : (tags : List (List ℕ)) (m : Mapped) → m.tags ≡ tags → is_within false false m ≡ (is_plain m && not m.marked)
-bare_within [] m e = ap (λ (l : List (List ℕ)). not (has_tags l) && not (is_some m.condition) && not m.marked) e ∙ sym (ap (λ (l : List (List ℕ)). is_plain (record m { tags = l }) && not m.marked) e)
-bare_within (tag ∷ tags) m e = ap (λ (l : List (List ℕ)). not (has_tags l) && not (is_some m.condition) && not m.marked) e ∙ sym (ap (λ (l : List (List ℕ)). is_plain (record m { tags = l }) && not m.marked) e)
-
-all_plain : (ms : List Mapped) → list_all (is_within false true) ms ≡ list_all is_plain ms
-all_plain [] = refl
-all_plain (m ∷ ms) = ap (λ b. b && list_all (is_within false true) ms) (plain_within m.tags m refl) ∙ ap (λ b. is_plain m && b) (all_plain ms)
-
-all_bare : (ms : List Mapped) → list_all (is_within false false) ms ≡ list_all is_bare ms
-all_bare [] = refl
-all_bare (m ∷ ms) = ap (λ b. b && list_all (is_within false false) ms) (bare_within m.tags m refl) ∙ ap (λ b. is_bare m && b) (all_bare ms)
-
-all_within : (ms : List Mapped) → list_all (is_within true true) ms ≡ true
-all_within [] = refl
-all_within (m ∷ ms) = all_within ms
-
-moved : (a b c : Bool) → ((a && c) && b) ≡ ((a && b) && c)
-moved true true true = refl
-moved true true false = refl
-moved true false true = refl
-moved true false false = refl
-moved false b c = refl
-
-pub form_parts : (version : Version) (form : EntryForm) → has_form version form ≡ has_parts (parts_of version) form
-form_parts One form = ap (λ b. b && not (is_some form.last)) (by form.mapped)
-  where
-    by : (ms : List Mapped) → list_all is_bare ms ≡ are_within (parts_of One) ms
-    by [] = refl
-    by (m ∷ ms) = sym (all_bare (m ∷ ms))
-form_parts Two form = by form.mapped ∙ sym (and-true (are_within (parts_of Two) form.mapped))
-  where
-    by : (ms : List Mapped) → (list_all is_plain ms && not (begins_marked ms)) ≡ are_within (parts_of Two) ms
-    by [] = refl
-    by (m ∷ ms) =
-        moved (is_plain m) (not m.marked) (list_all is_plain ms)
-        ∙ ap (λ b. (is_plain m && not m.marked) && b) (sym (all_plain ms)) ∙ ap (λ b. b && list_all (is_within false true) ms) (sym (bare_within m.tags m refl))
-form_parts Three form = by form.mapped ∙ sym (and-true (are_within (parts_of Three) form.mapped))
-  where
-    by : (ms : List Mapped) → true ≡ are_within (parts_of Three) ms
-    by [] = refl
-    by (m ∷ ms) = sym (all_within ms)
 
 -- ---- syntax
 
--- the lexeme or the end where a line stops being one of the version
-abbrev wrong_in : Version → List ℕ → Option WrongPlace
-wrong_in version line = cond (defines version line) (wrong_definition line) (wrong_place (parts_of version) line)
-
-wrong_is : (version : Version) (line : List ℕ) (place : WrongPlace) → FitsNames (parts_of version) line → (wrong_in version line ≡ Some place) ↔ IsWrongIn version line place
-wrong_is version line place fits = by (defines version line) refl
-  where
-    by : (b : Bool) → defines version line ≡ b → (cond b (wrong_definition line) (wrong_place (parts_of version) line) ≡ Some place) ↔ IsWrongIn version line place
-    by true e =
-        let is = of_definition line place in
-        (λ h. inl (e, is.0 h), λ has. elim has [ inl defined ↦ is.1 defined.1 | inr other ↦ absurd (let clash : true ≡ false = sym e ∙ other.0 in cc) ])
-    by false e =
-        let is = the_wrong_place (parts_of version) line place fits in
-        (λ h. inr (e, is.0 h), λ has. elim has [ inl defined ↦ absurd (let clash : true ≡ false = sym defined.0 ∙ e in cc) | inr other ↦ is.1 other.1 ])
+-- where a line stops that is to define something
+abbrev of_line : List ℕ → Option FaultPlace
+of_line line = option_map as_fault (wrong_definition line)
 
 lexeme_from : (place n : ℕ) (o : Option WrongPlace) → option_map as_fault o ≡ Some (Lexeme place n) → o ≡ Some (wrong.Lexeme place n)
 lexeme_from place n None e = absurd cc
@@ -108,30 +47,45 @@ of_syntax place None e = absurd cc
 of_syntax place (Some (wrong.Lexeme p m)) e = let same : Lexeme p m ≡ place = cc in subst IsOfSyntax same tt
 of_syntax place (Some (wrong.End p)) e = let same : End p ≡ place = cc in subst IsOfSyntax same tt
 
-syntax_is : (version : Version) (line : List ℕ) (place : FaultPlace) → FitsNames (parts_of version) line → option_map as_fault (wrong_in version line) ≡ Some place → IsSyntaxPlace version line place
-syntax_is version line (Lexeme place n) fits e = (wrong_is version line (wrong.Lexeme place n) fits).0 (lexeme_from place n (wrong_in version line) e)
-syntax_is version line (End place) fits e = (wrong_is version line (wrong.End place) fits).0 (end_from place (wrong_in version line) e)
-syntax_is version line (Point place c) fits e = of_syntax (Point place c) (wrong_in version line) e
-syntax_is version line (InRange place c) fits e = of_syntax (InRange place c) (wrong_in version line) e
-syntax_is version line (Variant place) fits e = of_syntax (Variant place) (wrong_in version line) e
-syntax_is version line (Source place) fits e = of_syntax (Source place) (wrong_in version line) e
-syntax_is version line (Byte place) fits e = of_syntax (Byte place) (wrong_in version line) e
-syntax_is version line (NinthPoint place c) fits e = of_syntax (NinthPoint place c) (wrong_in version line) e
-syntax_is version line (SeventeenthVariant place c) fits e = of_syntax (SeventeenthVariant place c) (wrong_in version line) e
+line_is : (line : List ℕ) (place : FaultPlace) → of_line line ≡ Some place → IsDefinitionPlace line place
+line_is line (Lexeme place n) e = (of_definition line (wrong.Lexeme place n)).0 (lexeme_from place n (wrong_definition line) e)
+line_is line (End place) e = (of_definition line (wrong.End place)).0 (end_from place (wrong_definition line) e)
+line_is line (Point place c) e = of_syntax (Point place c) (wrong_definition line) e
+line_is line (InRange place c) e = of_syntax (InRange place c) (wrong_definition line) e
+line_is line (Variant place) e = of_syntax (Variant place) (wrong_definition line) e
+line_is line (Source place) e = of_syntax (Source place) (wrong_definition line) e
+line_is line (Byte place) e = of_syntax (Byte place) (wrong_definition line) e
+line_is line (NinthPoint place c) e = of_syntax (NinthPoint place c) (wrong_definition line) e
+line_is line (SeventeenthVariant place c) e = of_syntax (SeventeenthVariant place c) (wrong_definition line) e
 
-is_syntax : (version : Version) (line : List ℕ) (place : FaultPlace) → FitsNames (parts_of version) line → IsSyntaxPlace version line place → option_map as_fault (wrong_in version line) ≡ Some place
-is_syntax version line (Lexeme place n) fits is = ap (option_map as_fault) ((wrong_is version line (wrong.Lexeme place n) fits).1 is)
-is_syntax version line (End place) fits is = ap (option_map as_fault) ((wrong_is version line (wrong.End place) fits).1 is)
-is_syntax version line (Point place c) fits is = absurd is
-is_syntax version line (InRange place c) fits is = absurd is
-is_syntax version line (Variant place) fits is = absurd is
-is_syntax version line (Source place) fits is = absurd is
-is_syntax version line (Byte place) fits is = absurd is
-is_syntax version line (NinthPoint place c) fits is = absurd is
-is_syntax version line (SeventeenthVariant place c) fits is = absurd is
+is_line : (line : List ℕ) (place : FaultPlace) → IsDefinitionPlace line place → of_line line ≡ Some place
+is_line line (Lexeme place n) is = ap (option_map as_fault) ((of_definition line (wrong.Lexeme place n)).1 is)
+is_line line (End place) is = ap (option_map as_fault) ((of_definition line (wrong.End place)).1 is)
+is_line line (Point place c) is = absurd is
+is_line line (InRange place c) is = absurd is
+is_line line (Variant place) is = absurd is
+is_line line (Source place) is = absurd is
+is_line line (Byte place) is = absurd is
+is_line line (NinthPoint place c) is = absurd is
+is_line line (SeventeenthVariant place c) is = absurd is
+
+err_from : (place : FaultPlace) (r : Result EntryForm FaultPlace) → result_err r ≡ Some place → r ≡ Err place
+err_from place (Ok form) e = absurd cc
+err_from place (Err other) e = let same : other ≡ place = cc in ap (λ p. Err p) same
 
 pub syntax_told : (version : Version) (line : List ℕ) (place : FaultPlace) → FitsNames (parts_of version) line → (syntax_place version line ≡ Some place) ↔ IsSyntaxPlace version line place
-syntax_told version line place fits = (syntax_is version line place fits, is_syntax version line place fits)
+syntax_told version line place fits = by (defines version line) refl
+  where
+    by : (b : Bool) → defines version line ≡ b → (cond b (of_line line) (result_err (entry_read (parts_of version) line)) ≡ Some place) ↔ IsSyntaxPlace version line place
+    by true e = (
+      λ h. inl (e, line_is line place h),
+      λ is. elim is [ inl defined ↦ is_line line place defined.1 | inr other ↦ absurd (let clash : true ≡ false = sym e ∙ other.0 in cc) ],
+    )
+    by false e =
+        let stop = the_stop (parts_of version) line place fits in (
+          λ h. inr (e, stop.0 (err_from place (entry_read (parts_of version) line) h)),
+          λ is. elim is [ inl defined ↦ absurd (let clash : true ≡ false = sym defined.0 ∙ e in cc) | inr other ↦ ap result_err (stop.1 other.1) ],
+        )
 
 -- ---- code points
 

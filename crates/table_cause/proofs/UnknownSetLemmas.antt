@@ -41,7 +41,7 @@ use Rattle.table_cause.proofs.DefinitionPointLemmas.{at_none, is_at, mapped_foun
 use Rattle.ruleset_text.proofs.PlacedLemmas.{unplaced-from}
 use Rattle.table_cause.proofs.RefusedPlaceLemmas.{or_false}
 use Rattle.table_cause.proofs.WholeLimitLemmas.{some_mapped}
-use Rattle.table_cause.proofs.WrongPlaceLemmas.{none_some}
+use Rattle.ruleset_text.proofs.EntryStopLemmas.{none_some}
 use Rattle.variant_table.specs.declared.fault.TableFault.TheVariants as tables
 use Rattle.variant_table.specs.declared.version.Notation.TheVariants.{Ruleset}
 use Rattle.variant_table.specs.declared.version.Version.TheVariants.{Three}

@@ -1,5 +1,5 @@
 -- The first lexeme of a line that can't stand in a definition, lexeme by lexeme.
-use Rattle.std.specs.Prelude.{ℕ, ◌+◌, ◌-◌, nat_le, nat_lt, ◌==◌, Bool, true, false, ◌&&◌, ◌||◌, not, Option, Some, None, List, [], ◌∷◌, length, if◌then◌else◌}
+use Rattle.std.specs.Prelude.{ℕ, ◌+◌, nat_le, nat_lt, ◌==◌, Bool, true, false, ◌&&◌, ◌||◌, not, Option, Some, None, List, [], ◌∷◌, length, if◌then◌else◌}
 use Rattle.std.specs.Option.{option_map}
 use Rattle.table_cause.specs.declared.definition_place.DefinitionState.{DefinitionState}
 use Rattle.table_cause.specs.declared.definition_place.DefinitionState.TheVariants.{Nothing, Named, Tag, Spans, InPattern}

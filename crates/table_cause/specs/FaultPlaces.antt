@@ -2,32 +2,32 @@
 use Rattle.std.specs.Prelude.{ℕ, ◌-◌, nat_lt, ◌==◌, Bool, true, false, ◌||◌, ◌&&◌, not, Option, Some, None, List, [], ◌∷◌, ◌++◌, length, take, find, bytes_eq, slice_get, if◌then◌else◌}
 use Rattle.std.specs.List.{range_with_len}
 use Rattle.std.specs.Option.{option_map}
+use Rattle.std.specs.Result.{result_err, result_ok}
 use Rattle.std.specs.Str.Lines.{strip_carriage_return}
 use Rattle.idn_class.specs.Class.{class_of}
 use Rattle.idn_text.specs.Lines.{raw_lines}
-use Rattle.table_cause.specs.declared.entry_place.EntryParts.{EntryParts}
 use Rattle.table_cause.specs.declared.entry_place.WrongPlace.{WrongPlace}
 use Rattle.table_cause.specs.declared.entry_place.WrongPlace.TheVariants as wrong
 use Rattle.table_cause.specs.declared.line_point.LinePoint.{LinePoint}
 use Rattle.ruleset_text.specs.declared.entry_form.NamedCondition.{NamedCondition}
 use Rattle.ruleset_text.specs.declared.keyword.Keyword.TheVariants as keyword
 use Rattle.ruleset_text.specs.Entries.{EntryForm, Mapped}
-use Rattle.ruleset_text.specs.EntrySteps.{entry_in}
+use Rattle.ruleset_text.specs.EntrySteps.{entry_read}
 use Rattle.table_cause.specs.DefinitionWrongSteps.{wrong_definition}
-use Rattle.table_cause.specs.WrongSteps.{wrong_place}
-use Rattle.ruleset_text.specs.Lexemes.{is_blank, lexemes}
+use Rattle.ruleset_text.specs.Lexemes.{is_blank}
 use Rattle.table_cause.specs.LineNames.{definition_points, second_place, unknown_name, unknown_set}
 use Rattle.table_cause.specs.LinePoints.{line_points}
 use Rattle.ruleset_text.specs.PlacedLexemes.{placed_lexemes}
 use Rattle.variant_table.specs.declared.fault.TableFault.{TableFault}
 use Rattle.variant_table.specs.declared.fault.TableFault.TheVariants as tables
-use Rattle.table_cause.specs.declared.place.FaultPlace.{FaultPlace}
-use Rattle.table_cause.specs.declared.place.FaultPlace.TheVariants.{Lexeme, End, Point, InRange, Variant, Source, Byte, NinthPoint, SeventeenthVariant}
+use Rattle.ruleset_text.specs.declared.fault.FaultPlace.{FaultPlace}
+use Rattle.ruleset_text.specs.declared.fault.FaultPlace.TheVariants.{Lexeme, End, Point, InRange, Variant, Source, Byte, NinthPoint, SeventeenthVariant}
 use Rattle.variant_table.specs.Conditions.{is_same_kind}
 use Rattle.table_cause.specs.DefinitionPlaces.{definition_limit, names_defined}
 use Rattle.variant_table.specs.declared.version.Notation.{Notation}
 use Rattle.variant_table.specs.declared.version.Version.{Version}
 use Rattle.variant_table.specs.declared.version.Version.TheVariants.{One, Two, Three}
+use Rattle.variant_table.specs.Forms.{parts_of}
 use Rattle.variant_table.specs.Limits.{line_limit}
 use Rattle.variant_table.specs.Ranges.{range_size}
 use Rattle.variant_table.specs.Versions.{version_of}
@@ -35,12 +35,6 @@ use Rattle.variant_table.specs.WellFormed.{is_table_class}
 use Rattle.idn_class.specs.declared.properties.Properties.{Properties}
 
 -- ---- syntax
-
--- version 1 has no '!' and no ranges, version 2 no outside sources, and neither has tags or conditions
-abbrev pub parts_of : Version → EntryParts
-parts_of One = record { outside = false; blocked = false; ranges = false; named = false }
-parts_of Two = record { outside = false; blocked = true; ranges = true; named = false }
-parts_of Three = record { outside = true; blocked = true; ranges = true; named = true }
 
 -- '%' is the first byte that is no blank
 abbrev pub begins_in_percent : List ℕ → Bool
@@ -59,7 +53,7 @@ as_fault (wrong.End place) = End place
 
 -- the lexeme that can't stand there, or the end
 abbrev pub syntax_place : Version → List ℕ → Option FaultPlace
-syntax_place version line = option_map as_fault (if defines version line then wrong_definition line else wrong_place (parts_of version) line)
+syntax_place version line = if defines version line then option_map as_fault (wrong_definition line) else result_err (entry_read (parts_of version) line)
 
 -- ---- classes
 
@@ -140,8 +134,8 @@ form_place properties (tables.NoSuchName number) (Some form) points = None
 form_place properties (tables.SameName number) (Some form) points = None
 form_place properties tables.Memory (Some form) points = None
 
-abbrev pub entry_place : Properties → TableFault → List ℕ → Option FaultPlace
-entry_place properties fault line = form_place properties fault (entry_in (lexemes line)) (line_points line)
+abbrev pub entry_place : Properties → Version → TableFault → List ℕ → Option FaultPlace
+entry_place properties version fault line = form_place properties fault (result_ok (entry_read (parts_of version) line)) (line_points line)
 
 -- a tag or a rule of an entry that none of the lines before defines
 abbrev pub unknown_place : List (List ℕ) → List ℕ → Option FaultPlace
@@ -163,13 +157,13 @@ definition_place properties before (tables.Limit number) line = option_map as_fa
 definition_place properties before fault line = None
 
 -- of an entry or a range
-abbrev pub other_place : Properties → List (List ℕ) → TableFault → List ℕ → Option FaultPlace
-other_place properties before (tables.NoSuchName number) line = unknown_place before line
-other_place properties before fault line = entry_place properties fault line
+abbrev pub other_place : Properties → Version → List (List ℕ) → TableFault → List ℕ → Option FaultPlace
+other_place properties version before (tables.NoSuchName number) line = unknown_place before line
+other_place properties version before fault line = entry_place properties version fault line
 
 abbrev pub body_place : Properties → Version → List (List ℕ) → TableFault → List ℕ → Option FaultPlace
 body_place properties version before (tables.Syntax number) line = syntax_place version line
-body_place properties version before fault line = if defines version line then definition_place properties before fault line else other_place properties before fault line
+body_place properties version before fault line = if defines version line then definition_place properties before fault line else other_place properties version before fault line
 
 -- of a line as it stands in the text: the first byte past its limit, or what is within it, less one carriage return at its end
 abbrev pub line_place : Properties → Version → List (List ℕ) → TableFault → List ℕ → Option FaultPlace

@@ -2,9 +2,6 @@
 pub mod ExpectedNames
 pub mod LineNames
 pub mod LinePoints
-pub mod EntryParts
-pub mod WrongPlaces
-pub mod WrongSteps
 pub mod WrongDefinitions
 pub mod DefinitionWrongSteps
 pub mod PatternLimits

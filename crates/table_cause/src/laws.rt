@@ -3,7 +3,6 @@ ghost use Rattle.std.specs.Prelude.{drop, is_some, length, not, true, ◌≡◌,
 ghost use Rattle.table_cause.specs.declared.line_point.LinePoint.{LinePoint};
 ghost use Rattle.ruleset_text.specs.Entries.{EntryForm};
 ghost use Rattle.std.specs.List.{list_any};
-ghost use Rattle.table_cause.specs.EntryParts.{has_parts};
 ghost use Rattle.ruleset_text.specs.Definition.{Definition};
 ghost use Rattle.ruleset_text.specs.Definitions as defined;
 ghost use Rattle.ruleset_text.specs.Definitions.{Definitions, definition_atoms, has_known_sets, is_one_too_many};
@@ -19,10 +18,9 @@ ghost use Rattle.table_cause.specs.PatternLimits.{atoms_among, first_past, patte
 ghost use Rattle.ruleset_text.specs.PlacedLexemes.{Placed, placed_lexemes};
 ghost use Rattle.table_cause.specs.WrongDefinitions as definitions;
 ghost use Rattle.table_cause.specs.WrongDefinitions.{Define, definition_in};
-ghost use Rattle.table_cause.specs.WrongPlaces.{FitsNames, IsWhole, IsWrongPlace};
-ghost use Rattle.table_cause.specs.WrongSteps.{wrong_place};
+ghost use Rattle.ruleset_text.specs.EntryStops.{FitsNames};
 ghost use Rattle.table_cause.specs.declared.expected.Expected.TheVariants.{Nothing};
-ghost use Rattle.table_cause.specs.FaultPlaces.{class_place, definition_place, limit_place, parts_of, point_place, syntax_place, unknown_place, variant_place};
+ghost use Rattle.table_cause.specs.FaultPlaces.{class_place, definition_place, limit_place, point_place, syntax_place, unknown_place, variant_place};
 ghost use Rattle.idn_class.specs.declared.properties.Properties.{Properties};
 ghost use Rattle.table_cause.specs.LinePoints.{line_points};
 ghost use Rattle.variant_table.specs.declared.fault.TableFault.TheVariants as tables;
@@ -30,20 +28,19 @@ ghost use Rattle.variant_table.specs.declared.version.Notation.TheVariants.{Rule
 ghost use Rattle.variant_table.specs.declared.version.Version.TheVariants.{Three};
 ghost use Rattle.variant_table.specs.Entries.{TableValue, empty_table};
 ghost use Rattle.variant_table.specs.Conditions.{has_bad_class, has_repeat, is_too_large};
-ghost use Rattle.variant_table.specs.Forms.{entries_of, has_form, knows_all, written_out};
+ghost use Rattle.variant_table.specs.Forms.{entries_of, knows_all, parts_of, written_out};
 ghost use Rattle.variant_table.specs.Texts.{LinesSpell};
 ghost use Rattle.variant_table.specs.Versions.{is_version_line};
 ghost use Rattle.table_cause.specs.PlaceExamples.{ExamplesOfPlaces};
 ghost use Rattle.table_cause.specs.ToldPlaces.{IsFirstBad, IsSyntaxPlace};
 
-use crate::entry_place::{EntryParts, WrongPlace};
-use crate::place::FaultPlace;
+use crate::entry_place::WrongPlace;
+use ruleset_text::FaultPlace;
 use variant_table::Version;
 
 /// The place that is told of a line without a form, or that defines nothing, is that of the lexeme at which each form of the version
 /// or each definition ends, or its end; and of code points that no table may hold the first is told.
 pub fn places_are_told()
-    ensures parts { (version : Version) (form : EntryForm) → has_form version form ≡ has_parts (parts_of version) form }
     ensures syntax { (version : Version) (line : List ℕ) (place : FaultPlace) → FitsNames (parts_of version) line →
         (syntax_place version line ≡ Some place) ↔ IsSyntaxPlace version line place }
     ensures class { (properties : Properties) (points : List LinePoint) (place : FaultPlace) → (point_place properties points ≡ Some place) ↔ IsFirstBad properties points place }
@@ -52,14 +49,6 @@ pub fn places_are_told()
 /// Examples, which the definitions compute.
 pub fn definitions_compute_the_places()
     ensures { ExamplesOfPlaces }
-{}
-
-/// The place that is told of a line that is no entry and no range of some parts is the one that the grammar gives it, if it has at
-/// most 8,192 bytes or no tags; and none is told of one that is.
-pub fn wrong_places_are_told()
-    ensures place { (parts : EntryParts) (line : List ℕ) (place : WrongPlace) → FitsNames parts line →
-        (wrong_place parts line ≡ Some place) ↔ IsWrongPlace parts line place }
-    ensures whole { (parts : EntryParts) (line : List ℕ) → (wrong_place parts line ≡ None) ↔ IsWhole parts line }
 {}
 
 /// The place that is told of a line that defines nothing is the one that the grammar gives it. None is told of a line that defines

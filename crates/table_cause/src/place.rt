@@ -13,38 +13,17 @@ ghost use Rattle.variant_table.specs.Ranges.{range_size};
 ghost use Rattle.table_cause.specs.inner.PlaceSteps.{forms_of, lines_of};
 
 use crate::definition_place::wrong_definition;
-use crate::entry_place::{EntryParts, WrongPlace, wrong_place};
+use crate::entry_place::WrongPlace;
 use crate::line_names::{name_place, unknown_name, unknown_set};
 use crate::line_point::{LinePoint, definition_points, line_points};
 use crate::lines_before::LinesBefore;
 use idn_class::{Class, Properties, class_of_by};
 use idn_text::{TextLines, without_carriage_return};
-use ruleset_text::{EntryForm, Keyword, Mapped, NamedCondition, read_entry, without_blanks};
+use ruleset_text::{
+    EntryForm, FaultPlace, Keyword, Mapped, NamedCondition, ReadError, read_entry, without_blanks,
+};
 use std::alloc::{AllocError, Global};
 use variant_table::{Notation, REPLACEMENT_LIMIT, SEQUENCE_LIMIT, TableFault, Version, head_of};
-
-/// Where a line has its fault. A place is a byte of the line, counted from 0: the first one of what is named.
-#[derive(Clone, Copy, Debug, PartialEq, Eq)]
-pub enum FaultPlace {
-    /// A lexeme that can't stand there, and how many bytes it has.
-    Lexeme(usize, usize),
-    /// The end of the line, at which something is missing.
-    End(usize),
-    /// A code point that no table may hold.
-    Point(usize, u32),
-    /// The first code point of a range that no table may hold, and the place of the range.
-    InRange(usize, u32),
-    /// A variant that is given again.
-    Variant(usize),
-    /// A source that an earlier entry has.
-    Source(usize),
-    /// The first byte past the limit of a line.
-    Byte(usize),
-    /// The ninth code point of a sequence.
-    NinthPoint(usize, u32),
-    /// The seventeenth variant, and its first code point.
-    SeventeenthVariant(usize, u32),
-}
 
 /// Where the line of a fault of this text has it, if a place is told: none in a text that lacks its version, and where no part of
 /// the line goes past a limit, as of an entry too many or of a text that is too long.
@@ -156,7 +135,7 @@ fn body_place(
             if defines(version, line) {
                 definition_place(alloc, before, fault, line, properties)
             } else {
-                other_place(alloc, before, fault, line, properties)
+                other_place(alloc, version, before, fault, line, properties)
             }
         }
     }
@@ -173,7 +152,11 @@ fn syntax_place(
     if defines(version, line) {
         return Ok(as_fault(wrong_definition(line)));
     }
-    Ok(as_fault(wrong_place(alloc, parts_of(version), line)?))
+    match read_entry(alloc, version.entry_parts(), line) {
+        Ok(_) => Ok(None),
+        Err(ReadError::Stop(place)) => Ok(Some(place)),
+        Err(ReadError::Memory) => Err(AllocError),
+    }
 }
 
 /// The place in a line that is to define something: the name that none of the lines before has, or that one has; the first code
@@ -216,12 +199,13 @@ fn limit_if_whole(before: &LinesBefore<'_>, line: &[u8]) -> Option<WrongPlace>
 /// The place in the line of an entry or of a range.
 fn other_place(
     alloc: Global,
+    version: Version,
     before: &LinesBefore<'_>,
     fault: TableFault,
     line: &[u8],
     properties: Properties,
 ) -> Result<Option<FaultPlace>, AllocError>
-    ensures { IfOk result (λ place. place ≡ places.other_place properties (lines_of before.now) fault line.now) }
+    ensures { IfOk result (λ place. place ≡ places.other_place properties version (lines_of before.now) fault line.now) }
 {
     match fault {
         TableFault::NoSuchName { line: _ } => {
@@ -229,7 +213,7 @@ fn other_place(
             let rules = before.names_defined(alloc, Keyword::Rule)?;
             Ok(as_fault(unknown_name(&tags, &rules, line)))
         }
-        _ => entry_place(alloc, fault, line, properties),
+        _ => entry_place(alloc, version, fault, line, properties),
     }
 }
 
@@ -240,23 +224,6 @@ fn as_fault(place: Option<WrongPlace>) -> Option<FaultPlace>
         Some(WrongPlace::Lexeme(place, len)) => Some(FaultPlace::Lexeme(place, len)),
         Some(WrongPlace::End(place)) => Some(FaultPlace::End(place)),
         None => None,
-    }
-}
-
-/// The parts that entries and ranges of a version may have.
-fn parts_of(version: Version) -> EntryParts
-    ensures { result ≡ places.parts_of version }
-{
-    let (outside, blocked, ranges, named) = match version {
-        Version::One => (false, false, false, false),
-        Version::Two => (false, true, true, false),
-        Version::Three => (true, true, true, true),
-    };
-    EntryParts {
-        outside,
-        blocked,
-        ranges,
-        named,
     }
 }
 
@@ -282,17 +249,17 @@ fn begins_in_percent(line: &[u8]) -> bool
 /// The place in the line of an entry or of a range, where the fault is not about a name.
 fn entry_place(
     alloc: Global,
+    version: Version,
     fault: TableFault,
     line: &[u8],
     properties: Properties,
 ) -> Result<Option<FaultPlace>, AllocError>
-    ensures { IfOk result (λ place. place ≡ places.entry_place properties fault line.now) }
+    ensures { IfOk result (λ place. place ≡ places.entry_place properties version fault line.now) }
 {
-    let form = read_entry(alloc, line)?;
-    let points = line_points(alloc, line)?;
-    match form {
-        Some(form) => form_place(alloc, fault, &form, &points, properties),
-        None => Ok(None),
+    match read_entry(alloc, version.entry_parts(), line) {
+        Ok(form) => form_place(alloc, fault, &form, &line_points(alloc, line)?, properties),
+        Err(ReadError::Stop(_)) => Ok(None),
+        Err(ReadError::Memory) => Err(AllocError),
     }
 }
 

@@ -38,7 +38,9 @@ use Rattle.variant_table.specs.declared.version.Notation.TheVariants.{Table, Rul
 use Rattle.variant_table.specs.declared.version.Version.TheVariants.{One, Two, Three}
 use Rattle.variant_table.specs.DefinitionLines.{keyword_in, with_after}
 use Rattle.variant_table.specs.Entries.{Variant, Entry, IsOfVersion, IsPlain, TableValue, empty_table, entry_from, source_of, table_of, whole, sequences_in, replacements}
-use Rattle.variant_table.specs.Forms.{has_tags, is_plain, is_bare, has_form, knows_rule, knows_all, numbered, name_at, named, variant_of, mapped_of, as_written}
+use Rattle.ruleset_text.specs.EntryParts.{has_tags}
+use Rattle.variant_table.proofs.VersionLemmas.{is_plain, is_bare, is_form, form_parts}
+use Rattle.variant_table.specs.Forms.{has_form, knows_rule, knows_all, numbered, name_at, named, variant_of, mapped_of, as_written}
 use Rattle.variant_table.specs.Canonical.{canonical_line, canonical_text, version_line, head_text, table_text}
 use Rattle.variant_table.specs.WellFormed.{AreOfVersion, IsSequence as IsTableSequence, IsEntry, HasItsRule, HasItsNames, IsNamed, IsTable}
 use Rattle.variant_table.specs.Limits.{line_limit, text_limit}
@@ -153,10 +155,13 @@ all_unmarked d [] p h = refl
 all_unmarked d (v ∷ variants) p h =
     ap (λ b. (b && not v.marked) && list_all is_bare (map (mapped_of d) variants)) (plain_mapped d v p.0) ∙ ap (λ b. not b && list_all is_bare (map (mapped_of d) variants)) h.0 ∙ all_unmarked d variants p.1 h.1
 
+form_of_version : (v : Version) (d : Definitions) (e : Entry) → IsOfVersion v e → is_form v (record { mapped = as_written d e; last = None }) ≡ true
+form_of_version One d e h = ap (λ b. b && true) (all_unmarked d (whole e) (recursion_from_All IsPlain (whole e) h.2) (h.0, recursion_from_All (λ v. v.marked ≡ false) e.variants h.1))
+form_of_version Two d e h = ap (λ b. b && not e.outside) (all_plain d (whole e) (recursion_from_All IsPlain (whole e) h.1)) ∙ ap not h.0
+form_of_version Three d e h = refl
+
 of_version : (v : Version) (d : Definitions) (e : Entry) → IsOfVersion v e → has_form v (record { mapped = as_written d e; last = None }) ≡ true
-of_version One d e h = ap (λ b. b && true) (all_unmarked d (whole e) (recursion_from_All IsPlain (whole e) h.2) (h.0, recursion_from_All (λ v. v.marked ≡ false) e.variants h.1))
-of_version Two d e h = ap (λ b. b && not e.outside) (all_plain d (whole e) (recursion_from_All IsPlain (whole e) h.1)) ∙ ap not h.0
-of_version Three d e h = refl
+of_version v d e h = sym (form_parts v (record { mapped = as_written d e; last = None })) ∙ form_of_version v d e h
 
 -- ---- the bytes of a line: no line feed, no carriage return
 

@@ -35,7 +35,9 @@ use Rattle.variant_table.specs.inner.Held.{HasNoEmptySequence}
 use Rattle.variant_table.specs.Limits.{entry_limit}
 use Rattle.variant_table.specs.Ranges.{entry_in_range, range_size}
 use Rattle.variant_table.specs.Conditions.{is_too_large, is_text_too_long, is_over_limit, has_bad_point, has_bad_class, has_repeat, has_source_in}
-use Rattle.variant_table.specs.Forms.{has_tags, is_plain, is_bare, begins_marked, has_form, HasForm, with_point, written_to, written_out, knows_rule, knows_names, knows_all, numbered, variant_of, entry_of, entries_of, SpellsEntries, as_written}
+use Rattle.ruleset_text.specs.EntryParts.{has_tags}
+use Rattle.variant_table.specs.Forms.{has_form, HasForm, with_point, written_to, written_out, knows_rule, knows_names, knows_all, numbered, variant_of, entry_of, entries_of, SpellsEntries, as_written}
+use Rattle.variant_table.proofs.VersionLemmas.{is_plain, is_bare, begins_marked, is_form, form_parts}
 use Rattle.variant_table.specs.Reading.{with_form}
 use Rattle.variant_table.specs.WellFormed.{HasItsRule, HasItsNames, IsNamed}
 use Rattle.variant_table.proofs.FormSteps.{tags_named}
@@ -328,20 +330,23 @@ each_point P d m (c ∷ cs) h = (h c, each_point P d m cs h)
 plain_point : (m : Mapped) (mapped : List Mapped) → list_all is_plain (m ∷ mapped) ≡ true → list_all is_plain (m ∷ []) ≡ true
 plain_point m mapped h = ap (λ b. b && true) (and_parts (is_plain m) (list_all is_plain mapped) h).0
 
-version_form : (v : Version) (d : Definitions) (last : Option ℕ) (mapped : List Mapped) → has_form v (record { mapped = mapped; last = last }) ≡ true → AllByRecursion (IsOfVersion v) (map (entry_of d) (written_to last mapped))
-version_form One d None mapped h = (bare_entry d mapped (and_parts (list_all is_bare mapped) true h).0, tt)
-version_form One d (Some last) mapped h = absurd (let p = (and_parts (list_all is_bare mapped) false h).1 in cc)
-version_form Two d None mapped h =
+of_form : (v : Version) (d : Definitions) (last : Option ℕ) (mapped : List Mapped) → is_form v (record { mapped = mapped; last = last }) ≡ true → AllByRecursion (IsOfVersion v) (map (entry_of d) (written_to last mapped))
+of_form One d None mapped h = (bare_entry d mapped (and_parts (list_all is_bare mapped) true h).0, tt)
+of_form One d (Some last) mapped h = absurd (let p = (and_parts (list_all is_bare mapped) false h).1 in cc)
+of_form Two d None mapped h =
     let p = and_parts (list_all is_plain mapped) (not (begins_marked mapped)) h in (inside_entry d mapped p.0 (not-true (begins_marked mapped) p.1), tt)
-version_form Two d (Some last) [] h = tt
-version_form Two d (Some last) (m ∷ mapped) h =
+of_form Two d (Some last) [] h = tt
+of_form Two d (Some last) (m ∷ mapped) h =
     let p = and_parts (list_all is_plain (m ∷ mapped)) (not m.marked) h in
     each_point (IsOfVersion Two) d m (range_with_len (slice_index m.points 0) (range_size (slice_index m.points 0) last))
     (λ c. (not-true m.marked p.1, plain_entry d (with_point m c ∷ []) (plain_point m mapped p.0)))
-version_form Three d None mapped h = (tt, tt)
-version_form Three d (Some last) [] h = tt
-version_form Three d (Some last) (m ∷ mapped) h =
+of_form Three d None mapped h = (tt, tt)
+of_form Three d (Some last) [] h = tt
+of_form Three d (Some last) (m ∷ mapped) h =
     each_point (IsOfVersion Three) d m (range_with_len (slice_index m.points 0) (range_size (slice_index m.points 0) last)) (λ c. tt)
+
+version_form : (v : Version) (d : Definitions) (last : Option ℕ) (mapped : List Mapped) → has_form v (record { mapped = mapped; last = last }) ≡ true → AllByRecursion (IsOfVersion v) (map (entry_of d) (written_to last mapped))
+version_form v d last mapped h = of_form v d last mapped (form_parts v (record { mapped = mapped; last = last }) ∙ h)
 
 -- ---- names
 

@@ -12,17 +12,20 @@ use Rattle.ruleset_text.specs.Definitions.{Definitions}
 use Rattle.ruleset_text.specs.Entries.{Mapped, EntryForm}
 use Rattle.ruleset_text.specs.EntrySteps.{entry_in}
 use Rattle.ruleset_text.specs.EntryText.{IsSequence, IsMapped, IsForm}
-use Rattle.ruleset_text.specs.EntryWords.{Word, Point, Hyphen, Bar, AreWords, mark_words, sequence_words, last_words, tags_words, condition_words, mapped_words, variants_words, entry_words, point_of, IsEntryLine}
+use Rattle.ruleset_text.specs.EntryWords.{Word, Point, Hyphen, Bar, AreWords, mark_words, sequence_words, last_words, tags_words, condition_words, mapped_words, variants_words, entry_words, point_of}
 use Rattle.ruleset_text.specs.Lexemes.{is_blank, is_joined, lexemes}
 use Rattle.ruleset_text.specs.Tokens.{without_prefix}
 use Rattle.ruleset_text.proofs.EntryExactLemmas.{entry_read, entry_spelled, one_form}
+use Rattle.ruleset_text.proofs.EntryStopLemmas.{the_entry, no_form}
+use Rattle.ruleset_text.specs.EntrySteps.{entry_read as what_is_read}
+use Rattle.ruleset_text.specs.declared.fault.FaultPlace.{FaultPlace}
 use Rattle.ruleset_text.proofs.HexLemmas.{hex_facts}
 use Rattle.variant_table.specs.declared.version.Version.{Version}
 use Rattle.variant_table.specs.declared.version.Version.TheVariants.{One, Two, Three}
 use Rattle.variant_table.specs.Faults.{LineFault, Syntax}
 use Rattle.variant_table.specs.DefinitionLines.{keyword_in, with_after}
 use Rattle.variant_table.specs.Entries.{Entry, TableValue}
-use Rattle.variant_table.specs.Forms.{has_form, HasForm, entries_of, SpellsEntries}
+use Rattle.variant_table.specs.Forms.{parts_of, has_form, HasForm, entries_of, SpellsEntries}
 use Rattle.variant_table.specs.Reading.{◌>>=◌, is_skipped, form_by, form_in, with_definition, with_form_of, with_line, with_words}
 use Rattle.variant_table.specs.Texts.{AreBlanks, IsComment, HasSomeForm, LineSpells}
 
@@ -246,8 +249,13 @@ pub with_line-formless : (t : TableValue) (line : List ℕ) → is_skipped line 
 with_line-formless t line s n none = with_line-plain t line s n ∙ ap (λ r. r >>= with_form_of t) (formless_words t.version line none)
 
 -- a line of a form that the version doesn't have is none of the version
-pub other_version : (v : Version) (line : List ℕ) (form : EntryForm) → IsEntryLine form line → has_form v form ≡ false → (other : EntryForm) → HasForm v line other → ⊥
-other_version v line form is lacks other h = let both : true ≡ false = sym h.1 ∙ ap (has_form v) (one_form other form line h.0 is) ∙ lacks in cc
+-- what is read of a line is its form
+pub read_as : (v : Version) (line : List ℕ) (form : EntryForm) → what_is_read (parts_of v) line ≡ Ok form → HasForm v line form
+read_as v line form e = (the_entry (parts_of v) line form).0 e
+
+-- a line that stops being one has none
+pub stops_before : (v : Version) (line : List ℕ) (place : FaultPlace) → what_is_read (parts_of v) line ≡ Err place → form_in v (lexemes line) ≡ Err Syntax
+stops_before v line place e = formless_words v line (no_form (parts_of v) line place e)
 
 -- it has one form at most
 pub one_form_of : (v : Version) (line : List ℕ) (a b : EntryForm) → HasForm v line a → HasForm v line b → a ≡ b

@@ -1,37 +1,17 @@
 -- Sources and variants of a form, one after another.
-use Rattle.std.proofs.Common.{◌≡◌, ℕ, zero, suc, ◌+◌, ◌<◌, ◌≤◌, Bool, true, false, ◌&&◌, List, [], ◌∷◌, ◌++◌, length, length-append, map, take, drop, get_or, refl, sym, ap, subst, ◌∙◌, arith}
-use Rattle.std.specs.Prelude.{slice_index, slice_index_or, Option, Some, None}
+use Rattle.std.proofs.Common.{◌≡◌, ℕ, zero, suc, ◌+◌, ◌<◌, ◌≤◌, Bool, true, false, ◌&&◌, List, [], ◌∷◌, ◌++◌, length, length-append, map, take, get_or, refl, sym, ap, subst, ◌∙◌, arith}
+use Rattle.std.specs.Prelude.{slice_index, slice_index_or, Option, Some}
 use Rattle.std.specs.List.{AllByRecursion, list_all}
 use Rattle.std.proofs.lemmas.Bool.{and_parts}
 use Rattle.std.proofs.lemmas.List.{map-append, take_more}
-use Rattle.ruleset_text.specs.declared.entry_form.EntryForm as declared
 use Rattle.ruleset_text.specs.declared.entry_form.Mapped as held
 use Rattle.ruleset_text.specs.Definitions.{Definitions}
-use Rattle.ruleset_text.specs.Entries.{Mapped, EntryForm}
-use Rattle.ruleset_text.specs.EntryForms.{mapped, entry_form}
-use Rattle.ruleset_text.specs.EntryWords.{IsEntryLine}
+use Rattle.ruleset_text.specs.Entries.{Mapped}
+use Rattle.ruleset_text.specs.EntryForms.{mapped}
 use Rattle.ruleset_text.specs.Names.{AreNames, is_one_of, number_of}
-use Rattle.ruleset_text.proofs.EntryExactLemmas.{Spells}
 use Rattle.ruleset_text.specs.EntryText.{IsForm, MayHaveTags}
 use Rattle.variant_table.specs.Forms.{variant_of}
-use Rattle.variant_table.proofs.ListLemmas.{drop_item, drop_all}
 use Rattle.variant_table.proofs.NumberLemmas.{few_numbers, numbers_below, numbers_apart, number_after, one_of}
-
--- ---- a test of each
-
-module _ (test : Mapped → Bool) (xs : List held.Mapped) (i : ℕ) where
-  pub one_left : (x : held.Mapped) → i < length xs → x ≡ get_or xs i x → list_all test (map mapped (drop i xs)) ≡ (test (mapped x) && list_all test (map mapped (drop (i + 1) xs)))
-  one_left x l e = ap (λ d. list_all test (map mapped d)) (drop_item xs i x l e)
-
-  pub fails_here : (x : held.Mapped) → i < length xs → x ≡ get_or xs i x → test (mapped x) ≡ false → list_all test (map mapped (drop i xs)) ≡ list_all test (map mapped xs) → false ≡ list_all test (map mapped xs)
-  fails_here x l e f inv = sym (sym inv ∙ one_left x l e ∙ ap (λ b. b && list_all test (map mapped (drop (i + 1) xs))) f)
-
-  pub holds_here : (x : held.Mapped) → i < length xs → x ≡ get_or xs i x → test (mapped x) ≡ true → list_all test (map mapped (drop i xs)) ≡ list_all test (map mapped xs)
-      → list_all test (map mapped (drop (i + 1) xs)) ≡ list_all test (map mapped xs)
-  holds_here x l e t inv = sym (one_left x l e ∙ ap (λ b. b && list_all test (map mapped (drop (i + 1) xs))) t) ∙ inv
-
-  pub none_left : length xs ≤ i → list_all test (map mapped (drop i xs)) ≡ list_all test (map mapped xs) → true ≡ list_all test (map mapped xs)
-  none_left l inv = sym (ap (λ d. list_all test (map mapped d)) (drop_all xs i l)) ∙ inv
 
 -- ---- their sequences
 
@@ -128,16 +108,6 @@ range_of (y ∷ []) x first last h e f =
       rises = omega (arith, is, (h.2).2);
     }
 
--- ---- what was found
-
 pub some_form : (ms : List Mapped) (last : Option ℕ) → IsForm ms last → 0 < length ms
 some_form [] last h = absurd h
 some_form (m ∷ ms) last h = omega arith
-
-pub none_spelled : (line : List ℕ) (o : Option declared.EntryForm) → o ≡ None → Spells line o → (form : EntryForm) → IsEntryLine form line → ⊥
-none_spelled line None e m = m
-none_spelled line (Some x) e m = absurd cc
-
-pub one_spelled : (line : List ℕ) (o : Option declared.EntryForm) (x : declared.EntryForm) → o ≡ Some x → Spells line o → IsEntryLine (entry_form x) line
-one_spelled line None x e m = absurd cc
-one_spelled line (Some y) x e m = subst (λ z. IsEntryLine (entry_form z) line) (let same : y ≡ x = cc in same) m

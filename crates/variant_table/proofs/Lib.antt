@@ -16,6 +16,8 @@ pub mod RulesetLemmas
 pub mod PlaceLemmas
 -- Sources and variants of a form, one after another.
 pub mod FormSteps
+-- Which forms a version has.
+pub mod VersionLemmas
 -- The form of a line: skipped, the line of an entry or of a range, or none.
 pub mod FormLemmas
 -- Entries without a fault are those of a well-formed table.

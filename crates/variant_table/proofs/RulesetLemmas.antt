@@ -26,13 +26,14 @@ use Rattle.variant_table.specs.Reading.{◌>>=◌, in_line, with_line, with_raw_
 use Rattle.variant_table.proofs.FaultlessLemmas.{read_by, text_read, whole_no}
 use Rattle.variant_table.proofs.SizeLemmas.{adds_version, length-stripped, size_of-cons}
 use Rattle.idn_class.specs.declared.properties.Properties.{Properties}
+use Rattle.variant_table.proofs.VersionLemmas.{form_parts}
 
 -- ---- a table of version 2 is a ruleset once its first line says so
 
 line_three : (d : Definitions) (line : List ℕ) (entries : List Entry) → LineSpells Two d line entries → LineSpells Three d line entries
 line_three d line entries (inl h) = inl h
 line_three d line entries (inr (inl h)) = inr (inl h)
-line_three d line entries (inr (inr h)) = inr (inr (h.0, (h.1.0, refl), h.2, h.3))
+line_three d line entries (inr (inr h)) = inr (inr (h.0, (h.1.0, sym (form_parts Three h.0)), h.2, h.3))
 
 -- a table as a ruleset
 abbrev three : TableValue → TableValue

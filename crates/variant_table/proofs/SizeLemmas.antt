@@ -24,7 +24,8 @@ use Rattle.variant_table.specs.declared.version.Version.{Version}
 use Rattle.variant_table.specs.declared.version.Version.TheVariants.{One, Two, Three}
 use Rattle.variant_table.specs.DefinitionLines.{keyword_in, Defines}
 use Rattle.variant_table.specs.Entries.{Entry, TableValue, empty_table}
-use Rattle.variant_table.specs.Forms.{is_plain, is_bare, has_form, written_to, entry_of, SpellsEntries}
+use Rattle.variant_table.proofs.VersionLemmas.{is_plain, is_bare, is_form, form_parts}
+use Rattle.variant_table.specs.Forms.{written_to, entry_of, SpellsEntries}
 use Rattle.variant_table.specs.Canonical.{canonical_line, canonical_text, table_text}
 use Rattle.variant_table.specs.Versions.{size_of, body_of, is_version_line}
 use Rattle.variant_table.specs.Texts.{LineSpells, LineAdds, LinesSpell}
@@ -198,7 +199,7 @@ all_plain (m ∷ mapped) h =
     ∙ ap (λ c. record { marked = m.marked; points = m.points; tags = m.tags; condition = c } ∷ map plain_form mapped) (sym q.1) ∙ ap (λ xs. m ∷ xs) (all_plain mapped p.1)
 
 -- the canonical text of an entry that a line spells is no longer than the line
-bare_long : (d : Definitions) (last : Option ℕ) (mapped : List Mapped) (line : List ℕ) → IsForm mapped last → AreWords (entry_words mapped last) (lexemes line) → has_form One (record { mapped = mapped; last = last }) ≡ true
+bare_long : (d : Definitions) (last : Option ℕ) (mapped : List Mapped) (line : List ℕ) → IsForm mapped last → AreWords (entry_words mapped last) (lexemes line) → is_form One (record { mapped = mapped; last = last }) ≡ true
     → length (canonical_text d (map (entry_of d) (written_to last mapped))) ≤ length line + 1
 bare_long d (Some c) mapped line f w h = absurd (let p = (and_parts (list_all is_bare mapped) false h).1 in cc)
 bare_long d None [] line f w h = absurd f
@@ -221,7 +222,7 @@ bare_long d None (m ∷ mapped) line f w h =
 -- in version 1 no line spells a range
 spelled_long : (d : Definitions) (line : List ℕ) (entries : List Entry) → SpellsEntries One d (strip_carriage_return line) entries → length (canonical_text d entries) ≤ length line + 1
 spelled_long d line entries h =
-    omega (arith, ap (λ es. length (canonical_text d es)) h.3, bare_long d h.0.last h.0.mapped (strip_carriage_return line) h.1.0.0 h.1.0.1 h.1.1, (length-stripped line).0)
+    omega (arith, ap (λ es. length (canonical_text d es)) h.3, bare_long d h.0.last h.0.mapped (strip_carriage_return line) h.1.0.0 h.1.0.1 (form_parts One h.0 ∙ h.1.1), (length-stripped line).0)
 
 line_long : (d : Definitions) (line : List ℕ) (entries : List Entry) → LineSpells One d (strip_carriage_return line) entries → length (canonical_text d entries) ≤ length line + 1
 line_long d line entries s = elim (spelling_of One d (strip_carriage_return line) entries s) [ none k is ↦ omega (arith, ap (λ es. length (canonical_text d es)) is) | some h ↦ spelled_long d line entries h ]

@@ -1,12 +1,14 @@
 -- What the line of an entry or of a range says: which versions have its form, and its entries. Names become numbers here.
-use Rattle.std.specs.Prelude.{ℕ, Bool, true, false, ◌&&◌, not, is_some, Option, Some, None, List, [], ◌∷◌, map, slice_index, slice_index_or, IsTrue, ◌≡◌}
+use Rattle.std.specs.Prelude.{ℕ, Bool, true, false, ◌&&◌, Option, Some, None, List, [], ◌∷◌, map, slice_index, slice_index_or, IsTrue, ◌≡◌}
 use Rattle.std.specs.List.{list_all, range_with_len}
 use Rattle.std.specs.Option.{option_map}
 use Rattle.label_patterns.specs.declared.condition.Condition.{Condition}
 use Rattle.ruleset_text.specs.declared.entry_form.NamedCondition.{NamedCondition}
 use Rattle.ruleset_text.specs.Definitions.{Definitions}
 use Rattle.ruleset_text.specs.Entries.{Mapped, EntryForm}
-use Rattle.ruleset_text.specs.EntryWords.{IsEntryLine}
+use Rattle.ruleset_text.specs.EntryParts.{has_parts}
+use Rattle.ruleset_text.specs.EntryStops.{IsEntryOf}
+use Rattle.ruleset_text.specs.declared.entry_parts.EntryParts.{EntryParts}
 use Rattle.ruleset_text.specs.Names.{is_one_of, number_of}
 use Rattle.variant_table.specs.declared.version.Version.{Version}
 use Rattle.variant_table.specs.declared.version.Version.TheVariants.{One, Two, Three}
@@ -15,32 +17,18 @@ use Rattle.variant_table.specs.Ranges.{range_size}
 
 -- ---- the forms of each version
 
-abbrev pub has_tags : List (List ℕ) → Bool
-has_tags [] = false
-has_tags (tag ∷ tags) = true
-
--- neither tags nor a condition
-abbrev pub is_plain : Mapped → Bool
-is_plain m = not (has_tags m.tags) && not (is_some m.condition)
-
--- no '!' either
-abbrev pub is_bare : Mapped → Bool
-is_bare m = is_plain m && not m.marked
-
--- '!' stands before the source
-abbrev pub begins_marked : List Mapped → Bool
-begins_marked [] = false
-begins_marked (source ∷ variants) = source.marked
-
 -- version 1 has no '!' and no ranges, version 2 no outside sources, and neither has tags or conditions; version 3 has all
+abbrev pub parts_of : Version → EntryParts
+parts_of One = record { outside = false; blocked = false; ranges = false; named = false }
+parts_of Two = record { outside = false; blocked = true; ranges = true; named = false }
+parts_of Three = record { outside = true; blocked = true; ranges = true; named = true }
+
 abbrev pub has_form : Version → EntryForm → Bool
-has_form One form = list_all is_bare form.mapped && not (is_some form.last)
-has_form Two form = list_all is_plain form.mapped && not (begins_marked form.mapped)
-has_form Three form = true
+has_form version form = has_parts (parts_of version) form
 
 -- the line is an entry or a range of this form, which the version has
 abbrev pub HasForm : Version → List ℕ → EntryForm → Type 0
-HasForm version line form = IsEntryLine form line × IsTrue (has_form version form)
+HasForm version line form = IsEntryOf (parts_of version) line form
 
 -- ---- the entries of a form, with their names
 

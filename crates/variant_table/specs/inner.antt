@@ -2,4 +2,5 @@
 pub mod Held
 pub mod Order
 pub mod ReadingSteps
+pub mod Readers
 pub mod Examples

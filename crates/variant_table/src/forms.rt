@@ -1,4 +1,4 @@
-//! What the line of an entry or of a range says: which versions have its form, and the sequences of its entry.
+//! The sequences of the entry that a line says, with numbers in place of names.
 ghost use Rattle.std.specs.Prelude.{◌≡◌, [], ◌∷◌, ◌++◌, true, false, map, IfOk, MatchOption};
 ghost use Rattle.std.specs.List.{AllByRecursion, list_all};
 ghost use Rattle.std.specs.Option.{option_map};
@@ -9,69 +9,9 @@ ghost use Rattle.variant_table.specs.Forms as forms;
 
 use crate::sequences::Sequences;
 use crate::tags::Tags;
-use crate::version::Version;
 use label_patterns::Condition;
-use ruleset_text::{Definitions, EntryForm, Mapped, Name, NamedCondition, number_of};
+use ruleset_text::{Definitions, Mapped, Name, NamedCondition, number_of};
 use std::alloc::AllocError;
-
-/// Whether the version has this form.
-pub fn has_form(version: Version, form: &EntryForm) -> bool
-    ensures { result ≡ forms.has_form version (held.entry_form form.now) }
-{
-    match version {
-        Version::One => are_bare(&form.mapped) && form.last.is_none(),
-        Version::Two => are_plain(&form.mapped) && !begins_marked(&form.mapped),
-        Version::Three => true,
-    }
-}
-
-/// Whether each of these is plain.
-fn are_plain(mapped: &[Mapped]) -> bool
-    ensures { result ≡ list_all forms.is_plain (map held.mapped mapped.now) }
-{
-    for m in mapped {
-        if !is_plain(m) {
-            return false;
-        }
-    }
-    true
-}
-
-/// Whether each of these is bare.
-fn are_bare(mapped: &[Mapped]) -> bool
-    ensures { result ≡ list_all forms.is_bare (map held.mapped mapped.now) }
-{
-    for m in mapped {
-        if !is_bare(m) {
-            return false;
-        }
-    }
-    true
-}
-
-/// Whether a source or a variant has neither tags nor a condition.
-fn is_plain(mapped: &Mapped) -> bool
-    ensures { result ≡ forms.is_plain (held.mapped mapped.now) }
-{
-    mapped.tags.is_empty() && mapped.condition.is_none()
-}
-
-/// Whether a source or a variant has no `!`, no tags and no condition.
-fn is_bare(mapped: &Mapped) -> bool
-    ensures { result ≡ forms.is_bare (held.mapped mapped.now) }
-{
-    is_plain(mapped) && !mapped.marked
-}
-
-/// Whether `!` stands before the first of these, the source.
-fn begins_marked(mapped: &[Mapped]) -> bool
-    ensures { result ≡ forms.begins_marked (map held.mapped mapped.now) }
-{
-    match mapped.first() {
-        None => false,
-        Some(source) => source.marked,
-    }
-}
 
 /// Takes the sequences of a source and its variants, in place of what was in `sequences`, and tells whether each tag and
 /// each rule that they name is defined. If one isn't, some sequences may be missing.

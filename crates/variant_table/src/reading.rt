@@ -1,30 +1,28 @@
 //! Reading the definitions and entries of a text, line by line.
 ghost use Rattle.std.specs.Prelude.{◌≡◌, ◌+◌, ◌<◌, ◌≤◌, ◌^◌, [], Some, None, length, map, OnOk};
-ghost use Rattle.std.specs.List.{range_with_len};
 ghost use Rattle.variant_table.specs.inner.Held.{IsCounted};
 ghost use Rattle.ruleset_text.specs.EntryForms.{mapped as form_of};
 ghost use Rattle.ruleset_text.specs.EntryText.{IsForm};
 ghost use Rattle.variant_table.specs.Limits.{text_limit};
-ghost use Rattle.variant_table.specs.Ranges.{entry_in_range};
 ghost use Rattle.ruleset_text.specs.Definitions.{nothing_defined};
 ghost use Rattle.idn_class.specs.declared.properties.Properties.{Properties};
 ghost use Rattle.ruleset_text.specs.Lexemes.{lexemes};
 ghost use Rattle.variant_table.specs.declared.version.Version.TheVariants.{Three};
-ghost use Rattle.variant_table.specs.Entries.{entry_from, source_of, table_of};
-ghost use Rattle.variant_table.specs.Reading.{with_definition, with_form, with_entry_words, with_line, with_raw_line, table_of_text, is_skipped as is_skipped_line};
-ghost use Rattle.variant_table.specs.inner.ReadingSteps.{Leaves, Reads, with_new_sources};
+ghost use Rattle.variant_table.specs.Entries.{entry_from, source_of};
+ghost use Rattle.variant_table.specs.Reading.{with_definition, with_line, with_raw_line, table_of_text, is_skipped as is_skipped_line};
+ghost use Rattle.variant_table.specs.inner.ReadingSteps.{Leaves, Reads, with_points_of};
 
 use crate::checks::{has_bad_class, has_bad_class_in, has_repeat, is_too_large};
 use crate::definition_lines::{fault_in, keyword_in};
 use crate::fault::TableFault;
-use crate::forms::{has_form, take_sequences};
+use crate::forms::take_sequences;
 use crate::lengths::{left_after_entry, left_after_range};
 use crate::ordered_entries::OrderedEntries;
 use crate::sequences::Sequences;
 use crate::version::{Notation, Version, head_of};
 use idn_class::Properties;
 use idn_text::without_carriage_return;
-use ruleset_text::{Definitions, Keyword, Mapped, read_entry, without_blanks};
+use ruleset_text::{Definitions, Keyword, Mapped, ReadError, read_entry, without_blanks};
 use std::alloc::Global;
 
 /// What a text spells.
@@ -77,12 +75,14 @@ struct Reader {
 }
 
 impl Reader {
+    ghost use Rattle.variant_table.specs.inner.Readers.{so_far, with_form_of, with_words_of, IsCountedIn};
+
     /// A reader that has read nothing yet, of a text of this version.
     fn new(alloc: Global, version: Version, properties: Properties) -> Self
         ensures version { result.version ≡ version }
         ensures definitions { result.definitions ≡ nothing_defined properties }
         ensures entries { result.entries ≡ [] }
-        ensures counted { IsCounted result.version result.definitions result.left result.entries }
+        ensures counted { IsCountedIn result }
     {
         Reader {
             alloc,
@@ -98,10 +98,10 @@ impl Reader {
     #[tactic(auto, unfolding(crate::specs::Reading::with_raw_line))]
     fn add_raw_line(&mut self, number: u64, bytes: usize, line: &[u8]) -> Result<(), TableFault>
         requires bytes { bytes ≤ text_limit self.old.version }
-        requires counted { IsCounted self.old.version self.old.definitions self.old.left self.old.entries }
-        ensures read { Leaves number result (table_of self.old.version self.new.definitions self.new.entries) (with_raw_line bytes (table_of self.old.version self.old.definitions self.old.entries) line.now) }
+        requires counted { IsCountedIn self.old }
+        ensures read { Leaves number result (so_far self.new) (with_raw_line bytes (so_far self.old) line.now) }
         ensures within { OnOk result (bytes + length line.now + 1 ≤ text_limit self.old.version) }
-        ensures counted { OnOk result (IsCounted self.old.version self.new.definitions self.new.left self.new.entries) }
+        ensures counted { OnOk result (IsCountedIn self.new) }
         ensures version { self.new.version ≡ self.old.version }
     {
         let version = self.version;
@@ -114,9 +114,9 @@ impl Reader {
     /// Adds what the line of this number says.
     #[tactic(auto, unfolding(crate::specs::Reading::with_line))]
     fn add_line(&mut self, number: u64, line: &[u8]) -> Result<(), TableFault>
-        requires { IsCounted self.old.version self.old.definitions self.old.left self.old.entries }
-        ensures read { Leaves number result (table_of self.old.version self.new.definitions self.new.entries) (with_line (table_of self.old.version self.old.definitions self.old.entries) line.now) }
-        ensures counted { OnOk result (IsCounted self.old.version self.new.definitions self.new.left self.new.entries) }
+        requires { IsCountedIn self.old }
+        ensures read { Leaves number result (so_far self.new) (with_line (so_far self.old) line.now) }
+        ensures counted { OnOk result (IsCountedIn self.new) }
         ensures version { self.new.version ≡ self.old.version }
     {
         if is_skipped(line) {
@@ -137,9 +137,9 @@ impl Reader {
         after: &[u8],
     ) -> Result<(), TableFault>
         requires ruleset { self.old.version ≡ Three }
-        requires counted { IsCounted self.old.version self.old.definitions self.old.left self.old.entries }
-        ensures read { Leaves number result (table_of self.old.version self.new.definitions self.new.entries) (with_definition (table_of self.old.version self.old.definitions self.old.entries) keyword (lexemes after.now)) }
-        ensures counted { OnOk result (IsCounted self.old.version self.new.definitions self.new.left self.new.entries) }
+        requires counted { IsCountedIn self.old }
+        ensures read { Leaves number result (so_far self.new) (with_definition (so_far self.old) keyword (lexemes after.now)) }
+        ensures counted { OnOk result (IsCountedIn self.new) }
         ensures version { self.new.version ≡ self.old.version }
     {
         // The canonical text has a limit: what is left of it, and what the definitions already take.
@@ -155,18 +155,17 @@ impl Reader {
 
     /// Adds the entries that the line of this number spells, if they are without a fault.
     fn add_entries(&mut self, number: u64, line: &[u8]) -> Result<(), TableFault>
-        requires { IsCounted self.old.version self.old.definitions self.old.left self.old.entries }
-        ensures read { Leaves number result self.new.entries (with_entry_words self.old.version self.old.definitions self.old.entries (lexemes line.now)) }
-        ensures counted { OnOk result (IsCounted self.old.version self.new.definitions self.new.left self.new.entries) }
+        requires { IsCountedIn self.old }
+        ensures read { Leaves number result self.new.entries (with_words_of self.old (lexemes line.now)) }
+        ensures counted { OnOk result (IsCountedIn self.new) }
         ensures version { self.new.version ≡ self.old.version }
         ensures definitions { self.new.definitions ≡ self.old.definitions }
     {
-        let Some(form) = read_entry(self.alloc, line)? else {
-            return Err(TableFault::Syntax { line: number });
+        let form = match read_entry(self.alloc, self.version.entry_parts(), line) {
+            Ok(form) => form,
+            Err(ReadError::Stop(_)) => return Err(TableFault::Syntax { line: number }),
+            Err(ReadError::Memory) => return Err(TableFault::Memory),
         };
-        if !has_form(self.version, &form) {
-            return Err(TableFault::Syntax { line: number });
-        }
         match form.last {
             None => self.add_entry(number, &form.mapped),
             Some(last) => self.add_range(number, &form.mapped, last),
@@ -176,9 +175,9 @@ impl Reader {
     /// Adds the entry of a source and its variants, unless it has a fault.
     fn add_entry(&mut self, number: u64, mapped: &[Mapped]) -> Result<(), TableFault>
         requires form { IsForm (map form_of mapped.now) None }
-        requires counted { IsCounted self.old.version self.old.definitions self.old.left self.old.entries }
-        ensures read { Leaves number result self.new.entries (with_form self.old.version self.old.definitions self.old.entries (record { mapped = map form_of mapped.now; last = None })) }
-        ensures counted { OnOk result (IsCounted self.old.version self.new.definitions self.new.left self.new.entries) }
+        requires counted { IsCountedIn self.old }
+        ensures read { Leaves number result self.new.entries (with_form_of self.old (map form_of mapped.now) None) }
+        ensures counted { OnOk result (IsCountedIn self.new) }
         ensures version { self.new.version ≡ self.old.version }
         ensures definitions { self.new.definitions ≡ self.old.definitions }
     {
@@ -206,9 +205,9 @@ impl Reader {
     /// Adds the entries of a range from its source, one code point, to the last code point, unless one has a fault.
     fn add_range(&mut self, number: u64, mapped: &[Mapped], last: u32) -> Result<(), TableFault>
         requires form { IsForm (map form_of mapped.now) (Some last) }
-        requires counted { IsCounted self.old.version self.old.definitions self.old.left self.old.entries }
-        ensures read { Leaves number result self.new.entries (with_form self.old.version self.old.definitions self.old.entries (record { mapped = map form_of mapped.now; last = Some last })) }
-        ensures counted { OnOk result (IsCounted self.old.version self.new.definitions self.new.left self.new.entries) }
+        requires counted { IsCountedIn self.old }
+        ensures read { Leaves number result self.new.entries (with_form_of self.old (map form_of mapped.now) (Some last)) }
+        ensures counted { OnOk result (IsCountedIn self.new) }
         ensures version { self.new.version ≡ self.old.version }
         ensures definitions { self.new.definitions ≡ self.old.definitions }
     {
@@ -261,7 +260,7 @@ fn push_points(
     requires some { 0 < length range.now }
     requires last { first + count ≤ 2 ^ 32 }
     requires room { length entries.old + count ≤ 65536 }
-    ensures { Leaves number result entries.new (with_new_sources entries.old (map (entry_in_range (source_of (entry_from range.now))) (range_with_len first count))) }
+    ensures { Leaves number result entries.new (with_points_of entries.old (source_of (entry_from range.now)) first count) }
 {
     let mut sequences = Sequences::new(alloc);
     for offset in 0..count {

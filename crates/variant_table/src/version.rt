@@ -2,11 +2,13 @@
 ghost use Rattle.std.specs.Prelude.{◌≡◌, ◌≤◌, length, IfSome, MatchOption, None, Some};
 ghost use Rattle.idn_text.specs.Lines.{raw_lines};
 ghost use Rattle.variant_table.specs.Canonical as texts;
+ghost use Rattle.variant_table.specs.Forms.{parts_of};
 ghost use Rattle.variant_table.specs.Limits as limits;
 ghost use Rattle.variant_table.specs.Versions as versions;
 ghost use Rattle.variant_table.specs.Versions.{version_number};
 
 use idn_text::{TextLines, without_carriage_return};
+use ruleset_text::EntryParts;
 
 /// Version 2 adds ranges of code points and blocked variants to version 1. Version 3, that of a ruleset, adds sources
 /// that are outside, conditions, tags and definitions, and has larger limits.
@@ -72,6 +74,23 @@ impl Version {
         match self {
             Version::One | Version::Two => 4096,
             Version::Three => 65_536,
+        }
+    }
+
+    /// The parts that entries and ranges have.
+    pub fn entry_parts(self) -> EntryParts
+        ensures { result ≡ parts_of self }
+    {
+        let (outside, blocked, ranges, named) = match self {
+            Version::One => (false, false, false, false),
+            Version::Two => (false, true, true, false),
+            Version::Three => (true, true, true, true),
+        };
+        EntryParts {
+            outside,
+            blocked,
+            ranges,
+            named,
         }
     }
 

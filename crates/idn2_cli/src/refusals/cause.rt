@@ -25,7 +25,7 @@ use label_patterns::ConditionKind;
 use ruleset_text::DemandKind;
 use std::alloc::{AllocError, Global};
 use std::str;
-use table_cause::FaultPlace;
+use ruleset_text::FaultPlace;
 use valid_labels::{ValidityCause, furthest, invalid_cause};
 use variant_table::Table;
 

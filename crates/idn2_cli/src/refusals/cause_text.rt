@@ -15,7 +15,7 @@ use idn_text::Refusal;
 use itoa::{Buffer, Integer};
 use label_patterns::ConditionKind;
 use ruleset_text::DemandKind;
-use table_cause::FaultPlace;
+use ruleset_text::FaultPlace;
 
 /// A message with a cause: at most 160 bytes.
 pub(crate) type ExplainedMessage = ArrayVec<u8, 160>;

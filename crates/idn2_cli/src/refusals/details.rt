@@ -13,7 +13,7 @@ use idn_cause::{ALabelCause, Cause, LengthCause};
 use idn_class::{BarringLine, BidiCondition};
 use idn_text::Refusal;
 use label_patterns::ConditionKind;
-use table_cause::FaultPlace;
+use ruleset_text::FaultPlace;
 
 /// The code point of the hyphen.
 const HYPHEN: u32 = 0x2D;

@@ -10,7 +10,8 @@ use crate::output::buffers::append;
 use crate::refusals::cause::{LineCause, Quoted};
 use idn_class::Properties;
 use std::alloc::{AllocError, Global};
-use table_cause::{FaultPlace, fault_place, faulty_line};
+use ruleset_text::FaultPlace;
+use table_cause::{fault_place, faulty_line};
 use variant_table::{Notation, TableFault};
 
 /// The most bytes of a lexeme that is quoted.

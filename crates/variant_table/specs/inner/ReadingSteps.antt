@@ -1,12 +1,14 @@
 -- What each step of reading leaves: the table so far, or the fault of its line.
-use Rattle.std.specs.Prelude.{◌≡◌, ◌⊎◌, ℕ, List, [], ◌∷◌, ◌++◌, Result, Ok, Err, if◌then◌else◌}
+use Rattle.std.specs.Prelude.{◌≡◌, ◌⊎◌, ℕ, List, [], ◌∷◌, ◌++◌, map, Result, Ok, Err, if◌then◌else◌}
+use Rattle.std.specs.List.{range_with_len}
 use Rattle.ruleset_text.specs.declared.fault.DefinitionFault.{DefinitionFault}
 use Rattle.ruleset_text.specs.declared.fault.DefinitionFault.TheVariants as definitions
 use Rattle.variant_table.specs.declared.fault.TableFault.{TableFault}
 use Rattle.variant_table.specs.declared.fault.TableFault.TheVariants as tables
 use Rattle.variant_table.specs.Faults.{LineFault, Limit, Syntax, BadClass, SameVariant, SameSource, NoSuchName, SameName, table_fault}
 use Rattle.variant_table.specs.declared.reading.ReadText.{ReadText}
-use Rattle.variant_table.specs.Entries.{Entry, TableValue, table_of}
+use Rattle.variant_table.specs.Entries.{Variant, Entry, TableValue, table_of}
+use Rattle.variant_table.specs.Ranges.{entry_in_range}
 use Rattle.variant_table.specs.Conditions.{has_source_in}
 use Rattle.variant_table.specs.Reading.{◌>>=◌}
 
@@ -34,6 +36,10 @@ with_new_source table e = if has_source_in table e then Err SameSource else Ok (
 abbrev pub with_new_sources : List Entry → List Entry → Result (List Entry) LineFault
 with_new_sources table [] = Ok table
 with_new_sources table (e ∷ entries) = with_new_source table e >>= λ t. with_new_sources t entries
+
+-- the table with the entries of so many code points, from the first on, with what stands at this one
+abbrev pub with_points_of : List Entry → Variant → ℕ → ℕ → Result (List Entry) LineFault
+with_points_of table v first count = with_new_sources table (map (entry_in_range v) (range_with_len first count))
 
 -- the fault that reading gives, unless memory was refused
 abbrev pub FailsIn : {Y : Type 0} → TableFault → Result Y (ℕ × LineFault) → Type 0

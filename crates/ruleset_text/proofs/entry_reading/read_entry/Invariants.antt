@@ -1,11 +1,11 @@
-use Rattle.std.proofs.Common.{length}
-use Rattle.ruleset_text.specs.EntrySteps.{state}
-use Rattle.ruleset_text.proofs.EntryLemmas.{Reads}
+use Rattle.std.proofs.Common.{◌≡◌, length}
+use Rattle.ruleset_text.specs.EntrySteps.{state, step_in, ended, entry_read}
+use Rattle.ruleset_text.specs.LineStops.{read_from}
 use Rattle.ruleset_text.proofs.entry_reading.read_entry.Given as goal
 
--- what was read leads to the state
-abbrev pub invariant-loop-lexeme : goal.invariant-loop-lexeme
-invariant-loop-lexeme l = Reads l.text (state l.state) l.rest
+-- what the lexemes that are left lead to from the state is what all lead to
+abbrev pub invariant-loop-place : goal.invariant-loop-place
+invariant-loop-place l = read_from (step_in l.parts) ended (length l.line) (state l.state) l.lexemes ≡ entry_read l.parts l.line
 
-abbrev pub decreases-loop-lexeme : goal.decreases-loop-lexeme
-decreases-loop-lexeme l = length l.rest
+abbrev pub decreases-loop-place : goal.decreases-loop-place
+decreases-loop-place l = length l.lexemes

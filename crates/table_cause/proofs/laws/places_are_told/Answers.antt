@@ -1,8 +1,5 @@
-use Rattle.table_cause.proofs.PlaceLawLemmas.{form_parts, syntax_told, class_told}
+use Rattle.table_cause.proofs.PlaceLawLemmas.{syntax_told, class_told}
 use Rattle.table_cause.proofs.laws.places_are_told.Goals as goal
-
-pub returns-clause-parts : goal.returns-clause-parts
-returns-clause-parts c = form_parts
 
 pub returns-clause-syntax : goal.returns-clause-syntax
 returns-clause-syntax c = syntax_told

@@ -1,12 +1,12 @@
 use Rattle.std.proofs.Common.{◌≡◌, rules, arith, ◌+◌, ◌≤◌, ℕ, List, length, Some, sym, ap, subst, ◌∙◌}
 use Rattle.idn_text.specs.Lines.{raw_lines}
-use Rattle.variant_table.specs.inner.Held.{IsCounted}
 use Rattle.variant_table.specs.declared.version.Notation.{Notation}
 use Rattle.variant_table.specs.declared.version.Version.{Version}
-use Rattle.variant_table.specs.Entries.{TableValue, table_of}
+use Rattle.variant_table.specs.Entries.{TableValue}
+use Rattle.variant_table.specs.inner.Readers.{so_far}
 use Rattle.variant_table.specs.Limits.{text_limit}
 use Rattle.variant_table.specs.Versions.{version_of, head_of}
-use Rattle.variant_table.specs.Reading.{with_lines, table_of_text}
+use Rattle.variant_table.specs.Reading.{table_of_text}
 use Rattle.variant_table.specs.inner.ReadingSteps.{FailsIn}
 use Rattle.variant_table.proofs.FaultlessLemmas.{head_within}
 use Rattle.variant_table.proofs.ReadLemmas.{lines_begin, lines_lack, lines_counted, lines_step, lines_fail, lines_end}
@@ -30,7 +30,7 @@ loop-line-init c =
 
 pub returns-in_err-add_raw_line : goal.returns-in_err-add_raw_line
 returns-in_err-add_raw_line c =
-    let t : TableValue = table_of c.loop-line.reader.version c.loop-line.reader.definitions c.loop-line.reader.entries in
+    let t : TableValue = so_far c.loop-line.reader in
     let fails : FailsIn c.in_err-add_raw_line.field-0.0 (table_of_text c.args.properties c.args.notation c.args.text.now) =
     lines_fail (c.loop-line.number + 1) c.loop-line.bytes t c.in-Some-line.line.now c.next.new.self c.loop-line.line-iterator (table_of_text c.args.properties c.args.notation c.args.text.now)
     c.in-Some-line.ensures.steps c.loop-line.invariant.same c.in_err-add_raw_line.field-0.0 c.in_err-add_raw_line.ensures.read in search rules
@@ -38,20 +38,19 @@ returns-in_err-add_raw_line c =
 pub loop-line-preserved : goal.loop-line-preserved
 loop-line-preserved c =
     let version = c.in_ok-add_raw_line.ensures.version in
-    let t : TableValue = table_of c.loop-line.reader.version c.loop-line.reader.definitions c.loop-line.reader.entries in
-    let u : TableValue = table_of c.loop-line.reader.version c.add_raw_line.new.self.definitions c.add_raw_line.new.self.entries in
+    let t : TableValue = so_far c.loop-line.reader in
+    let u : TableValue = so_far c.add_raw_line.new.self in
     record {
-      same = ap (λ v. with_lines (c.loop-line.number + 1 + 1) (c.loop-line.bytes + (length c.in-Some-line.line.now + 1)) (table_of v c.add_raw_line.new.self.definitions c.add_raw_line.new.self.entries) c.next.new.self) version
-          ∙ lines_step (c.loop-line.number + 1) c.loop-line.bytes t c.in-Some-line.line.now c.next.new.self c.loop-line.line-iterator (table_of_text c.args.properties c.args.notation c.args.text.now)
+      same = lines_step (c.loop-line.number + 1) c.loop-line.bytes t c.in-Some-line.line.now c.next.new.self c.loop-line.line-iterator (table_of_text c.args.properties c.args.notation c.args.text.now)
           c.in-Some-line.ensures.steps c.loop-line.invariant.same u c.in_ok-add_raw_line.ensures.read;
       within = subst (λ v. c.loop-line.bytes + (length c.in-Some-line.line.now + 1) ≤ text_limit v) (sym version) (omega (arith, c.in_ok-add_raw_line.ensures.within));
       counted = omega (arith, c.loop-line.invariant.counted);
-      left = subst (λ v. IsCounted v c.add_raw_line.new.self.definitions c.add_raw_line.new.self.left c.add_raw_line.new.self.entries) (sym version) c.in_ok-add_raw_line.ensures.counted;
+      left = c.in_ok-add_raw_line.ensures.counted;
     }
 
 pub returns : goal.returns
 returns c =
-    lines_end (c.loop-line.number + 1) c.loop-line.bytes (table_of c.loop-line.reader.version c.loop-line.reader.definitions c.loop-line.reader.entries) c.loop-line.line-iterator
+    lines_end (c.loop-line.number + 1) c.loop-line.bytes (so_far c.loop-line.reader) c.loop-line.line-iterator
     (table_of_text c.args.properties c.args.notation c.args.text.now) c.in-None.ensures.steps.0 c.loop-line.invariant.same
 
 pub returns-in_default : goal.returns-in_default

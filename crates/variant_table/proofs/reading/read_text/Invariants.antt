@@ -1,6 +1,5 @@
 use Rattle.std.proofs.Common.{◌≡◌, ◌+◌, ◌≤◌}
-use Rattle.variant_table.specs.Entries.{table_of}
-use Rattle.variant_table.specs.inner.Held.{IsCounted}
+use Rattle.variant_table.specs.inner.Readers.{so_far, IsCountedIn}
 use Rattle.variant_table.specs.Limits.{text_limit}
 use Rattle.variant_table.specs.Reading.{with_lines, table_of_text}
 use Rattle.variant_table.proofs.reading.read_text.Given as goal
@@ -8,8 +7,8 @@ use Rattle.variant_table.proofs.reading.read_text.Given as goal
 -- reading goes on as it does from the start
 abbrev pub invariant-loop-line : goal.invariant-loop-line
 invariant-loop-line l = record {
-  same : with_lines (l.number + 1) l.bytes (table_of l.reader.version l.reader.definitions l.reader.entries) l.line-iterator ≡ table_of_text l.fn.properties l.fn.notation l.text;
+  same : with_lines (l.number + 1) l.bytes (so_far l.reader) l.line-iterator ≡ table_of_text l.fn.properties l.fn.notation l.text;
   within : l.bytes ≤ text_limit l.reader.version;
   counted : l.number ≤ l.bytes;
-  left : IsCounted l.reader.version l.reader.definitions l.reader.left l.reader.entries;
+  left : IsCountedIn l.reader;
 }

@@ -1,55 +1,69 @@
-use Rattle.std.proofs.Common.{◌≡◌, false, true, Some, None, map, refl, sym, ap, subst, ◌∙◌}
+use Rattle.std.proofs.Common.{◌≡◌, ℕ, List, Option, Some, None, Ok, Err, map, refl, sym, ap, subst, ◌∙◌}
+use Rattle.ruleset_text.specs.declared.entry_form.EntryForm as held
+use Rattle.ruleset_text.specs.declared.entry_form.Mapped as held_mapped
+use Rattle.ruleset_text.specs.declared.entry_parts.EntryParts.{EntryParts}
 use Rattle.ruleset_text.specs.Entries.{EntryForm}
 use Rattle.ruleset_text.specs.EntryForms.{mapped, entry_form}
+use Rattle.ruleset_text.specs.EntrySteps.{entry_read}
 use Rattle.ruleset_text.specs.EntryText.{IsForm}
-use Rattle.ruleset_text.specs.EntryWords.{IsEntryLine}
-use Rattle.variant_table.specs.Forms.{has_form}
+use Rattle.ruleset_text.specs.LineStops.{StopsAt}
+use Rattle.ruleset_text.specs.declared.fault.FaultPlace.{FaultPlace}
+use Rattle.ruleset_text.specs.Lexemes.{lexemes}
+use Rattle.variant_table.specs.declared.reading.Reader.{Reader}
+use Rattle.variant_table.specs.declared.version.Version.{Version}
+use Rattle.variant_table.specs.Faults.{Syntax}
+use Rattle.variant_table.specs.Forms.{HasForm, parts_of}
 use Rattle.variant_table.specs.Reading.{◌>>=◌, with_form}
+use Rattle.variant_table.specs.inner.Readers.{with_form_of, with_words_of}
 use Rattle.variant_table.specs.inner.ReadingSteps.{Leaves}
-use Rattle.variant_table.proofs.FormLemmas.{form_read, formless_words, other_version}
-use Rattle.variant_table.proofs.FormSteps.{none_spelled, one_spelled}
+use Rattle.variant_table.proofs.FormLemmas.{form_read, read_as, stops_before}
 use Rattle.variant_table.proofs.reading.Reader.add_entries.Goals as goal
 
-pub returns-in_default-clause-read : goal.returns-in_default-clause-read
-returns-in_default-clause-read c =
-    let none = none_spelled c.args.line.now c.in_ok-form.field-0 c.in_default.is (c.in_ok-form.ensures {u = tt}) in
-    (refl, ap (λ r. r >>= with_form c.args.self.now.version c.args.self.now.definitions c.args.self.now.entries) (formless_words c.args.self.now.version c.args.line.now (λ form h. none form h.0)))
+-- the form that was read, by the sources and variants that are passed on
+has_form : (v : Version) (p : EntryParts) (line : List ℕ) (form : held.EntryForm) → p ≡ parts_of v → entry_read p line ≡ Ok (entry_form form) → HasForm v line (entry_form form)
+has_form v p line form is e = read_as v line (entry_form form) (subst (λ q. entry_read q line ≡ Ok (entry_form form)) is e)
 
-pub returns-then-not-has_form-clause-read : goal.returns-then-not-has_form-clause-read
-returns-then-not-has_form-clause-read c =
-    let read : IsEntryLine (entry_form c.in-Some.form) c.args.line.now = one_spelled c.args.line.now c.in_ok-form.field-0 c.in-Some.form c.in-Some.is (c.in_ok-form.ensures {u = tt}) in
-    let other : has_form c.args.self.now.version (entry_form c.in-Some.form) ≡ false = sym c.has_form.ensures ∙ c.if-not-has_form.true in (
-      refl,
-      ap (λ r. r >>= with_form c.args.self.now.version c.args.self.now.definitions c.args.self.now.entries) (formless_words c.args.self.now.version c.args.line.now (other_version c.args.self.now.version c.args.line.now (entry_form c.in-Some.form) read other)),
-    )
+form_passed : (form : held.EntryForm) (ms : List held_mapped.Mapped) (last : Option ℕ) → ms ≡ form.mapped.items → form.last ≡ last → entry_form form ≡ record { mapped = map mapped ms; last = last }
+form_passed form ms last is e = ap (λ o. record { mapped = map mapped form.mapped.items; last = o }) e ∙ ap (λ xs. record { mapped = map mapped xs; last = last }) (sym is)
+
+-- what is read is what the form says
+words_of_form : (r : Reader) (line : List ℕ) (form : held.EntryForm) (ms : List held_mapped.Mapped) (last : Option ℕ) → HasForm r.version line (entry_form form) → ms ≡ form.mapped.items → form.last ≡ last
+    → with_words_of r (lexemes line) ≡ with_form_of r (map mapped ms) last
+words_of_form r line form ms last has is e =
+    ap (λ f. f >>= with_form r.version r.definitions r.entries) (form_read r.version line (entry_form form) has)
+    ∙ ap (with_form r.version r.definitions r.entries) (form_passed form ms last is e)
+
+form_is : (v : Version) (line : List ℕ) (form : held.EntryForm) (ms : List held_mapped.Mapped) (last : Option ℕ) → HasForm v line (entry_form form) → ms ≡ form.mapped.items → form.last ≡ last → IsForm (map mapped ms) last
+form_is v line form ms last has is e = let P : EntryForm → Type 0 = λ f. IsForm f.mapped f.last in subst P (form_passed form ms last is e) has.0.0
+
+-- a line that stops being an entry is refused
+words_stop : (r : Reader) (line : List ℕ) (p : EntryParts) (place : FaultPlace) → p ≡ parts_of r.version → entry_read p line ≡ Err place → with_words_of r (lexemes line) ≡ Err Syntax
+words_stop r line p place is e =
+    ap (λ f. f >>= with_form r.version r.definitions r.entries) (stops_before r.version line place (subst (λ q. entry_read q line ≡ Err place) is e))
+
+pub returns-in-Err-Stop-clause-read : goal.returns-in-Err-Stop-clause-read
+returns-in-Err-Stop-clause-read c =
+    let stop = subst (λ e. StopsAt e (entry_read c.entry_parts.result c.args.line.now)) c.in-Err-Stop.field-0-is (c.in-Err-Stop.ensures {u = tt}) in
+    (refl, words_stop c.args.self.now c.args.line.now c.entry_parts.result c.in-Err-Stop.field-0-0 c.entry_parts.ensures stop)
 
 pub add_entry-requires-clause-form : goal.add_entry-requires-clause-form
 add_entry-requires-clause-form c =
-    let read : IsEntryLine (entry_form c.in-Some.form) c.args.line.now = one_spelled c.args.line.now c.in_ok-form.field-0 c.in-Some.form c.in-Some.is (c.in_ok-form.ensures {u = tt}) in
-    subst (λ xs. IsForm (map mapped xs) None) (sym c.deref.ensures.value) (subst (IsForm (map mapped c.in-Some.form.mapped.items)) c.in-None.is read.0)
-
-pub add_range-requires-clause-form : goal.add_range-requires-clause-form
-add_range-requires-clause-form c =
-    let read : IsEntryLine (entry_form c.in-Some.form) c.args.line.now = one_spelled c.args.line.now c.in_ok-form.field-0 c.in-Some.form c.in-Some.is (c.in_ok-form.ensures {u = tt}) in
-    subst (λ xs. IsForm (map mapped xs) (Some c.in-Some-last.last)) (sym c.deref-in-Some-last.ensures.value) (subst (IsForm (map mapped c.in-Some.form.mapped.items)) c.in-Some-last.is read.0)
+    form_is c.args.self.now.version c.args.line.now c.in-Ok.form c.deref.result.now None
+    (has_form c.args.self.now.version c.entry_parts.result c.args.line.now c.in-Ok.form c.entry_parts.ensures (c.in-Ok.ensures {u = tt})) c.deref.ensures.value c.in-None.is
 
 pub returns-in-None-clause-read : goal.returns-in-None-clause-read
 returns-in-None-clause-read c =
-    let read : IsEntryLine (entry_form c.in-Some.form) c.args.line.now = one_spelled c.args.line.now c.in_ok-form.field-0 c.in-Some.form c.in-Some.is (c.in_ok-form.ensures {u = tt}) in
-    let has : has_form c.args.self.now.version (entry_form c.in-Some.form) ≡ true = sym c.has_form.ensures ∙ c.if-not-has_form.false in
-    let form : EntryForm = record { mapped = map mapped c.deref.result.now; last = None } in
-    let same : entry_form c.in-Some.form ≡ form =
-    ap (λ o. record { mapped = map mapped c.in-Some.form.mapped.items; last = o }) c.in-None.is ∙ ap (λ xs. record { mapped = map mapped xs; last = None }) (sym c.deref.ensures.value) in
-    let is = ap (λ r. r >>= with_form c.args.self.now.version c.args.self.now.definitions c.args.self.now.entries) (form_read c.args.self.now.version c.args.line.now (entry_form c.in-Some.form) (read, has)) ∙ ap (with_form c.args.self.now.version c.args.self.now.definitions c.args.self.now.entries) same in
+    let has = has_form c.args.self.now.version c.entry_parts.result c.args.line.now c.in-Ok.form c.entry_parts.ensures (c.in-Ok.ensures {u = tt}) in
+    let is = words_of_form c.args.self.now c.args.line.now c.in-Ok.form c.deref.result.now None has c.deref.ensures.value c.in-None.is in
     subst (Leaves c.args.number c.add_entry.result c.add_entry.new.self.entries) (sym is) c.add_entry.ensures.read
+
+pub add_range-requires-clause-form : goal.add_range-requires-clause-form
+add_range-requires-clause-form c =
+    form_is c.args.self.now.version c.args.line.now c.in-Ok.form c.deref-in-Some.result.now (Some c.in-Some.last)
+    (has_form c.args.self.now.version c.entry_parts.result c.args.line.now c.in-Ok.form c.entry_parts.ensures (c.in-Ok.ensures {u = tt})) c.deref-in-Some.ensures.value c.in-Some.is
 
 pub returns-clause-read : goal.returns-clause-read
 returns-clause-read c =
-    let read : IsEntryLine (entry_form c.in-Some.form) c.args.line.now = one_spelled c.args.line.now c.in_ok-form.field-0 c.in-Some.form c.in-Some.is (c.in_ok-form.ensures {u = tt}) in
-    let has : has_form c.args.self.now.version (entry_form c.in-Some.form) ≡ true = sym c.has_form.ensures ∙ c.if-not-has_form.false in
-    let form : EntryForm = record { mapped = map mapped c.deref-in-Some-last.result.now; last = Some c.in-Some-last.last } in
-    let same : entry_form c.in-Some.form ≡ form =
-    ap (λ o. record { mapped = map mapped c.in-Some.form.mapped.items; last = o }) c.in-Some-last.is
-    ∙ ap (λ xs. record { mapped = map mapped xs; last = Some c.in-Some-last.last }) (sym c.deref-in-Some-last.ensures.value) in
-    let is = ap (λ r. r >>= with_form c.args.self.now.version c.args.self.now.definitions c.args.self.now.entries) (form_read c.args.self.now.version c.args.line.now (entry_form c.in-Some.form) (read, has)) ∙ ap (with_form c.args.self.now.version c.args.self.now.definitions c.args.self.now.entries) same in
+    let has = has_form c.args.self.now.version c.entry_parts.result c.args.line.now c.in-Ok.form c.entry_parts.ensures (c.in-Ok.ensures {u = tt}) in
+    let is = words_of_form c.args.self.now c.args.line.now c.in-Ok.form c.deref-in-Some.result.now (Some c.in-Some.last) has c.deref-in-Some.ensures.value c.in-Some.is in
     subst (Leaves c.args.number c.add_range.result c.add_range.new.self.entries) (sym is) c.add_range.ensures.read

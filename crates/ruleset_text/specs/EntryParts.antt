@@ -1,7 +1,7 @@
 -- The parts that entries and ranges of a version may have, and the entries and ranges that have no others.
 use Rattle.std.specs.Prelude.{ℕ, Bool, true, false, ◌||◌, ◌&&◌, not, is_some, List, [], ◌∷◌}
 use Rattle.std.specs.List.{list_all}
-use Rattle.table_cause.specs.declared.entry_place.EntryParts.{EntryParts}
+use Rattle.ruleset_text.specs.declared.entry_parts.EntryParts.{EntryParts}
 use Rattle.ruleset_text.specs.Entries.{Mapped, EntryForm}
 
 abbrev pub has_tags : List (List ℕ) → Bool

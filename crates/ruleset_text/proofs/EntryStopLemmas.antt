@@ -1,36 +1,39 @@
 -- The place at which a line stops being an entry or a range is where the grammar says.
-use Rattle.std.proofs.Common.{◌≡◌, ℕ, suc, ◌+◌, ◌/◌, ◌%◌, ◌<◌, ◌≤◌, nat_lt, Bool, true, false, not, ◌&&◌, ◌||◌, cond, if◌then◌else◌, leb, List, [], ◌∷◌, ◌++◌, length, length-append, Option, Some, None, refl, sym, ap, subst, ◌∙◌, append-nil, arith}
+use Rattle.std.proofs.Common.{◌≡◌, ℕ, suc, ◌+◌, ◌/◌, ◌%◌, ◌<◌, ◌≤◌, nat_lt, Bool, true, false, not, ◌&&◌, ◌||◌, cond, if◌then◌else◌, leb, List, [], ◌∷◌, ◌++◌, length, length-append, Option, Some, None, Result, Ok, Err, refl, sym, ap, subst, ◌∙◌, append-nil, arith}
 use Rattle.std.specs.Prelude.{◌↔◌, bytes_eq, is_some, slice_index, codes}
+use Rattle.std.proofs.Math.Bool.{and-false}
 use Rattle.std.proofs.lemmas.Bool.{le-leb, not-false}
 use Rattle.std.proofs.lemmas.Bool.Decides.{nat_tests}
 use Rattle.std.proofs.lemmas.Slice.Eq.{bytes_eq-Decides}
 use Rattle.label_patterns.specs.declared.condition.ConditionKind.{ConditionKind}
 use Rattle.label_patterns.specs.declared.condition.ConditionKind.TheVariants as condition
 use Rattle.idn_text.specs.Points.{point_of_hex}
-use Rattle.table_cause.specs.declared.entry_place.EntryParts.{EntryParts}
-use Rattle.table_cause.specs.declared.entry_place.WrongPlace.{WrongPlace}
-use Rattle.table_cause.specs.declared.entry_place.WrongPlace.TheVariants.{Lexeme, End}
+use Rattle.ruleset_text.specs.declared.entry_parts.EntryParts.{EntryParts}
 use Rattle.ruleset_text.specs.declared.entry_reading.EntryWord.{EntryWord}
 use Rattle.ruleset_text.specs.declared.entry_reading.EntryWord.TheVariants as word
 use Rattle.ruleset_text.specs.declared.entry_reading.Phase.{Phase}
 use Rattle.ruleset_text.specs.declared.entry_reading.Phase.TheVariants as phase
-use Rattle.ruleset_text.specs.Entries.{EntryForm}
-use Rattle.table_cause.specs.EntryParts.{has_parts}
+use Rattle.ruleset_text.specs.declared.fault.FaultPlace.{FaultPlace}
+use Rattle.ruleset_text.specs.declared.fault.FaultPlace.TheVariants.{Lexeme, End}
+use Rattle.ruleset_text.specs.Entries.{EntryForm, Mapped}
+use Rattle.ruleset_text.specs.EntryParts.{has_parts}
 use Rattle.ruleset_text.specs.EntryText.{IsForm}
 use Rattle.ruleset_text.specs.EntryWords.{AreWords, entry_words, point_of}
-use Rattle.ruleset_text.specs.EntrySteps.{State, start, word_of, marked, at_point, at_last, begin_by, is_first, may_be_range, with_done, separated, after_rule, after_tags, after_tag, after_points, after_point, at_tag, at_rule, with_phase, step_by, step, stepped, state_after, is_complete, ended, entry_at, entry_in}
-use Rattle.table_cause.specs.WrongSteps.{is_lacking, step_in, open_end, stopped_at, wrong_from, wrong_place}
+use Rattle.ruleset_text.specs.EntrySteps.{State, start, word_of, marked, at_point, at_last, begin_by, is_first, may_be_range, with_done, separated, after_rule, after_tags, after_tag, after_points, after_point, at_tag, at_rule, with_phase, step_by, step, stepped, state_after, is_begin, is_new, is_lacking, step_in, is_complete, ended, entry_at, entry_in, entry_read}
+use Rattle.ruleset_text.specs.EntryStops.{AreEntry, IsEntryOf, IsEntryStop, FitsNames}
 use Rattle.ruleset_text.specs.Lexemes.{is_blank, is_joined, lexemes}
+use Rattle.ruleset_text.specs.LineStops.{place_of, or_end, at_lexeme, read_from}
 use Rattle.ruleset_text.specs.Names.{is_name, is_name_byte, is_one_of}
 use Rattle.ruleset_text.specs.PlacedLexemes.{Placed, onto_placed, placed_from, placed_lexemes, unplaced}
+use Rattle.ruleset_text.specs.Stops.{run, Begins, IsStop}
 use Rattle.ruleset_text.specs.Tokens.{without_prefix}
-use Rattle.table_cause.specs.WrongPlaces.{Begins, FitsNames, IsWhole, IsWrongLexeme, EndsEarly, IsWrongPlace}
 use Rattle.ruleset_text.proofs.EntryLemmas.{none_after}
-use Rattle.table_cause.proofs.EntryPartLemmas.{AllHad, had_by_form, form_by_had}
+use Rattle.ruleset_text.proofs.EntryPartLemmas.{AllHad, had_by_form, form_by_had}
 use Rattle.ruleset_text.proofs.EntryReadLemmas.{words_read}
 use Rattle.ruleset_text.proofs.EntrySpelledLemmas.{read_words}
 use Rattle.ruleset_text.proofs.HexLemmas.{hex_facts, scalar_below}
 use Rattle.ruleset_text.proofs.PlacedLemmas.{unplaced-from}
+use Rattle.ruleset_text.proofs.StopLemmas.{run_none, run_append, run_one}
 
 equal : (a b : List ℕ) → bytes_eq a b ≡ true → a ≡ b
 equal a b e = (bytes_eq-Decides a b).0 e
@@ -42,153 +45,129 @@ differ a b other = by (bytes_eq a b) refl
     by true e = absurd (other ((bytes_eq-Decides a b).0 e))
     by false e = refl
 
--- ---- from lexeme to lexeme
-
-abbrev stepped_in : EntryParts → Bool → Option State → List ℕ → Option State
-stepped_in parts first None w = None
-stepped_in parts first (Some s) w = step_in parts first s w
-
--- the state after lexemes, each of which may stand where it does
-abbrev run : EntryParts → Bool → Option State → List (List ℕ) → Option State
-run parts first s [] = s
-run parts first s (w ∷ ws) = run parts false (stepped_in parts first s w) ws
-
--- whether the next lexeme is the first of the line
-abbrev first_after : Bool → List (List ℕ) → Bool
-first_after first [] = first
-first_after first (w ∷ ws) = false
-
-run_none : (parts : EntryParts) (ws : List (List ℕ)) (first : Bool) → run parts first None ws ≡ None
-run_none parts [] first = refl
-run_none parts (w ∷ ws) first = run_none parts ws false
-
 pub none_some : {X : Type 0} (A : Type 0) (x : X) → (let o : Option X = None in o) ≡ Some x → A
 none_some A x e = absurd cc
 
 same_some : {X : Type 0} (x y : X) → (let o : Option X = Some x in o) ≡ Some y → x ≡ y
 same_some x y e = cc
 
-run_append : (parts : EntryParts) (ws vs : List (List ℕ)) (first : Bool) (s : Option State) → run parts first s (ws ++ vs) ≡ run parts (first_after first ws) (run parts first s ws) vs
-run_append parts [] vs first s = refl
-run_append parts (w ∷ ws) vs first s = run_append parts ws vs false (stepped_in parts first s w) ∙ ap (λ b. run parts b (run parts false (stepped_in parts first s w) ws) vs) (by ws)
+-- ---- after a lexeme something was read
+
+read_by : (p : Phase) (s t : State) → is_begin p ≡ false → Some (with_phase s p) ≡ Some t → is_new t ≡ false
+read_by p s t other e = sym (ap is_new (same_some (with_phase s p) t e)) ∙ ap (λ b. is_first s.done && b) other ∙ and-false (is_first s.done)
+
+-- the same where what was read changes, too
+read_as : (s t : State) → is_begin s.phase ≡ false → Some s ≡ Some t → is_new t ≡ false
+read_as s t other e = read_by s.phase s t other e
+
+some_done : (done : List Mapped) (m : Mapped) → is_first (done ++ m ∷ []) ≡ false
+some_done [] m = refl
+some_done (d ∷ done) m = refl
+
+read_done : (s t : State) → Some (with_done s) ≡ Some t → is_new t ≡ false
+read_done s t e = sym (ap is_new (same_some (with_done s) t e)) ∙ ap (λ b. b && true) (some_done s.done s.current)
+
+read_if : (s u t : State) (b : Bool) → (Some u ≡ Some t → is_new t ≡ false) → cond b (Some u) None ≡ Some t → is_new t ≡ false
+read_if s u t true go e = go e
+read_if s u t false go e = none_some _ t e
+
+read_unless : (s u t : State) (b : Bool) → (Some u ≡ Some t → is_new t ≡ false) → cond b None (Some u) ≡ Some t → is_new t ≡ false
+read_unless s u t false go e = go e
+read_unless s u t true go e = none_some _ t e
+
+read_point : (s t : State) (o : Option ℕ) → at_point s o ≡ Some t → is_new t ≡ false
+read_point s t None e = none_some _ t e
+read_point s t (Some c) e = read_as (record s { current = record s.current { points = s.current.points ++ c ∷ [] }; phase = phase.Point }) t refl e
+
+read_last : (s t : State) (o : Option ℕ) → at_last s o ≡ Some t → is_new t ≡ false
+read_last s t None e = none_some _ t e
+read_last s t (Some c) e = read_if s (record s { last = Some c; phase = phase.Last }) t (leb (slice_index s.current.points 0) c) (read_as (record s { last = Some c; phase = phase.Last }) t refl) e
+
+read_begin : (s t : State) (w : List ℕ) (e : EntryWord) → begin_by s e w ≡ Some t → is_new t ≡ false
+read_begin s t w word.Mark h = read_as (marked s) t refl h
+read_begin s t w e h = read_point s t (point_of w) h
+
+read_separated : (s t : State) (e : EntryWord) → separated s e ≡ Some t → is_new t ≡ false
+read_separated s t word.Bar h = read_if s (with_done s) t (is_first s.done) (read_done s t) h
+read_separated s t word.Colon h = read_unless s (with_done s) t (is_first s.done) (read_done s t) h
+read_separated s t e h = none_some _ t h
+
+read_rule : (s t : State) (e : EntryWord) → after_rule s e ≡ Some t → is_new t ≡ false
+read_rule s t e h = by (is_some s.last) h
   where
-    by : (ws : List (List ℕ)) → first_after false ws ≡ false
-    by [] = refl
-    by (w ∷ ws) = refl
+    by : (b : Bool) → cond b None (separated s e) ≡ Some t → is_new t ≡ false
+    by false h = read_separated s t e h
+    by true h = none_some _ t h
 
--- ---- what was found
+read_tags : (s t : State) (e : EntryWord) → after_tags s e ≡ Some t → is_new t ≡ false
+read_tags s t word.When h = read_by phase.When s t refl h
+read_tags s t word.Unless h = read_by phase.Unless s t refl h
+read_tags s t e h = read_rule s t e h
 
-record Stuck (parts : EntryParts) (first : Bool) (s : State) (xs : List Placed) (place n : ℕ) : Type 0 where
-  before : List Placed
-  w : Placed
-  after : List Placed
-  at : State
-  cut : xs ≡ before ++ w ∷ after
-  reached : run parts first (Some s) (unplaced before) ≡ Some at
-  none : step_in parts (first_after first (unplaced before)) at w.lexeme ≡ None
-  is_anchor : w.place ≡ place
-  is_len : length w.lexeme ≡ n
+read_tag : (s t : State) (e : EntryWord) → after_tag s e ≡ Some t → is_new t ≡ false
+read_tag s t word.Comma h = read_by phase.As s t refl h
+read_tag s t e h = read_tags s t e h
 
-pub same_place : (w : Placed) (place n : ℕ) → (let o : Option WrongPlace = Some (Lexeme w.place (length w.lexeme)) in o) ≡ Some (Lexeme place n) → (w.place ≡ place) × (length w.lexeme ≡ n)
-same_place w place n e = (cc, cc)
+read_points : (s t : State) (e : EntryWord) → after_points s e ≡ Some t → is_new t ≡ false
+read_points s t word.As h = read_unless s (with_phase s phase.As) t s.current.marked (read_by phase.As s t refl) h
+read_points s t e h = read_tags s t e h
 
-no_lexeme : (len place n : ℕ) (s : State) (b : Bool) → is_complete s.phase ≡ b → open_end len s ≡ Some (Lexeme place n) → ⊥
-no_lexeme len place n s true c e = let bad : (let o : Option WrongPlace = None in o) ≡ Some (Lexeme place n) = sym (ap (λ b. let o : Option WrongPlace = cond b None (Some (End len)) in o) c) ∙ e in cc
-no_lexeme len place n s false c e = let bad : (let o : Option WrongPlace = Some (End len) in o) ≡ Some (Lexeme place n) = sym (ap (λ b. let o : Option WrongPlace = cond b None (Some (End len)) in o) c) ∙ e in cc
+read_after_point : (s t : State) (e : EntryWord) → after_point s e ≡ Some t → is_new t ≡ false
+read_after_point s t word.Hyphen h = read_by phase.Hyphen s t refl h
+read_after_point s t word.Range h = read_if s (with_phase s phase.Range) t (may_be_range s) (read_by phase.Range s t refl) h
+read_after_point s t e h = read_points s t e h
 
-stuck_next : (parts : EntryParts) (len place n : ℕ) (first : Bool) (s : State) (w : Placed) (ws : List Placed) (o : Option State) → step_in parts first s w.lexeme ≡ o
-    → ((t : State) → wrong_from parts len false t ws ≡ Some (Lexeme place n) → Stuck parts false t ws place n)
-    → stopped_at w (λ t. wrong_from parts len false t ws) o ≡ Some (Lexeme place n) → Stuck parts first s (w ∷ ws) place n
-stuck_next parts len place n first s w ws None e rest found =
-    let same = same_place w place n found in
-    record { before = []; w = w; after = ws; at = s; cut = refl; reached = refl; none = e; is_anchor = same.0; is_len = same.1 }
-stuck_next parts len place n first s w ws (Some t) e rest found =
-    let r = rest t found in record {
-      before = w ∷ r.before;
-      w = r.w;
-      after = r.after;
-      at = r.at;
-      cut = ap (λ l. w ∷ l) r.cut;
-      reached = ap (λ o. run parts false o (unplaced r.before)) e ∙ r.reached;
-      none = sym (ap (λ b. step_in parts b r.at r.w.lexeme) (by (unplaced r.before))) ∙ r.none;
-      is_anchor = r.is_anchor;
-      is_len = r.is_len;
-    }
-  where
-    by : (ws : List (List ℕ)) → first_after false ws ≡ false
-    by [] = refl
-    by (w ∷ ws) = refl
+read_name : (s t : State) (w : List ℕ) → at_tag s w ≡ Some t → is_new t ≡ false
+read_name s t w h =
+    let u : State = record s { current = record s.current { tags = s.current.tags ++ w ∷ [] }; phase = phase.Tag } in
+    read_if s u t (is_name w && not (is_one_of s.current.tags w)) (read_as u t refl) h
 
-stuck : (parts : EntryParts) (len place n : ℕ) (xs : List Placed) (first : Bool) (s : State) → wrong_from parts len first s xs ≡ Some (Lexeme place n) → Stuck parts first s xs place n
-stuck parts len place n [] first s e = absurd (no_lexeme len place n s (is_complete s.phase) refl e)
-stuck parts len place n (w ∷ ws) first s e = stuck_next parts len place n first s w ws (step_in parts first s w.lexeme) refl (λ t f. stuck parts len place n ws false t f) e
+read_condition : (s t : State) (kind : ConditionKind) (w : List ℕ) → at_rule s kind w ≡ Some t → is_new t ≡ false
+read_condition s t kind w h =
+    let u : State = record s { current = record s.current { condition = Some (record { kind = kind; rule = w }) }; phase = phase.Rule } in
+    read_if s u t (is_name w) (read_as u t refl) h
 
--- to the end of the lexemes
-abbrev Passed : EntryParts → ℕ → Bool → State → List Placed → Option WrongPlace → Type 0
-Passed parts len first s xs found = (t : State) × (run parts first (Some s) (unplaced xs) ≡ Some t) × (open_end len t ≡ found)
-
--- a place that is no lexeme, or none
-abbrev IsNoLexeme : Option WrongPlace → Type 0
-IsNoLexeme None = Unit {0}
-IsNoLexeme (Some (End place)) = Unit {0}
-IsNoLexeme (Some (Lexeme place n)) = ⊥
-
-passed_next : (parts : EntryParts) (len : ℕ) (found : Option WrongPlace) (first : Bool) (s : State) (w : Placed) (ws : List Placed) (o : Option State) → IsNoLexeme found → step_in parts first s w.lexeme ≡ o
-    → ((t : State) → wrong_from parts len false t ws ≡ found → Passed parts len false t ws found)
-    → stopped_at w (λ t. wrong_from parts len false t ws) o ≡ found → Passed parts len first s (w ∷ ws) found
-passed_next parts len found first s w ws None is e rest h = absurd (subst IsNoLexeme (sym h) is)
-passed_next parts len found first s w ws (Some t) is e rest h = let r = rest t h in (r.0, ap (λ o. run parts false o (unplaced ws)) e ∙ r.1, r.2)
-
-passed : (parts : EntryParts) (len : ℕ) (found : Option WrongPlace) (xs : List Placed) (first : Bool) (s : State) → IsNoLexeme found → wrong_from parts len first s xs ≡ found → Passed parts len first s xs found
-passed parts len found [] first s is e = (s, refl, e)
-passed parts len found (w ∷ ws) first s is e = passed_next parts len found first s w ws (step_in parts first s w.lexeme) is refl (λ t f. passed parts len found ws false t is f) e
-
--- what is found after lexemes that may stand
-found_next : (parts : EntryParts) (len : ℕ) (first : Bool) (s : State) (w : Placed) (before ws : List Placed) (t : State) (o : Option State) → step_in parts first s w.lexeme ≡ o
-    → ((u : State) → run parts false (Some u) (unplaced before) ≡ Some t → wrong_from parts len false u (before ++ ws) ≡ wrong_from parts len (first_after false (unplaced before)) t ws)
-    → run parts false o (unplaced before) ≡ Some t → stopped_at w (λ u. wrong_from parts len false u (before ++ ws)) o ≡ wrong_from parts len false t ws
-found_next parts len first s w before ws t None e rest h = none_some _ t (sym (run_none parts (unplaced before) false) ∙ h)
-found_next parts len first s w before ws t (Some u) e rest h = rest u h ∙ ap (λ b. wrong_from parts len b t ws) (by (unplaced before))
-  where
-    by : (ws : List (List ℕ)) → first_after false ws ≡ false
-    by [] = refl
-    by (w ∷ ws) = refl
-
-found_after : (parts : EntryParts) (len : ℕ) (before ws : List Placed) (first : Bool) (s t : State) → run parts first (Some s) (unplaced before) ≡ Some t
-    → wrong_from parts len first s (before ++ ws) ≡ wrong_from parts len (first_after first (unplaced before)) t ws
-found_after parts len [] ws first s t e = ap (λ u. wrong_from parts len first u ws) (same_some s t e)
-found_after parts len (w ∷ before) ws first s t e =
-    found_next parts len first s w before ws t (step_in parts first s w.lexeme) refl (λ u h. found_after parts len before ws false u t h) e
+read_step : (p : Phase) (s t : State) (w : List ℕ) → step_by p s w ≡ Some t → is_new t ≡ false
+read_step phase.Begin s t w h = read_begin s t w (word_of w) h
+read_step phase.Mark s t w h = read_point s t (point_of w) h
+read_step phase.Point s t w h = read_after_point s t (word_of w) h
+read_step phase.Hyphen s t w h = read_point s t (point_of w) h
+read_step phase.Range s t w h = read_last s t (point_of w) h
+read_step phase.Last s t w h = read_points s t (word_of w) h
+read_step phase.As s t w h = read_name s t w h
+read_step phase.Tag s t w h = read_tag s t (word_of w) h
+read_step phase.When s t w h = read_condition s t condition.When w h
+read_step phase.Unless s t w h = read_condition s t condition.Unless w h
+read_step phase.Rule s t w h = read_rule s t (word_of w) h
 
 -- ---- with parts or without
 
 -- where no lexeme is lacking, the parts make no difference
-stepped_had : (parts : EntryParts) (first : Bool) (s : Option State) (w : List ℕ) → is_lacking parts first (word_of w) ≡ false → stepped_in parts first s w ≡ stepped s w
-stepped_had parts first None w e = refl
-stepped_had parts first (Some s) w e = ap (λ b. cond b None (step s w)) e
-
-run_had : (parts : EntryParts) (ws : List (List ℕ)) (first : Bool) (s : Option State) → AllHad parts first ws → run parts first s ws ≡ state_after s ws
-run_had parts [] first s had = refl
-run_had parts (w ∷ ws) first s had = ap (λ o. run parts false o ws) (stepped_had parts first s w had.0) ∙ run_had parts ws false (stepped s w) had.1
-
-had_step : (parts : EntryParts) (first : Bool) (s t : State) (w : List ℕ) (b : Bool) → is_lacking parts first (word_of w) ≡ b → step_in parts first s w ≡ Some t → (b ≡ false) × (step s w ≡ Some t)
-had_step parts first s t w true e h = none_some _ t (sym (ap (λ b. cond b None (step s w)) e) ∙ h)
-had_step parts first s t w false e h = (refl, sym (ap (λ b. cond b None (step s w)) e) ∙ h)
+run_had : (parts : EntryParts) (ws : List (List ℕ)) (s : State) → AllHad parts (is_new s) ws → run (step_in parts) (Some s) ws ≡ state_after (Some s) ws
+run_had parts [] s had = refl
+run_had parts (w ∷ ws) s had = ap (λ b. run (step_in parts) (cond b None (step s w)) ws) had.0 ∙ by (step s w) refl (λ t e. run_had parts ws t e)
+  where
+    by : (o : Option State) → step s w ≡ o → ((t : State) → AllHad parts (is_new t) ws → run (step_in parts) (Some t) ws ≡ state_after (Some t) ws)
+        → run (step_in parts) o ws ≡ state_after o ws
+    by None e rest = run_none (step_in parts) ws ∙ sym (none_after ws)
+    by (Some t) e rest = rest t (subst (λ b. AllHad parts b ws) (sym (read_step s.phase s t w e)) had.1)
 
 -- the lexemes of a run are none that the parts lack, and its states are those of reading
 abbrev Ran : EntryParts → Bool → State → List (List ℕ) → State → Type 0
 Ran parts first s ws t = AllHad parts first ws × (state_after (Some s) ws ≡ Some t)
 
-ran_next : (parts : EntryParts) (first : Bool) (s t : State) (w : List ℕ) (ws : List (List ℕ)) (o : Option State) → step_in parts first s w ≡ o
-    → ((u : State) → run parts false (Some u) ws ≡ Some t → Ran parts false u ws t) → run parts false o ws ≡ Some t → Ran parts first s (w ∷ ws) t
-ran_next parts first s t w ws None e rest h = none_some _ t (sym (run_none parts ws false) ∙ h)
-ran_next parts first s t w ws (Some u) e rest h =
-    let k = had_step parts first s u w (is_lacking parts first (word_of w)) refl e in
-    let r = rest u h in ((k.0, r.0), ap (λ o. state_after o ws) k.1 ∙ r.1)
-
-ran : (parts : EntryParts) (ws : List (List ℕ)) (first : Bool) (s t : State) → run parts first (Some s) ws ≡ Some t → Ran parts first s ws t
-ran parts [] first s t e = (tt, e)
-ran parts (w ∷ ws) first s t e = ran_next parts first s t w ws (step_in parts first s w) refl (λ u h. ran parts ws false u t h) e
+ran : (parts : EntryParts) (ws : List (List ℕ)) (s t : State) → run (step_in parts) (Some s) ws ≡ Some t → Ran parts (is_new s) s ws t
+ran parts [] s t e = (tt, e)
+ran parts (w ∷ ws) s t e = by (is_lacking parts (is_new s) (word_of w)) (step s w) refl refl (λ u h. ran parts ws u t h) e
+  where
+    by : (b : Bool) (o : Option State) → is_lacking parts (is_new s) (word_of w) ≡ b → step s w ≡ o
+        → ((u : State) → run (step_in parts) (Some u) ws ≡ Some t → Ran parts (is_new u) u ws t)
+        → run (step_in parts) (cond b None o) ws ≡ Some t → Ran parts (is_new s) s (w ∷ ws) t
+    by true o lacks e rest h = none_some _ t (sym (run_none (step_in parts) ws) ∙ h)
+    by false None lacks e rest h = none_some _ t (sym (run_none (step_in parts) ws) ∙ h)
+    by false (Some u) lacks e rest h =
+        let r = rest u h in
+        ((lacks, subst (λ b. AllHad parts b ws) (read_step s.phase s u w e) r.0), ap (λ o. state_after o ws) e ∙ r.1)
 
 -- ---- what was read can be completed
 
@@ -488,10 +467,6 @@ had_append : (parts : EntryParts) (ws vs : List (List ℕ)) (first : Bool) → A
 had_append parts [] vs first a b = b first
 had_append parts (w ∷ ws) vs first a b = (a.0, had_append parts ws vs false a.1 b)
 
-had_front : (parts : EntryParts) (ws vs : List (List ℕ)) (first : Bool) → AllHad parts first (ws ++ vs) → AllHad parts first ws
-had_front parts [] vs first a = tt
-had_front parts (w ∷ ws) vs first a = (a.0, had_front parts ws vs false a.1)
-
 after_append : (ws vs : List (List ℕ)) (s : Option State) → state_after s (ws ++ vs) ≡ state_after (state_after s ws) vs
 after_append [] vs s = refl
 after_append (w ∷ ws) vs s = after_append ws vs (stepped s w)
@@ -511,15 +486,15 @@ whole parts ws t form had e ends =
     let is = read_words form ws read in
     (is.0, form_by_had parts form ws is.0 is.1 had, is.1)
 
-begins_by_run : (parts : EntryParts) (ws : List (List ℕ)) (s : State) → (parts.named ≡ true → length ws ≤ 8192) → run parts true (Some start) ws ≡ Some s → Begins parts ws
+begins_by_run : (parts : EntryParts) (ws : List (List ℕ)) (s : State) → (parts.named ≡ true → length ws ≤ 8192) → run (step_in parts) (Some start) ws ≡ Some s → Begins (AreEntry parts) ws
 begins_by_run parts ws s few e =
-    let r = ran parts ws true start s e in
+    let r = ran parts ws start s e in
     let c = completed parts (length ws) s s.phase refl few (sound_after parts ws 0 (length ws) true start s (omega arith) (start_sound parts) r.0 r.1) in
     let f = form_at c.at c.complete in
     let all = had_append parts ws c.more true r.0 c.had in
     let leads = after_append ws c.more (Some start) ∙ ap (λ o. state_after o c.more) r.1 ∙ c.leads in
     let w = whole parts (ws ++ c.more) c.at f.0 all leads f.1 in
-    (f.0, c.more, w.0, w.1, w.2)
+    (c.more, (f.0, w.0, w.1, w.2))
 
 -- the lexemes of a form lead to a state
 entry_state : (ws : List (List ℕ)) (form : EntryForm) → entry_in ws ≡ Some form → (t : State) × (state_after (Some start) ws ≡ Some t) × (ended t ≡ Some form)
@@ -530,20 +505,22 @@ entry_state ws form e = by (state_after (Some start) ws) refl e
     by None h e = none_some _ form e
     by (Some t) h e = (t, h, e)
 
-front_state : (ws vs : List (List ℕ)) (t : State) → state_after (Some start) (ws ++ vs) ≡ Some t → (s : State) × (state_after (Some start) ws ≡ Some s)
-front_state ws vs t e = by (state_after (Some start) ws) refl (sym (after_append ws vs (Some start)) ∙ e)
+-- an entry or a range is read to its end
+entry_run : (parts : EntryParts) (ws : List (List ℕ)) → (is : AreEntry parts ws) → (t : State) × (run (step_in parts) (Some start) ws ≡ Some t) × (ended t ≡ Some is.0)
+entry_run parts ws is =
+    let t = entry_state ws is.0 (words_read is.0 ws is.1 is.3) in
+    (t.0, run_had parts ws start (had_by_form parts is.0 ws is.1 is.2 is.3) ∙ t.1, t.2)
+
+front_run : (parts : EntryParts) (ws vs : List (List ℕ)) (t : State) → run (step_in parts) (Some start) (ws ++ vs) ≡ Some t → (s : State) × (run (step_in parts) (Some start) ws ≡ Some s)
+front_run parts ws vs t e = by (run (step_in parts) (Some start) ws) refl (sym (run_append (step_in parts) ws vs (Some start)) ∙ e)
   where
-    by : (o : Option State) → state_after (Some start) ws ≡ o → state_after (state_after (Some start) ws) vs ≡ Some t → (s : State) × (state_after (Some start) ws ≡ Some s)
-    by None h e = none_some _ t (sym (none_after vs) ∙ sym (ap (λ o. state_after o vs) h) ∙ e)
+    by : (o : Option State) → run (step_in parts) (Some start) ws ≡ o → run (step_in parts) (run (step_in parts) (Some start) ws) vs ≡ Some t
+        → (s : State) × (run (step_in parts) (Some start) ws ≡ Some s)
+    by None h e = none_some _ t (sym (run_none (step_in parts) vs) ∙ sym (ap (λ o. run (step_in parts) o vs) h) ∙ e)
     by (Some s) h e = (s, h)
 
-run_by_begins : (parts : EntryParts) (ws : List (List ℕ)) → Begins parts ws → (s : State) × (run parts true (Some start) ws ≡ Some s)
-run_by_begins parts ws b =
-    let all = ws ++ b.1 in
-    let had = had_front parts ws b.1 true (had_by_form parts b.0 all b.2 b.3 b.4) in
-    let t = entry_state all b.0 (words_read b.0 all b.2 b.4) in
-    let s = front_state ws b.1 t.0 t.1 in
-    (s.0, run_had parts ws true (Some start) had ∙ s.1)
+run_by_begins : (parts : EntryParts) (ws : List (List ℕ)) → Begins (AreEntry parts) ws → (s : State) × (run (step_in parts) (Some start) ws ≡ Some s)
+run_by_begins parts ws b = let all = entry_run parts (ws ++ b.0) b.1 in front_run parts ws b.0 all.0 all.1
 
 -- ---- the place
 
@@ -576,127 +553,191 @@ front_count line before after w cut =
     let same = ap length cut ∙ length-append before (w ∷ after) in
     omega (arith, unplaced_count before)
 
-no_step : (parts : EntryParts) (before : List (List ℕ)) (w : List ℕ) (s : State) → run parts true (Some start) before ≡ Some s → step_in parts (first_after true before) s w ≡ None
-    → Begins parts (before ++ w ∷ []) → ⊥
-no_step parts before w s e none b =
-    let r = run_by_begins parts (before ++ w ∷ []) b in
-    let bad = sym (run_append parts before (w ∷ []) true (Some start) ∙ ap (λ o. stepped_in parts (first_after true before) o w) e ∙ none) ∙ r.1 in
-    none_some _ r.0 bad
+-- ---- what reading finds
 
-lexeme_found : (parts : EntryParts) (line : List ℕ) (place n : ℕ) → FitsNames parts line → wrong_place parts line ≡ Some (Lexeme place n) → IsWrongPlace parts line (Lexeme place n)
-unfolding wrong_place
-lexeme_found parts line place n fits e =
-    let k = stuck parts (length line) place n (placed_lexemes line) true start e in
-    let count = front_count line k.before k.after k.w k.cut in (
-      k.w,
-      k.is_anchor,
-      k.is_len,
-      record {
-        before = k.before;
-        after = k.after;
-        cut = k.cut;
-        begun = begins_by_run parts (unplaced k.before) k.at (λ named. let most = fits named in omega arith) k.reached;
-        stuck = no_step parts (unplaced k.before) k.w.lexeme k.at k.reached k.none;
-      },
-    )
+abbrev from : EntryParts → ℕ → State → List Placed → Result EntryForm FaultPlace
+from parts len s ws = read_from (step_in parts) ended len s ws
 
-open_place : (len place : ℕ) (t : State) (b : Bool) → is_complete t.phase ≡ b → open_end len t ≡ Some (End place) → (b ≡ false) × (place ≡ len)
-open_place len place t true e h = none_some _ (End place) (sym (ap (λ b. let o : Option WrongPlace = cond b None (Some (End len)) in o) e) ∙ h)
-open_place len place t false e h =
-    let same : (let o : Option WrongPlace = Some (End len) in o) ≡ Some (End place) = sym (ap (λ b. let o : Option WrongPlace = cond b None (Some (End len)) in o) e) ∙ h in (refl, cc)
+-- the lexeme that can't stand after those that lead to the state, or the end, where the state is not complete
+abbrev Halts : EntryParts → State → List Placed → Type 0
+Halts parts s [] = ended s ≡ None
+Halts parts s (w ∷ ws) = step_in parts s w.lexeme ≡ None
 
--- a line that leaves something open is no entry and no range
-not_whole : (parts : EntryParts) (line : List ℕ) (t : State) → run parts true (Some start) (lexemes line) ≡ Some t → is_complete t.phase ≡ false → IsWhole parts line → ⊥
-unfolding entry_in
-not_whole parts line t e is w =
-    let r = ran parts (lexemes line) true start t e in
-    let read : entry_in (lexemes line) ≡ Some w.0 = words_read w.0 (lexemes line) w.1.0 w.1.1 in
-    let none : entry_in (lexemes line) ≡ None = ap entry_at r.1 ∙ ap (λ b. let o : Option EntryForm = cond b (Some (record { mapped = t.done ++ t.current ∷ []; last = t.last })) None in o) is in
-    none_some _ w.0 (sym none ∙ read)
+record Stopped (parts : EntryParts) (len : ℕ) (s : State) (xs : List Placed) (place : FaultPlace) : Type 0 where
+  before : List Placed
+  after : List Placed
+  at : State
+  cut : xs ≡ before ++ after
+  reached : run (step_in parts) (Some s) (unplaced before) ≡ Some at
+  halts : Halts parts at after
+  told : place ≡ place_of len after
 
-end_found : (parts : EntryParts) (line : List ℕ) (place : ℕ) → FitsNames parts line → wrong_place parts line ≡ Some (End place) → IsWrongPlace parts line (End place)
-unfolding wrong_place
-end_found parts line place fits e =
-    let p = passed parts (length line) (Some (End place)) (placed_lexemes line) true start tt e in
-    let o = open_place (length line) place p.0 (is_complete p.0.phase) refl p.2 in
-    let r = subst (λ ws. run parts true (Some start) ws ≡ Some p.0) (unplaced-from 0 line) p.1 in
-    (o.1, (begins_by_run parts (lexemes line) p.0 (λ named. let most = fits named in let count = lexeme_count line in omega arith) r, not_whole parts line p.0 r o.0))
+same_err : {X E : Type 0} (a b : E) → (let r : Result X E = Err a in r) ≡ Err b → b ≡ a
+same_err a b e = cc
 
-found_is : (parts : EntryParts) (line : List ℕ) (place : WrongPlace) → FitsNames parts line → wrong_place parts line ≡ Some place → IsWrongPlace parts line place
-found_is parts line (Lexeme place n) fits e = lexeme_found parts line place n fits e
-found_is parts line (End place) fits e = end_found parts line place fits e
+ok_err : {X E : Type 0} (A : Type 0) (x : X) (e : E) → Ok x ≡ Err e → A
+ok_err A x e h = absurd cc
 
-lexeme_is : (parts : EntryParts) (line : List ℕ) (w : Placed) → FitsNames parts line → IsWrongLexeme parts line w → wrong_place parts line ≡ Some (Lexeme w.place (length w.lexeme))
-unfolding wrong_place
-lexeme_is parts line w fits is =
-    let before = unplaced is.before in
-    let r = run_by_begins parts before is.begun in
-    let none = by r.0 r.1 (step_in parts (first_after true before) r.0 w.lexeme) refl in
-    ap (wrong_from parts (length line) true start) is.cut ∙ found_after parts (length line) is.before (w ∷ is.after) true start r.0 r.1
-    ∙ ap (stopped_at w (λ t. wrong_from parts (length line) false t is.after)) none
+err_ok : {X E : Type 0} (A : Type 0) (x : X) (e : E) → Err e ≡ Ok x → A
+err_ok A x e h = absurd cc
+
+same_ok : {X E : Type 0} (x y : X) → (let r : Result X E = Ok x in r) ≡ Ok y → x ≡ y
+same_ok x y e = cc
+
+stopped_end : (parts : EntryParts) (len : ℕ) (s : State) (place : FaultPlace) (o : Option EntryForm) → ended s ≡ o → or_end len o ≡ Err place → Stopped parts len s [] place
+stopped_end parts len s place (Some form) e h = ok_err _ form place h
+stopped_end parts len s place None e h = record { before = []; after = []; at = s; cut = refl; reached = refl; halts = e; told = same_err (End len) place h }
+
+stopped_next : (parts : EntryParts) (len : ℕ) (s : State) (w : Placed) (ws : List Placed) (place : FaultPlace) (o : Option State) → step_in parts s w.lexeme ≡ o
+    → ((t : State) → from parts len t ws ≡ Err place → Stopped parts len t ws place)
+    → at_lexeme w (λ t. from parts len t ws) o ≡ Err place → Stopped parts len s (w ∷ ws) place
+stopped_next parts len s w ws place None e rest h = record { before = []; after = w ∷ ws; at = s; cut = refl; reached = refl; halts = e; told = same_err (Lexeme w.place (length w.lexeme)) place h }
+stopped_next parts len s w ws place (Some t) e rest h =
+    let r = rest t h in record {
+      before = w ∷ r.before;
+      after = r.after;
+      at = r.at;
+      cut = ap (λ l. w ∷ l) r.cut;
+      reached = ap (λ o. run (step_in parts) o (unplaced r.before)) e ∙ r.reached;
+      halts = r.halts;
+      told = r.told;
+    }
+
+stopped : (parts : EntryParts) (len : ℕ) (place : FaultPlace) (xs : List Placed) (s : State) → from parts len s xs ≡ Err place → Stopped parts len s xs place
+stopped parts len place [] s e = stopped_end parts len s place (ended s) refl e
+stopped parts len place (w ∷ ws) s e = stopped_next parts len s w ws place (step_in parts s w.lexeme) refl (λ t h. stopped parts len place ws t h) e
+
+-- what is read after lexemes that lead to a state
+read_after : (parts : EntryParts) (len : ℕ) (before after : List Placed) (s t : State) → run (step_in parts) (Some s) (unplaced before) ≡ Some t
+    → from parts len s (before ++ after) ≡ from parts len t after
+read_after parts len [] after s t e = ap (λ u. from parts len u after) (same_some s t e)
+read_after parts len (w ∷ before) after s t e = by (step_in parts s w.lexeme) (λ u h. read_after parts len before after u t h) e
   where
-    by : (s : State) → run parts true (Some start) (unplaced is.before) ≡ Some s → (o : Option State) → step_in parts (first_after true (unplaced is.before)) s w.lexeme ≡ o → step_in parts (first_after true (unplaced is.before)) s w.lexeme ≡ None
-    by s e None h = h
-    by s e (Some t) h =
-        absurd (is.stuck (begins_by_run parts (unplaced is.before ++ w.lexeme ∷ []) t
-        (λ named. let most = fits named in let count = front_count line is.before is.after w is.cut in omega (arith, length-append (unplaced is.before) (w.lexeme ∷ [])))
-        (run_append parts (unplaced is.before) (w.lexeme ∷ []) true (Some start) ∙ ap (λ o. stepped_in parts (first_after true (unplaced is.before)) o w.lexeme) e ∙ h)))
+    by : (o : Option State) → ((u : State) → run (step_in parts) (Some u) (unplaced before) ≡ Some t → from parts len u (before ++ after) ≡ from parts len t after)
+        → run (step_in parts) o (unplaced before) ≡ Some t → at_lexeme w (λ u. from parts len u (before ++ after)) o ≡ from parts len t after
+    by None rest h = none_some _ t (sym (run_none (step_in parts) (unplaced before)) ∙ h)
+    by (Some u) rest h = rest u h
 
--- what is found where each lexeme may stand
-end_of : (parts : EntryParts) (line : List ℕ) (t : State) → run parts true (Some start) (lexemes line) ≡ Some t → wrong_place parts line ≡ open_end (length line) t
-unfolding wrong_place
-end_of parts line t e =
+halted : (parts : EntryParts) (len : ℕ) (s : State) (after : List Placed) → Halts parts s after → from parts len s after ≡ Err (place_of len after)
+halted parts len s [] h = ap (or_end len) h
+halted parts len s (w ∷ ws) h = ap (at_lexeme w (λ t. from parts len t ws)) h
+
+-- ---- the form
+
+read_ok : (parts : EntryParts) (len : ℕ) (form : EntryForm) (xs : List Placed) (s : State) → from parts len s xs ≡ Ok form
+    → (t : State) × (run (step_in parts) (Some s) (unplaced xs) ≡ Some t) × (ended t ≡ Some form)
+read_ok parts len form [] s e = (s, refl, by (ended s) refl e)
+  where
+    by : (o : Option EntryForm) → ended s ≡ o → or_end len o ≡ Ok form → ended s ≡ Some form
+    by None h e = err_ok _ form (End len) e
+    by (Some other) h e = h ∙ ap (λ f. Some f) (same_ok other form e)
+read_ok parts len form (w ∷ ws) s e = by (step_in parts s w.lexeme) refl (λ t h. read_ok parts len form ws t h) e
+  where
+    by : (o : Option State) → step_in parts s w.lexeme ≡ o
+        → ((t : State) → from parts len t ws ≡ Ok form → (u : State) × (run (step_in parts) (Some t) (unplaced ws) ≡ Some u) × (ended u ≡ Some form))
+        → at_lexeme w (λ t. from parts len t ws) o ≡ Ok form → (u : State) × (run (step_in parts) (Some s) (unplaced (w ∷ ws)) ≡ Some u) × (ended u ≡ Some form)
+    by None h rest e = err_ok _ form (Lexeme w.place (length w.lexeme)) e
+    by (Some t) h rest e = let r = rest t e in (r.0, ap (λ o. run (step_in parts) o (unplaced ws)) h ∙ r.1, r.2)
+
+form_found : (parts : EntryParts) (line : List ℕ) (form : EntryForm) → entry_read parts line ≡ Ok form → IsEntryOf parts line form
+unfolding entry_read
+form_found parts line form e =
+    let r = read_ok parts (length line) form (placed_lexemes line) start e in
+    let run_ = subst (λ ws. run (step_in parts) (Some start) ws ≡ Some r.0) (unplaced-from 0 line) r.1 in
+    let k = ran parts (lexemes line) start r.0 run_ in
+    let w = whole parts (lexemes line) r.0 form k.0 k.1 r.2 in
+    ((w.0, w.2), w.1)
+
+found_form : (parts : EntryParts) (line : List ℕ) (form : EntryForm) → IsEntryOf parts line form → entry_read parts line ≡ Ok form
+unfolding entry_read
+found_form parts line form is =
     let xs = placed_lexemes line in
-    let r = subst (λ ws. run parts true (Some start) ws ≡ Some t) (sym (unplaced-from 0 line)) e in
-    ap (wrong_from parts (length line) true start) (sym (append-nil xs)) ∙ found_after parts (length line) xs [] true start t r
+    let t = entry_run parts (lexemes line) (form, is.0.0, is.1, is.0.1) in
+    let r = subst (λ ws. run (step_in parts) (Some start) ws ≡ Some t.0) (sym (unplaced-from 0 line)) t.1 in
+    ap (from parts (length line) start) (sym (append-nil xs)) ∙ read_after parts (length line) xs [] start t.0 r ∙ ap (or_end (length line)) t.2
 
--- what is complete is an entry or a range with no other parts
-whole_line : (parts : EntryParts) (line : List ℕ) (t : State) → run parts true (Some start) (lexemes line) ≡ Some t → is_complete t.phase ≡ true → IsWhole parts line
-whole_line parts line t e is =
-    let r = ran parts (lexemes line) true start t e in
-    let f = form_at t is in
-    let w = whole parts (lexemes line) t f.0 r.0 r.1 f.1 in
-    (f.0, (w.0, w.2), w.1)
+pub the_entry : (parts : EntryParts) (line : List ℕ) (form : EntryForm) → (entry_read parts line ≡ Ok form) ↔ IsEntryOf parts line form
+the_entry parts line form = (form_found parts line form, found_form parts line form)
 
-end_is : (parts : EntryParts) (line : List ℕ) → EndsEarly parts line → wrong_place parts line ≡ Some (End (length line))
-end_is parts line is =
-    let r = run_by_begins parts (lexemes line) is.0 in
-    end_of parts line r.0 r.1 ∙ by r.0 r.1 (is_complete r.0.phase) refl
+-- ---- the place
+
+-- so few lexemes that some name is none of them
+few_before : (parts : EntryParts) (line : List ℕ) (before after : List Placed) → FitsNames parts line → placed_lexemes line ≡ before ++ after → parts.named ≡ true → length (unplaced before) ≤ 8192
+few_before parts line before after fits cut named =
+    let most = fits named in
+    let few = placed_count 0 line in
+    let same = ap length cut ∙ length-append before after in
+    omega (arith, unplaced_count before)
+
+-- one lexeme more leads to a state, or to none
+one_next : (parts : EntryParts) (before : List Placed) (w : Placed) (s : State) → run (step_in parts) (Some start) (unplaced before) ≡ Some s
+    → run (step_in parts) (Some start) (unplaced before ++ w.lexeme ∷ []) ≡ step_in parts s w.lexeme
+one_next parts before w s e = run_one (step_in parts) (unplaced before) w.lexeme start s e
+
+no_entry : (parts : EntryParts) (before after : List Placed) (s : State) → (parts.named ≡ true → length (unplaced before) ≤ 8192)
+    → run (step_in parts) (Some start) (unplaced before) ≡ Some s → Halts parts s after → IsStop (AreEntry parts) (unplaced before) (unplaced after)
+no_entry parts before [] s few e h = (begins_by_run parts (unplaced before) s few e, open_)
   where
-    by : (t : State) → run parts true (Some start) (lexemes line) ≡ Some t → (b : Bool) → is_complete t.phase ≡ b → open_end (length line) t ≡ Some (End (length line))
-    by t e true h = absurd (is.1 (whole_line parts line t e h))
-    by t e false h = ap (λ b. let o : Option WrongPlace = cond b None (Some (End (length line))) in o) h
-
-is_found : (parts : EntryParts) (line : List ℕ) (place : WrongPlace) → FitsNames parts line → IsWrongPlace parts line place → wrong_place parts line ≡ Some place
-is_found parts line (Lexeme place n) fits is = lexeme_is parts line is.0 fits is.3 ∙ ap (λ p. let o : Option WrongPlace = Some (Lexeme p (length is.0.lexeme)) in o) is.1 ∙ ap (λ m. let o : Option WrongPlace = Some (Lexeme place m) in o) is.2
-is_found parts line (End place) fits is = end_is parts line is.1 ∙ ap (λ p. let o : Option WrongPlace = Some (End p) in o) (sym is.0)
-
-pub the_wrong_place : (parts : EntryParts) (line : List ℕ) (place : WrongPlace) → FitsNames parts line → (wrong_place parts line ≡ Some place) ↔ IsWrongPlace parts line place
-the_wrong_place parts line place fits = (found_is parts line place fits, is_found parts line place fits)
-
-none_is : (parts : EntryParts) (line : List ℕ) → wrong_place parts line ≡ None → IsWhole parts line
-unfolding wrong_place
-none_is parts line e =
-    let p = passed parts (length line) None (placed_lexemes line) true start tt e in
-    let r = subst (λ ws. run parts true (Some start) ws ≡ Some p.0) (unplaced-from 0 line) p.1 in
-    whole_line parts line p.0 r (by p.0 (is_complete p.0.phase) refl p.2)
+    open_ : AreEntry parts (unplaced before) → ⊥
+    open_ is =
+        let t = entry_run parts (unplaced before) is in
+        none_some _ is.0 (sym h ∙ ap ended (same_some s t.0 (sym e ∙ t.1)) ∙ t.2)
+no_entry parts before (w ∷ ws) s few e h = (begins_by_run parts (unplaced before) s few e, stuck)
   where
-    by : (t : State) (b : Bool) → is_complete t.phase ≡ b → open_end (length line) t ≡ None → b ≡ true
-    by t true h e = refl
-    by t false h e = none_some _ (End (length line)) (sym e ∙ ap (λ b. let o : Option WrongPlace = cond b None (Some (End (length line))) in o) h)
+    stuck : Begins (AreEntry parts) (unplaced before ++ w.lexeme ∷ []) → ⊥
+    stuck b = let t = run_by_begins parts (unplaced before ++ w.lexeme ∷ []) b in none_some _ t.0 (sym (one_next parts before w s e ∙ h) ∙ t.1)
 
-is_none : (parts : EntryParts) (line : List ℕ) → IsWhole parts line → wrong_place parts line ≡ None
-unfolding entry_in
-is_none parts line w =
-    let ws = lexemes line in
-    let had = had_by_form parts w.0 ws w.1.0 w.2 w.1.1 in
-    let t = entry_state ws w.0 (words_read w.0 ws w.1.0 w.1.1) in
-    let r = run_had parts ws true (Some start) had ∙ t.1 in
-    end_of parts line t.0 r ∙ by t.0 (is_complete t.0.phase) refl t.2
+place_found : (parts : EntryParts) (line : List ℕ) (place : FaultPlace) → FitsNames parts line → entry_read parts line ≡ Err place → IsEntryStop parts line place
+unfolding entry_read
+place_found parts line place fits e =
+    let k = stopped parts (length line) place (placed_lexemes line) start e in record {
+      before = k.before;
+      after = k.after;
+      cut = k.cut;
+      told = k.told;
+      stop = no_entry parts k.before k.after k.at (few_before parts line k.before k.after fits k.cut) k.reached k.halts;
+    }
+
+-- where no entry goes on, the state doesn't
+halts_there : (parts : EntryParts) (line : List ℕ) (before after : List Placed) (s : State) → FitsNames parts line → placed_lexemes line ≡ before ++ after
+    → run (step_in parts) (Some start) (unplaced before) ≡ Some s → IsStop (AreEntry parts) (unplaced before) (unplaced after) → Halts parts s after
+halts_there parts line before [] s fits cut e stop = by (ended s) refl
   where
-    by : (t : State) (b : Bool) → is_complete t.phase ≡ b → ended t ≡ Some w.0 → open_end (length line) t ≡ None
-    by t true h e = ap (λ b. let o : Option WrongPlace = cond b None (Some (End (length line))) in o) h
-    by t false h e = none_some _ w.0 (sym (ap (λ b. let o : Option EntryForm = cond b (Some (record { mapped = t.done ++ t.current ∷ []; last = t.last })) None in o) h) ∙ e)
+    by : (o : Option EntryForm) → ended s ≡ o → ended s ≡ None
+    by None h = h
+    by (Some form) h =
+        let k = ran parts (unplaced before) start s e in
+        let w = whole parts (unplaced before) s form k.0 k.1 h in
+        absurd (stop.1 (form, w.0, w.1, w.2))
+halts_there parts line before (w ∷ ws) s fits cut e stop = by (step_in parts s w.lexeme) refl
+  where
+    few : parts.named ≡ true → length (unplaced before ++ w.lexeme ∷ []) ≤ 8192
+    few named =
+        let most = fits named in
+        let count = placed_count 0 line in
+        let same = ap length cut ∙ length-append before (w ∷ ws) in
+        omega (arith, unplaced_count before, length-append (unplaced before) (w.lexeme ∷ []))
 
-pub no_wrong_place : (parts : EntryParts) (line : List ℕ) → (wrong_place parts line ≡ None) ↔ IsWhole parts line
-no_wrong_place parts line = (none_is parts line, is_none parts line)
+    by : (o : Option State) → step_in parts s w.lexeme ≡ o → step_in parts s w.lexeme ≡ None
+    by None h = h
+    by (Some t) h = absurd (stop.1 (begins_by_run parts (unplaced before ++ w.lexeme ∷ []) t few (one_next parts before w s e ∙ h)))
+
+found_place : (parts : EntryParts) (line : List ℕ) (place : FaultPlace) → FitsNames parts line → IsEntryStop parts line place → entry_read parts line ≡ Err place
+unfolding entry_read
+found_place parts line place fits is =
+    let s = run_by_begins parts (unplaced is.before) (begins_of (unplaced is.after) is.stop) in
+    ap (from parts (length line) start) is.cut ∙ read_after parts (length line) is.before is.after start s.0 s.1
+    ∙ halted parts (length line) s.0 is.after (halts_there parts line is.before is.after s.0 fits is.cut s.1 is.stop) ∙ ap (λ p. Err p) (sym is.told)
+  where
+    begins_of : (after : List (List ℕ)) → IsStop (AreEntry parts) (unplaced is.before) after → Begins (AreEntry parts) (unplaced is.before)
+    begins_of [] stop = stop.0
+    begins_of (w ∷ ws) stop = stop.0
+
+pub the_stop : (parts : EntryParts) (line : List ℕ) (place : FaultPlace) → FitsNames parts line → (entry_read parts line ≡ Err place) ↔ IsEntryStop parts line place
+the_stop parts line place fits = (place_found parts line place fits, found_place parts line place fits)
+
+-- ---- without a place
+
+-- what stops is no entry and no range of these parts, however long it is
+pub no_form : (parts : EntryParts) (line : List ℕ) (place : FaultPlace) → entry_read parts line ≡ Err place → (form : EntryForm) → IsEntryOf parts line form → ⊥
+no_form parts line place e form is = ok_err _ form place (sym (found_form parts line form is) ∙ e)

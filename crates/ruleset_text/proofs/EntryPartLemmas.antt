@@ -7,16 +7,15 @@ use Rattle.idn_text.specs.Points.{point_of_hex}
 use Rattle.ruleset_text.specs.declared.entry_form.NamedCondition.{NamedCondition}
 use Rattle.label_patterns.specs.declared.condition.ConditionKind.{ConditionKind}
 use Rattle.label_patterns.specs.declared.condition.ConditionKind.TheVariants as condition
-use Rattle.table_cause.specs.declared.entry_place.EntryParts.{EntryParts}
+use Rattle.ruleset_text.specs.declared.entry_parts.EntryParts.{EntryParts}
 use Rattle.ruleset_text.specs.declared.entry_reading.EntryWord.{EntryWord}
 use Rattle.ruleset_text.specs.declared.entry_reading.EntryWord.TheVariants as word
 use Rattle.ruleset_text.specs.Entries.{Mapped, EntryForm}
-use Rattle.table_cause.specs.EntryParts.{has_tags, is_within, has_parts}
+use Rattle.ruleset_text.specs.EntryParts.{has_tags, is_within, has_parts}
 use Rattle.ruleset_text.specs.EntryText.{HasRule, IsSequence, IsMapped, IsForm, MayHaveTags}
 use Rattle.ruleset_text.specs.EntryWords as words
 use Rattle.ruleset_text.specs.EntryWords.{Word, IsWord, AreWords, point_of, mark_words, sequence_words, last_words, names_words, tags_words, kind_word, condition_words, mapped_words, variants_words, entry_words}
-use Rattle.ruleset_text.specs.EntrySteps.{word_of}
-use Rattle.table_cause.specs.WrongSteps.{is_lacking}
+use Rattle.ruleset_text.specs.EntrySteps.{word_of, is_lacking}
 use Rattle.ruleset_text.specs.Names.{AreNames, is_name}
 use Rattle.ruleset_text.proofs.EntryStateLemmas.{IsSpelled, spelled}
 
