@@ -5,6 +5,8 @@ pub mod Reading
 pub mod Pieces
 pub mod PatternSigns
 pub mod PatternPlaces
+pub mod LineStops
+pub mod Found
 pub mod Limits
 pub mod Signs
 pub mod Rules

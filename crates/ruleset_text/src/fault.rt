@@ -1,6 +1,9 @@
-//! Why a line defines nothing.
+//! Why a line is refused, and where.
 ghost use Rattle.std.specs.Prelude.{◌≡◌};
 ghost use Rattle.ruleset_text.specs.declared.fault.DefinitionFault.TheVariants.{Memory};
+ghost use Rattle.ruleset_text.specs.declared.fault.ReadError.TheVariants.{Memory as NoMemory, Stop};
+ghost use Rattle.ruleset_text.specs.Found as faults;
+ghost use Rattle.ruleset_text.specs.LineStops.{fault_of};
 
 use std::alloc::{AllocError, AllocFailed};
 
@@ -35,5 +38,116 @@ impl<T: Drop> From<AllocFailed<T>> for DefinitionFault {
 
     fn from(_: AllocFailed<T>) -> Self {
         DefinitionFault::Memory
+    }
+}
+
+impl From<ReadError> for DefinitionFault {
+    ghost from_gives = { λ e f. f ≡ fault_of e };
+
+    fn from(error: ReadError) -> Self {
+        match error {
+            ReadError::Stop(_) => DefinitionFault::Syntax,
+            ReadError::Memory => DefinitionFault::Memory,
+        }
+    }
+}
+
+/// Why a line, or what is left of one, isn't read.
+#[derive(Clone, Copy, Debug, PartialEq, Eq)]
+pub enum ReadError {
+    /// It stops being what it is to be at this place.
+    Stop(FaultPlace),
+    /// Memory was refused.
+    Memory,
+}
+
+impl From<FaultPlace> for ReadError {
+    ghost from_gives = { λ place e. e ≡ Stop place };
+
+    fn from(place: FaultPlace) -> Self {
+        ReadError::Stop(place)
+    }
+}
+
+impl From<AllocError> for ReadError {
+    ghost from_gives = { λ _ e. e ≡ NoMemory };
+
+    fn from(_: AllocError) -> Self {
+        ReadError::Memory
+    }
+}
+
+impl<T: Drop> From<AllocFailed<T>> for ReadError {
+    ghost from_gives = { λ _ e. e ≡ NoMemory };
+
+    fn from(_: AllocFailed<T>) -> Self {
+        ReadError::Memory
+    }
+}
+
+/// Where a line has its fault. A place is a byte of the line, counted from 0: the first one of what is named.
+#[derive(Clone, Copy, Debug, PartialEq, Eq)]
+pub enum FaultPlace {
+    /// A lexeme that can't stand there, and how many bytes it has.
+    Lexeme(usize, usize),
+    /// The end of the line, at which something is missing.
+    End(usize),
+    /// A code point that no table may hold.
+    Point(usize, u32),
+    /// The first code point of a range that no table may hold, and the place of the range.
+    InRange(usize, u32),
+    /// A variant that is given again.
+    Variant(usize),
+    /// A source that an earlier entry has.
+    Source(usize),
+    /// The first byte past the limit of a line.
+    Byte(usize),
+    /// The ninth code point of a sequence.
+    NinthPoint(usize, u32),
+    /// The seventeenth variant, and its first code point.
+    SeventeenthVariant(usize, u32),
+}
+
+/// A fault that a word of a line has, where the line has its form.
+#[derive(Clone, Copy, Debug, PartialEq, Eq)]
+pub enum WordFault {
+    Limit,
+    NoSuchName,
+    BadClass,
+    SameVariant,
+    SameSource,
+    SameName,
+}
+
+/// The fault of a line that is told, and its place: the first word that has it.
+#[derive(Clone, Copy, Debug, PartialEq, Eq)]
+pub struct Found {
+    pub fault: WordFault,
+    pub place: FaultPlace,
+}
+
+impl WordFault {
+    /// The number of the fault in the order in which faults are told.
+    fn rank(self) -> u8
+        ensures { result ≡ faults.rank self }
+    {
+        match self {
+            WordFault::Limit => 1,
+            WordFault::NoSuchName => 2,
+            WordFault::BadClass => 3,
+            WordFault::SameVariant => 4,
+            WordFault::SameSource => 5,
+            WordFault::SameName => 6,
+        }
+    }
+
+    /// Whether a further word with this fault is told in place of what was found.
+    pub fn is_told_after(self, found: Option<Found>) -> bool
+        ensures { result ≡ faults.is_told_after self found }
+    {
+        match found {
+            Some(found) => self.rank() < found.fault.rank(),
+            None => true,
+        }
     }
 }

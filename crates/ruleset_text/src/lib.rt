@@ -35,7 +35,7 @@ pub use definitions::{Definitions, Demand};
 pub use entry_form::{EntryForm, Mapped, NamedCondition};
 pub use entry_laws::{canonical_entries_are_read_back, reading_an_entry_is_exact};
 pub use entry_reading::{EntryState, EntryWord, read_entry, word_of};
-pub use fault::DefinitionFault;
+pub use fault::{DefinitionFault, FaultPlace, Found, ReadError, WordFault};
 pub use keyword::{Keyword, keyword_of};
 pub use laws::{
     canonical_lines_are_read_back, canonical_text_is_read_back, definitions_compute_the_entries,
