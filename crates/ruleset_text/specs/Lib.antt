@@ -6,6 +6,7 @@ pub mod Pieces
 pub mod PatternSigns
 pub mod PatternPlaces
 pub mod LineStops
+pub mod DefinitionReading
 pub mod Found
 pub mod Limits
 pub mod Signs

@@ -46,6 +46,11 @@ abbrev pub map_read : {X Y : Type 0} → (X → Y) → Result X FaultPlace → R
 map_read f (Ok x) = Ok (f x)
 map_read f (Err place) = Err place
 
+-- the place alone
+abbrev pub stop_of : {X : Type 0} → Result X FaultPlace → Option FaultPlace
+stop_of (Ok x) = None
+stop_of (Err place) = Some place
+
 -- ---- a call that reads
 
 -- the place, unless memory was refused
