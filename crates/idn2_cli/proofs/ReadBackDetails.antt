@@ -26,8 +26,8 @@ use Rattle.label_patterns.specs.declared.condition.ConditionKind.{ConditionKind}
 use Rattle.label_patterns.specs.declared.condition.ConditionKind.TheVariants.{When, Unless}
 use Rattle.ruleset_text.specs.declared.definition.DemandKind.{DemandKind}
 use Rattle.ruleset_text.specs.declared.definition.DemandKind.TheVariants.{Never, Always}
-use Rattle.table_cause.specs.declared.place.FaultPlace.{FaultPlace}
-use Rattle.table_cause.specs.declared.place.FaultPlace.TheVariants as places
+use Rattle.ruleset_text.specs.declared.fault.FaultPlace.{FaultPlace}
+use Rattle.ruleset_text.specs.declared.fault.FaultPlace.TheVariants as places
 use Rattle.answer_json.specs.Answers.{Field, AreSmall, count, text, if_given}
 use Rattle.answer_json.specs.Details.{Details, no_details, details_fields, decoded_field, demand_fields, length_fields, point, refusal_fields, rule_fields, where_fields}
 use Rattle.answer_json.specs.Hexadecimal.{leading_digit, point_text}

@@ -21,7 +21,7 @@ use Rattle.ruleset_text.specs.Canonical.{point_text}
 use Rattle.ruleset_text.specs.EntryText.{sequence_text}
 use Rattle.variant_table.specs.Gaps.{gaps_of}
 use Rattle.table_cause.specs.FaultPlaces.{fault_place, faulty_line}
-use Rattle.table_cause.specs.declared.place.FaultPlace.{FaultPlace}
+use Rattle.ruleset_text.specs.declared.fault.FaultPlace.{FaultPlace}
 use Rattle.idn2_cli.specs.Explained.{ByRegisteredLine, bad_byte, body_cause, points_cause}
 use Rattle.idn2_cli.specs.ReadBack.{FindingsAreReadBack, IsReadBack, IsShortBody, RegisteredFaultsAreReadBack, TableFaultsAreReadBack, TellsFewOctetsIfAny}
 use Rattle.idn2_cli.specs.Said.{Counted, Gap, finding_object}

@@ -13,8 +13,8 @@ use Rattle.idn_cause.specs.declared.a_label.ALabelCause.TheVariants.{NoCode, Not
 use Rattle.idn_cause.specs.declared.query.LengthCause.{LengthCause}
 use Rattle.idn_cause.specs.declared.query.LengthCause.TheVariants.{LabelOctets, NameOctets}
 use Rattle.answer_json.specs.Details.{Details, no_details}
-use Rattle.table_cause.specs.declared.place.FaultPlace.{FaultPlace}
-use Rattle.table_cause.specs.declared.place.FaultPlace.TheVariants as places
+use Rattle.ruleset_text.specs.declared.fault.FaultPlace.{FaultPlace}
+use Rattle.ruleset_text.specs.declared.fault.FaultPlace.TheVariants as places
 use Rattle.idn2_cli.specs.CauseTexts.{appendix_text, bidi_text, condition_text, demand_text}
 use Rattle.idn2_cli.specs.declared.refusals.cause.LineCause.{LineCause}
 use Rattle.idn2_cli.specs.declared.refusals.cause.LineCause.TheVariants.{Byte, LongLine, OfLabel, OfALabel, OfName, OfQuery, Misplaced, Broken as BrokenDemand, Ends, OfTable, ByteOrderMark}

@@ -21,8 +21,8 @@ use Rattle.ruleset_text.specs.declared.definition.DemandKind.{DemandKind}
 use Rattle.ruleset_text.specs.declared.definition.DemandKind.TheVariants.{Never, Always}
 use Rattle.ruleset_text.specs.Canonical.{point_text}
 use Rattle.idn_text.specs.Points.{hex_digit}
-use Rattle.table_cause.specs.declared.place.FaultPlace.{FaultPlace}
-use Rattle.table_cause.specs.declared.place.FaultPlace.TheVariants as places
+use Rattle.ruleset_text.specs.declared.fault.FaultPlace.{FaultPlace}
+use Rattle.ruleset_text.specs.declared.fault.FaultPlace.TheVariants as places
 use Rattle.idn2_cli.specs.declared.refusals.cause.LineCause.{LineCause}
 use Rattle.idn2_cli.specs.declared.refusals.cause.LineCause.TheVariants.{Byte, LongLine, OfLabel, OfALabel, OfName, OfQuery, Misplaced, Broken, Ends, OfTable, ByteOrderMark}
 

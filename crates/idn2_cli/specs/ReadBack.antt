@@ -16,8 +16,8 @@ use Rattle.variant_table.specs.Gaps.{gaps_of}
 use Rattle.variant_table.specs.declared.fault.TableFault.{TableFault}
 use Rattle.variant_table.specs.declared.version.Notation.{Notation}
 use Rattle.table_cause.specs.FaultPlaces.{fault_place}
-use Rattle.table_cause.specs.declared.place.FaultPlace.{FaultPlace}
-use Rattle.table_cause.specs.declared.place.FaultPlace.TheVariants as places
+use Rattle.ruleset_text.specs.declared.fault.FaultPlace.{FaultPlace}
+use Rattle.ruleset_text.specs.declared.fault.FaultPlace.TheVariants as places
 use Rattle.valid_labels.specs.Validity.{IsSound}
 use Rattle.answer_json.specs.Answers.{Answer, json_of, text_of}
 use Rattle.answer_json.specs.Clear.{is_clear}

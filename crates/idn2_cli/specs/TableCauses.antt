@@ -5,8 +5,8 @@ use Rattle.std.specs.Option.{option_map}
 use Rattle.idn_class.specs.declared.properties.Properties.{Properties}
 use Rattle.variant_table.specs.declared.fault.TableFault.{TableFault}
 use Rattle.variant_table.specs.declared.fault.TableFault.TheVariants.{Syntax}
-use Rattle.table_cause.specs.declared.place.FaultPlace.{FaultPlace}
-use Rattle.table_cause.specs.declared.place.FaultPlace.TheVariants.{Lexeme}
+use Rattle.ruleset_text.specs.declared.fault.FaultPlace.{FaultPlace}
+use Rattle.ruleset_text.specs.declared.fault.FaultPlace.TheVariants.{Lexeme}
 use Rattle.variant_table.specs.declared.version.Notation.{Notation}
 use Rattle.table_cause.specs.FaultPlaces.{fault_place, faulty_line}
 use Rattle.idn2_cli.specs.declared.refusals.cause.LineCause.{LineCause}

@@ -78,7 +78,7 @@ before_branches_plain (Part b q ∷ s) = refl
 -- the last whole pattern, and the pieces before it
 whole_plain : {X : Type 0} (f : Pattern → List Piece → X) (p : Pattern) (s : List Piece)
     → f (branches (items (plain p) (plains s)) (before_items (plains s))) (before_branches (before_items (plains s)))
-        ≡ f (plain (branches (items p s) (before_items s))) (plains (before_branches (before_items s)))
+    ≡ f (plain (branches (items p s) (before_items s))) (plains (before_branches (before_items s)))
 whole_plain f p s =
     ap (λ q. f (branches q (before_items (plains s))) (before_branches (before_items (plains s)))) (items_plain s p)
     ∙ ap (λ r. f (branches (plain (items p s)) r) (before_branches r)) (before_items_plain s)
@@ -229,7 +229,7 @@ read_plain r names end (w ∷ ws) s =
     by : (o : Option State)
         → ((u : State) → read_from (pattern_step r []) (ended_in r) end (plain_state u) ws ≡ map_read plain (read_from (pattern_step r names) (ended_in r) end u ws))
         → at_lexeme w (λ u. read_from (pattern_step r []) (ended_in r) end u ws) (option_map plain_state o)
-            ≡ map_read plain (at_lexeme w (λ u. read_from (pattern_step r names) (ended_in r) end u ws) o)
+        ≡ map_read plain (at_lexeme w (λ u. read_from (pattern_step r names) (ended_in r) end u ws) o)
     by None later = refl
     by (Some u) later = later u
 

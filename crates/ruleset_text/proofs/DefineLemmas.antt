@@ -1,5 +1,5 @@
 -- The faults of a definition in their order, and that one without a fault may be added.
-use Rattle.std.proofs.Common.{◌≡◌, ℕ, ◌+◌, ◌≤◌, true, false, ◌||◌, not, cond, List, ◌++◌, length, Option, Some, None, Result, Ok, Err, sym, ap, subst, ◌∙◌, arith}
+use Rattle.std.proofs.Common.{◌≡◌, ℕ, ◌+◌, ◌≤◌, true, false, ◌||◌, not, cond, List, ◌++◌, length, Option, Some, None, Result, Ok, Err, sym, ap, ◌∙◌, arith}
 use Rattle.std.specs.Prelude.{nat_lt}
 use Rattle.std.proofs.lemmas.Bool.{ltb-false, or_right, or_parts, or_from}
 use Rattle.ruleset_text.specs.declared.fault.DefinitionFault.{DefinitionFault}
@@ -8,7 +8,6 @@ use Rattle.ruleset_text.specs.Canonical.{definition_text}
 use Rattle.ruleset_text.specs.Definition as definition
 use Rattle.ruleset_text.specs.Definition.{Definition}
 use Rattle.ruleset_text.specs.Definitions.{Definitions, all_names, canonical_size, is_line_over_limit, is_one_too_many, is_over_limit, has_known_sets, has_bad_class, has_same_name, added, with_definition}
-use Rattle.ruleset_text.specs.DefinitionTrees as trees
 use Rattle.ruleset_text.specs.inner.DefinitionSteps.{HasForm}
 use Rattle.ruleset_text.specs.WellFormed.{HasParts, IsDefinition, AreDefinitions}
 use Rattle.ruleset_text.proofs.KnownSetLemmas.{known_from, definition_text-more}

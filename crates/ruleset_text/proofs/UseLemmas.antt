@@ -8,7 +8,7 @@ use Rattle.ruleset_text.specs.declared.token.Token.TheVariants as token
 use Rattle.label_patterns.specs.Patterns.{Pattern, Any, Anchor, Group, Optional, Many}
 use Rattle.ruleset_text.specs.Grammar.{Is, Whole, tokens, SpellsPattern}
 use Rattle.ruleset_text.specs.Rules.{has}
-use Rattle.ruleset_text.specs.PatternPlaces.{ArePattern, is_used}
+use Rattle.ruleset_text.specs.PatternUses.{ArePattern, is_used}
 use Rattle.ruleset_text.specs.PatternSigns.{may_stand, groups_after, passed_after, State, start, with_pieces, step_in, ended_in}
 use Rattle.ruleset_text.specs.Reading.{Piece, Opening, Branched, Part, items, before_items, branches, before_branches, ending, with_sign, with_bar, with_close, step, alone, ended}
 use Rattle.ruleset_text.specs.DefinitionReading.{pattern_step}

@@ -43,13 +43,13 @@ use Rattle.ruleset_text.proofs.PatternLemmas.{read_spelled}
 use Rattle.ruleset_text.proofs.SpanExactLemmas.{set_spelled}
 use Rattle.table_cause.specs.declared.expected.Expected.TheVariants as expected
 use Rattle.table_cause.specs.declared.line_point.LinePoint.{LinePoint}
-use Rattle.table_cause.specs.declared.place.FaultPlace.TheVariants.{Point}
+use Rattle.ruleset_text.specs.declared.fault.FaultPlace.TheVariants.{Point}
 use Rattle.table_cause.specs.ExpectedNames.{expected_after, without_names}
 use Rattle.table_cause.specs.FaultPlaces.{is_bad_point, point_place}
 use Rattle.table_cause.specs.LineNames.{after_keyword, after_name, definition_points}
 use Rattle.table_cause.specs.LinePoints.{and_point, is_separator, points_from, points_in}
 use Rattle.ruleset_text.specs.PlacedLexemes.{Placed, placed_lexemes, unplaced}
-use Rattle.table_cause.specs.WrongDefinitions.{definition_by, definition_in}
+use Rattle.table_cause.specs.LineDefinitions.{definition_by, definition_in}
 use Rattle.table_cause.proofs.FormPointLemmas.{NamesFit, points_at, points_spelled}
 use Rattle.ruleset_text.proofs.PlacedLemmas.{unplaced-from}
 use Rattle.table_cause.proofs.RefusedPlaceLemmas.{any_numbered, bad, found_any, or_false}

@@ -3,7 +3,8 @@ pub mod EntryPartLemmas
 -- Where a line stops being an entry or a range.
 pub mod WrongPlaceLemmas
 -- The same of a line that is to define something.
-pub mod DefinitionPlaceLemmas
+mod ShapeLemmas
+mod DefinitionLineLemmas
 -- Where the pattern of a line goes past a limit.
 pub mod PastLimitLemmas
 -- What is counted on the lines before it.

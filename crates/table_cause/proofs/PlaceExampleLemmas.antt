@@ -6,8 +6,8 @@ use Rattle.idn_class.proofs.ComputedLabels.{in_table, class_of-in_table}
 use Rattle.idn_text.specs.Points.{point_of_hex}
 use Rattle.ruleset_text.specs.EntrySteps.{entry_in}
 use Rattle.table_cause.specs.declared.line_point.LinePoint.{LinePoint}
-use Rattle.table_cause.specs.declared.place.FaultPlace.{FaultPlace}
-use Rattle.table_cause.specs.declared.place.FaultPlace.TheVariants.{InRange, Point}
+use Rattle.ruleset_text.specs.declared.fault.FaultPlace.{FaultPlace}
+use Rattle.ruleset_text.specs.declared.fault.FaultPlace.TheVariants.{InRange, Point}
 use Rattle.table_cause.specs.FaultPlaces.{fault_place, is_bad_point}
 use Rattle.variant_table.specs.declared.fault.TableFault.TheVariants as tables
 use Rattle.variant_table.specs.declared.version.Notation.TheVariants.{Ruleset, Table}

@@ -1,5 +1,5 @@
 -- The places that are told are those that are defined.
-use Rattle.std.proofs.Common.{◌≡◌, inl, inr, ℕ, Bool, true, false, cond, not, ◌&&◌, List, [], ◌∷◌, ◌++◌, Option, Some, None, refl, sym, ap, subst, ◌∙◌}
+use Rattle.std.proofs.Common.{◌≡◌, inl, inr, ℕ, Bool, true, false, cond, not, ◌&&◌, List, [], ◌∷◌, ◌++◌, length, Option, Some, None, Result, Ok, Err, refl, sym, ap, subst, ◌∙◌}
 use Rattle.std.specs.Prelude.{◌↔◌, find, is_some, option_map}
 use Rattle.std.specs.List.{AllByRecursion, list_all}
 use Rattle.std.proofs.Math.Bool.{and-true}
@@ -10,16 +10,20 @@ use Rattle.ruleset_text.specs.Entries.{Mapped, EntryForm}
 use Rattle.table_cause.specs.EntryParts.{is_within, are_within, has_parts, has_tags}
 use Rattle.table_cause.specs.WrongPlaces.{FitsNames}
 use Rattle.table_cause.specs.WrongSteps.{wrong_place}
-use Rattle.table_cause.specs.DefinitionWrongSteps.{wrong_definition}
-use Rattle.table_cause.proofs.DefinitionPlaceLemmas.{the_wrong_place as of_definition}
+use Rattle.ruleset_text.specs.DefinitionOrder.{IsDefinitionLine}
+use Rattle.ruleset_text.specs.DefinitionReading.{line_read}
+use Rattle.ruleset_text.specs.LineStops.{IsLineStop, stop_of}
+use Rattle.ruleset_text.specs.PlacedLexemes.{placed_lexemes}
+use Rattle.ruleset_text.proofs.DefinitionStopLemmas.{the_stop}
+use Rattle.table_cause.specs.declared.entry_place.EntryParts.{EntryParts}
 use Rattle.table_cause.proofs.WrongPlaceLemmas.{the_wrong_place}
-use Rattle.table_cause.specs.declared.place.FaultPlace.{FaultPlace}
-use Rattle.table_cause.specs.declared.place.FaultPlace.TheVariants.{Lexeme, End, Point, InRange, Variant, Source, Byte, NinthPoint, SeventeenthVariant}
+use Rattle.ruleset_text.specs.declared.fault.FaultPlace.{FaultPlace}
+use Rattle.ruleset_text.specs.declared.fault.FaultPlace.TheVariants.{Lexeme, End, Point, InRange, Variant, Source, Byte, NinthPoint, SeventeenthVariant}
 use Rattle.variant_table.specs.declared.version.Version.{Version}
 use Rattle.variant_table.specs.declared.version.Version.TheVariants.{One, Two, Three}
-use Rattle.table_cause.specs.FaultPlaces.{as_fault, is_bad_point, defines, parts_of, point_place, syntax_place}
+use Rattle.table_cause.specs.FaultPlaces.{as_fault, definition_stop, is_bad_point, defines, parts_of, point_place, syntax_place}
 use Rattle.variant_table.specs.Forms.{is_plain, is_bare, begins_marked, has_form}
-use Rattle.table_cause.specs.ToldPlaces.{IsFirstBad, IsFirstBadPoint, IsSyntaxPlace, IsWrongIn}
+use Rattle.table_cause.specs.ToldPlaces.{IsEntryPlace, IsFirstBad, IsFirstBadPoint, IsSyntaxPlace}
 use Rattle.idn_class.specs.declared.properties.Properties.{Properties}
 
 -- ---- the parts of a version
@@ -72,21 +76,6 @@ form_parts Three form = by form.mapped ∙ sym (and-true (are_within (parts_of T
 
 -- ---- syntax
 
--- the lexeme or the end where a line stops being one of the version
-abbrev wrong_in : Version → List ℕ → Option WrongPlace
-wrong_in version line = cond (defines version line) (wrong_definition line) (wrong_place (parts_of version) line)
-
-wrong_is : (version : Version) (line : List ℕ) (place : WrongPlace) → FitsNames (parts_of version) line → (wrong_in version line ≡ Some place) ↔ IsWrongIn version line place
-wrong_is version line place fits = by (defines version line) refl
-  where
-    by : (b : Bool) → defines version line ≡ b → (cond b (wrong_definition line) (wrong_place (parts_of version) line) ≡ Some place) ↔ IsWrongIn version line place
-    by true e =
-        let is = of_definition line place in
-        (λ h. inl (e, is.0 h), λ has. elim has [ inl defined ↦ is.1 defined.1 | inr other ↦ absurd (let clash : true ≡ false = sym e ∙ other.0 in cc) ])
-    by false e =
-        let is = the_wrong_place (parts_of version) line place fits in
-        (λ h. inr (e, is.0 h), λ has. elim has [ inl defined ↦ absurd (let clash : true ≡ false = sym defined.0 ∙ e in cc) | inr other ↦ is.1 other.1 ])
-
 lexeme_from : (place n : ℕ) (o : Option WrongPlace) → option_map as_fault o ≡ Some (Lexeme place n) → o ≡ Some (wrong.Lexeme place n)
 lexeme_from place n None e = absurd cc
 lexeme_from place n (Some (wrong.Lexeme p m)) e = let a : p ≡ place = cc in let b : m ≡ n = cc in cc
@@ -108,30 +97,49 @@ of_syntax place None e = absurd cc
 of_syntax place (Some (wrong.Lexeme p m)) e = let same : Lexeme p m ≡ place = cc in subst IsOfSyntax same tt
 of_syntax place (Some (wrong.End p)) e = let same : End p ≡ place = cc in subst IsOfSyntax same tt
 
-syntax_is : (version : Version) (line : List ℕ) (place : FaultPlace) → FitsNames (parts_of version) line → option_map as_fault (wrong_in version line) ≡ Some place → IsSyntaxPlace version line place
-syntax_is version line (Lexeme place n) fits e = (wrong_is version line (wrong.Lexeme place n) fits).0 (lexeme_from place n (wrong_in version line) e)
-syntax_is version line (End place) fits e = (wrong_is version line (wrong.End place) fits).0 (end_from place (wrong_in version line) e)
-syntax_is version line (Point place c) fits e = of_syntax (Point place c) (wrong_in version line) e
-syntax_is version line (InRange place c) fits e = of_syntax (InRange place c) (wrong_in version line) e
-syntax_is version line (Variant place) fits e = of_syntax (Variant place) (wrong_in version line) e
-syntax_is version line (Source place) fits e = of_syntax (Source place) (wrong_in version line) e
-syntax_is version line (Byte place) fits e = of_syntax (Byte place) (wrong_in version line) e
-syntax_is version line (NinthPoint place c) fits e = of_syntax (NinthPoint place c) (wrong_in version line) e
-syntax_is version line (SeventeenthVariant place c) fits e = of_syntax (SeventeenthVariant place c) (wrong_in version line) e
+entry_is : (parts : EntryParts) (line : List ℕ) (place : FaultPlace) → FitsNames parts line → option_map as_fault (wrong_place parts line) ≡ Some place → IsEntryPlace parts line place
+entry_is parts line (Lexeme place n) fits e = (the_wrong_place parts line (wrong.Lexeme place n) fits).0 (lexeme_from place n (wrong_place parts line) e)
+entry_is parts line (End place) fits e = (the_wrong_place parts line (wrong.End place) fits).0 (end_from place (wrong_place parts line) e)
+entry_is parts line (Point place c) fits e = of_syntax (Point place c) (wrong_place parts line) e
+entry_is parts line (InRange place c) fits e = of_syntax (InRange place c) (wrong_place parts line) e
+entry_is parts line (Variant place) fits e = of_syntax (Variant place) (wrong_place parts line) e
+entry_is parts line (Source place) fits e = of_syntax (Source place) (wrong_place parts line) e
+entry_is parts line (Byte place) fits e = of_syntax (Byte place) (wrong_place parts line) e
+entry_is parts line (NinthPoint place c) fits e = of_syntax (NinthPoint place c) (wrong_place parts line) e
+entry_is parts line (SeventeenthVariant place c) fits e = of_syntax (SeventeenthVariant place c) (wrong_place parts line) e
 
-is_syntax : (version : Version) (line : List ℕ) (place : FaultPlace) → FitsNames (parts_of version) line → IsSyntaxPlace version line place → option_map as_fault (wrong_in version line) ≡ Some place
-is_syntax version line (Lexeme place n) fits is = ap (option_map as_fault) ((wrong_is version line (wrong.Lexeme place n) fits).1 is)
-is_syntax version line (End place) fits is = ap (option_map as_fault) ((wrong_is version line (wrong.End place) fits).1 is)
-is_syntax version line (Point place c) fits is = absurd is
-is_syntax version line (InRange place c) fits is = absurd is
-is_syntax version line (Variant place) fits is = absurd is
-is_syntax version line (Source place) fits is = absurd is
-is_syntax version line (Byte place) fits is = absurd is
-is_syntax version line (NinthPoint place c) fits is = absurd is
-is_syntax version line (SeventeenthVariant place c) fits is = absurd is
+is_entry : (parts : EntryParts) (line : List ℕ) (place : FaultPlace) → FitsNames parts line → IsEntryPlace parts line place → option_map as_fault (wrong_place parts line) ≡ Some place
+is_entry parts line (Lexeme place n) fits is = ap (option_map as_fault) ((the_wrong_place parts line (wrong.Lexeme place n) fits).1 is)
+is_entry parts line (End place) fits is = ap (option_map as_fault) ((the_wrong_place parts line (wrong.End place) fits).1 is)
+is_entry parts line (Point place c) fits is = absurd is
+is_entry parts line (InRange place c) fits is = absurd is
+is_entry parts line (Variant place) fits is = absurd is
+is_entry parts line (Source place) fits is = absurd is
+is_entry parts line (Byte place) fits is = absurd is
+is_entry parts line (NinthPoint place c) fits is = absurd is
+is_entry parts line (SeventeenthVariant place c) fits is = absurd is
+
+err_of : {X : Type 0} (read : Result X FaultPlace) (place : FaultPlace) → stop_of read ≡ Some place → read ≡ Err place
+err_of (Ok x) place e = absurd cc
+err_of (Err other) place e = let same : other ≡ place = cc in ap (λ p. Err p) same
+
+stop_told : (line : List ℕ) (place : FaultPlace) → (definition_stop line ≡ Some place) ↔ IsLineStop (IsDefinitionLine []) (placed_lexemes line) (length line) place
+unfolding definition_stop
+stop_told line place =
+    let is = the_stop [] (length line) (placed_lexemes line) place in
+    (λ e. is.0 (err_of (line_read [] (length line) (placed_lexemes line)) place e), λ stop. ap stop_of (is.1 stop))
 
 pub syntax_told : (version : Version) (line : List ℕ) (place : FaultPlace) → FitsNames (parts_of version) line → (syntax_place version line ≡ Some place) ↔ IsSyntaxPlace version line place
-syntax_told version line place fits = (syntax_is version line place fits, is_syntax version line place fits)
+syntax_told version line place fits = by (defines version line) refl
+  where
+    by : (b : Bool) → defines version line ≡ b → (cond b (definition_stop line) (option_map as_fault (wrong_place (parts_of version) line)) ≡ Some place) ↔ IsSyntaxPlace version line place
+    by true e =
+        let is = stop_told line place in
+        (λ h. inl (e, is.0 h), λ has. elim has [ inl defined ↦ is.1 defined.1 | inr other ↦ absurd (let clash : true ≡ false = sym e ∙ other.0 in cc) ])
+    by false e = (
+      λ h. inr (e, entry_is (parts_of version) line place fits h),
+      λ has. elim has [ inl defined ↦ absurd (let clash : true ≡ false = sym defined.0 ∙ e in cc) | inr other ↦ is_entry (parts_of version) line place fits other.1 ],
+    )
 
 -- ---- code points
 

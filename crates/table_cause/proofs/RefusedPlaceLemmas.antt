@@ -10,8 +10,8 @@ use Rattle.ruleset_text.specs.EntrySteps.{entry_in}
 use Rattle.ruleset_text.specs.EntryText.{IsSequence, IsMapped, IsForm}
 use Rattle.ruleset_text.specs.Lexemes.{lexemes}
 use Rattle.table_cause.specs.declared.line_point.LinePoint.{LinePoint}
-use Rattle.table_cause.specs.declared.place.FaultPlace.{FaultPlace}
-use Rattle.table_cause.specs.declared.place.FaultPlace.TheVariants.{InRange, Point}
+use Rattle.ruleset_text.specs.declared.fault.FaultPlace.{FaultPlace}
+use Rattle.ruleset_text.specs.declared.fault.FaultPlace.TheVariants.{InRange, Point}
 use Rattle.table_cause.specs.FaultPlaces.{class_place, is_bad_point, is_past, limit_place, past_place}
 use Rattle.table_cause.specs.LinePoints.{line_points}
 use Rattle.table_cause.proofs.FormPointLemmas.{Numbered, entry_points, form_points, mapped_points, numbered, sequence_points}

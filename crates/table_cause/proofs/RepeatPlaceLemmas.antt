@@ -15,7 +15,7 @@ use Rattle.ruleset_text.specs.EntryText.{IsForm, IsMapped, IsSequence}
 use Rattle.ruleset_text.specs.Lexemes.{lexemes}
 use Rattle.ruleset_text.specs.Names.{is_one_of, number_of}
 use Rattle.table_cause.specs.declared.line_point.LinePoint.{LinePoint}
-use Rattle.table_cause.specs.declared.place.FaultPlace.TheVariants.{Variant}
+use Rattle.ruleset_text.specs.declared.fault.FaultPlace.TheVariants.{Variant}
 use Rattle.table_cause.specs.FaultPlaces as places
 use Rattle.table_cause.specs.FaultPlaces.{are_other, first_again, sequence_place, stands_in, variant_place}
 use Rattle.table_cause.specs.LinePoints.{line_points}

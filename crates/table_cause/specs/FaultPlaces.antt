@@ -12,17 +12,18 @@ use Rattle.table_cause.specs.declared.line_point.LinePoint.{LinePoint}
 use Rattle.ruleset_text.specs.declared.entry_form.NamedCondition.{NamedCondition}
 use Rattle.ruleset_text.specs.declared.keyword.Keyword.TheVariants as keyword
 use Rattle.ruleset_text.specs.Entries.{EntryForm, Mapped}
+use Rattle.ruleset_text.specs.DefinitionReading.{line_read}
 use Rattle.ruleset_text.specs.EntrySteps.{entry_in}
-use Rattle.table_cause.specs.DefinitionWrongSteps.{wrong_definition}
 use Rattle.table_cause.specs.WrongSteps.{wrong_place}
 use Rattle.ruleset_text.specs.Lexemes.{is_blank, lexemes}
+use Rattle.ruleset_text.specs.LineStops.{stop_of}
 use Rattle.table_cause.specs.LineNames.{definition_points, second_place, unknown_name, unknown_set}
 use Rattle.table_cause.specs.LinePoints.{line_points}
 use Rattle.ruleset_text.specs.PlacedLexemes.{placed_lexemes}
 use Rattle.variant_table.specs.declared.fault.TableFault.{TableFault}
 use Rattle.variant_table.specs.declared.fault.TableFault.TheVariants as tables
-use Rattle.table_cause.specs.declared.place.FaultPlace.{FaultPlace}
-use Rattle.table_cause.specs.declared.place.FaultPlace.TheVariants.{Lexeme, End, Point, InRange, Variant, Source, Byte, NinthPoint, SeventeenthVariant}
+use Rattle.ruleset_text.specs.declared.fault.FaultPlace.{FaultPlace}
+use Rattle.ruleset_text.specs.declared.fault.FaultPlace.TheVariants.{Lexeme, End, Point, InRange, Variant, Source, Byte, NinthPoint, SeventeenthVariant}
 use Rattle.variant_table.specs.Conditions.{is_same_kind}
 use Rattle.table_cause.specs.DefinitionPlaces.{definition_limit, names_defined}
 use Rattle.variant_table.specs.declared.version.Notation.{Notation}
@@ -57,9 +58,13 @@ abbrev pub as_fault : WrongPlace → FaultPlace
 as_fault (wrong.Lexeme place len) = Lexeme place len
 as_fault (wrong.End place) = End place
 
+-- where a line stops defining something; its sets may be any
+unfoldable pub definition_stop : List ℕ → Option FaultPlace
+definition_stop line = stop_of (line_read [] (length line) (placed_lexemes line))
+
 -- the lexeme that can't stand there, or the end
 abbrev pub syntax_place : Version → List ℕ → Option FaultPlace
-syntax_place version line = option_map as_fault (if defines version line then wrong_definition line else wrong_place (parts_of version) line)
+syntax_place version line = if defines version line then definition_stop line else option_map as_fault (wrong_place (parts_of version) line)
 
 -- ---- classes
 
@@ -149,8 +154,8 @@ unknown_place before line =
     option_map as_fault (unknown_name (names_defined keyword.Tag before) (names_defined keyword.Rule before) (placed_lexemes line))
 
 -- what is past a limit in a line, unless it defines nothing: then the limit is that of the text
-abbrev pub limit_if_whole : Option WrongPlace → List (List ℕ) → List ℕ → Option WrongPlace
-limit_if_whole (Some wrong) before line = None
+abbrev pub limit_if_whole : Option FaultPlace → List (List ℕ) → List ℕ → Option WrongPlace
+limit_if_whole (Some stop) before line = None
 limit_if_whole None before line = definition_limit before line
 
 -- of a line that is to define something: the name that none of the lines before has, or that one has; the first code point that is
@@ -159,7 +164,7 @@ abbrev pub definition_place : Properties → List (List ℕ) → TableFault → 
 definition_place properties before (tables.NoSuchName number) line = option_map as_fault (unknown_set (names_defined keyword.Set before) (placed_lexemes line))
 definition_place properties before (tables.SameName number) line = option_map as_fault (second_place (placed_lexemes line))
 definition_place properties before (tables.BadClass number) line = point_place properties (definition_points line)
-definition_place properties before (tables.Limit number) line = option_map as_fault (limit_if_whole (wrong_definition line) before line)
+definition_place properties before (tables.Limit number) line = option_map as_fault (limit_if_whole (definition_stop line) before line)
 definition_place properties before fault line = None
 
 -- of an entry or a range

@@ -5,8 +5,7 @@ pub mod LinePoints
 pub mod EntryParts
 pub mod WrongPlaces
 pub mod WrongSteps
-pub mod WrongDefinitions
-pub mod DefinitionWrongSteps
+pub mod LineDefinitions
 pub mod PatternLimits
 pub mod PastLimits
 pub mod DefinitionPlaces

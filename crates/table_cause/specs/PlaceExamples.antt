@@ -1,7 +1,7 @@
 -- Examples of places, by computation. Places are bytes, counted from 0.
 use Rattle.std.specs.Prelude.{◌≡◌, Some, None, ◌∷◌, ◌++◌, codes, replicate}
 use Rattle.variant_table.specs.declared.fault.TableFault.TheVariants as tables
-use Rattle.table_cause.specs.declared.place.FaultPlace.TheVariants.{Lexeme, End, Point, InRange, Variant, Source, Byte, NinthPoint, SeventeenthVariant}
+use Rattle.ruleset_text.specs.declared.fault.FaultPlace.TheVariants.{Lexeme, End, Point, InRange, Variant, Source, Byte, NinthPoint, SeventeenthVariant}
 use Rattle.variant_table.specs.declared.version.Notation.TheVariants.{Table, Ruleset}
 use Rattle.table_cause.specs.declared.entry_place.WrongPlace.TheVariants as wrong
 use Rattle.table_cause.specs.FaultPlaces.{fault_place}

@@ -1,27 +1,30 @@
 -- What the places are that are told of a faulty line.
-use Rattle.std.specs.Prelude.{◌≡◌, ◌⊎◌, ℕ, true, false, List, ◌∷◌, ◌++◌, IsTrue}
+use Rattle.std.specs.Prelude.{◌≡◌, ◌⊎◌, ℕ, true, false, List, [], ◌∷◌, ◌++◌, length, IsTrue}
 use Rattle.std.specs.List.{AllByRecursion}
-use Rattle.table_cause.specs.declared.entry_place.WrongPlace.{WrongPlace}
 use Rattle.table_cause.specs.declared.entry_place.WrongPlace.TheVariants as wrong
-use Rattle.table_cause.specs.WrongDefinitions as definitions
+use Rattle.table_cause.specs.declared.entry_place.EntryParts.{EntryParts}
+use Rattle.ruleset_text.specs.DefinitionOrder.{IsDefinitionLine}
+use Rattle.ruleset_text.specs.LineStops.{IsLineStop}
+use Rattle.ruleset_text.specs.PlacedLexemes.{placed_lexemes}
 use Rattle.table_cause.specs.declared.line_point.LinePoint.{LinePoint}
 use Rattle.table_cause.specs.WrongPlaces.{IsWrongPlace}
-use Rattle.table_cause.specs.declared.place.FaultPlace.{FaultPlace}
-use Rattle.table_cause.specs.declared.place.FaultPlace.TheVariants.{Lexeme, End, Point}
+use Rattle.ruleset_text.specs.declared.fault.FaultPlace.{FaultPlace}
+use Rattle.ruleset_text.specs.declared.fault.FaultPlace.TheVariants.{Lexeme, End, Point}
 use Rattle.variant_table.specs.declared.version.Version.{Version}
 use Rattle.table_cause.specs.FaultPlaces.{defines, is_bad_point, parts_of}
 use Rattle.idn_class.specs.declared.properties.Properties.{Properties}
 
--- no form of the version goes on with the lexeme, or no definition does; or each goes on, and the line ends
-abbrev pub IsWrongIn : Version → List ℕ → WrongPlace → Type 0
-IsWrongIn version line place =
-    ((defines version line ≡ true) × definitions.IsWrongPlace line place)
-    ⊎ ((defines version line ≡ false) × IsWrongPlace (parts_of version) line place)
+-- the lexeme with which no entry and no range of these parts goes on, or the end
+abbrev pub IsEntryPlace : EntryParts → List ℕ → FaultPlace → Type 0
+IsEntryPlace parts line (Lexeme place len) = IsWrongPlace parts line (wrong.Lexeme place len)
+IsEntryPlace parts line (End place) = IsWrongPlace parts line (wrong.End place)
+IsEntryPlace parts line other = ⊥
 
+-- no definition goes on with the lexeme, or no form of the version does; or some goes on, and the line ends
 abbrev pub IsSyntaxPlace : Version → List ℕ → FaultPlace → Type 0
-IsSyntaxPlace version line (Lexeme place len) = IsWrongIn version line (wrong.Lexeme place len)
-IsSyntaxPlace version line (End place) = IsWrongIn version line (wrong.End place)
-IsSyntaxPlace version line other = ⊥
+IsSyntaxPlace version line place =
+    ((defines version line ≡ true) × IsLineStop (IsDefinitionLine []) (placed_lexemes line) (length line) place)
+    ⊎ ((defines version line ≡ false) × IsEntryPlace (parts_of version) line place)
 
 -- a code point of the line is bad, and none before it is
 pub record IsFirstBadPoint (properties : Properties) (points : List LinePoint) (place c : ℕ) : Type 0 where

@@ -12,13 +12,11 @@ ghost use Rattle.ruleset_text.specs.Lexemes.{lexemes};
 ghost use Rattle.ruleset_text.specs.declared.keyword.Keyword.TheVariants as keywords;
 ghost use Rattle.ruleset_text.specs.SetNames.{names_on, set_name};
 ghost use Rattle.table_cause.specs.DefinitionPlaces.{definition_limit, names_defined};
-ghost use Rattle.table_cause.specs.DefinitionWrongSteps.{wrong_definition};
 ghost use Rattle.table_cause.specs.LineNames.{definition_points, IsFirstLexeme, IsFirstUnknown, is_unknown, unknown_name, unknown_set};
 ghost use Rattle.table_cause.specs.PastLimits.{IsFirstPast, is_definition_past};
 ghost use Rattle.table_cause.specs.PatternLimits.{atoms_among, first_past, pattern_in};
 ghost use Rattle.ruleset_text.specs.PlacedLexemes.{Placed, placed_lexemes};
-ghost use Rattle.table_cause.specs.WrongDefinitions as definitions;
-ghost use Rattle.table_cause.specs.WrongDefinitions.{Define, definition_in};
+ghost use Rattle.table_cause.specs.LineDefinitions.{Define, definition_in};
 ghost use Rattle.table_cause.specs.WrongPlaces.{FitsNames, IsWhole, IsWrongPlace};
 ghost use Rattle.table_cause.specs.WrongSteps.{wrong_place};
 ghost use Rattle.table_cause.specs.declared.expected.Expected.TheVariants.{Nothing};
@@ -37,7 +35,7 @@ ghost use Rattle.table_cause.specs.PlaceExamples.{ExamplesOfPlaces};
 ghost use Rattle.table_cause.specs.ToldPlaces.{IsFirstBad, IsSyntaxPlace};
 
 use crate::entry_place::{EntryParts, WrongPlace};
-use crate::place::FaultPlace;
+use ruleset_text::FaultPlace;
 use variant_table::Version;
 
 /// The place that is told of a line without a form, or that defines nothing, is that of the lexeme at which each form of the version
@@ -60,13 +58,6 @@ pub fn wrong_places_are_told()
     ensures place { (parts : EntryParts) (line : List ℕ) (place : WrongPlace) → FitsNames parts line →
         (wrong_place parts line ≡ Some place) ↔ IsWrongPlace parts line place }
     ensures whole { (parts : EntryParts) (line : List ℕ) → (wrong_place parts line ≡ None) ↔ IsWhole parts line }
-{}
-
-/// The place that is told of a line that defines nothing is the one that the grammar gives it. None is told of a line that defines
-/// something, however its sets are numbered, and of no other.
-pub fn wrong_definitions_are_told()
-    ensures place { (line : List ℕ) (place : WrongPlace) → (wrong_definition line ≡ Some place) ↔ definitions.IsWrongPlace line place }
-    ensures whole { (names : List (List ℕ)) (line : List ℕ) → is_some (wrong_definition line) ≡ not (is_some (definition_in names (lexemes line))) }
 {}
 
 /// The place that is told of a name is that of the first lexeme that names a set, a tag or a rule that is none of those given.

@@ -1,14 +1,13 @@
 use Rattle.std.proofs.Common.{refl}
 use Rattle.idn_text.specs.Points.{point_of_hex}
 use Rattle.ruleset_text.specs.EntrySteps.{entry_in}
-use Rattle.table_cause.specs.DefinitionWrongSteps.{wrong_definition}
 use Rattle.table_cause.specs.WrongSteps.{wrong_place}
-use Rattle.table_cause.specs.FaultPlaces.{fault_place}
+use Rattle.table_cause.specs.FaultPlaces.{definition_stop, fault_place}
 use Rattle.table_cause.proofs.PlaceExampleLemmas.{point_told, range_told, set_told}
 use Rattle.table_cause.proofs.laws.definitions_compute_the_places.Goals as goal
 
 pub returns : goal.returns
-unfolding point_of_hex entry_in wrong_place wrong_definition fault_place
+unfolding point_of_hex entry_in wrong_place definition_stop fault_place
 returns c = record {
   bar = refl;
   ends = refl;

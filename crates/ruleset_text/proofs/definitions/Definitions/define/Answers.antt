@@ -1,6 +1,6 @@
 use Rattle.std.proofs.Common.{◌≡◌, true, false, length, Ok, sym, ap, ◌∙◌}
 use Rattle.ruleset_text.specs.Definition.{Definition}
-use Rattle.ruleset_text.specs.Definitions.{Definitions, has_known_sets, has_bad_class, has_same_name}
+use Rattle.ruleset_text.specs.Definitions.{has_known_sets, has_bad_class, has_same_name}
 use Rattle.ruleset_text.specs.DefinitionTrees as trees
 use Rattle.ruleset_text.proofs.DefineLemmas.{line_fault, count_fault, name_fault, class_fault, same_fault, no_fault}
 use Rattle.ruleset_text.proofs.DefineLineLemmas.{names_of, read_of, line_is, line_stops, within, faultless}
