@@ -1,18 +1,14 @@
 -- The faults of a definition in their order, and that one without a fault may be added.
-use Rattle.std.proofs.Common.{◌≡◌, ℕ, ◌+◌, ◌≤◌, true, false, ◌||◌, not, cond, List, ◌++◌, length, Option, Some, None, Result, Ok, Err, sym, ap, subst, ◌∙◌, arith}
-use Rattle.std.specs.Prelude.{IfSome, nat_lt}
+use Rattle.std.proofs.Common.{◌≡◌, ℕ, ◌+◌, ◌≤◌, true, false, ◌||◌, not, cond, List, ◌++◌, length, Option, Some, None, Result, Ok, Err, sym, ap, ◌∙◌, arith}
+use Rattle.std.specs.Prelude.{nat_lt}
 use Rattle.std.proofs.lemmas.Bool.{ltb-false, or_right, or_parts, or_from}
-use Rattle.ruleset_text.specs.declared.definition_line.DefinitionLine.{DefinitionLine}
 use Rattle.ruleset_text.specs.declared.fault.DefinitionFault.{DefinitionFault}
 use Rattle.ruleset_text.specs.declared.fault.DefinitionFault.TheVariants.{Syntax, Limit, NoSuchName, BadClass, SameName}
-use Rattle.ruleset_text.specs.declared.keyword.Keyword.{Keyword}
 use Rattle.ruleset_text.specs.Canonical.{definition_text}
 use Rattle.ruleset_text.specs.Definition as definition
-use Rattle.ruleset_text.specs.Definition.{Definition, definition_of}
+use Rattle.ruleset_text.specs.Definition.{Definition}
 use Rattle.ruleset_text.specs.Definitions.{Definitions, all_names, canonical_size, is_line_over_limit, is_one_too_many, is_over_limit, has_known_sets, has_bad_class, has_same_name, added, with_definition}
-use Rattle.ruleset_text.specs.DefinitionTrees as trees
-use Rattle.ruleset_text.specs.inner.DefinitionSteps.{HasForm, IsLineOf}
-use Rattle.ruleset_text.specs.SetNames.{names_on}
+use Rattle.ruleset_text.specs.inner.DefinitionSteps.{HasForm}
 use Rattle.ruleset_text.specs.WellFormed.{HasParts, IsDefinition, AreDefinitions}
 use Rattle.ruleset_text.proofs.KnownSetLemmas.{known_from, definition_text-more}
 use Rattle.ruleset_text.proofs.AddedLemmas.{HasNewName, new_from, room_for, room_for_pattern, knows_sets, are_added}
@@ -91,23 +87,6 @@ pub no_fault : (limit : ℕ) (d : Definitions) (names : List (List ℕ)) (o : Op
 no_fault limit d names o x len w known good new =
     named limit d names o x len w known ∙ ap (λ b. cond b (Err BadClass) (cond (has_same_name d x) (Err SameName) (Ok (added d x)))) good
     ∙ ap (λ b. cond b (Err SameName) (Ok (added d x))) new
-
--- ---- what the call that reads a line gives
-
-pub line_is : (sets names : List (List ℕ)) (k : Keyword) (words : List (List ℕ)) (found : Option DefinitionLine) (line : DefinitionLine) → sets ≡ names → found ≡ Some line
-    → IsLineOf (names_on sets words) (definition_of (names_on sets words) k words) found → IsLineOf (names_on names words) (definition_of (names_on names words) k words) (Some line)
-line_is sets names k words found line e is read =
-    let same = subst (IsLineOf (names_on sets words) (definition_of (names_on sets words) k words)) is read in
-    subst (λ n. IsLineOf (names_on n words) (definition_of (names_on n words) k words) (Some line)) e same
-
-pub none_is : (sets names : List (List ℕ)) (k : Keyword) (words : List (List ℕ)) (found : Option DefinitionLine) → sets ≡ names → found ≡ None
-    → IsLineOf (names_on sets words) (definition_of (names_on sets words) k words) found → definition_of (names_on names words) k words ≡ None
-none_is sets names k words found e is read =
-    let same = subst (IsLineOf (names_on sets words) (definition_of (names_on sets words) k words)) is read in
-    subst (λ n. definition_of (names_on n words) k words ≡ None) e same
-
-pub line_formed : (found : Option DefinitionLine) (line : DefinitionLine) → found ≡ Some line → IfSome found (λ l. HasForm (trees.definition l.definition)) → HasForm (trees.definition line.definition)
-line_formed found line is formed = subst (λ o. IfSome o (λ l. HasForm (trees.definition l.definition))) is formed
 
 -- ---- one without a fault
 

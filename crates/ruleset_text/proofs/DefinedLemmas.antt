@@ -59,7 +59,7 @@ rule_form names (name ∷ words) x e =
     let formed = contexts_formed names words read.0 read.1 in
     subst HasForm read.2 (parts.0, formed.0, formed.1)
 
-form : (names : List (List ℕ)) (k : Keyword) (words : List (List ℕ)) (x : Definition) → definition_of names k words ≡ Some x → HasForm x
+pub form : (names : List (List ℕ)) (k : Keyword) (words : List (List ℕ)) (x : Definition) → definition_of names k words ≡ Some x → HasForm x
 form names keyword.Tag words x e = tag_form words x e
 form names keyword.Set words x e = set_form words x e
 form names keyword.Rule words x e = rule_form names words x e

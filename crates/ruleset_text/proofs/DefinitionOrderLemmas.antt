@@ -28,7 +28,7 @@ use Rattle.ruleset_text.proofs.SpanExactLemmas.{set_read, set_spelled}
 
 -- ---- what is spelled is read
 
-if_such-true : (test : Pattern → Bool) (ts : List Token) (p : Pattern) → SpellsPattern ts p → test p ≡ true → if_such test (pattern_of ts) ≡ Some p
+pub if_such-true : (test : Pattern → Bool) (ts : List Token) (p : Pattern) → SpellsPattern ts p → test p ≡ true → if_such test (pattern_of ts) ≡ Some p
 if_such-true test ts p s t = ap (if_such test) (spelled_read ts p s) ∙ ap (λ b. cond b (Some p) None) t
 
 demand_read : (names words : List (List ℕ)) (p : Pattern) → SpellsPattern (tokens_in names words) p → has sign.Anchor p ≡ false → demand_in names words ≡ Some p

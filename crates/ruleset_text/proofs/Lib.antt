@@ -3,7 +3,11 @@ pub mod StopLemmas
 pub mod PatternLemmas
 pub mod SignLemmas
 pub mod UseLemmas
-mod LineLemmas
+pub mod LineStopLemmas
+mod SpanStopLemmas
+pub mod DefinitionStopLemmas
+pub mod AlikeLemmas
+mod DefineLineLemmas
 pub mod SpanExactLemmas
 pub mod LexemeLemmas
 pub mod PlacedLemmas

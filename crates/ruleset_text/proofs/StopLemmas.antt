@@ -14,10 +14,15 @@ pub run_one : {S L : Type 0} (step : S → L → Option S) (ws : List L) (w : L)
     → run step (Some start) (ws ++ w ∷ []) ≡ step s w
 run_one step ws w start s e = run_append step ws (w ∷ []) (Some start) ∙ ap (λ o. next step o w) e
 
--- what a reader does: it ends in something with what is so, and only in states that go on to it
-pub record Reads {S L A : Type 0} (step : S → L → Option S) (start : S) (end : S → Option A) (Is : List L → Type 0) : Type 0 where
-  pub all : (ws : List L) → Is ws → (s : S) × (a : A) × (run step (Some start) ws ≡ Some s) × (end s ≡ Some a)
-  pub begun : (ws : List L) (s : S) → run step (Some start) ws ≡ Some s → Begins Is ws
+-- the lexemes spell something
+abbrev pub Spelled : {L A : Type 0} → (List L → A → Type 0) → List L → Type 0
+Spelled {L} {A} Spells ws = (a : A) × Spells ws a
+
+-- what a reader does: it ends in what is spelled, and only in states that go on to something
+pub record Reads {S L A : Type 0} (step : S → L → Option S) (start : S) (end : S → Option A) (Spells : List L → A → Type 0) : Type 0 where
+  pub all : (ws : List L) (a : A) → Spells ws a → (s : S) × (run step (Some start) ws ≡ Some s) × (end s ≡ Some a)
+  pub only : (ws : List L) (s : S) (a : A) → run step (Some start) ws ≡ Some s → end s ≡ Some a → Spells ws a
+  pub begun : (ws : List L) (s : S) → run step (Some start) ws ≡ Some s → Begins (Spelled Spells) ws
 
 two_states : {S : Type 0} (o : Option S) (s t : S) → o ≡ Some s → o ≡ Some t → s ≡ t
 two_states o s t e f = cc
@@ -25,24 +30,24 @@ two_states o s t e f = cc
 no_state : {S : Type 0} (s : S) → None ≡ Some s → ⊥
 no_state s e = cc
 
-pub stops : {S L A : Type 0} (step : S → L → Option S) (start : S) (end : S → Option A) (Is : List L → Type 0) (r : Reads step start end Is)
-    (before : List L) (w : L) (after : List L) (s : S) → run step (Some start) before ≡ Some s → step s w ≡ None → IsStop Is before (w ∷ after)
-stops step start end Is r before w after s e none = (r.begun before s e, stuck)
+pub stops : {S L A : Type 0} (step : S → L → Option S) (start : S) (end : S → Option A) (Spells : List L → A → Type 0) (r : Reads step start end Spells)
+    (before : List L) (w : L) (after : List L) (s : S) → run step (Some start) before ≡ Some s → step s w ≡ None → IsStop (Spelled Spells) before (w ∷ after)
+stops step start end Spells r before w after s e none = (r.begun before s e, stuck)
   where
-    stuck : Begins Is (before ++ w ∷ []) → ⊥
+    stuck : Begins (Spelled Spells) (before ++ w ∷ []) → ⊥
     stuck b =
-        let read = r.all ((before ++ w ∷ []) ++ b.0) b.1 in
+        let read = r.all ((before ++ w ∷ []) ++ b.0) b.1.0 b.1.1 in
         let lost = run_append step (before ++ w ∷ []) b.0 (Some start) ∙ ap (λ o. run step o b.0) (run_one step before w start s e ∙ none) ∙ run_none step b.0 in
-        no_state read.0 (sym lost ∙ read.2)
+        no_state read.0 (sym lost ∙ read.1)
 
-pub ends : {S L A : Type 0} (step : S → L → Option S) (start : S) (end : S → Option A) (Is : List L → Type 0) (r : Reads step start end Is)
-    (before : List L) (s : S) → run step (Some start) before ≡ Some s → end s ≡ None → IsStop Is before []
-ends step start end Is r before s e none = (r.begun before s e, open_)
+pub ends : {S L A : Type 0} (step : S → L → Option S) (start : S) (end : S → Option A) (Spells : List L → A → Type 0) (r : Reads step start end Spells)
+    (before : List L) (s : S) → run step (Some start) before ≡ Some s → end s ≡ None → IsStop (Spelled Spells) before []
+ends step start end Spells r before s e none = (r.begun before s e, open_)
   where
-    open_ : Is before → ⊥
+    open_ : Spelled Spells before → ⊥
     open_ is =
-        let read = r.all before is in
-        no_state read.1 (sym none ∙ ap end (two_states (run step (Some start) before) s read.0 e read.2) ∙ read.3)
+        let read = r.all before is.0 is.1 in
+        no_state is.0 (sym none ∙ ap end (two_states (run step (Some start) before) s read.0 e read.1) ∙ read.2)
 
 -- what has a stop is not so
 pub stopped : {L : Type 0} (Is : List L → Type 0) (before after : List L) → IsStop Is before after → Is (before ++ after) → ⊥

@@ -1,16 +1,19 @@
 -- Patterns of rules and demands: what is spelled is read, and what was read can be completed.
 use Rattle.std.proofs.Common.{◌≡◌, ℕ, zero, suc, ◌+◌, ◌-◌, ◌==◌, Bool, true, false, cond, not, ◌||◌, ◌&&◌, List, [], ◌∷◌, ◌++◌, Option, Some, None, refl, sym, ap, subst, ◌∙◌, append-nil, arith}
 use Rattle.std.specs.Option.{option_map}
+use Rattle.std.specs.Prelude.{codes}
 use Rattle.ruleset_text.specs.Signs as sign
 use Rattle.ruleset_text.specs.declared.token.Token.{Token}
 use Rattle.ruleset_text.specs.declared.token.Token.TheVariants as token
 use Rattle.label_patterns.specs.Patterns.{Pattern, Any, Anchor, Group, Optional, Many}
 use Rattle.ruleset_text.specs.Grammar.{Is, Whole, tokens, SpellsPattern}
 use Rattle.ruleset_text.specs.Rules.{has}
-use Rattle.ruleset_text.specs.PatternPlaces.{ArePattern, is_used}
+use Rattle.ruleset_text.specs.PatternUses.{ArePattern, is_used}
 use Rattle.ruleset_text.specs.PatternSigns.{may_stand, groups_after, passed_after, State, start, with_pieces, step_in, ended_in}
 use Rattle.ruleset_text.specs.Reading.{Piece, Opening, Branched, Part, items, before_items, branches, before_branches, ending, with_sign, with_bar, with_close, step, alone, ended}
-use Rattle.ruleset_text.specs.Stops.{Begins, run}
+use Rattle.ruleset_text.specs.DefinitionReading.{pattern_step}
+use Rattle.ruleset_text.specs.Stops.{run}
+use Rattle.ruleset_text.specs.Tokens.{token_of, tokens_in}
 use Rattle.ruleset_text.proofs.PatternLemmas.{pieces_of, spelled_pieces, pieces_spelled, read_holds, AreGood, IsFresh, items_fold, whole_folds}
 use Rattle.ruleset_text.proofs.SignLemmas.{signed, unanchored_tokens, demand_signs, unanchored_pattern, rule_signs, out_of, and_true}
 use Rattle.ruleset_text.proofs.StopLemmas.{run_none, run_append, Reads}
@@ -244,13 +247,37 @@ signed_closers : (r : Bool) (n : ℕ) (b : Bool) (rest : List Token) → signed 
 signed_closers r zero b rest = refl
 signed_closers r (suc n) b rest = ap (λ m. signed r m b (closers n ++ rest)) (out_of n) ∙ signed_closers r n b rest
 
+-- lexemes that are these tokens, whatever sets are named
+abbrev pub AreSpelled : List Token → Type 0
+AreSpelled ts = (ws : List (List ℕ)) × ((names : List (List ℕ)) → tokens_in names ws ≡ ts)
+
+abbrev pub BeginsSpelled : Bool → List Token → Type 0
+BeginsSpelled r ts = (more : List Token) × ArePattern r (ts ++ more) × AreSpelled more
+
+closers_spelled : (n : ℕ) (rest : List Token) → AreSpelled rest → AreSpelled (closers n ++ rest)
+unfolding tokens_in
+closers_spelled zero rest s = s
+closers_spelled (suc n) rest s = let more = closers_spelled n rest s in (codes ")" ∷ more.0, λ names. ap (λ l. token.Close ∷ l) (more.1 names))
+
+any_spelled : (rest : List Token) → AreSpelled rest → AreSpelled (token.Any ∷ rest)
+unfolding tokens_in
+any_spelled rest s = (codes "." ∷ s.0, λ names. ap (λ l. token.Any ∷ l) (s.1 names))
+
+anchor_spelled : AreSpelled (token.Anchor ∷ [])
+unfolding tokens_in
+anchor_spelled = (codes "_" ∷ [], λ names. refl)
+
+none_spelled : AreSpelled []
+unfolding tokens_in
+none_spelled = ([], λ names. refl)
+
 -- what completes the tokens: their pieces, and the signs
 completes : (r : Bool) (ts more : List Token) (t : State) (u : List Piece) (w : Pattern) → run (step_in r) (Some start) ts ≡ Some t
-    → run step (Some t.pieces) more ≡ Some u → ended u ≡ Some w → signed r t.groups t.passed more ≡ true → Begins (ArePattern r) ts
-completes r ts more t u w e go end_ signs =
+    → run step (Some t.pieces) more ≡ Some u → ended u ≡ Some w → signed r t.groups t.passed more ≡ true → AreSpelled more → BeginsSpelled r ts
+completes r ts more t u w e go end_ signs spelled =
     let all : run step (Some []) (ts ++ more) ≡ Some u = run_append step ts more (Some []) ∙ ap (λ o. run step o more) (came r ts start t e).0 ∙ go in
     let spells = pieces_spelled (ts ++ more) u w all end_ in
-    (more, (w, spells, used_where r ts more t w e spells signs))
+    (more, (w, spells, used_where r ts more t w e spells signs), spelled)
 
 anchor_last : (r b : Bool) → (b || not r) ≡ false → signed r 0 b (token.Anchor ∷ []) ≡ true
 anchor_last true false h = refl
@@ -260,29 +287,54 @@ anchor_last false false h = absurd (let clash : true ≡ false = h in cc)
 
 -- '.', a ')' for each open group, and '_', if it is missing
 finish : (r : Bool) (ts : List Token) (t : State) → run (step_in r) (Some start) ts ≡ Some t → Closed t.groups (Some (Part true Any ∷ t.pieces))
-    → (b : Bool) → (t.passed || not r) ≡ b → Begins (ArePattern r) ts
+    → (b : Bool) → (t.passed || not r) ≡ b → BeginsSpelled r ts
 finish r ts t e c true h =
     let last = last_ended c.0 c.1 c.2 c.4 c.5 in
     completes r ts (token.Any ∷ (closers t.groups ++ [])) t (Part c.0 c.1 ∷ c.2) last.0 e
     (run_append step (closers t.groups) [] (Some (Part true Any ∷ t.pieces)) ∙ c.3) last.1
-    (signed_closers r t.groups t.passed [] ∙ h)
+    (signed_closers r t.groups t.passed [] ∙ h) (any_spelled (closers t.groups ++ []) (closers_spelled t.groups [] none_spelled))
 finish r ts t e c false h =
     let last = last_ended false Anchor (Part c.0 c.1 ∷ c.2) (tt, c.4) c.5 in
     completes r ts (token.Any ∷ (closers t.groups ++ token.Anchor ∷ [])) t (Part false Anchor ∷ Part c.0 c.1 ∷ c.2) last.0 e
     (run_append step (closers t.groups) (token.Anchor ∷ []) (Some (Part true Any ∷ t.pieces)) ∙ ap (λ o. run step o (token.Anchor ∷ [])) c.3) last.1
     (signed_closers r t.groups t.passed (token.Anchor ∷ []) ∙ anchor_last r t.passed h)
+    (any_spelled (closers t.groups ++ token.Anchor ∷ []) (closers_spelled t.groups (token.Anchor ∷ []) anchor_spelled))
 
-can_begin : (r : Bool) (ts : List Token) (t : State) → run (step_in r) (Some start) ts ≡ Some t → Begins (ArePattern r) ts
+pub can_begin : (r : Bool) (ts : List Token) (t : State) → run (step_in r) (Some start) ts ≡ Some t → BeginsSpelled r ts
 can_begin r ts t e =
     let from = came r ts start t e in
     let good = (read_holds ts t.pieces from.0).0 in
     finish r ts t e (closed t.groups true Any t.pieces (tt, good) (from.2 refl)) (t.passed || not r) refl
 
-pub reader : (r : Bool) → Reads (step_in r) start (ended_in r) (ArePattern r)
-reader r = record {
-  all = λ ts is.
-      let read = spelled_pieces ts is.0 is.1 in
-      let g = goes r ts start (pieces_of is.0 []) (ap (signed r 0 false) is.1.1 ∙ use_signs r is.0 is.1.0 ∙ is.2) read.0 in
-      (g.0, is.0, g.1, ap (λ b. cond b (ended g.0.pieces) None) g.3 ∙ ap ended g.2 ∙ read.1);
-  begun = can_begin r;
+-- ---- lexeme by lexeme
+
+words_run : (r : Bool) (names ws : List (List ℕ)) (o : Option State) → run (pattern_step r names) o ws ≡ run (step_in r) o (tokens_in names ws)
+unfolding tokens_in
+words_run r names [] o = refl
+words_run r names (w ∷ ws) None = words_run r names ws None
+words_run r names (w ∷ ws) (Some s) = words_run r names ws (pattern_step r names s w)
+
+tokens_append : (names ws more : List (List ℕ)) → tokens_in names (ws ++ more) ≡ tokens_in names ws ++ tokens_in names more
+unfolding tokens_in
+tokens_append names [] more = refl
+tokens_append names (w ∷ ws) more = ap (λ l. token_of names w ∷ l) (tokens_append names ws more)
+
+-- the pattern that lexemes spell, of a rule or of a demand
+abbrev pub SpellUsed : Bool → List (List ℕ) → List (List ℕ) → Pattern → Type 0
+SpellUsed r names ws p = SpellsPattern (tokens_in names ws) p × (is_used r p ≡ true)
+
+all_read : (r : Bool) (ts : List Token) (p : Pattern) → SpellsPattern ts p → is_used r p ≡ true → (s : State) × (run (step_in r) (Some start) ts ≡ Some s) × (ended_in r s ≡ Some p)
+all_read r ts p spells is =
+    let read = spelled_pieces ts p spells in
+    let g = goes r ts start (pieces_of p []) (ap (signed r 0 false) spells.1 ∙ use_signs r p spells.0 ∙ is) read.0 in
+    (g.0, g.1, ap (λ b. cond b (ended g.0.pieces) None) g.3 ∙ ap ended g.2 ∙ read.1)
+
+pub pattern_reader : (r : Bool) (names : List (List ℕ)) → Reads (pattern_step r names) start (ended_in r) (SpellUsed r names)
+pattern_reader r names = record {
+  all = λ ws p is. let read = all_read r (tokens_in names ws) p is.0 is.1 in (read.0, words_run r names ws (Some start) ∙ read.1, read.2);
+  only = λ ws s p e f. read_used r (tokens_in names ws) s p (sym (words_run r names ws (Some start)) ∙ e) f;
+  begun = λ ws s e.
+      let b = can_begin r (tokens_in names ws) s (sym (words_run r names ws (Some start)) ∙ e) in
+      let is = subst (ArePattern r) (ap (λ l. tokens_in names ws ++ l) (sym (b.2.1 names)) ∙ sym (tokens_append names ws b.2.0)) b.1 in
+      (b.2.0, (is.0, (is.1, is.2)));
 }

@@ -1,5 +1,5 @@
 -- What may be wrong with a line that is to define something, and which of it is told.
-use Rattle.std.specs.Prelude.{◌≡◌, ℕ, ◌<◌, Bool, false, not, IsTrue, List, [], ◌∷◌, length}
+use Rattle.std.specs.Prelude.{◌≡◌, ℕ, ◌<◌, Bool, false, not, IsTrue, Some, List, [], ◌∷◌, length}
 use Rattle.ruleset_text.specs.declared.definition.DemandKind.{DemandKind}
 use Rattle.ruleset_text.specs.declared.definition.DemandKind.TheVariants as demand
 use Rattle.ruleset_text.specs.declared.fault.DefinitionFault.{DefinitionFault}
@@ -8,7 +8,7 @@ use Rattle.ruleset_text.specs.declared.keyword.Keyword.{Keyword}
 use Rattle.ruleset_text.specs.declared.keyword.Keyword.TheVariants as keyword
 use Rattle.ruleset_text.specs.Signs as sign
 use Rattle.ruleset_text.specs.Definition as definition
-use Rattle.ruleset_text.specs.Definition.{Definition}
+use Rattle.ruleset_text.specs.Definition.{Definition, keyword_of}
 use Rattle.ruleset_text.specs.Definitions.{Definitions, is_over_limit, has_known_sets, has_bad_class, has_same_name}
 use Rattle.ruleset_text.specs.Grammar.{SpellsPattern}
 use Rattle.ruleset_text.specs.Names.{is_name}
@@ -34,6 +34,15 @@ SpellsDefinition names k words (definition.Rule name contexts) =
     × SpellsPattern (tokens_in names after) contexts × IsTrue (is_rule contexts)
 SpellsDefinition names k words (definition.Demand kind p) =
     (k ≡ demand_keyword kind) × SpellsPattern (tokens_in names words) p × (has sign.Anchor p ≡ false)
+
+-- the lexemes of a line, the first of which is the keyword
+abbrev pub SpellsLine : List (List ℕ) → List (List ℕ) → Definition → Type 0
+SpellsLine names [] x = ⊥
+SpellsLine names (word ∷ words) x = (k : Keyword) × (keyword_of word ≡ Some k) × SpellsDefinition names k words x
+
+-- they define something
+abbrev pub IsDefinitionLine : List (List ℕ) → List (List ℕ) → Type 0
+IsDefinitionLine names words = (x : Definition) × SpellsLine names words x
 
 -- ---- the first thing that is wrong
 

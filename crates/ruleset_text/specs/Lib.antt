@@ -4,8 +4,9 @@ pub mod Stops
 pub mod Reading
 pub mod Pieces
 pub mod PatternSigns
-pub mod PatternPlaces
+pub mod PatternUses
 pub mod LineStops
+pub mod DefinitionReading
 pub mod Found
 pub mod Limits
 pub mod Signs

@@ -1,17 +1,19 @@
 //! A definition and its canonical line.
-ghost use Rattle.std.specs.Prelude.{◌≡◌, IfOk, IfSome};
-ghost use Rattle.ruleset_text.specs.Definition.{definition_of};
-ghost use Rattle.ruleset_text.specs.DefinitionTrees as trees;
-ghost use Rattle.ruleset_text.specs.inner.DefinitionSteps.{HasForm, IsLineOf};
+ghost use Rattle.std.specs.Prelude.{length};
+ghost use Rattle.ruleset_text.specs.DefinitionReading.{definition_read};
+ghost use Rattle.ruleset_text.specs.inner.DefinitionSteps.{GivesLine};
 ghost use Rattle.ruleset_text.specs.Lexemes.{lexemes};
+ghost use Rattle.ruleset_text.specs.PlacedLexemes.{placed_lexemes};
 ghost use Rattle.ruleset_text.specs.SetNames.{names_on};
 
 use crate::definition::{Definition, push_definition};
 use crate::definition_reading::read_definition;
+use crate::fault::ReadError;
 use crate::keyword::Keyword;
 use crate::names::Name;
+use crate::placed::PlacedLexemes;
 use crate::set_names::with_other_names;
-use std::alloc::{AllocError, Global};
+use std::alloc::Global;
 
 /// What a line defines, and how many bytes its canonical line has.
 #[derive(Drop)]
@@ -20,16 +22,15 @@ pub struct DefinitionLine {
     pub len: usize,
 }
 
-/// What a line defines, by its keyword and the text after it, if it has the form. A set goes by its number among the
-/// names; one that none of them names gets a number after theirs.
+/// What a line defines, by its keyword and the text after it. A set goes by its number among the names; one that none of
+/// them names gets a number after theirs.
 pub fn read_line(
     alloc: Global,
     sets: &[Name],
     keyword: Keyword,
     text: &[u8],
-) -> Result<Option<DefinitionLine>, AllocError>
-    ensures line { IfOk result (λ found. IsLineOf (names_on sets.now (lexemes text.now)) (definition_of (names_on sets.now (lexemes text.now)) keyword (lexemes text.now)) found) }
-    ensures formed { IfOk result (λ found. IfSome found (λ line. HasForm (trees.definition line.definition))) }
+) -> Result<DefinitionLine, ReadError>
+    ensures { GivesLine (names_on sets.now (lexemes text.now)) result (definition_read (names_on sets.now (lexemes text.now)) keyword (length text.now) (placed_lexemes text.now)) }
 {
     match with_other_names(alloc, sets, text)? {
         None => read_with_names(alloc, sets, keyword, text),
@@ -37,24 +38,20 @@ pub fn read_line(
     }
 }
 
-/// What a line defines, by its keyword and the text after it, if it has the form. Each set that the text names has one
-/// of these names.
+/// What a line defines, by its keyword and the text after it. Each set that the text names has one of these names.
 fn read_with_names(
     alloc: Global,
     names: &[Name],
     keyword: Keyword,
     text: &[u8],
-) -> Result<Option<DefinitionLine>, AllocError>
-    ensures line { IfOk result (λ found. IsLineOf names.now (definition_of names.now keyword (lexemes text.now)) found) }
-    ensures formed { IfOk result (λ found. IfSome found (λ line. HasForm (trees.definition line.definition))) }
+) -> Result<DefinitionLine, ReadError>
+    ensures { GivesLine names.now result (definition_read names.now keyword (length text.now) (placed_lexemes text.now)) }
 {
-    let Some(definition) = read_definition(alloc, names, keyword, text)? else {
-        return Ok(None);
-    };
+    let definition = read_definition(alloc, names, keyword, PlacedLexemes::new(text), text.len())?;
     let mut line = Vec::new(alloc);
     push_definition(&mut line, names, &definition)?;
-    Ok(Some(DefinitionLine {
+    Ok(DefinitionLine {
         definition,
         len: line.len(),
-    }))
+    })
 }

@@ -1,127 +1,119 @@
 //! Reading what a line defines.
-ghost use Rattle.std.specs.Prelude.{◌≡◌, ◌<◌, ◌∷◌, false, IfOk, IfSome, IsTrue, MatchOption, length};
-ghost use Rattle.std.specs.Option.{option_map};
-ghost use Rattle.label_patterns.specs.Trees.{pattern};
-ghost use Rattle.ruleset_text.specs.Definition as words;
-ghost use Rattle.ruleset_text.specs.Definition.{contexts_of, definition_of, demand_of};
+ghost use Rattle.std.specs.Prelude.{◌≡◌, ◌<◌, ◌^◌, false, MatchResult, length};
+ghost use Rattle.ruleset_text.specs.Definition.{Demand as demand_of};
+ghost use Rattle.ruleset_text.specs.DefinitionReading as reading;
+ghost use Rattle.ruleset_text.specs.DefinitionReading.{definition_read, line_read, name_read};
 ghost use Rattle.ruleset_text.specs.DefinitionTrees as trees;
-ghost use Rattle.ruleset_text.specs.inner.DefinitionSteps.{HasForm};
-ghost use Rattle.ruleset_text.specs.Lexemes.{lexemes};
-ghost use Rattle.ruleset_text.specs.Names.{begins_with_name, is_name as is_a_name};
+ghost use Rattle.ruleset_text.specs.LineStops.{Gives, map_read};
+ghost use Rattle.ruleset_text.specs.PlacedLexemes.{placed_lexemes};
 
 use crate::definition::{Definition, DemandKind};
-use crate::keyword::Keyword;
-use crate::lexemes::next_lexeme;
+use crate::fault::{FaultPlace, ReadError};
+use crate::keyword::{Keyword, keyword_of};
 use crate::names::{Name, is_name};
+use crate::placed::PlacedLexemes;
 use crate::reading::read_pattern;
 use crate::spans::read_spans;
-use label_patterns::PatternTree;
-use std::alloc::{AllocError, Global};
+use std::alloc::Global;
 
-/// What the text after a keyword defines, or none if it has no such form. A set goes by its number among the names.
+/// What a line defines, or where it stops defining something. A set goes by its number among the names.
+pub fn definition_on(alloc: Global, sets: &[Name], line: &[u8]) -> Result<Definition, ReadError>
+    ensures { Gives trees.definition result (line_read sets.now (length line.now) (placed_lexemes line.now)) }
+{
+    let mut lexemes = PlacedLexemes::new(line);
+    let Some((place, word)) = lexemes.next() else {
+        return Err(ReadError::Stop(FaultPlace::End(line.len())));
+    };
+    let Some(keyword) = keyword_of(word) else {
+        return Err(ReadError::Stop(FaultPlace::Lexeme(place, word.len())));
+    };
+    read_definition(alloc, sets, keyword, lexemes, line.len())
+}
+
+/// What the lexemes after a keyword define, to the end of a line of `end` bytes. A set goes by its number among the names.
 pub fn read_definition(
     alloc: Global,
     sets: &[Name],
     keyword: Keyword,
-    text: &[u8],
-) -> Result<Option<Definition>, AllocError>
-    ensures read { IfOk result (λ found. definition_of sets.now keyword (lexemes text.now) ≡ option_map trees.definition found) }
-    ensures formed { IfOk result (λ found. IfSome found (λ read. HasForm (trees.definition read))) }
+    lexemes: PlacedLexemes<'_>,
+    end: usize,
+) -> Result<Definition, ReadError>
+    requires { length lexemes < 2 ^ 63 }
+    ensures { Gives trees.definition result (definition_read sets.now keyword end lexemes.entry) }
 {
     match keyword {
-        Keyword::Tag => read_tag(alloc, text),
-        Keyword::Set => read_set(alloc, text),
-        Keyword::Rule => read_rule(alloc, sets, text),
-        Keyword::Never => read_demand_of(alloc, sets, DemandKind::Never, text),
-        Keyword::Always => read_demand_of(alloc, sets, DemandKind::Always, text),
+        Keyword::Tag => read_tag(alloc, lexemes, end),
+        Keyword::Set => read_set(alloc, lexemes, end),
+        Keyword::Rule => read_rule(alloc, sets, lexemes, end),
+        Keyword::Never => read_demand(alloc, sets, DemandKind::Never, lexemes, end),
+        Keyword::Always => read_demand(alloc, sets, DemandKind::Always, lexemes, end),
     }
 }
 
-fn read_tag(alloc: Global, text: &[u8]) -> Result<Option<Definition>, AllocError>
-    ensures read { IfOk result (λ found. words.tag_in (lexemes text.now) ≡ option_map trees.definition found) }
-    ensures formed { IfOk result (λ found. IfSome found (λ read. HasForm (trees.definition read))) }
+fn read_tag(
+    alloc: Global,
+    mut lexemes: PlacedLexemes<'_>,
+    end: usize,
+) -> Result<Definition, ReadError>
+    ensures { Gives trees.definition result (reading.named (reading.tag_read end) end lexemes.entry) }
 {
-    let Some((name, rest)) = read_name(text) else {
-        return Ok(None);
-    };
-    if next_lexeme(rest).is_some() {
-        return Ok(None);
+    let name = read_name(&mut lexemes, end)?;
+    if let Some((place, lexeme)) = lexemes.next() {
+        return Err(ReadError::Stop(FaultPlace::Lexeme(place, lexeme.len())));
     }
-    Ok(Some(Definition::Tag(Name::copied(alloc, name)?)))
+    Ok(Definition::Tag(Name::copied(alloc, name)?))
 }
 
-fn read_set(alloc: Global, text: &[u8]) -> Result<Option<Definition>, AllocError>
-    ensures read { IfOk result (λ found. words.set_in (lexemes text.now) ≡ option_map trees.definition found) }
-    ensures formed { IfOk result (λ found. IfSome found (λ read. HasForm (trees.definition read))) }
+fn read_set(
+    alloc: Global,
+    mut lexemes: PlacedLexemes<'_>,
+    end: usize,
+) -> Result<Definition, ReadError>
+    ensures { Gives trees.definition result (reading.named (reading.set_read end) end lexemes.entry) }
 {
-    let Some((name, rest)) = read_name(text) else {
-        return Ok(None);
-    };
-    let Some(set) = read_spans(alloc, rest)? else {
-        return Ok(None);
-    };
-    Ok(Some(Definition::Set(Name::copied(alloc, name)?, set)))
+    let name = read_name(&mut lexemes, end)?;
+    let set = read_spans(alloc, lexemes, end)?;
+    Ok(Definition::Set(Name::copied(alloc, name)?, set))
 }
 
-fn read_rule(alloc: Global, sets: &[Name], text: &[u8]) -> Result<Option<Definition>, AllocError>
-    ensures read { IfOk result (λ found. words.rule_in sets.now (lexemes text.now) ≡ option_map trees.definition found) }
-    ensures formed { IfOk result (λ found. IfSome found (λ read. HasForm (trees.definition read))) }
+fn read_rule(
+    alloc: Global,
+    sets: &[Name],
+    mut lexemes: PlacedLexemes<'_>,
+    end: usize,
+) -> Result<Definition, ReadError>
+    requires { length lexemes < 2 ^ 63 }
+    ensures { Gives trees.definition result (reading.named (reading.rule_read sets.now end) end lexemes.entry) }
 {
-    let Some((name, rest)) = read_name(text) else {
-        return Ok(None);
-    };
-    let Some(contexts) = read_contexts(alloc, sets, rest)? else {
-        return Ok(None);
-    };
-    Ok(Some(Definition::Rule(Name::copied(alloc, name)?, contexts)))
+    let name = read_name(&mut lexemes, end)?;
+    let contexts = read_pattern(alloc, true, sets, lexemes, end)?;
+    Ok(Definition::Rule(Name::copied(alloc, name)?, contexts))
 }
 
-fn read_demand_of(
+fn read_demand(
     alloc: Global,
     sets: &[Name],
     kind: DemandKind,
-    text: &[u8],
-) -> Result<Option<Definition>, AllocError>
-    ensures read { IfOk result (λ found. option_map (words.Demand kind) (demand_of sets.now text.now) ≡ option_map trees.definition found) }
-    ensures formed { IfOk result (λ found. IfSome found (λ read. HasForm (trees.definition read))) }
+    lexemes: PlacedLexemes<'_>,
+    end: usize,
+) -> Result<Definition, ReadError>
+    requires { length lexemes < 2 ^ 63 }
+    ensures { Gives trees.definition result (map_read (demand_of kind) (reading.pattern_read false sets.now end lexemes.entry)) }
 {
-    let Some(pattern) = read_demand(alloc, sets, text)? else {
-        return Ok(None);
+    let pattern = read_pattern(alloc, false, sets, lexemes, end)?;
+    Ok(Definition::Demand(kind, pattern))
+}
+
+/// The name that stands next.
+fn read_name<'a>(lexemes: &mut PlacedLexemes<'a>, end: usize) -> Result<&'a [u8], FaultPlace>
+    ensures { MatchResult result (λ name. name_read end lexemes.old ≡ Ok (name.now, lexemes.new)) (λ place. name_read end lexemes.old ≡ Err place) }
+{
+    let Some((place, word)) = lexemes.next() else {
+        return Err(FaultPlace::End(end));
     };
-    Ok(Some(Definition::Demand(kind, pattern)))
-}
-
-/// The name with which the text after a keyword begins, and what follows it; none if it doesn't begin with a name.
-pub fn read_name(text: &[u8]) -> Option<(&[u8], &[u8])>
-    ensures { MatchOption result (begins_with_name (lexemes text.now) ≡ false) (λ found. IsTrue (is_a_name found.0.now) × (lexemes text.now ≡ found.0.now ∷ lexemes found.1.now)) }
-{
-    let (word, rest) = next_lexeme(text)?;
     if is_name(word) {
-        Some((word, rest))
+        Ok(word)
     } else {
-        None
+        Err(FaultPlace::Lexeme(place, word.len()))
     }
-}
-
-/// The pattern of a demand, which the text after the keyword spells, or none if it spells none. A set goes by its
-/// number among the names.
-pub fn read_demand(
-    alloc: Global,
-    sets: &[Name],
-    text: &[u8],
-) -> Result<Option<PatternTree>, AllocError>
-    ensures { IfOk result (λ found. demand_of sets.now text.now ≡ option_map pattern found) }
-{
-    Ok(read_pattern(alloc, false, sets, text)?.ok())
-}
-
-/// The contexts of a rule, which the text after its name spells, or none if it spells none.
-pub fn read_contexts(
-    alloc: Global,
-    sets: &[Name],
-    text: &[u8],
-) -> Result<Option<PatternTree>, AllocError>
-    ensures { IfOk result (λ found. contexts_of sets.now text.now ≡ option_map pattern found) }
-{
-    Ok(read_pattern(alloc, true, sets, text)?.ok())
 }

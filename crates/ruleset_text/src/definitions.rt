@@ -193,9 +193,7 @@ impl Definitions {
         ensures read { Leaves result self.new (defined limit self.old keyword (lexemes text.now)) }
         ensures err { OnErr result (self.new ≡ self.old) }
     {
-        let Some(line) = read_line(alloc, self.set_names(), keyword, text)? else {
-            return Err(DefinitionFault::Syntax);
-        };
+        let line = read_line(alloc, self.set_names(), keyword, text)?;
         if self.is_line_over_limit(limit, line.len) {
             return Err(DefinitionFault::Limit);
         }

@@ -14,7 +14,12 @@ ghost use Rattle.ruleset_text.specs.Canonical.{HasPoints, pattern_text};
 ghost use Rattle.ruleset_text.specs.Definition.{Definition, contexts_of, definition_of, demand_of};
 ghost use Rattle.ruleset_text.specs.Definition as definition;
 ghost use Rattle.ruleset_text.specs.Definitions.{Definitions, added, canonical_lines, canonical_size, defined, nothing_defined, with_lines, with_words};
-ghost use Rattle.ruleset_text.specs.DefinitionOrder.{SpellsDefinition, IsDefinitionFault};
+ghost use Rattle.ruleset_text.specs.DefinitionOrder.{IsDefinitionFault, IsDefinitionLine, SpellsDefinition, SpellsLine};
+ghost use Rattle.ruleset_text.specs.DefinitionReading.{line_read};
+ghost use Rattle.ruleset_text.specs.LineStops.{IsLineStop};
+ghost use Rattle.std.specs.Result.{result_err};
+ghost use Rattle.ruleset_text.specs.PlacedLexemes.{Placed, unplaced};
+ghost use Rattle.ruleset_text.specs.declared.fault.FaultPlace.{FaultPlace};
 ghost use Rattle.ruleset_text.specs.Grammar.{Is, Whole, SpellsPattern};
 ghost use Rattle.ruleset_text.specs.EntrySteps.{entry_in};
 ghost use Rattle.ruleset_text.specs.inner.Examples.{some_defined, written};
@@ -43,6 +48,15 @@ pub fn reading_spans_is_exact()
 pub fn reading_a_definition_is_exact()
     ensures exact { (names : List (List ℕ)) (keyword : Keyword) (words : List (List ℕ)) (x : Definition) → (definition_of names keyword words ≡ Some x) ↔ SpellsDefinition names keyword words x }
     ensures one { (names : List (List ℕ)) (keyword : Keyword) (words : List (List ℕ)) (x y : Definition) → SpellsDefinition names keyword words x → SpellsDefinition names keyword words y → x ≡ y }
+{}
+
+/// What is read of a line is the definition that it spells; or the place where it stops defining something: some definition begins
+/// with the lexemes before, and none goes on with the one that stands there; or the line ends there too early. The place is the same
+/// however the sets are numbered.
+pub fn a_line_stops_where_no_definition_goes_on()
+    ensures read { (names : List (List ℕ)) (end : ℕ) (ws : List Placed) (x : Definition) → (line_read names end ws ≡ Ok x) ↔ SpellsLine names (unplaced ws) x }
+    ensures place { (names : List (List ℕ)) (end : ℕ) (ws : List Placed) (place : FaultPlace) → (line_read names end ws ≡ Err place) ↔ IsLineStop (IsDefinitionLine names) ws end place }
+    ensures alike { (names : List (List ℕ)) (end : ℕ) (ws : List Placed) → result_err (line_read names end ws) ≡ result_err (line_read [] end ws) }
 {}
 
 /// A line that is to define something is refused exactly if some condition of a refusal holds for it, and the fault is that of

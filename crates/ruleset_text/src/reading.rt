@@ -1,13 +1,13 @@
 //! Reading a pattern from its first lexeme to its last.
-ghost use Rattle.std.specs.Prelude.{◌≡◌, ◌+◌, ◌<◌, ◌≤◌, ◌^◌, true, IfOk, IfErr};
+ghost use Rattle.std.specs.Prelude.{◌≡◌, ◌+◌, ◌<◌, ◌≤◌, ◌^◌, length, IfOk};
 ghost use Rattle.std.specs.Option.{option_map};
 ghost use Rattle.label_patterns.specs.Trees.{pattern};
-ghost use Rattle.ruleset_text.specs.Grammar.{SpellsPattern};
-ghost use Rattle.ruleset_text.specs.Tokens.{tokens_of};
-ghost use Rattle.ruleset_text.specs.PatternPlaces.{IsPatternStop, is_used};
+ghost use Rattle.ruleset_text.specs.DefinitionReading.{pattern_read};
+ghost use Rattle.ruleset_text.specs.LineStops.{Gives};
 ghost use Rattle.ruleset_text.specs.PatternSigns as words;
 ghost use Rattle.ruleset_text.specs.Pieces.{state, taken_as};
 
+use crate::fault::{FaultPlace, ReadError};
 use crate::names::Name;
 use crate::pieces::{Piece, ended, step};
 use crate::placed::PlacedLexemes;
@@ -17,33 +17,28 @@ use crate::tokens::token_of;
 use label_patterns::PatternTree;
 use std::alloc::{AllocError, Global};
 
-/// The pattern of a rule or of a demand that a line spells, or the byte at which it stops being one.
+/// The pattern of a rule or of a demand that lexemes spell, to the end of a line of `end` bytes.
 pub fn read_pattern(
     alloc: Global,
     is_rule: bool,
     names: &[Name],
-    line: &[u8],
-) -> Result<Result<PatternTree, usize>, AllocError>
-    ensures pattern { IfOk result (λ read. IfOk read (λ tree. SpellsPattern (tokens_of names.now line.now) (pattern tree) × (is_used is_rule (pattern tree) ≡ true))) }
-    ensures place { IfOk result (λ read. IfErr read (IsPatternStop is_rule names.now line.now)) }
+    mut lexemes: PlacedLexemes<'_>,
+    end: usize,
+) -> Result<PatternTree, ReadError>
+    requires { length lexemes < 2 ^ 63 }
+    ensures { Gives pattern result (pattern_read is_rule names.now end lexemes.entry) }
 {
     let mut pieces = Vec::new(alloc);
     let mut signs = Signs::new();
-    let mut lexemes = PlacedLexemes::new(line);
     while let Some((place, lexeme)) = lexemes.next() {
-        if !take(
-            alloc,
-            is_rule,
-            &mut pieces,
-            &mut signs,
-            token_of(names, lexeme),
-        )? {
-            return Ok(Err(place));
+        let token = token_of(names, lexeme);
+        if !take(alloc, is_rule, &mut pieces, &mut signs, token)? {
+            return Err(ReadError::Stop(FaultPlace::Lexeme(place, lexeme.len())));
         }
     }
     match pattern_of(alloc, is_rule, pieces, signs)? {
-        Some(tree) => Ok(Ok(tree)),
-        None => Ok(Err(line.len())),
+        Some(tree) => Ok(tree),
+        None => Err(ReadError::Stop(FaultPlace::End(end))),
     }
 }
 

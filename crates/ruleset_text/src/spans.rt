@@ -3,10 +3,12 @@ ghost use Rattle.std.specs.Prelude.{◌≡◌, ◌+◌, IfOk, IfSome};
 ghost use Rattle.std.specs.Option.{option_map};
 ghost use Rattle.ruleset_text.specs.declared.spans.Held.TheVariants.{Above};
 ghost use Rattle.ruleset_text.specs.Spans as words;
-ghost use Rattle.ruleset_text.specs.Spans.{spans_of};
+ghost use Rattle.ruleset_text.specs.DefinitionReading.{spans_read};
+ghost use Rattle.ruleset_text.specs.LineStops.{Gives};
 ghost use Rattle.ruleset_text.specs.inner.Rising.{IsRising};
 
-use crate::lexemes::next_lexeme;
+use crate::fault::{FaultPlace, ReadError};
+use crate::placed::PlacedLexemes;
 use crate::tokens::without_prefix;
 use idn_text::hex_point;
 use label_patterns::{PointSet, Span};
@@ -32,21 +34,26 @@ pub enum Held {
     Range(u32),
 }
 
-/// The set of the spans that a text spells: code points and ranges that rise; or none if it spells none.
-pub fn read_spans(alloc: Global, text: &[u8]) -> Result<Option<PointSet>, AllocError>
-    ensures { IfOk result (λ found. spans_of text.now ≡ found) }
+/// The set of the spans that lexemes spell, code points and ranges that rise, to the end of a line of `end` bytes.
+pub fn read_spans(
+    alloc: Global,
+    mut lexemes: PlacedLexemes<'_>,
+    end: usize,
+) -> Result<PointSet, ReadError>
+    ensures { Gives (λ set. set) result (spans_read end lexemes.entry) }
 {
     let mut spans = Vec::new(alloc);
     let mut held = Held::Above(0);
-    let mut rest = text;
-    while let Some((lexeme, others)) = next_lexeme(rest) {
+    while let Some((place, lexeme)) = lexemes.next() {
         let Some(next) = step(&mut spans, held, part_of(lexeme))? else {
-            return Ok(None);
+            return Err(ReadError::Stop(FaultPlace::Lexeme(place, lexeme.len())));
         };
         held = next;
-        rest = others;
     }
-    ended(spans, held)
+    match ended(spans, held)? {
+        Some(set) => Ok(set),
+        None => Err(ReadError::Stop(FaultPlace::End(end))),
+    }
 }
 
 /// The spans with one part more, and what is then held; none if the part may not stand there.

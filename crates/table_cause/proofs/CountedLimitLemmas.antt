@@ -35,7 +35,7 @@ use Rattle.table_cause.specs.LineNames.{first_place, place_of}
 use Rattle.table_cause.specs.PastLimits.{is_definition_past, is_pattern_past}
 use Rattle.table_cause.specs.PatternLimits.{atoms_among, first_past, pattern_after, pattern_in}
 use Rattle.ruleset_text.specs.PlacedLexemes.{Placed, placed_lexemes, unplaced}
-use Rattle.table_cause.specs.WrongDefinitions.{definition_by, definition_in}
+use Rattle.table_cause.specs.LineDefinitions.{definition_by, definition_in}
 use Rattle.table_cause.proofs.PastLimitLemmas.{atoms_counted, some_past}
 use Rattle.ruleset_text.proofs.PlacedLemmas.{unplaced-from}
 use Rattle.ruleset_text.proofs.EntryStopLemmas.{none_some}

@@ -49,7 +49,7 @@ use Rattle.table_cause.specs.FaultPlaces.{is_bad_point, point_place}
 use Rattle.table_cause.specs.LineNames.{after_keyword, after_name, definition_points}
 use Rattle.table_cause.specs.LinePoints.{and_point, is_separator, points_from, points_in}
 use Rattle.ruleset_text.specs.PlacedLexemes.{Placed, placed_lexemes, unplaced}
-use Rattle.table_cause.specs.WrongDefinitions.{definition_by, definition_in}
+use Rattle.table_cause.specs.LineDefinitions.{definition_by, definition_in}
 use Rattle.table_cause.proofs.FormPointLemmas.{NamesFit, points_at, points_spelled}
 use Rattle.ruleset_text.proofs.PlacedLemmas.{unplaced-from}
 use Rattle.table_cause.proofs.RefusedPlaceLemmas.{any_numbered, bad, found_any, or_false}

@@ -1,5 +1,6 @@
 -- Where a line stops that is to define something.
-pub mod DefinitionPlaceLemmas
+mod ShapeLemmas
+mod DefinitionLineLemmas
 -- Where the pattern of a line goes past a limit.
 pub mod PastLimitLemmas
 -- What is counted on the lines before it.

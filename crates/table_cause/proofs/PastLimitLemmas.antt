@@ -7,8 +7,6 @@ use Rattle.label_patterns.specs.declared.span.Span.{Span}
 use Rattle.label_patterns.specs.Patterns.{Pattern, Point, Set, Any, Start, End, Anchor, Group, Optional, Many, Then, Either}
 use Rattle.ruleset_text.specs.declared.definition.DemandKind.{DemandKind}
 use Rattle.ruleset_text.specs.declared.definition.DemandKind.TheVariants as demand
-use Rattle.table_cause.specs.declared.definition_place.Last.{Last}
-use Rattle.table_cause.specs.declared.definition_place.Last.TheVariants as last
 use Rattle.table_cause.specs.declared.entry_place.WrongPlace.{WrongPlace}
 use Rattle.ruleset_text.specs.declared.keyword.Keyword.{Keyword}
 use Rattle.ruleset_text.specs.declared.keyword.Keyword.TheVariants as keyword
@@ -27,13 +25,13 @@ use Rattle.ruleset_text.specs.Rules.{has, is_rule}
 use Rattle.ruleset_text.specs.Spans.{spans_in}
 use Rattle.ruleset_text.specs.Tokens.{token_of, tokens_in, word_token}
 use Rattle.ruleset_text.proofs.PatternLemmas.{read_spelled}
-use Rattle.table_cause.specs.DefinitionWrongSteps.{is_nothing, is_atom}
 use Rattle.table_cause.specs.LineNames.{place_of}
 use Rattle.table_cause.specs.PastLimits.{BeginsWithin, Fit, IsFirstPast, is_definition_past, is_pattern_past}
 use Rattle.table_cause.specs.PatternLimits.{Nesting, no_nesting, with_token, is_counted, atoms_at, atoms_among, is_too_deep, is_past, past_from, first_past, pattern_after, pattern_in}
 use Rattle.ruleset_text.specs.PlacedLexemes.{Placed, placed_lexemes, unplaced}
-use Rattle.table_cause.specs.WrongDefinitions.{Define, definition_by, definition_in}
-use Rattle.table_cause.proofs.DefinitionPlaceLemmas.{shaped, shaped_pattern, some_is}
+use Rattle.table_cause.specs.LineDefinitions.{Define, definition_by, definition_in}
+use Rattle.table_cause.proofs.DefinitionLineLemmas.{some_is}
+use Rattle.table_cause.proofs.ShapeLemmas.{Last, NoItem, AnAtom, AnItem, is_nothing, is_atom, shaped, shaped_pattern}
 use Rattle.ruleset_text.proofs.SignLemmas.{suc_zero, out_of}
 use Rattle.ruleset_text.proofs.PlacedLemmas.{unplaced-from}
 use Rattle.ruleset_text.proofs.EntryStopLemmas.{none_some}
@@ -216,30 +214,30 @@ closers zero = []
 closers (suc d) = token.Close ∷ closers d
 
 abbrev completion : ℕ → Last → List Token
-completion d last.Nothing = token.Any ∷ closers d
+completion d NoItem = token.Any ∷ closers d
 completion d l = closers d
 
 closers_shaped : (d : ℕ) (l : Last) → is_nothing l ≡ false → shaped d l (closers d) ≡ true
 closers_shaped zero l e = ap not e
 closers_shaped (suc d) l e =
-    ap (λ b. cond (not b && not (is_nothing l)) (shaped (suc d - 1) last.Atom (closers d)) false) (suc_zero d)
-    ∙ ap (λ b. cond (not b) (shaped (suc d - 1) last.Atom (closers d)) false) e
-    ∙ ap (λ m. shaped m last.Atom (closers d)) (out_of d)
-    ∙ closers_shaped d last.Atom refl
+    ap (λ b. cond (not b && not (is_nothing l)) (shaped (suc d - 1) AnAtom (closers d)) false) (suc_zero d)
+    ∙ ap (λ b. cond (not b) (shaped (suc d - 1) AnAtom (closers d)) false) e
+    ∙ ap (λ m. shaped m AnAtom (closers d)) (out_of d)
+    ∙ closers_shaped d AnAtom refl
 
 completion_shaped : (d : ℕ) (l : Last) → shaped d l (completion d l) ≡ true
-completion_shaped d last.Nothing = closers_shaped d last.Atom refl
-completion_shaped d last.Atom = closers_shaped d last.Atom refl
-completion_shaped d last.Item = closers_shaped d last.Item refl
+completion_shaped d NoItem = closers_shaped d AnAtom refl
+completion_shaped d AnAtom = closers_shaped d AnAtom refl
+completion_shaped d AnItem = closers_shaped d AnItem refl
 
 shallow_closers : (d : ℕ) (n : Nesting) → Shallow n (closers d)
 shallow_closers zero n = tt
 shallow_closers (suc d) n = (refl, shallow_closers d (with_token n token.Close))
 
 shallow_completion : (d : ℕ) (l : Last) (n : Nesting) → Shallow n (completion d l)
-shallow_completion d last.Nothing n = (refl, shallow_closers d (with_token n token.Any))
-shallow_completion d last.Atom n = shallow_closers d n
-shallow_completion d last.Item n = shallow_closers d n
+shallow_completion d NoItem n = (refl, shallow_closers d (with_token n token.Any))
+shallow_completion d AnAtom n = shallow_closers d n
+shallow_completion d AnItem n = shallow_closers d n
 
 -- what the tokens at the front lead to
 abbrev Leads : (List Token → Bool) → Type 0
@@ -252,23 +250,23 @@ leads_if false d l ts us e go = absurd (let clash : false ≡ true = e in cc)
 
 leads : (ts us : List Token) (d : ℕ) (l : Last) → shaped d l (ts ++ us) ≡ true → Leads (λ rest. shaped d l (ts ++ rest))
 leads [] us d l e = (d, l, λ rest. refl)
-leads (token.Point c ∷ ts) us d l e = leads ts us d last.Atom e
-leads (token.Set n ∷ ts) us d l e = leads ts us d last.Atom e
-leads (token.Any ∷ ts) us d l e = leads ts us d last.Atom e
-leads (token.Start ∷ ts) us d l e = leads ts us d last.Item e
-leads (token.End ∷ ts) us d l e = leads ts us d last.Item e
-leads (token.Anchor ∷ ts) us d l e = leads ts us d last.Item e
-leads (token.Open ∷ ts) us d l e = leads ts us (d + 1) last.Nothing e
-leads (token.Close ∷ ts) us d l e = leads_if (not (d == 0) && not (is_nothing l)) (d - 1) last.Atom ts us e (leads ts us (d - 1) last.Atom)
-leads (token.Optional ∷ ts) us d l e = leads_if (is_atom l) d last.Item ts us e (leads ts us d last.Item)
-leads (token.Many ∷ ts) us d l e = leads_if (is_atom l) d last.Item ts us e (leads ts us d last.Item)
-leads (token.Or ∷ ts) us d l e = leads_if (not (is_nothing l)) d last.Nothing ts us e (leads ts us d last.Nothing)
+leads (token.Point c ∷ ts) us d l e = leads ts us d AnAtom e
+leads (token.Set n ∷ ts) us d l e = leads ts us d AnAtom e
+leads (token.Any ∷ ts) us d l e = leads ts us d AnAtom e
+leads (token.Start ∷ ts) us d l e = leads ts us d AnItem e
+leads (token.End ∷ ts) us d l e = leads ts us d AnItem e
+leads (token.Anchor ∷ ts) us d l e = leads ts us d AnItem e
+leads (token.Open ∷ ts) us d l e = leads ts us (d + 1) NoItem e
+leads (token.Close ∷ ts) us d l e = leads_if (not (d == 0) && not (is_nothing l)) (d - 1) AnAtom ts us e (leads ts us (d - 1) AnAtom)
+leads (token.Optional ∷ ts) us d l e = leads_if (is_atom l) d AnItem ts us e (leads ts us d AnItem)
+leads (token.Many ∷ ts) us d l e = leads_if (is_atom l) d AnItem ts us e (leads ts us d AnItem)
+leads (token.Or ∷ ts) us d l e = leads_if (not (is_nothing l)) d NoItem ts us e (leads ts us d NoItem)
 leads (token.Other ∷ ts) us d l e = absurd (let clash : false ≡ true = e in cc)
 
 -- some pattern within the limits begins with tokens of a pattern exactly if none of them is too deep
 begins_within : (ts us : List Token) (p : Pattern) → pattern_of (ts ++ us) ≡ Some p → Shallow no_nesting ts → BeginsWithin ts
 begins_within ts us p e low =
-    let led = leads ts us 0 last.Nothing (shaped_pattern (ts ++ us) ∙ ap is_some e) in
+    let led = leads ts us 0 NoItem (shaped_pattern (ts ++ us) ∙ ap is_some e) in
     let more = completion led.0 led.1 in
     let q = some_is (pattern_of (ts ++ more)) (sym (shaped_pattern (ts ++ more)) ∙ led.2 more ∙ completion_shaped led.0 led.1) in
     let spelled = read_spelled (ts ++ more) q.0 q.1 in

@@ -1,89 +1,49 @@
 -- The places that are told are those that are defined.
-use Rattle.std.proofs.Common.{◌≡◌, inl, inr, ℕ, Bool, true, false, cond, List, [], ◌∷◌, ◌++◌, Option, Some, None, Result, Ok, Err, refl, sym, ap, subst, ◌∙◌}
+use Rattle.std.proofs.Common.{◌≡◌, inl, inr, ℕ, Bool, true, false, cond, List, [], ◌∷◌, ◌++◌, length, Option, Some, None, Result, Ok, Err, refl, sym, ap, subst, ◌∙◌}
 use Rattle.std.specs.Prelude.{◌↔◌, find, option_map}
 use Rattle.std.specs.List.{AllByRecursion}
 use Rattle.std.specs.Result.{result_err}
-use Rattle.table_cause.specs.declared.entry_place.WrongPlace.{WrongPlace}
-use Rattle.table_cause.specs.declared.entry_place.WrongPlace.TheVariants as wrong
 use Rattle.table_cause.specs.declared.line_point.LinePoint.{LinePoint}
-use Rattle.ruleset_text.specs.Entries.{EntryForm}
+use Rattle.ruleset_text.specs.DefinitionOrder.{IsDefinitionLine}
+use Rattle.ruleset_text.specs.DefinitionReading.{line_read}
 use Rattle.ruleset_text.specs.EntrySteps.{entry_read}
 use Rattle.ruleset_text.specs.EntryStops.{FitsNames}
-use Rattle.ruleset_text.proofs.EntryStopLemmas.{the_stop}
-use Rattle.table_cause.specs.DefinitionWrongSteps.{wrong_definition}
-use Rattle.table_cause.proofs.DefinitionPlaceLemmas.{the_wrong_place as of_definition}
+use Rattle.ruleset_text.specs.LineStops.{IsLineStop}
+use Rattle.ruleset_text.specs.PlacedLexemes.{placed_lexemes}
+use Rattle.ruleset_text.proofs.DefinitionStopLemmas as definitions
+use Rattle.ruleset_text.proofs.EntryStopLemmas as entries
 use Rattle.ruleset_text.specs.declared.fault.FaultPlace.{FaultPlace}
 use Rattle.ruleset_text.specs.declared.fault.FaultPlace.TheVariants.{Lexeme, End, Point, InRange, Variant, Source, Byte, NinthPoint, SeventeenthVariant}
 use Rattle.variant_table.specs.declared.version.Version.{Version}
 use Rattle.variant_table.specs.Forms.{parts_of}
-use Rattle.table_cause.specs.FaultPlaces.{as_fault, is_bad_point, defines, point_place, syntax_place}
-use Rattle.table_cause.specs.ToldPlaces.{IsDefinitionPlace, IsFirstBad, IsFirstBadPoint, IsSyntaxPlace}
+use Rattle.table_cause.specs.FaultPlaces.{definition_stop, is_bad_point, defines, point_place, syntax_place}
+use Rattle.table_cause.specs.ToldPlaces.{IsFirstBad, IsFirstBadPoint, IsSyntaxPlace}
 use Rattle.idn_class.specs.declared.properties.Properties.{Properties}
 
 -- ---- syntax
 
--- where a line stops that is to define something
-abbrev of_line : List ℕ → Option FaultPlace
-of_line line = option_map as_fault (wrong_definition line)
+err_of : {X : Type 0} (place : FaultPlace) (read : Result X FaultPlace) → result_err read ≡ Some place → read ≡ Err place
+err_of place (Ok x) e = absurd cc
+err_of place (Err other) e = let same : other ≡ place = cc in ap (λ p. Err p) same
 
-lexeme_from : (place n : ℕ) (o : Option WrongPlace) → option_map as_fault o ≡ Some (Lexeme place n) → o ≡ Some (wrong.Lexeme place n)
-lexeme_from place n None e = absurd cc
-lexeme_from place n (Some (wrong.Lexeme p m)) e = let a : p ≡ place = cc in let b : m ≡ n = cc in cc
-lexeme_from place n (Some (wrong.End p)) e = absurd cc
-
-end_from : (place : ℕ) (o : Option WrongPlace) → option_map as_fault o ≡ Some (End place) → o ≡ Some (wrong.End place)
-end_from place None e = absurd cc
-end_from place (Some (wrong.Lexeme p m)) e = absurd cc
-end_from place (Some (wrong.End p)) e = let a : p ≡ place = cc in cc
-
--- a place of another kind is told of no syntax
-abbrev IsOfSyntax : FaultPlace → Type 0
-IsOfSyntax (Lexeme place n) = Unit {0}
-IsOfSyntax (End place) = Unit {0}
-IsOfSyntax other = ⊥
-
-of_syntax : (place : FaultPlace) (o : Option WrongPlace) → option_map as_fault o ≡ Some place → IsOfSyntax place
-of_syntax place None e = absurd cc
-of_syntax place (Some (wrong.Lexeme p m)) e = let same : Lexeme p m ≡ place = cc in subst IsOfSyntax same tt
-of_syntax place (Some (wrong.End p)) e = let same : End p ≡ place = cc in subst IsOfSyntax same tt
-
-line_is : (line : List ℕ) (place : FaultPlace) → of_line line ≡ Some place → IsDefinitionPlace line place
-line_is line (Lexeme place n) e = (of_definition line (wrong.Lexeme place n)).0 (lexeme_from place n (wrong_definition line) e)
-line_is line (End place) e = (of_definition line (wrong.End place)).0 (end_from place (wrong_definition line) e)
-line_is line (Point place c) e = of_syntax (Point place c) (wrong_definition line) e
-line_is line (InRange place c) e = of_syntax (InRange place c) (wrong_definition line) e
-line_is line (Variant place) e = of_syntax (Variant place) (wrong_definition line) e
-line_is line (Source place) e = of_syntax (Source place) (wrong_definition line) e
-line_is line (Byte place) e = of_syntax (Byte place) (wrong_definition line) e
-line_is line (NinthPoint place c) e = of_syntax (NinthPoint place c) (wrong_definition line) e
-line_is line (SeventeenthVariant place c) e = of_syntax (SeventeenthVariant place c) (wrong_definition line) e
-
-is_line : (line : List ℕ) (place : FaultPlace) → IsDefinitionPlace line place → of_line line ≡ Some place
-is_line line (Lexeme place n) is = ap (option_map as_fault) ((of_definition line (wrong.Lexeme place n)).1 is)
-is_line line (End place) is = ap (option_map as_fault) ((of_definition line (wrong.End place)).1 is)
-is_line line (Point place c) is = absurd is
-is_line line (InRange place c) is = absurd is
-is_line line (Variant place) is = absurd is
-is_line line (Source place) is = absurd is
-is_line line (Byte place) is = absurd is
-is_line line (NinthPoint place c) is = absurd is
-is_line line (SeventeenthVariant place c) is = absurd is
-
-err_from : (place : FaultPlace) (r : Result EntryForm FaultPlace) → result_err r ≡ Some place → r ≡ Err place
-err_from place (Ok form) e = absurd cc
-err_from place (Err other) e = let same : other ≡ place = cc in ap (λ p. Err p) same
+stop_told : (line : List ℕ) (place : FaultPlace) → (definition_stop line ≡ Some place) ↔ IsLineStop (IsDefinitionLine []) (placed_lexemes line) (length line) place
+unfolding definition_stop
+stop_told line place =
+    let is = definitions.the_stop [] (length line) (placed_lexemes line) place in
+    (λ e. is.0 (err_of place (line_read [] (length line) (placed_lexemes line)) e), λ stop. ap result_err (is.1 stop))
 
 pub syntax_told : (version : Version) (line : List ℕ) (place : FaultPlace) → FitsNames (parts_of version) line → (syntax_place version line ≡ Some place) ↔ IsSyntaxPlace version line place
 syntax_told version line place fits = by (defines version line) refl
   where
-    by : (b : Bool) → defines version line ≡ b → (cond b (of_line line) (result_err (entry_read (parts_of version) line)) ≡ Some place) ↔ IsSyntaxPlace version line place
-    by true e = (
-      λ h. inl (e, line_is line place h),
-      λ is. elim is [ inl defined ↦ is_line line place defined.1 | inr other ↦ absurd (let clash : true ≡ false = sym e ∙ other.0 in cc) ],
-    )
+    by : (b : Bool) → defines version line ≡ b → (cond b (definition_stop line) (result_err (entry_read (parts_of version) line)) ≡ Some place) ↔ IsSyntaxPlace version line place
+    by true e =
+        let stop = stop_told line place in (
+          λ h. inl (e, stop.0 h),
+          λ is. elim is [ inl defined ↦ stop.1 defined.1 | inr other ↦ absurd (let clash : true ≡ false = sym e ∙ other.0 in cc) ],
+        )
     by false e =
-        let stop = the_stop (parts_of version) line place fits in (
-          λ h. inr (e, stop.0 (err_from place (entry_read (parts_of version) line) h)),
+        let stop = entries.the_stop (parts_of version) line place fits in (
+          λ h. inr (e, stop.0 (err_of place (entry_read (parts_of version) line) h)),
           λ is. elim is [ inl defined ↦ absurd (let clash : true ≡ false = sym defined.0 ∙ e in cc) | inr other ↦ ap result_err (stop.1 other.1) ],
         )
 

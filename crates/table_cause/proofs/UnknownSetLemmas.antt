@@ -34,7 +34,7 @@ use Rattle.table_cause.specs.DefinitionPlaces.{names_defined}
 use Rattle.table_cause.specs.FaultPlaces.{definition_place}
 use Rattle.table_cause.specs.LineNames.{is_unknown, place_of, unknown_set}
 use Rattle.ruleset_text.specs.PlacedLexemes.{Placed, placed_lexemes, unplaced}
-use Rattle.table_cause.specs.WrongDefinitions.{definition_by, definition_in}
+use Rattle.table_cause.specs.LineDefinitions.{definition_by, definition_in}
 use Rattle.table_cause.proofs.CountedLimitLemmas.{spelled_sound}
 use Rattle.table_cause.proofs.DefinedNameLemmas.{keyword_text, names_are, text_of}
 use Rattle.table_cause.proofs.DefinitionPointLemmas.{at_none, is_at, mapped_found, such_found}

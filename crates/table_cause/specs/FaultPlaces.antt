@@ -12,8 +12,8 @@ use Rattle.table_cause.specs.declared.line_point.LinePoint.{LinePoint}
 use Rattle.ruleset_text.specs.declared.entry_form.NamedCondition.{NamedCondition}
 use Rattle.ruleset_text.specs.declared.keyword.Keyword.TheVariants as keyword
 use Rattle.ruleset_text.specs.Entries.{EntryForm, Mapped}
+use Rattle.ruleset_text.specs.DefinitionReading.{line_read}
 use Rattle.ruleset_text.specs.EntrySteps.{entry_read}
-use Rattle.table_cause.specs.DefinitionWrongSteps.{wrong_definition}
 use Rattle.ruleset_text.specs.Lexemes.{is_blank}
 use Rattle.table_cause.specs.LineNames.{definition_points, second_place, unknown_name, unknown_set}
 use Rattle.table_cause.specs.LinePoints.{line_points}
@@ -51,9 +51,13 @@ abbrev pub as_fault : WrongPlace → FaultPlace
 as_fault (wrong.Lexeme place len) = Lexeme place len
 as_fault (wrong.End place) = End place
 
+-- where a line stops defining something; its sets may be any
+unfoldable pub definition_stop : List ℕ → Option FaultPlace
+definition_stop line = result_err (line_read [] (length line) (placed_lexemes line))
+
 -- the lexeme that can't stand there, or the end
 abbrev pub syntax_place : Version → List ℕ → Option FaultPlace
-syntax_place version line = if defines version line then option_map as_fault (wrong_definition line) else result_err (entry_read (parts_of version) line)
+syntax_place version line = if defines version line then definition_stop line else result_err (entry_read (parts_of version) line)
 
 -- ---- classes
 
@@ -143,8 +147,8 @@ unknown_place before line =
     option_map as_fault (unknown_name (names_defined keyword.Tag before) (names_defined keyword.Rule before) (placed_lexemes line))
 
 -- what is past a limit in a line, unless it defines nothing: then the limit is that of the text
-abbrev pub limit_if_whole : Option WrongPlace → List (List ℕ) → List ℕ → Option WrongPlace
-limit_if_whole (Some wrong) before line = None
+abbrev pub limit_if_whole : Option FaultPlace → List (List ℕ) → List ℕ → Option WrongPlace
+limit_if_whole (Some stop) before line = None
 limit_if_whole None before line = definition_limit before line
 
 -- of a line that is to define something: the name that none of the lines before has, or that one has; the first code point that is
@@ -153,7 +157,7 @@ abbrev pub definition_place : Properties → List (List ℕ) → TableFault → 
 definition_place properties before (tables.NoSuchName number) line = option_map as_fault (unknown_set (names_defined keyword.Set before) (placed_lexemes line))
 definition_place properties before (tables.SameName number) line = option_map as_fault (second_place (placed_lexemes line))
 definition_place properties before (tables.BadClass number) line = point_place properties (definition_points line)
-definition_place properties before (tables.Limit number) line = option_map as_fault (limit_if_whole (wrong_definition line) before line)
+definition_place properties before (tables.Limit number) line = option_map as_fault (limit_if_whole (definition_stop line) before line)
 definition_place properties before fault line = None
 
 -- of an entry or a range

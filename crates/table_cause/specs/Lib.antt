@@ -2,8 +2,7 @@
 pub mod ExpectedNames
 pub mod LineNames
 pub mod LinePoints
-pub mod WrongDefinitions
-pub mod DefinitionWrongSteps
+pub mod LineDefinitions
 pub mod PatternLimits
 pub mod PastLimits
 pub mod DefinitionPlaces

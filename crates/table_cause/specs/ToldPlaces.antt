@@ -1,26 +1,22 @@
 -- What the places are that are told of a faulty line.
-use Rattle.std.specs.Prelude.{◌≡◌, ◌⊎◌, ℕ, true, false, List, ◌∷◌, ◌++◌, IsTrue}
+use Rattle.std.specs.Prelude.{◌≡◌, ◌⊎◌, ℕ, true, false, List, [], ◌∷◌, ◌++◌, length, IsTrue}
 use Rattle.std.specs.List.{AllByRecursion}
-use Rattle.table_cause.specs.declared.entry_place.WrongPlace.TheVariants as wrong
-use Rattle.table_cause.specs.WrongDefinitions as definitions
+use Rattle.ruleset_text.specs.DefinitionOrder.{IsDefinitionLine}
+use Rattle.ruleset_text.specs.LineStops.{IsLineStop}
+use Rattle.ruleset_text.specs.PlacedLexemes.{placed_lexemes}
 use Rattle.table_cause.specs.declared.line_point.LinePoint.{LinePoint}
 use Rattle.ruleset_text.specs.EntryStops.{IsEntryStop}
 use Rattle.ruleset_text.specs.declared.fault.FaultPlace.{FaultPlace}
-use Rattle.ruleset_text.specs.declared.fault.FaultPlace.TheVariants.{Lexeme, End, Point}
+use Rattle.ruleset_text.specs.declared.fault.FaultPlace.TheVariants.{Point}
 use Rattle.variant_table.specs.declared.version.Version.{Version}
 use Rattle.table_cause.specs.FaultPlaces.{defines, is_bad_point}
 use Rattle.variant_table.specs.Forms.{parts_of}
 use Rattle.idn_class.specs.declared.properties.Properties.{Properties}
 
-abbrev pub IsDefinitionPlace : List ℕ → FaultPlace → Type 0
-IsDefinitionPlace line (Lexeme place len) = definitions.IsWrongPlace line (wrong.Lexeme place len)
-IsDefinitionPlace line (End place) = definitions.IsWrongPlace line (wrong.End place)
-IsDefinitionPlace line other = ⊥
-
--- no form of the version goes on with the lexeme, or no definition does; or each goes on, and the line ends
+-- no definition goes on with the lexeme, or no form of the version does; or some goes on, and the line ends
 abbrev pub IsSyntaxPlace : Version → List ℕ → FaultPlace → Type 0
 IsSyntaxPlace version line place =
-    ((defines version line ≡ true) × IsDefinitionPlace line place)
+    ((defines version line ≡ true) × IsLineStop (IsDefinitionLine []) (placed_lexemes line) (length line) place)
     ⊎ ((defines version line ≡ false) × IsEntryStop (parts_of version) line place)
 
 -- a code point of the line is bad, and none before it is

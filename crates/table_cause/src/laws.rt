@@ -11,13 +11,11 @@ ghost use Rattle.ruleset_text.specs.Lexemes.{lexemes};
 ghost use Rattle.ruleset_text.specs.declared.keyword.Keyword.TheVariants as keywords;
 ghost use Rattle.ruleset_text.specs.SetNames.{names_on, set_name};
 ghost use Rattle.table_cause.specs.DefinitionPlaces.{definition_limit, names_defined};
-ghost use Rattle.table_cause.specs.DefinitionWrongSteps.{wrong_definition};
 ghost use Rattle.table_cause.specs.LineNames.{definition_points, IsFirstLexeme, IsFirstUnknown, is_unknown, unknown_name, unknown_set};
 ghost use Rattle.table_cause.specs.PastLimits.{IsFirstPast, is_definition_past};
 ghost use Rattle.table_cause.specs.PatternLimits.{atoms_among, first_past, pattern_in};
 ghost use Rattle.ruleset_text.specs.PlacedLexemes.{Placed, placed_lexemes};
-ghost use Rattle.table_cause.specs.WrongDefinitions as definitions;
-ghost use Rattle.table_cause.specs.WrongDefinitions.{Define, definition_in};
+ghost use Rattle.table_cause.specs.LineDefinitions.{Define, definition_in};
 ghost use Rattle.ruleset_text.specs.EntryStops.{FitsNames};
 ghost use Rattle.table_cause.specs.declared.expected.Expected.TheVariants.{Nothing};
 ghost use Rattle.table_cause.specs.FaultPlaces.{class_place, definition_place, limit_place, point_place, syntax_place, unknown_place, variant_place};
@@ -49,13 +47,6 @@ pub fn places_are_told()
 /// Examples, which the definitions compute.
 pub fn definitions_compute_the_places()
     ensures { ExamplesOfPlaces }
-{}
-
-/// The place that is told of a line that defines nothing is the one that the grammar gives it. None is told of a line that defines
-/// something, however its sets are numbered, and of no other.
-pub fn wrong_definitions_are_told()
-    ensures place { (line : List ℕ) (place : WrongPlace) → (wrong_definition line ≡ Some place) ↔ definitions.IsWrongPlace line place }
-    ensures whole { (names : List (List ℕ)) (line : List ℕ) → is_some (wrong_definition line) ≡ not (is_some (definition_in names (lexemes line))) }
 {}
 
 /// The place that is told of a name is that of the first lexeme that names a set, a tag or a rule that is none of those given.

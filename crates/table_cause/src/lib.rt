@@ -2,7 +2,6 @@
 //! reading knows nothing of it.
 #![tactic(auto)]
 
-mod definition_place;
 mod entry_place;
 mod expected;
 pub mod laws;
@@ -12,7 +11,6 @@ mod lines_before;
 mod pattern_limit;
 mod place;
 
-pub use definition_place::wrong_definition;
 pub use entry_place::WrongPlace;
 pub use line_names::{defined_name, keyword_place, name_place, unknown_name, unknown_set};
 pub use line_point::{LinePoint, definition_points, line_points};

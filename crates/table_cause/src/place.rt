@@ -6,13 +6,11 @@ ghost use Rattle.ruleset_text.specs.Entries.{Mapped as Form};
 ghost use Rattle.ruleset_text.specs.EntryForms.{entry_form, mapped as form_of};
 ghost use Rattle.idn_text.specs.Lines.{raw_lines};
 ghost use Rattle.variant_table.specs.Conditions.{is_same_kind};
-ghost use Rattle.table_cause.specs.DefinitionWrongSteps.{wrong_definition as wrong_in};
 ghost use Rattle.table_cause.specs.FaultPlaces as places;
 ghost use Rattle.table_cause.specs.FaultPlaces.{is_bad_point as is_bad, line_at as line_of};
 ghost use Rattle.variant_table.specs.Ranges.{range_size};
 ghost use Rattle.table_cause.specs.inner.PlaceSteps.{forms_of, lines_of};
 
-use crate::definition_place::wrong_definition;
 use crate::entry_place::WrongPlace;
 use crate::line_names::{name_place, unknown_name, unknown_set};
 use crate::line_point::{LinePoint, definition_points, line_points};
@@ -20,7 +18,8 @@ use crate::lines_before::LinesBefore;
 use idn_class::{Class, Properties, class_of_by};
 use idn_text::{TextLines, without_carriage_return};
 use ruleset_text::{
-    EntryForm, FaultPlace, Keyword, Mapped, NamedCondition, ReadError, read_entry, without_blanks,
+    EntryForm, FaultPlace, Keyword, Mapped, NamedCondition, ReadError, definition_on, read_entry,
+    without_blanks,
 };
 use std::alloc::{AllocError, Global};
 use variant_table::{Notation, REPLACEMENT_LIMIT, SEQUENCE_LIMIT, TableFault, Version, head_of};
@@ -150,9 +149,21 @@ fn syntax_place(
     ensures { IfOk result (λ place. place ≡ places.syntax_place version line.now) }
 {
     if defines(version, line) {
-        return Ok(as_fault(wrong_definition(line)));
+        return definition_stop(alloc, line);
     }
     match read_entry(alloc, version.entry_parts(), line) {
+        Ok(_) => Ok(None),
+        Err(ReadError::Stop(place)) => Ok(Some(place)),
+        Err(ReadError::Memory) => Err(AllocError),
+    }
+}
+
+/// Where a line stops defining something. Its sets may be any.
+#[tactic(auto, unfolding(crate::specs::FaultPlaces::definition_stop))]
+fn definition_stop(alloc: Global, line: &[u8]) -> Result<Option<FaultPlace>, AllocError>
+    ensures { IfOk result (λ place. place ≡ places.definition_stop line.now) }
+{
+    match definition_on(alloc, &[], line) {
         Ok(_) => Ok(None),
         Err(ReadError::Stop(place)) => Ok(Some(place)),
         Err(ReadError::Memory) => Err(AllocError),
@@ -181,18 +192,12 @@ fn definition_place(
             &definition_points(alloc, line)?,
             properties,
         ),
-        TableFault::Limit { line: _ } => Ok(as_fault(limit_if_whole(before, line))),
+        TableFault::Limit { line: _ } => match definition_stop(alloc, line)? {
+            // The line defines nothing: the limit is that of the text.
+            Some(_) => Ok(None),
+            None => Ok(as_fault(before.limit_place(line))),
+        },
         _ => Ok(None),
-    }
-}
-
-/// What is past a limit in a line, unless it defines nothing: then the limit is that of the text.
-fn limit_if_whole(before: &LinesBefore<'_>, line: &[u8]) -> Option<WrongPlace>
-    ensures { result ≡ places.limit_if_whole (wrong_in line.now) (lines_of before.now) line.now }
-{
-    match wrong_definition(line) {
-        Some(_) => None,
-        None => before.limit_place(line),
     }
 }
 

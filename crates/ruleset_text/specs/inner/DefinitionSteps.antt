@@ -1,9 +1,11 @@
 -- What each step of reading a definition gives.
-use Rattle.std.specs.Prelude.{◌≡◌, ℕ, ◌<◌, IsTrue, false, Option, Some, None, Result, Ok, Err, List, length}
+use Rattle.std.specs.Prelude.{◌≡◌, ℕ, ◌<◌, IsTrue, false, Result, Ok, Err, List, length}
 use Rattle.label_patterns.specs.Sets.{Rise}
 use Rattle.ruleset_text.specs.declared.definition_line.DefinitionLine.{DefinitionLine}
 use Rattle.ruleset_text.specs.declared.fault.DefinitionFault.{DefinitionFault}
 use Rattle.ruleset_text.specs.declared.fault.DefinitionFault.TheVariants as fault
+use Rattle.ruleset_text.specs.declared.fault.FaultPlace.{FaultPlace}
+use Rattle.ruleset_text.specs.declared.fault.ReadError.{ReadError}
 use Rattle.ruleset_text.specs.Signs as sign
 use Rattle.ruleset_text.specs.Canonical.{definition_text}
 use Rattle.ruleset_text.specs.Definition as definition
@@ -11,13 +13,14 @@ use Rattle.ruleset_text.specs.Definition.{Definition}
 use Rattle.ruleset_text.specs.Definitions.{Definitions}
 use Rattle.ruleset_text.specs.DefinitionTrees as trees
 use Rattle.ruleset_text.specs.Grammar.{Is, Whole}
+use Rattle.ruleset_text.specs.LineStops.{StopsAt}
 use Rattle.ruleset_text.specs.Names.{is_name}
 use Rattle.ruleset_text.specs.Rules.{has, is_rule}
 
--- the line of the definition that was read, if one was: the definition, and how many bytes its canonical line has
-abbrev pub IsLineOf : List (List ℕ) → Option Definition → Option DefinitionLine → Type 0
-IsLineOf names read None = read ≡ None
-IsLineOf names read (Some line) = (read ≡ Some (trees.definition line.definition)) × (line.len ≡ length (definition_text names (trees.definition line.definition)))
+-- the line of the definition that was read, or the place where the line stops: the definition, and how many bytes its canonical line has
+abbrev pub GivesLine : List (List ℕ) → Result DefinitionLine ReadError → Result Definition FaultPlace → Type 0
+GivesLine names (Ok line) read = (read ≡ Ok (trees.definition line.definition)) × (line.len ≡ length (definition_text names (trees.definition line.definition)))
+GivesLine names (Err error) read = StopsAt error read
 
 -- the call gives what reading gives; or its fault, unless memory was refused
 abbrev pub Leaves : {X : Type 0} → Result X DefinitionFault → Definitions → Result Definitions DefinitionFault → Type 0

@@ -1,14 +1,16 @@
-use Rattle.std.proofs.Common.{length}
+use Rattle.std.proofs.Common.{◌≡◌, length}
+use Rattle.ruleset_text.specs.DefinitionReading.{spans_step, spans_ended, spans_read}
 use Rattle.ruleset_text.specs.inner.Rising.{IsRising}
-use Rattle.ruleset_text.proofs.SpanLemmas.{Reads}
+use Rattle.ruleset_text.specs.LineStops.{read_from}
+use Rattle.ruleset_text.specs.Spans.{state}
 use Rattle.ruleset_text.proofs.spans.read_spans.Given as goal
 
--- what is left to read, after the spans so far, which rise
-abbrev pub invariant-loop-lexeme : goal.invariant-loop-lexeme
-invariant-loop-lexeme l = record {
-  reads : Reads l.text l.spans.items l.held l.rest;
+-- what is read is what the spans so far lead to, which rise, over the lexemes that are left
+abbrev pub invariant-loop-place : goal.invariant-loop-place
+invariant-loop-place l = record {
+  read : read_from spans_step spans_ended l.end (state l.spans.items l.held) l.lexemes ≡ spans_read l.end l.fn.lexemes;
   rising : IsRising l.spans.items l.held;
 }
 
-abbrev pub decreases-loop-lexeme : goal.decreases-loop-lexeme
-decreases-loop-lexeme l = length l.rest
+abbrev pub decreases-loop-place : goal.decreases-loop-place
+decreases-loop-place l = length l.lexemes
