@@ -3,11 +3,11 @@
 
 It needs Python 3.10 or later and the program idn2. FILE is a Label Generation Ruleset in XML (RFC 7940), or a table in
 the line format of RFC 4290. What is printed is a ruleset in the notation of docs/NOTATION.md, which says exactly what FILE
-says; with --version 1 or 2 a table that accepts no label that FILE refuses, unless --accept-more is given. docs/CONVERSION.md
-says what is left out and what is refused.
+says; with --version 1 or 2 a table that accepts no label that FILE refuses, unless --accept-more is given. It is verified
+before it is printed. docs/CONVERSION.md says how, what is left out and what is refused.
 
-Status: 0 the table is printed; 1 FILE can't be said as a table, and nothing is printed; 2 the options, FILE or idn2
-can't be used.
+Status: 0 the table is printed; 1 FILE can't be said as a table, or what was made says something else, and nothing is
+printed; 2 the options, FILE or idn2 can't be used.
 """
 
 import sys

@@ -9,8 +9,10 @@ import functools
 import io
 import itertools
 import os
+import pathlib
 import random
 import sys
+from unittest import mock
 
 from evaluator_rows import (ANSWERS, COUNTED_LABELS, COUNTS, DATA, DOCUMENTS, LETTERS, PROPERTIES, RULES, SETS,
                             SPELLINGS, TAGGED, char, characters, literal, rule, ruleset)
@@ -21,7 +23,7 @@ from rich_ruleset import RichRuleset
 sys.path += [os.path.join(ROOT, "conformance"), os.path.join(ROOT, "tables")]
 
 import verified as command
-from rfc7940 import verified
+from rfc7940 import unicode_properties, verified
 from rfc7940.drawn_labels import DrawnLabels, every_variant
 from rfc7940.reader import read
 from rfc7940.rules import AllOf, Anchor, AnyOf, End, Literal, OneOf, Start, Times
@@ -81,6 +83,22 @@ def properties_are_those_of_unicode(folder):
         assert all(has(ord(point)) for point in members) and not any(has(ord(point)) for point in others), name
     newer = char("\U0010FFFD") + char("\u0378")
     refuses(ruleset(newer, '<class name="c" property="gc:Ll"/>'), 4, "the Unicode data here don't know 0378")
+
+
+def python_tells_some_without_the_files_of_unicode(folder):
+    """Three properties, by short names of their values; any other is refused with a remedy."""
+    told = {"gc:Ll", "gc:L", "General_Category:Mn", "ccc:9", "ccc:230", "ccc:0", "bc:AN", "bc:L", "gc:Cn"}
+    test_of.cache_clear()
+    with mock.patch.object(unicode_properties, "FOLDER", pathlib.Path(folder) / "missing"):
+        for name, (members, others) in PROPERTIES.items():
+            try:
+                has = test_of(name)
+                # Python's data don't tell what unassigned code points would be.
+                assert name in told | {"bc:R"} and all(map(has, map(ord, members.replace("\u0590", "")))), name
+                assert not any(map(has, map(ord, others))), name
+            except unicode_properties.NoProperty as error:
+                assert name not in told and "install Debian's package unicode-data" in str(error), name
+    test_of.cache_clear()
 
 
 def refuses(text, line, reason):
@@ -438,6 +456,7 @@ TESTS = [
     answers_as_worked_out,
     classes_and_counts_match,
     properties_are_those_of_unicode,
+    python_tells_some_without_the_files_of_unicode,
     refuses_with_the_line,
     reads_each_spelling_of_xml,
     grid_finds_what_the_definitions_find,

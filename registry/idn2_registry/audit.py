@@ -114,11 +114,12 @@ def findings(program: Program, admitting: Sequence[Table], zone: Table, holdings
     invalid: Refused = {}
     for result in tested:
         invalid |= json.loads(result)
-    lines = [label.encode() for label in holdings.labels if label not in invalid]
-    task = AuditTask(program, tuple(admitting), zone, b"".join(line + b"\n" for line in lines))
+    lines = [label.encode() for label in holdings.labels if label not in invalid] if invalid else holdings.lines
+    parts = parts_of(lines)
+    task = AuditTask(program, tuple(admitting), zone, b"".join(parts))
     state = [program.state, zone.data, *(table.data for table in admitting)]
     pairs: Pairs = []
-    for result in results(means, name, task, parts_of(lines), state):
+    for result in results(means, name, task, parts, state):
         told = json.loads(result)
         invalid |= told["invalid"]
         pairs += [(first, second) for first, second in told["pairs"]]

@@ -3,6 +3,7 @@
 import json
 from collections.abc import Iterable
 from dataclasses import dataclass, field
+from functools import cached_property
 
 from .answers import RegisteredLabel
 from .faults import Unknown
@@ -20,14 +21,10 @@ class Holdings:
     @classmethod
     def read(cls, register: Register) -> "Holdings":
         """All of a register."""
-        holdings = cls()
-        for label, holder in register.rows():
-            holdings.labels.append(label)
-            if holder is not None:
-                holdings.holders[label] = holder
-        return holdings
+        rows = list(register.rows())
+        return cls([label for label, _ in rows], {label: holder for label, holder in rows if holder is not None})
 
-    @property
+    @cached_property
     def lines(self) -> list[bytes]:
         """The labels as lines."""
         return [label.encode() for label in self.labels]

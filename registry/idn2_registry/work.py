@@ -38,7 +38,7 @@ class Means:
 
 def parts_of(lines: Sequence[bytes], size: int = PART_LINES) -> list[bytes]:
     """The lines in parts, each as one text."""
-    return [b"".join(line + b"\n" for line in lines[start:start + size]) for start in range(0, len(lines), size)]
+    return [b"\n".join([*lines[start:start + size], b""]) for start in range(0, len(lines), size)]
 
 
 class Progress:

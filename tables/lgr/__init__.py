@@ -21,5 +21,6 @@ definitions        the tags, sets, rules and demands that are written
 exact              makes the definitions and entries of a Ruleset, and tells what can't be said (losses)
 limits             how much of each there may be; ruleset_text: the text
 
+verification       whether what was made says what the file says, by rfc7940/, which shares nothing with these
 command            the options, the messages and the status
 """
