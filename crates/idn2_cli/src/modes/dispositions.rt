@@ -2,7 +2,7 @@
 
 ghost use Rattle.std.specs.Prelude.{◌≡◌, ◌≤◌, length, IfOk, Some};
 ghost use Rattle.valid_labels.specs.Segmentations.{HasSegmentation};
-ghost use Rattle.idn2_cli.specs.Answers.{allocation};
+ghost use Rattle.idn2_answers.specs.Answers.{allocation};
 ghost use Rattle.idn2_cli.specs.inner.Dispositions.{AreOfTable, AreOfLabel, field_by};
 
 use crate::modes::allocations::{Allocations, SubTables};
