@@ -5,7 +5,7 @@ use Rattle.idn_text.specs.declared.refusal.Refusal.{Refusal}
 use Rattle.idn_text.specs.declared.refusal.Refusal.TheVariants.{NotInTable, NotValid}
 use Rattle.variant_table.specs.Entries.{TableValue}
 use Rattle.variant_table.specs.WellFormed.{IsTable}
-use Rattle.valid_labels.specs.Segmentations.{IsMadeOfSources}
+use Rattle.variant_table.specs.Segmentations.{IsMadeOfSources}
 use Rattle.valid_labels.specs.Tests.{is_admitted, is_made_of_sources}
 use Rattle.valid_labels.specs.Validity.{IsAdmitted, IsSound}
 use Rattle.valid_labels.proofs.SegmentationLemmas.{made-from_segmentation}

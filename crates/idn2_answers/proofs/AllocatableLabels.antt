@@ -7,7 +7,7 @@ use Rattle.std.proofs.lemmas.Bool.{cases_lt}
 use Rattle.std.proofs.lemmas.Slice.Eq.{bytes_eq-Decides}
 use Rattle.variant_table.specs.Entries.{TableValue}
 use Rattle.variant_table.specs.WellFormed.{IsWellFormed}
-use Rattle.valid_labels.specs.Segmentations.{HasSegmentation}
+use Rattle.variant_table.specs.Segmentations.{HasSegmentation}
 use Rattle.variant_list.specs.declared.part.Part.{Part}
 use Rattle.variant_list.specs.declared.part.Part.TheVariants.{Whole, Unblocked, Tagged}
 use Rattle.variant_list.specs.Spelled.{part_spelled}

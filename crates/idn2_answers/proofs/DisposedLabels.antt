@@ -9,7 +9,7 @@ use Rattle.variant_table.specs.WellFormed.{IsWellFormed}
 use Rattle.variant_table.proofs.UnblockedLemmas.{unblocked_none}
 use Rattle.variant_list.proofs.NetLemmas.{Spells-itself}
 use Rattle.idn2_answers.proofs.AllocatableLabels.{allocatable-test, true-or}
-use Rattle.valid_labels.specs.Segmentations.{HasSegmentation}
+use Rattle.variant_table.specs.Segmentations.{HasSegmentation}
 use Rattle.variant_list.specs.declared.part.Part.TheVariants.{Unblocked}
 use Rattle.variant_list.specs.Laws.{without_blocked}
 use Rattle.variant_list.specs.Spelling.{PartSpells, Spells}

@@ -32,7 +32,7 @@ use Rattle.answer_json.specs.declared.block.Disposition.TheVariants.{Allocatable
 use Rattle.idn2_refusals.specs.Requests.{requested_label, requested_text}
 use Rattle.idn2_answers.specs.Said.{Said, LookedUp, Registered, Decoded, Listed, BlockEnd, Least}
 use Rattle.variant_list.specs.Labels.{label_cmp, IsBelow, IsListOf}
-use Rattle.valid_labels.specs.Segmentations.{IsMadeOfSources}
+use Rattle.variant_table.specs.Segmentations.{IsMadeOfSources}
 use Rattle.variant_list.specs.Spelling.{PartSpells, Spells}
 use Rattle.variant_list.specs.Tested.{tested_among}
 use Rattle.variant_list.specs.Variants.{candidates_among, variants_among}

@@ -28,7 +28,7 @@ use Rattle.idn2_cli.specs.inner.Dispositions.{AreOfLabel, block_by, field_by}
 use Rattle.idn2_output.specs.Pieces.{outputs}
 use Rattle.idn2_cli.specs.declared.modes.dispositions.Dispositions.{Dispositions}
 use Rattle.idn2_cli.specs.declared.modes.dispositions.Dispositions.TheVariants.{Unstated, AllAllocatable, BySpelling}
-use Rattle.valid_labels.proofs.ListLemmas.{all-members}
+use Rattle.variant_table.proofs.MemberLists.{all-members}
 
 -- two tests of one fact
 same-test : {P : Type 0} (a b : Bool) → (a ≡ true → P) × (P → a ≡ true) → (b ≡ true → P) × (P → b ≡ true) → a ≡ b

@@ -23,7 +23,7 @@ use Rattle.idn2_cli.specs.inner.Dispositions.{block_by}
 use Rattle.idn2_cli.proofs.BlockSteps.{get_if_given, limit_from, lines_to}
 use Rattle.idn2_answers.proofs.FilterLemmas.{IsSound, accepted-short}
 use Rattle.idn2_cli.proofs.StopSteps.{IsAbove, from_here, from_here_if, stop_from, variants_ahead}
-use Rattle.valid_labels.proofs.ListLemmas.{all-members}
+use Rattle.variant_table.proofs.MemberLists.{all-members}
 
 -- ---- the block
 

@@ -34,7 +34,7 @@ use Rattle.idn_cause.proofs.QueryLaws.{query_cause-is, query_fault-has_cause}
 use Rattle.variant_table.specs.Entries.{TableValue}
 use Rattle.variant_table.specs.WellFormed.{IsWellFormed}
 use Rattle.valid_labels.specs.Furthest.{furthest}
-use Rattle.valid_labels.specs.Segmentations.{IsMadeOfSources}
+use Rattle.variant_table.specs.Segmentations.{IsMadeOfSources}
 use Rattle.valid_labels.specs.Causes as validity_causes
 use Rattle.valid_labels.specs.Validity.{IsAdmitted, IsSound}
 use Rattle.valid_labels.proofs.CauseLawLemmas.{cause-is-exact}

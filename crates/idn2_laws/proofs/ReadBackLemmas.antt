@@ -37,7 +37,7 @@ use Rattle.variant_table.specs.Entries.{TableValue}
 use Rattle.variant_table.specs.WellFormed.{IsWellFormed}
 use Rattle.valid_labels.specs.Tests.{is_admitted, is_made_of_sources}
 use Rattle.valid_labels.specs.Validity.{IsSound}
-use Rattle.valid_labels.proofs.ListLemmas.{all-members}
+use Rattle.variant_table.proofs.MemberLists.{all-members}
 use Rattle.variant_list.specs.Beginnings.{has_hope, is_new, shortest_hopeless}
 use Rattle.variant_list.specs.Jumps.{candidates_from}
 use Rattle.variant_list.specs.Labels.{label_cmp}

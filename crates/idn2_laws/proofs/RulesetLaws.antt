@@ -16,7 +16,7 @@ use Rattle.variant_table.specs.WellFormed.{AreOfVersion}
 use Rattle.variant_table.proofs.RulesetLemmas.{as_three}
 use Rattle.variant_table.specs.Entries.{Entry, TableValue, table_of}
 use Rattle.valid_labels.specs.Furthest.{furthest}
-use Rattle.valid_labels.specs.Segmentations.{IsMadeOfSources}
+use Rattle.variant_table.specs.Segmentations.{IsMadeOfSources}
 use Rattle.valid_labels.specs.Validity.{IsAdmitted}
 use Rattle.valid_labels.proofs.NothingLemmas.{older-asks_nothing}
 use Rattle.variant_list.specs.declared.part.Part.{Part}

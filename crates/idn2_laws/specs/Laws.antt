@@ -9,7 +9,7 @@ use Rattle.variant_table.specs.declared.version.Version.TheVariants.{One}
 use Rattle.variant_table.specs.Entries.{TableValue, has_blocked}
 use Rattle.variant_table.specs.WellFormed.{IsWellFormed}
 use Rattle.valid_labels.specs.Furthest.{IsFurthest}
-use Rattle.valid_labels.specs.Segmentations.{HasSegmentation}
+use Rattle.variant_table.specs.Segmentations.{HasSegmentation}
 use Rattle.variant_list.specs.declared.part.Part.TheVariants.{Unblocked}
 use Rattle.variant_list.specs.Spelling.{PartSpells, Spells}
 use Rattle.answer_json.specs.declared.block.Disposition.TheVariants.{Allocatable}

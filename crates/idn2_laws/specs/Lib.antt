@@ -4,4 +4,5 @@ pub mod ReadBack
 pub mod Laws
 pub mod ListingLaws
 pub mod Examples
+pub mod ListingExamples
 pub mod CauseExamples

@@ -13,7 +13,8 @@ use Rattle.variant_table.specs.Gaps.{gaps_of}
 use Rattle.variant_table.specs.Texts.{IsTextOf}
 use Rattle.variant_table.specs.Versions.{is_version_line}
 use Rattle.variant_table.specs.WellFormed.{IsTable}
-use Rattle.valid_labels.specs.Validity.{AsksNothing, IsAdmitted}
+use Rattle.valid_labels.specs.Validity.{AsksNothing, IsAdmitted, IsSound, IsValid}
+use Rattle.variant_list.specs.Spelling.{Spells}
 use Rattle.variant_list.specs.Labels.{IsListOf}
 use Rattle.variant_list.specs.MutualLaws.{IsMutual}
 use Rattle.variant_list.specs.RulesetLaws.{as_ruleset}
@@ -59,3 +60,7 @@ pub record RulesetsSayTheSame : Type 0 where
 pub record NotValidIsNeverTold : Type 0 where
   pub listing : (o : Settings) (table : TableValue) (label : List ℕ) → AsksNothing table → ¬ IsListing o table label (Err NotValid)
   pub jump : (table : TableValue) (request : List ℕ) → AsksNothing table → ¬ IsJumpAnswer table request (Err NotValid)
+
+-- under a table that asks nothing what a label spells is valid
+abbrev pub SpelledAreValid : Type 0
+SpelledAreValid = (table : TableValue) (label v : List ℕ) → IsSound table → AsksNothing table → Spells table label v → IsValid table v

@@ -2,9 +2,10 @@
 ghost use Rattle.std.specs.Prelude.{ℕ, List};
 ghost use Rattle.idn2_answers.specs.Answers.{LineAnswer};
 ghost use Rattle.idn2_laws.specs.Laws.{CausesAreTold, DispositionsAreTold, FormsSayTheSame};
-ghost use Rattle.idn2_laws.specs.ListingLaws.{AdmittedAreListed, ListedAreMutual, NotValidIsNeverTold, RulesetsSayTheSame};
+ghost use Rattle.idn2_laws.specs.ListingLaws.{AdmittedAreListed, ListedAreMutual, NotValidIsNeverTold, RulesetsSayTheSame, SpelledAreValid};
 ghost use Rattle.idn2_laws.specs.LineCauses.{RefusalsAreExplained};
 ghost use Rattle.idn2_laws.specs.ReadBack.{FindingsAreReadBack, RefusalsAreReadBack, RegisteredFaultsAreReadBack, SaidIsReadBack, TableFaultsAreReadBack};
+ghost use Rattle.idn2_laws.specs.ListingExamples.{ListingsOfExamples};
 ghost use Rattle.idn2_laws.specs.CauseExamples.{ExamplesOfCauses};
 ghost use Rattle.idn2_laws.specs.Examples.{ExamplesOfAllocations, ExamplesOfARun, ExamplesOfBlocks, ExamplesOfLines, ExamplesOfRefusals, ExamplesOfTranscripts};
 
@@ -32,6 +33,11 @@ pub fn rulesets_say_the_same()
 /// Where a table asks nothing of its labels, none is refused as not valid.
 pub fn not_valid_is_never_told()
     ensures { NotValidIsNeverTold }
+{}
+
+/// What a label spells is valid where the table asks nothing.
+pub fn spelled_labels_are_valid()
+    ensures { SpelledAreValid }
 {}
 
 /// What the message of a refused line goes on with.
@@ -78,4 +84,5 @@ pub fn examples_hold()
     ensures allocations { ExamplesOfAllocations }
     ensures refusals { ExamplesOfRefusals }
     ensures transcripts { ExamplesOfTranscripts }
+    ensures listings { ListingsOfExamples }
 {}

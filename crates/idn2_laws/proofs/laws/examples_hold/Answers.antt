@@ -57,3 +57,20 @@ returns-clause-refusals c = record {
 
 pub returns-clause-transcripts : goal.returns-clause-transcripts
 returns-clause-transcripts c = transcripts
+
+pub returns-clause-listings : goal.returns-clause-listings
+returns-clause-listings c = record {
+  one_kind_tested = refl;
+  end_tested = refl;
+  barred_not_tested = refl;
+  sign_on_the_consonant = refl;
+  vowel_in_its_place = refl;
+  digits_of_one_kind = refl;
+  not_at_the_end = refl;
+  outside_within_the_label = refl;
+  after_a_in_a_variant = refl;
+  pieces_of_their_own = refl;
+  b_on_a = refl;
+  range_outside = refl;
+  range_outside_alone = refl;
+}

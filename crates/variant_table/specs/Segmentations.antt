@@ -4,7 +4,7 @@ use Rattle.std.specs.List.{flat_map, AllByRecursion}
 use Rattle.label_patterns.specs.Patterns.{Pattern}
 use Rattle.label_patterns.specs.Matches.{Seen}
 use Rattle.label_patterns.specs.Conditions.{ConditionHolds}
-use Rattle.variant_table.specs.Entries.{Entry, TableValue}
+use Rattle.variant_table.specs.Entries.{Entry, TableValue, replacements}
 
 -- entries of the table, none of them outside, whose sources, joined, are the label
 pub record AreJoined (table : TableValue) (segmentation : List Entry) (label : List ℕ) : Type 0 where
@@ -45,3 +45,8 @@ inside_of entries = filter (λ e. not e.outside) entries
 -- no source has a condition
 abbrev pub HasNoConditions : TableValue → Type 0
 HasNoConditions table = AllByRecursion (λ e. e.condition ≡ None) table.entries
+
+-- the label is a joining of sources and variants of the table
+abbrev pub IsMadeOfReplacements : TableValue → List ℕ → Type 0
+IsMadeOfReplacements table label =
+    (parts : List (List ℕ)) × AllByRecursion (Contains (flat_map replacements table.entries)) parts × (flat_map (λ s. s) parts ≡ label)
