@@ -55,7 +55,7 @@ pub(crate) type RuleName = ArrayVec<u8, 32>;
 
 /// Why a line is refused. Places, labels and demands are counted from 0.
 #[derive(Drop)]
-pub(crate) enum LineCause {
+pub enum LineCause {
     /// The place of the first byte that no UTF-8 goes on with, and the byte.
     Byte(usize, u8),
     /// The line is too long.

@@ -3,19 +3,19 @@
 
 mod cause;
 mod cause_text;
+mod closing;
 mod details;
 mod fault_cause;
 mod message;
 mod refusing;
 mod registered;
 mod registered_cause;
-mod report;
 mod request;
 mod table;
 
-pub use cause::Explaining;
+pub use cause::{Explaining, LineCause};
+pub use closing::report;
 pub use refusing::refuse;
 pub use registered::refuse_registered;
-pub use report::report;
 pub use request::{label_of_request, parts_of};
 pub use table::refuse_table;

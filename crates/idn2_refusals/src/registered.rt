@@ -8,10 +8,10 @@ ghost use Rattle.idn2_refusals.specs.Messages.{registered_message};
 ghost use Rattle.idn2_refusals.specs.Reports.{TellsUnreadLine, TellsWrong, TellsWrongLine};
 
 use crate::cause::LineCause;
+use crate::closing::report;
 use crate::details::details_of_refusal;
 use crate::message::{explained_message, registered_message};
 use crate::registered_cause::cause_if_wanted;
-use crate::report::report;
 use answer_json::MAX_OBJECT_LEN;
 use idn_class::Properties;
 use idn_text::{Refusal, Sink, write_text};

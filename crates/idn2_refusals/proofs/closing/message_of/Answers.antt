@@ -1,5 +1,5 @@
 use Rattle.idn2_refusals.proofs.FaultLemmas.{memory-message, read-message, usage-message, write-message}
-use Rattle.idn2_refusals.proofs.report.message_of.Goals as goal
+use Rattle.idn2_refusals.proofs.closing.message_of.Goals as goal
 
 pub returns-in-ReadFault : goal.returns-in-ReadFault
 returns-in-ReadFault c = read-message c.args.refusal.now c.in-ReadFault.is
