@@ -258,7 +258,7 @@ def lists_each_form_of_a_cause(folder):
             told |= found
     listed = {(number, shown) for number, shown, _ in forms}
     assert listed - {NEVER_TOLD} == told and len({number for number, _ in listed}) == 23, listed ^ told
-    named = re.findall(r'codes ": ((?:not )?RFC 5892 2\.[^"]*|outside the profile)"', text_of("crates/idn2_cli/specs/CauseTexts.antt"))
+    named = re.findall(r'codes ": ((?:not )?RFC 5892 2\.[^"]*|outside the profile)"', text_of("crates/idn2_refusals/specs/CauseTexts.antt"))
     page = text_of("docs", "idn2.1")
     assert len(named) == 8 and all(f"B {each}\n" in page or f'BR "{each}" ' in page for each in named), named
 
@@ -499,7 +499,7 @@ def library_of(modules, crate):
 
 def take_methods(library, text):
     """The public methods of each type, and all of a trait."""
-    for head, name, body in re.findall(r"^(pub trait|impl\b[^{]*?) (\w+)(?:<[^{]*>|:[^{]*)? \{\n(.*?)^\}", text,
+    for head, name, body in re.findall(r"^(pub trait|impl\b[^{]*?) (\w+)(?:<[^{]*>|:[^{>]*)? \{\n(.*?)^\}", text,
                                        re.MULTILINE | re.DOTALL):
         if name in library.methods:
             library.methods[name] |= names_in(r"^    fn (\w+)" if head == "pub trait" else r"^    pub fn (\w+)", body)

@@ -1,5 +1,5 @@
 //! What ends the program outside a run: its refusal, and its cause, where causes are asked for.
-ghost use Rattle.idn2_cli.specs.Ends.{IsFault};
+ghost use Rattle.idn2_refusals.specs.Reports.{IsFault};
 
 use idn_text::{Device, Refusal, write_text};
 use idn2_cli::{Status, push_escaped, report};

@@ -25,14 +25,12 @@ use Rattle.variant_list.proofs.TestedLaws.{tested_are_listed}
 use Rattle.variant_list.proofs.VariantLists.{variants-AreVariants}
 use Rattle.idn2_options.specs.Settings.{Settings}
 use Rattle.idn_label.specs.Answers.{unless_fault}
-use Rattle.idn2_cli.specs.Answers.{Filter, filter_of, is_among, kept_to, unless_kept, variants_after, tested_after, stop_of, disposition, block, listing_answer, variants_answer}
-use Rattle.idn2_cli.specs.Answers.{IsAhead, IsKept, IsListed, IsTried, IsBlock, IsListing}
-use Rattle.idn2_cli.specs.Transcript.{IsCheck}
-use Rattle.idn2_cli.specs.Transcript.{check_findings}
-use Rattle.idn2_cli.proofs.DispositionLemmas.{disposition-IsDisposition}
-use Rattle.idn2_cli.proofs.FilterLemmas.{accepted-is, hope-is}
+use Rattle.idn2_answers.specs.Answers.{Filter, filter_of, is_among, kept_to, unless_kept, variants_after, tested_after, stop_of, disposition, block, listing_answer, variants_answer, IsAhead, IsKept, IsListed, IsTried, IsBlock, IsListing}
+use Rattle.idn2_answers.specs.Transcript.{IsCheck, check_findings}
+use Rattle.idn2_answers.proofs.DisposedLabels.{disposition-IsDisposition}
+use Rattle.idn2_answers.proofs.FilterLemmas.{accepted-is, hope-is}
 use Rattle.idn2_cli.proofs.SpelledLemmas.{spelled-replacements}
-use Rattle.idn2_cli.proofs.AdmittedLabels.{admitted-made, admitted_answer, admitted_or_refused, refused_answer}
+use Rattle.idn2_answers.proofs.AdmittedLabels.{admitted-made, admitted_answer, admitted_or_refused, refused_answer}
 use Rattle.variant_table.proofs.MemberLemmas.{Contains-none}
 
 -- what a label spells is valid where the table asks nothing

@@ -1,14 +1,14 @@
 -- The gaps of a table, as they are written.
-use Rattle.std.proofs.Common.{◌≡◌, ◌<◌, ◌⊎◌, inl, inr, ℕ, List, [], ◌∷◌, ◌++◌, All, map, length, get_or, Contains, refl, sym, ap, subst, ◌∙◌}
+use Rattle.std.proofs.Common.{◌≡◌, ◌<◌, ◌⊎◌, inl, inr, ℕ, List, [], ◌∷◌, ◌++◌, All, map, length, get_or, Contains, refl, sym, ap, subst, ◌∙◌, Vec}
 use Rattle.variant_table.specs.Entries.{Entry, sequences_in, replacements}
 use Rattle.variant_table.specs.WellFormed.{IsWellFormed, IsEntry, IsSequence}
-use Rattle.std.proofs.Common.{Vec}
 use Rattle.std.specs.declared.alloc.Global.{Global}
 use Rattle.std.proofs.lemmas.List.{get_or-map, length-map}
 use Rattle.variant_table.specs.Gaps.{IsGap, IsPair, AreGapsOf, gaps_of, pair_of, pairs_of}
 use Rattle.idn2_options.specs.declared.command_line.form.Form.{Form}
-use Rattle.idn2_cli.specs.Said.{Gap, Counted, finding_text}
-use Rattle.idn2_cli.specs.Transcript.{Piece, Output, check_findings, outputs}
+use Rattle.idn2_answers.specs.Said.{Gap, Counted, finding_text}
+use Rattle.idn2_output.specs.Pieces.{Piece, Output, outputs}
+use Rattle.idn2_answers.specs.Transcript.{check_findings}
 use Rattle.variant_table.proofs.MemberLemmas.{Contains-head, Contains-later}
 
 all_at : {X : Type 0} (P : X → Type 0) (xs : List X) (x : X) → All P xs → Contains xs x → P x

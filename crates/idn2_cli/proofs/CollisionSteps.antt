@@ -7,28 +7,25 @@ use Rattle.idn_class.specs.declared.properties.Properties.{Properties}
 use Rattle.idn_label.specs.FirstFault.{IsRegistrable}
 use Rattle.variant_list.specs.Labels.{IsRising}
 use Rattle.variant_list.specs.Positions.{Built}
-use Rattle.variant_list.proofs.RisingLists.{IsRising-filter, Contains-filter}
-use Rattle.variant_list.proofs.MutualLemmas.{has_variant-from, has_variant-is}
-use Rattle.variant_list.proofs.OrderLemmas.{IsRising-unique}
-use Rattle.variant_list.specs.Variants.{variants_among}
-use Rattle.variant_list.proofs.ListedLemmas.{variants-IsListed}
+use Rattle.variant_list.proofs.RisingLists.{IsRising-filter}
 use Rattle.registered_labels.specs.Registered.{AreRegistered}
 use Rattle.registered_labels.specs.Collisions.{Matching, SearchesAfter, collisions, collisions_ahead, is_spelled}
 use Rattle.registered_labels.proofs.ListedCollisions.{collisions-exactly}
 use Rattle.idn2_options.specs.Settings.{Settings, IsCount, IsWithinLimits, keeping}
-use Rattle.idn2_cli.specs.Transcript.{Piece, Output, outputs}
+use Rattle.idn2_output.specs.Pieces.{Piece, Output, outputs}
 use Rattle.answer_json.specs.declared.block.Disposition.{Disposition}
-use Rattle.idn2_cli.specs.Said.{Said, Listed, BlockEnd}
-use Rattle.idn2_cli.specs.Answers.{Filter, is_among, lesser_label, nth, nth_if_given, variants_after, block_to}
+use Rattle.idn2_answers.specs.Said.{Said, Listed, BlockEnd}
+use Rattle.idn2_answers.specs.Answers.{Filter, lesser_label, nth, nth_if_given, block_to}
+use Rattle.idn2_answers.proofs.KeptLabels.{kept-collisions}
 use Rattle.idn2_cli.specs.inner.Dispositions.{block_by}
-use Rattle.idn2_cli.specs.Ends.{Held, Writes}
-use Rattle.idn2_cli.specs.inner.Emitting.{Emits, StopsWithin}
+use Rattle.idn2_output.specs.Writing.{Held, Writes, Emits, StopsWithin}
 use Rattle.idn2_cli.specs.inner.LineAnswers.{reaches}
-use Rattle.idn2_cli.specs.declared.output.stop.Stop.{Stop}
-use Rattle.idn2_cli.proofs.BlockSteps.{lines_to, get_if_given, limit_from, stops_at_variant, stops_later, get-above, reaches-now, reaches-later, limit_from-later, add_none}
+use Rattle.idn2_output.specs.declared.stop.Stop.{Stop}
+use Rattle.idn2_cli.proofs.BlockSteps.{lines_to, get_if_given, limit_from, stops_at_variant, stops_later, reaches-now, reaches-later, limit_from-later, add_none}
+use Rattle.idn2_answers.proofs.LabelStops.{get-above}
 use Rattle.idn2_cli.proofs.ListingLemmas.{lines_to-none}
 use Rattle.idn2_cli.proofs.ListingProgress.{emits_after}
-use Rattle.idn2_cli.proofs.WrittenPieces.{writes_nothing, writes_join, stops_between}
+use Rattle.idn2_output.proofs.WrittenPieces.{writes_nothing, writes_join, stops_between}
 
 -- ---- the lines to come
 
@@ -81,26 +78,6 @@ no_try None n None = refl
 no_try None n (Some m) = refl
 no_try (Some v) n None = refl
 no_try (Some v) n (Some m) = refl
-
-module _ (properties : Properties) where
-  -- the variants that are registered are the collisions that the filter accepts
-  pub kept-collisions : (f : Filter) (o : Settings) (spelled labels : List (List ℕ)) → AreRegistered properties labels
-      → variants_after f (keeping (Some labels) o) spelled ≡ filter f.accepts (collisions spelled labels o.after)
-  kept-collisions f o spelled labels all =
-      let whole = variants_among f.accepts spelled o.after in
-      let are = variants-IsListed f.accepts spelled o.after in
-      let found = collisions-exactly properties spelled labels o.after all in
-      IsRising-unique (filter (is_among labels) whole) (filter f.accepts (collisions spelled labels o.after))
-      (IsRising-filter (is_among labels) whole are.rising)
-      (IsRising-filter f.accepts (collisions spelled labels o.after) found.rising)
-      (λ v h. let kept = (Contains-filter (is_among labels) whole v).0 h in
-      let listed = (are.members v).0 kept.1 in
-      let collides = (found.members v).1 (record { registered = has_variant-is labels v kept.0; spelled = listed.spelled; greater = listed.greater }) in
-      (Contains-filter f.accepts (collisions spelled labels o.after) v).1 (listed.accepted, collides))
-      (λ v h. let kept = (Contains-filter f.accepts (collisions spelled labels o.after) v).0 h in
-      let collides = (found.members v).0 kept.1 in
-      let listed = (are.members v).1 (record { accepted = kept.0; spelled = collides.spelled; greater = collides.greater }) in
-      (Contains-filter (is_among labels) whole v).1 (has_variant-from labels v collides.registered, listed))
 
 -- those that are still to come
 abbrev pub kept_ahead : Filter → Matching → List (List ℕ)

@@ -1,26 +1,17 @@
--- The disposition of a variant: whether it may be allocated.
-use Rattle.std.proofs.Common.{◌≡◌, ◌≢◌, inl, inr, ℕ, Bool, true, false, ◌&&◌, ◌↔◌, List, [], ◌∷◌, ◌++◌, Option, Some, None, map, length, refl, sym, ap, subst, ◌∙◌, if◌then◌else◌}
-use Rattle.std.specs.Prelude.{bytes_eq}
+-- The dispositions that a listing tells are those of the table.
+use Rattle.std.proofs.Common.{◌≡◌, inr, ℕ, Bool, true, false, ◌&&◌, List, [], ◌∷◌, ◌++◌, Option, Some, None, map, length, refl, sym, ap, ◌∙◌, if◌then◌else◌}
 use Rattle.std.specs.Ordering.{is_le}
 use Rattle.std.specs.List.{AllByRecursion, Contains, filter}
-use Rattle.std.proofs.lemmas.Slice.Eq.{bytes_eq-Decides}
 use Rattle.variant_table.specs.declared.version.Version.{Version}
-use Rattle.variant_table.specs.declared.version.Version.TheVariants.{One, Two, Three}
-use Rattle.variant_table.specs.Entries.{Entry, TableValue, has_blocked, unblocked}
+use Rattle.variant_table.specs.Entries.{TableValue}
 use Rattle.variant_table.specs.WellFormed.{IsWellFormed}
-use Rattle.variant_table.proofs.UnblockedLemmas.{unblocked_none}
 use Rattle.variant_list.specs.Labels.{label_cmp}
 use Rattle.variant_list.specs.Positions.{Built}
-use Rattle.variant_list.proofs.NetLemmas.{Spells-itself}
 use Rattle.idn2_cli.specs.inner.Allocations.{Allowed, allows}
-use Rattle.idn2_cli.proofs.AllocationLemmas.{allocatable-test, true-or}
-use Rattle.valid_labels.specs.Segmentations.{HasSegmentation}
+use Rattle.idn2_answers.proofs.AllocatableLabels.{allocatable-test}
 use Rattle.variant_list.specs.Spelled.{spelled}
 use Rattle.variant_list.specs.declared.part.Part.TheVariants.{Unblocked}
-use Rattle.variant_list.specs.Laws.{without_blocked}
-use Rattle.variant_list.specs.Spelling.{PartSpells, Spells}
 use Rattle.variant_list.proofs.ListedLemmas.{variants-IsListed}
-use Rattle.variant_list.proofs.PartLemmas.{PartSpells-Unblocked, Spells-of_part}
 use Rattle.variant_list.proofs.SpelledByLemmas.{spelled-Spells}
 use Rattle.idn2_options.specs.Settings.{Settings}
 use Rattle.variant_list.specs.Beginnings.{has_hope}
@@ -29,35 +20,21 @@ use Rattle.variant_list.specs.Variants.{candidates_among, fits_label, in_order, 
 use Rattle.variant_list.specs.Visited.{visited}
 use Rattle.variant_list.proofs.NetLabels.{among-in_order}
 use Rattle.variant_list.proofs.RisingLists.{Contains-filter}
-use Rattle.idn2_cli.specs.Answers.{Filter, block, block_to, filter_of, is_among, kept_to, lesser_label, nth, nth_if_given, unless_kept, IsAllocatable, is_allocatable, allocation, disposition_in, disposition, IsFieldOf, IsAllocation, IsDisposition, stop_of, up_to, variants_after}
+use Rattle.idn2_answers.specs.Answers.{Filter, block, block_to, filter_of, is_among, kept_to, lesser_label, nth, nth_if_given, unless_kept, is_allocatable, allocation, disposition_in, disposition, stop_of, up_to, variants_after}
 use Rattle.answer_json.specs.declared.block.Disposition.{Disposition}
-use Rattle.answer_json.specs.declared.block.Disposition.TheVariants.{Allocatable}
-use Rattle.idn2_cli.specs.Said.{Said, Listed, BlockEnd}
+use Rattle.idn2_answers.specs.Said.{Said, Listed, BlockEnd}
+use Rattle.idn2_answers.proofs.DisposedLabels.{all_unblocked, disposition-full_replacements}
 use Rattle.idn2_cli.specs.inner.Dispositions.{AreOfLabel, block_by, field_by}
-use Rattle.idn2_cli.specs.Transcript.{outputs}
+use Rattle.idn2_output.specs.Pieces.{outputs}
 use Rattle.idn2_cli.specs.declared.modes.dispositions.Dispositions.{Dispositions}
 use Rattle.idn2_cli.specs.declared.modes.dispositions.Dispositions.TheVariants.{Unstated, AllAllocatable, BySpelling}
-use Rattle.valid_labels.proofs.ListLemmas.{all-members}
+use Rattle.variant_table.proofs.MemberLists.{all-members}
 
 -- two tests of one fact
 same-test : {P : Type 0} (a b : Bool) → (a ≡ true → P) × (P → a ≡ true) → (b ≡ true → P) × (P → b ≡ true) → a ≡ b
 same-test true b h g = sym (g.1 (h.0 refl))
 same-test false true h g = h.1 (g.0 refl)
 same-test false false h g = refl
-
--- a version with marks has a disposition
-disposition-full_replacements : (n : Version) (b : Bool) → n ≢ One → disposition_in n b ≡ Some (allocation b)
-disposition-full_replacements One b other = absurd (other refl)
-disposition-full_replacements Two b other = refl
-disposition-full_replacements Three b other = refl
-
--- ---- what is not blocked
-
--- where no variant is blocked, all that is spelled may be
-all_unblocked : (table : TableValue) (label v : List ℕ) → unblocked table.entries ≡ table.entries → Spells table label v → PartSpells Unblocked table label v
-all_unblocked table label v none spells =
-    let same : without_blocked table ≡ table = ap (λ (entries : List Entry). record table { entries = entries }) none in
-    (PartSpells-Unblocked table label v).1 (subst (λ (t : TableValue). Spells t label v) (sym same) spells)
 
 -- ---- the field that is told is that of the table
 
@@ -121,40 +98,3 @@ pub written_block : (text : Said → List ℕ) (o : Settings) (table : TableValu
     → outputs text (block_by (filter_of o.properties table) (field_by told) o net.spelled) ≡ outputs text (block o table label)
 written_block text o table label net told well same is =
     ap (outputs text) (block-same (filter_of o.properties table) (field_by told) o net.spelled (spelled table label) same ∙ told-block o table label told well is)
-
--- ---- the field that computes is the field
-
-pub disposition-IsDisposition : (table : TableValue) (label v : List ℕ) → IsWellFormed table.entries → IsDisposition table label v (disposition table label v)
-disposition-IsDisposition table label v well = by_version table.version
-  where
-    tests : (is_allocatable table label v ≡ true) ↔ IsAllocatable table label v
-    tests = allocatable-test table label v well
-
-    by_test : (b : Bool) → is_allocatable table label v ≡ b → IsAllocation (IsAllocatable table label v) (Some (allocation b))
-    by_test true e = inl (tests.0 e, refl)
-    by_test false e = inr (λ may. (let bad : false ≡ true = sym e ∙ tests.1 may in cc), refl)
-
-    by_version : (n : Version) → IsFieldOf n (IsAllocatable table label v) (disposition_in n (is_allocatable table label v))
-    by_version One = refl
-    by_version Two = by_test (is_allocatable table label v) refl
-    by_version Three = by_test (is_allocatable table label v) refl
-
--- ---- laws
-
-pub disposition-one : (table : TableValue) (label v : List ℕ) → table.version ≡ One → disposition table label v ≡ None
-disposition-one table label v is = ap (λ (n : Version). disposition_in n (is_allocatable table label v)) is
-
-allocatable-field : (table : TableValue) (label v : List ℕ) → table.version ≢ One → is_allocatable table label v ≡ true → disposition table label v ≡ Some Allocatable
-allocatable-field table label v is told = disposition-full_replacements table.version (is_allocatable table label v) is ∙ ap (λ (b : Bool). Some (allocation b)) told
-
-pub disposition-itself : (table : TableValue) (label : List ℕ) → table.version ≢ One → disposition table label label ≡ Some Allocatable
-disposition-itself table label is = allocatable-field table label label is (true-or (bytes_eq label label) _ (inl ((bytes_eq-Decides label label).1 refl)))
-
-pub disposition-none_blocked : (table : TableValue) (label v : List ℕ) → table.version ≢ One → IsWellFormed table.entries → has_blocked table.entries ≡ false → table.definitions.tags ≡ [] → Spells table label v
-    → disposition table label v ≡ Some Allocatable
-disposition-none_blocked table label v is formed none untagged spells =
-    allocatable-field table label v is ((allocatable-test table label v formed).1 (inr (Unblocked, untagged, all_unblocked table label v (unblocked_none table.entries none) spells)))
-
-pub spelled_still : (table : TableValue) (label v : List ℕ) → HasSegmentation table label → IsAllocatable table label v → Spells table label v
-spelled_still table label v has (inl same) = subst (Spells table label) (sym same) (Spells-itself table label has)
-spelled_still table label v has (inr p) = Spells-of_part p.0 table label v p.2

@@ -25,23 +25,28 @@ use Rattle.variant_table.proofs.TextLemmas.{one_table, not_both}
 use Rattle.idn2_options.specs.Settings.{Settings}
 use Rattle.idn2_options.specs.declared.command_line.mode.Mode.{Mode}
 use Rattle.idn2_options.specs.declared.command_line.mode.Mode.TheVariants.{Variants}
-use Rattle.idn2_cli.specs.Answers.{LineAnswer, IsListing, line_answer, listing_answer, variants_answer}
+use Rattle.idn2_answers.specs.Answers.{LineAnswer, IsListing, line_answer, listing_answer, variants_answer}
 use Rattle.idn2_options.specs.declared.command_line.form.Form.{Form}
 use Rattle.idn2_options.specs.declared.command_line.form.Form.TheVariants.{Plain, Json}
-use Rattle.idn2_cli.specs.Said.{Said, said_text}
-use Rattle.idn2_cli.specs.Transcript.{Piece, Output, Message, Refuses, TableGiven, IsReadAs, IsTableOf, mode_pieces, line_pieces, lines_pieces, outputs, output_of, piece_in, pieces_for, refused_object}
-use Rattle.idn2_cli.specs.declared.refusals.cause.LineCause.{LineCause}
-use Rattle.idn2_cli.specs.Explained.{Explained, body_cause, explained_in}
-use Rattle.idn2_cli.specs.Ends.{Held, Job, reads_lines, Does, Ends, Stands, Stops, StopsAtLine, StopsUnread, IsCutBy, Closes, closing_status, mode_job, refusal_of}
+use Rattle.idn2_answers.specs.Said.{Said, said_text}
+use Rattle.idn2_output.specs.Pieces.{Piece, Output, Message, outputs, output_of}
+use Rattle.idn2_answers.specs.Transcript.{Refuses, TableGiven, IsReadAs, IsTableOf, mode_pieces, line_pieces, lines_pieces, piece_in, pieces_for, explained_in}
+use Rattle.idn2_refusals.specs.Messages.{refused_object}
+use Rattle.idn2_refusals.specs.declared.cause.LineCause.{LineCause}
+use Rattle.idn2_refusals.specs.Explained.{Explained, body_cause}
+use Rattle.idn2_output.specs.Writing.{Held, IsCutBy, refusal_of}
+use Rattle.idn2_cli.specs.Ends.{Job, reads_lines, Does, Ends, Stands, Stops, StopsAtLine, StopsUnread, Closes, mode_job}
+use Rattle.idn2_refusals.specs.Reports.{closing_status}
 use Rattle.idn2_cli.specs.Headline.{printed_of, printed_refusal, IsLineOf, IsPrintedFor, ArePrintedFor, PrintsListings}
-use Rattle.idn2_cli.specs.declared.output.status.Status.{Status}
-use Rattle.idn2_cli.specs.declared.output.status.Status.TheVariants.{Clean, Refused, Faulty, OutOfMemory}
-use Rattle.idn2_cli.specs.declared.output.stop.Stop.{Stop}
-use Rattle.idn2_cli.specs.declared.output.stop.Stop.TheVariants as stop
-use Rattle.idn2_cli.proofs.AdmittedLabels.{sound_table}
+use Rattle.idn2_output.specs.declared.status.Status.{Status}
+use Rattle.idn2_output.specs.declared.status.Status.TheVariants.{Clean, Refused, Faulty, OutOfMemory}
+use Rattle.idn2_output.specs.declared.stop.Stop.{Stop}
+use Rattle.idn2_output.specs.declared.stop.Stop.TheVariants as stop
+use Rattle.idn2_answers.proofs.AdmittedLabels.{sound_table}
 use Rattle.idn2_cli.proofs.BlockMembers.{variants_answer-IsListing}
-use Rattle.idn2_cli.proofs.TextAnswers.{text_answer-none, text_answer-points, chars-encoded, utf8-of_chars}
-use Rattle.idn2_cli.proofs.WrittenPieces.{output_of-append}
+use Rattle.idn2_cli.proofs.TextAnswers.{text_answer-none, text_answer-points}
+use Rattle.idn2_refusals.proofs.Utf8Bytes.{chars-encoded, utf8-of_chars}
+use Rattle.idn2_output.proofs.WrittenPieces.{output_of-append}
 
 -- ---- what is printed for a line
 

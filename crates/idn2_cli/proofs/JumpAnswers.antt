@@ -14,9 +14,10 @@ use Rattle.variant_list.specs.Spelling.{Spells}
 use Rattle.variant_list.specs.Jumps.{IsFrom, IsLeastFrom, IsCandidate, candidates_from}
 use Rattle.variant_list.proofs.FromLemmas.{candidates_from-IsListOf}
 use Rattle.variant_list.proofs.ListedLemmas.{above_first}
-use Rattle.idn2_cli.specs.Said.{Least}
-use Rattle.idn2_cli.specs.Answers.{IsJump, IsLeast, IsJumpAnswer, jump_answer, least_answer, requested_label, requested_text}
-use Rattle.idn2_cli.proofs.AdmittedLabels.{admitted-made, admitted_answer, admitted_or_refused, refused_answer}
+use Rattle.idn2_answers.specs.Said.{Least}
+use Rattle.idn2_answers.specs.Answers.{IsJump, IsLeast, IsJumpAnswer, jump_answer, least_answer}
+use Rattle.idn2_refusals.specs.Requests.{requested_label, requested_text}
+use Rattle.idn2_answers.proofs.AdmittedLabels.{admitted-made, admitted_answer, admitted_or_refused, refused_answer}
 use Rattle.variant_table.proofs.MemberLemmas.{Contains-head, Contains-none, Contains-cases}
 
 -- the first of the candidates from a text on is the least

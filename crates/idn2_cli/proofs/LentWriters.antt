@@ -2,11 +2,12 @@
 use Rattle.std.proofs.Common.{◌≡◌, List, Result, Ok, Err, inl, inr, refl, ap, subst, sym, ◌∙◌}
 use Rattle.idn_text.specs.Reading.{Reading}
 use Rattle.idn_text.specs.Writers.{Writer}
-use Rattle.idn2_cli.specs.Transcript.{Piece}
-use Rattle.idn2_cli.specs.Ends.{Held, TakesPieces, Writes, held, WritesUntil, Job, Does, Closes, Ends}
-use Rattle.idn2_cli.specs.declared.output.status.Status.{Status}
-use Rattle.idn2_cli.specs.declared.output.stop.Stop.{Stop}
-use Rattle.idn2_cli.specs.declared.output.stop.Stop.TheVariants as stop
+use Rattle.idn2_output.specs.Pieces.{Piece}
+use Rattle.idn2_output.specs.Writing.{Held, TakesPieces, Writes, held, WritesUntil}
+use Rattle.idn2_cli.specs.Ends.{Job, Does, Closes, Ends}
+use Rattle.idn2_output.specs.declared.status.Status.{Status}
+use Rattle.idn2_output.specs.declared.stop.Stop.{Stop}
+use Rattle.idn2_output.specs.declared.stop.Stop.TheVariants as stop
 
 -- what two writers hold, and not by which loans
 abbrev without_loans : Held → Held

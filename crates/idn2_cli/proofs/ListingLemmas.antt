@@ -17,13 +17,13 @@ use Rattle.variant_list.proofs.ListingLemmas.{fits_label-short, variants-cut}
 use Rattle.variant_list.proofs.TestedLaws.{accepted-tested, tested-cut}
 use Rattle.idn2_options.specs.Settings.{Settings, IsBound, IsCount, IsWithinLimits, keeping}
 use Rattle.answer_json.specs.declared.block.Disposition.{Disposition}
-use Rattle.idn2_cli.specs.Said.{Said, Listed, BlockEnd}
-use Rattle.idn2_cli.specs.Answers.{Filter, nth, nth_if_given, lesser_label, up_to, block_to}
+use Rattle.idn2_answers.specs.Said.{Said, Listed, BlockEnd}
+use Rattle.idn2_answers.specs.Answers.{Filter, nth, nth_if_given, lesser_label, up_to, block_to}
 use Rattle.idn2_cli.specs.inner.Dispositions.{block_by}
 use Rattle.idn2_cli.proofs.BlockSteps.{get_if_given, limit_from, lines_to}
-use Rattle.idn2_cli.proofs.FilterLemmas.{IsSound, accepted-short}
+use Rattle.idn2_answers.proofs.FilterLemmas.{IsSound, accepted-short}
 use Rattle.idn2_cli.proofs.StopSteps.{IsAbove, from_here, from_here_if, stop_from, variants_ahead}
-use Rattle.valid_labels.proofs.ListLemmas.{all-members}
+use Rattle.variant_table.proofs.MemberLists.{all-members}
 
 -- ---- the block
 

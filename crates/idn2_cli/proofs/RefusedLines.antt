@@ -1,23 +1,22 @@
 -- The answer to a line that a call refused.
-use Rattle.std.proofs.Common.{◌≡◌, ◌≢◌, ◌⊎◌, inl, inr, ℕ, List, [], ◌∷◌, Result, Ok, Err, Option, None, Some, IfOk, refl, sym, ap, subst, ◌∙◌}
+use Rattle.std.proofs.Common.{◌≡◌, ◌≢◌, ◌⊎◌, inl, inr, ℕ, List, [], Result, Ok, Err, Option, None, Some, IfOk, refl, sym, ap, subst, ◌∙◌}
 use Rattle.idn_text.specs.declared.refusal.Refusal.{Refusal}
 use Rattle.idn_text.specs.declared.refusal.Refusal.TheVariants.{Memory}
 use Rattle.idn_text.specs.Lines.{Numbered}
 use Rattle.idn2_options.specs.declared.command_line.form.Form.{Form}
-use Rattle.idn2_cli.specs.Transcript.{Piece, Refuses, piece_in, pieces_for}
-use Rattle.idn2_cli.specs.declared.refusals.cause.LineCause.{LineCause}
-use Rattle.idn2_cli.specs.Ends.{Held}
-use Rattle.idn2_cli.specs.Answers.{LineAnswer, line_answer, text_answer}
-use Rattle.idn2_cli.specs.Explained.{BodyCauseNeedsNone, Explained, TellsWithoutMemory, TextCauseNeedsNone}
-use Rattle.idn2_cli.specs.Memory.{BodyNeedsNone, NeedsNone}
-use Rattle.idn2_cli.specs.inner.Emitting.{Emits, StopsWithin}
+use Rattle.idn2_output.specs.Pieces.{Piece}
+use Rattle.idn2_answers.specs.Transcript.{pieces_for}
+use Rattle.idn2_output.specs.Writing.{Held, Emits, StopsWithin}
+use Rattle.idn2_answers.specs.Answers.{LineAnswer, line_answer, text_answer}
+use Rattle.idn2_refusals.specs.Explained.{BodyCauseNeedsNone, Explained, TextCauseNeedsNone}
+use Rattle.idn2_cli.specs.Memory.{TellsWithoutMemory, BodyNeedsNone, NeedsNone}
 use Rattle.idn2_cli.specs.inner.LineAnswers.{KeepsIfRefused, refusal_in, reply_pieces}
 use Rattle.idn2_cli.specs.inner.ServedLines.{answered_as, result_of}
 use Rattle.idn2_cli.specs.declared.modes.answering.Served.{Served}
 use Rattle.idn2_cli.specs.declared.modes.answering.Served.TheVariants as served
-use Rattle.idn2_cli.specs.declared.output.stop.Stop.{Stop}
-use Rattle.idn2_cli.specs.declared.output.stop.Stop.TheVariants as stop
-use Rattle.idn2_cli.proofs.WrittenPieces.{cut_before, stops_first, writes_nothing}
+use Rattle.idn2_output.specs.declared.stop.Stop.{Stop}
+use Rattle.idn2_output.specs.declared.stop.Stop.TheVariants as stop
+use Rattle.idn2_output.proofs.WrittenPieces.{cut_before, stops_first, writes_nothing}
 
 is_memory : (refusal : Refusal) → (refusal ≡ Memory) ⊎ (refusal ≢ Memory)
 is_memory Memory = inl refl
@@ -79,12 +78,6 @@ pub stopped_pieces : (why : Stop) (old new : Held) (form : Form) (how : Explaine
     → StopsWithin why old new (pieces_for form how line answer)
 stopped_pieces why old new form how line (Ok said) at = at
 stopped_pieces why old new form how line (Err refusal) at = (at.0, at.1, cut_before why [] (pieces_for form how line (Err refusal)) at.0 at.2)
-
--- the cause is another text of the same
-pub emits_cause : {A : Type 0} (old new : Held) (form : Form) (line : Numbered) (refusal : Refusal) (first second : Option LineCause) (r : Result A Stop) → first ≡ second
-    → Emits old new (piece_in form (Refuses line refusal first) ∷ []) r → Emits old new (piece_in form (Refuses line refusal second) ∷ []) r
-emits_cause old new form line refusal first second r same emits =
-    subst (λ (cause : Option LineCause). Emits old new (piece_in form (Refuses line refusal cause) ∷ []) r) same emits
 
 -- ---- what a line needs that is refused
 

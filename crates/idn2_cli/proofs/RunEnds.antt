@@ -7,24 +7,27 @@ use Rattle.idn_text.proofs.ReadingLemmas.{has_read_nothing}
 use Rattle.std.proofs.lemmas.Bool.{false≢true}
 use Rattle.idn2_options.specs.Settings.{Settings, keeping, tells_causes}
 use Rattle.idn2_cli.specs.Memory.{reads_table}
-use Rattle.idn2_cli.specs.Transcript.{TableGiven, IsReadAs, IsTableOf, Piece, check_pieces, check_status}
-use Rattle.idn2_cli.specs.Ends.{Held, TakesText, closing_message, Job, Does, Ends, Closes, mode_job, refusal_of}
-use Rattle.idn2_cli.specs.inner.Emitting.{Emits}
+use Rattle.idn2_answers.specs.Transcript.{TableGiven, IsReadAs, IsTableOf, check_pieces, check_status}
+use Rattle.idn2_output.specs.Pieces.{Piece}
+use Rattle.idn2_output.specs.Writing.{Held, refusal_of, Emits}
+use Rattle.idn2_refusals.specs.Reports.{TakesText, closing_message}
+use Rattle.idn2_cli.specs.Ends.{Job, Does, Ends, Closes, mode_job}
 use Rattle.idn2_options.specs.declared.command_line.form.Form.{Form}
 use Rattle.idn2_options.specs.declared.command_line.mode.Mode.{Mode}
 use Rattle.idn2_options.specs.declared.command_line.mode.Mode.TheVariants.{Variants, Jump, CheckTable}
-use Rattle.idn2_cli.specs.declared.output.status.Status.{Status}
-use Rattle.idn2_cli.specs.declared.output.stop.Stop.{Stop}
-use Rattle.idn2_cli.specs.declared.output.stop.Stop.TheVariants as stop
-use Rattle.idn2_cli.proofs.WrittenPieces.{stops_first}
+use Rattle.idn2_output.specs.declared.status.Status.{Status}
+use Rattle.idn2_output.specs.declared.stop.Stop.{Stop}
+use Rattle.idn2_output.specs.declared.stop.Stop.TheVariants as stop
+use Rattle.idn2_output.proofs.WrittenPieces.{stops_first}
 use Rattle.idn2_cli.proofs.LineSteps.{stands_at}
-use Rattle.idn2_cli.proofs.TableLemmas.{IsTold, some_table, refused_table}
-use Rattle.idn2_cli.specs.declared.refusals.cause.LineCause.{LineCause}
+use Rattle.idn2_refusals.proofs.ToldRefusals.{IsTold}
+use Rattle.idn2_cli.proofs.TableLemmas.{some_table, refused_table}
+use Rattle.idn2_refusals.specs.declared.cause.LineCause.{LineCause}
 use Rattle.variant_table.specs.declared.version.Notation.{Notation}
 use Rattle.variant_table.specs.Texts.{IsToldOf}
 use Rattle.variant_table.specs.declared.fault.TableFault.{TableFault}
-use Rattle.idn2_cli.specs.inner.TableFaults.{told_of}
-use Rattle.idn2_cli.specs.declared.output.status.Status.TheVariants.{Unusable}
+use Rattle.idn2_refusals.specs.TableFaults.{told_of}
+use Rattle.idn2_output.specs.declared.status.Status.TheVariants.{Unusable}
 
 -- ---- a mode that answers lines
 

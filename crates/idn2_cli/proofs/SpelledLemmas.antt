@@ -1,7 +1,7 @@
 -- What a label spells joins sources and variants of the table.
 use Rattle.std.proofs.Common.{ℕ, List}
 use Rattle.variant_table.specs.Entries.{TableValue}
-use Rattle.valid_labels.specs.Laws.{IsMadeOfReplacements}
+use Rattle.variant_table.specs.Segmentations.{IsMadeOfReplacements}
 use Rattle.variant_list.specs.declared.part.Part.{Part}
 use Rattle.variant_list.specs.Spelling.{PartSpells}
 use Rattle.variant_list.proofs.SpellingLemmas.{joins_made}

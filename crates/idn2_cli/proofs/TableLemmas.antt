@@ -9,18 +9,16 @@ use Rattle.variant_table.specs.Faults.{table_fault, LineFault}
 use Rattle.variant_table.specs.Faults as kinds
 use Rattle.variant_table.specs.declared.fault.TableFault.{TableFault}
 use Rattle.variant_table.proofs.TextLemmas.{text_decided}
-use Rattle.idn2_cli.specs.Transcript.{TableGiven, IsReadAs, table_refusal, check_pieces}
-use Rattle.idn2_cli.specs.TableCauses.{fault_cause}
-use Rattle.idn2_cli.specs.inner.TableFaults.{told_of}
-use Rattle.idn2_cli.proofs.WrittenPieces.{stops_first}
-use Rattle.idn2_cli.specs.declared.refusals.cause.LineCause.{LineCause}
-use Rattle.std.specs.Prelude.{MatchOption}
-use Rattle.idn2_cli.specs.Ends.{Held}
-use Rattle.idn2_cli.specs.inner.Emitting.{Emits}
+use Rattle.idn2_answers.specs.Transcript.{TableGiven, IsReadAs, table_refusal, check_pieces}
+use Rattle.idn2_refusals.specs.TableCauses.{fault_cause}
+use Rattle.idn2_refusals.proofs.ToldRefusals.{IsTold}
+use Rattle.idn2_refusals.specs.TableFaults.{told_of}
+use Rattle.idn2_refusals.specs.declared.cause.LineCause.{LineCause}
+use Rattle.idn2_output.specs.Writing.{Held, Emits}
 use Rattle.idn2_options.specs.declared.command_line.form.Form.{Form}
-use Rattle.idn2_cli.specs.declared.output.status.Status.{Status}
-use Rattle.idn2_cli.specs.declared.output.stop.Stop.{Stop}
-use Rattle.idn2_cli.specs.declared.output.stop.Stop.TheVariants as stop
+use Rattle.idn2_output.specs.declared.status.Status.{Status}
+use Rattle.idn2_output.specs.declared.stop.Stop.{Stop}
+use Rattle.idn2_output.specs.declared.stop.Stop.TheVariants as stop
 
 module _ (properties : Properties) where
   -- each text is read as some table or some fault
@@ -54,25 +52,12 @@ module _ (properties : Properties) where
       let same : (f.0, table_refusal f.1) ≡ told = from_some (f.0, table_refusal f.1) told (sym (told_of-fault f.0 f.1) ∙ sym (ap told_of f.2) ∙ is) in
       subst (λ (t : ℕ × Refusal). IsReadAs properties n text (Err (t.0, t.1, fault_cause properties n text fault))) same (f.1, refl, f.3, ap (fault_cause properties n text) f.2)
 
-  -- a table that is not read: of lack of memory nothing is told, and of a fault of its text it is, with its cause, if causes are wanted
-  abbrev pub IsTold : Form → Bool → Notation → List ℕ → TableFault → Held → Held → Result Status Stop → Option (ℕ × Refusal) → Type 0
-  IsTold form wanted n text fault old new r told =
-      MatchOption told ((r ≡ Err stop.Memory) × (new ≡ old)) (λ told. Emits old new (check_pieces form wanted (Err (told.0, told.1, fault_cause properties n text fault))) r)
-
   pub refused_table : (form : Form) (wanted : Bool) (n : Notation) (text : List ℕ) (fault : TableFault) (old new : Held) (r : Result Status Stop) → IsToldOf properties n text fault
-      → IsTold form wanted n text fault old new r (told_of fault)
+      → IsTold properties form wanted n text fault old new r (told_of fault)
       → ((r ≡ Err stop.Memory) × (new ≡ old)) ⊎ ((told : ℕ × Refusal × Option LineCause) × IsReadAs properties n text (Err told) × Emits old new (check_pieces form wanted (Err told)) r)
   refused_table form wanted n text fault old new r is = by (told_of fault) refl
     where
-      by : (o : Option (ℕ × Refusal)) → told_of fault ≡ o → IsTold form wanted n text fault old new r o
+      by : (o : Option (ℕ × Refusal)) → told_of fault ≡ o → IsTold properties form wanted n text fault old new r o
           → ((r ≡ Err stop.Memory) × (new ≡ old)) ⊎ ((told : ℕ × Refusal × Option LineCause) × IsReadAs properties n text (Err told) × Emits old new (check_pieces form wanted (Err told)) r)
       by None e memory = inl memory
       by (Some told) e written = inr ((told.0, told.1, fault_cause properties n text fault), told_read n text fault told is e, written)
-
-  -- memory was refused where a cause was looked for, and nothing is told
-  pub told_memory : (form : Form) (wanted : Bool) (n : Notation) (text : List ℕ) (fault : TableFault) (old : Held) (r : Result Status Stop) (told : ℕ × Refusal) → told_of fault ≡ Some told → r ≡ Err stop.Memory
-      → IsTold form wanted n text fault old old r (told_of fault)
-  told_memory form wanted n text fault old r told e is =
-      let pieces = check_pieces form wanted (Err (told.0, told.1, fault_cause properties n text fault)) in
-      subst (λ (o : Option (ℕ × Refusal)). IsTold form wanted n text fault old old r o) (sym e)
-      (subst (λ (s : Result Status Stop). Emits old old pieces s) (sym is) (stops_first old pieces))

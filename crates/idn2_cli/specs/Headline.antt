@@ -13,14 +13,15 @@ use Rattle.idn2_options.specs.Settings.{Settings}
 use Rattle.idn2_options.specs.declared.command_line.form.Form.{Form}
 use Rattle.idn2_options.specs.declared.command_line.form.Form.TheVariants.{Plain, Json}
 use Rattle.idn_text.specs.declared.refusal.Refusal.{Refusal}
-use Rattle.idn2_cli.specs.Explained.{Explained, body_cause, explained_in}
+use Rattle.idn2_refusals.specs.Explained.{Explained, body_cause}
+use Rattle.idn2_answers.specs.Transcript.{explained_in}
 use Rattle.idn2_options.specs.declared.command_line.mode.Mode.TheVariants.{Variants}
-use Rattle.idn2_cli.specs.Said.{said_text}
-use Rattle.idn2_cli.specs.Transcript.{refused_object}
-use Rattle.idn2_cli.specs.declared.refusals.cause.LineCause.{LineCause}
-use Rattle.idn2_cli.specs.Answers.{LineAnswer, IsListing}
-use Rattle.idn2_cli.specs.declared.output.status.Status.{Status}
-use Rattle.idn2_cli.specs.declared.output.status.Status.TheVariants.{Clean, Refused}
+use Rattle.idn2_answers.specs.Said.{said_text}
+use Rattle.idn2_refusals.specs.Messages.{refused_object}
+use Rattle.idn2_refusals.specs.declared.cause.LineCause.{LineCause}
+use Rattle.idn2_answers.specs.Answers.{LineAnswer, IsListing}
+use Rattle.idn2_output.specs.declared.status.Status.{Status}
+use Rattle.idn2_output.specs.declared.status.Status.TheVariants.{Clean, Refused}
 
 -- what a refusal puts on the output: nothing, or its object
 abbrev pub printed_refusal : Form → Numbered → Refusal → Option LineCause → List ℕ

@@ -5,9 +5,10 @@ use Rattle.idna.specs.Labels.{labels_of}
 use Rattle.idn_label.specs.FirstFault.{first_fault}
 use Rattle.idn_label.specs.Memory.{NeedsNoMemory, LooksUpWithoutMemory, RegistersWithoutMemory, DecodesWithoutMemory}
 use Rattle.variant_list.specs.Spelled.{spelled}
-use Rattle.idn2_cli.specs.Answers.{LineAnswer, filter_of, requested_label, tested_after, mode_answer, text_answer}
-use Rattle.idn2_cli.specs.Explained.{Explained, TellsWithoutMemory, explained_in}
-use Rattle.idn2_cli.specs.Transcript.{TableGiven}
+use Rattle.idn2_answers.specs.Answers.{LineAnswer, filter_of, tested_after, mode_answer, text_answer}
+use Rattle.idn2_refusals.specs.Requests.{requested_label}
+use Rattle.idn2_refusals.specs.Explained.{Explained, TextCauseNeedsNone}
+use Rattle.idn2_answers.specs.Transcript.{explained_in, TableGiven}
 use Rattle.idn2_options.specs.Settings.{Settings}
 use Rattle.idn2_options.specs.declared.command_line.mode.Mode.{Mode}
 use Rattle.idn2_options.specs.declared.command_line.mode.Mode.TheVariants.{Lookup, Register, Decode, Variants, Jump, CheckTable}
@@ -35,6 +36,11 @@ reads_table Variants = true
 reads_table Jump = true
 reads_table CheckTable = true
 reads_table mode = false
+
+-- the line is answered, or the cause of its refusal is told so
+abbrev pub TellsWithoutMemory : Explained → List ℕ → LineAnswer → Type 0
+TellsWithoutMemory how bytes (Ok lines) = Unit {0}
+TellsWithoutMemory how bytes (Err refusal) = TextCauseNeedsNone how bytes refusal
 
 -- the bytes of a line that needs no memory for its answer, and none for a cause
 pub record NeedsNone (explained : Explained) (answer : List ℕ → LineAnswer) (needs_none : List ℕ → Type 0) (line : List ℕ) : Type 0 where

@@ -3,7 +3,9 @@
 mod admission;
 mod allocations;
 pub(crate) mod answering;
+pub(crate) mod asked;
 mod block;
+pub(crate) mod buffers;
 mod check_table;
 pub(crate) mod code_points;
 mod collisions;

@@ -1,4 +1,4 @@
-//! One run: its lines, its report, and how it ends.
+//! One run: its lines, and how it ends; and a file of registered labels that isn't read.
 
 pub(crate) mod lines;
 pub(crate) mod report;

@@ -18,7 +18,7 @@ use Rattle.variant_table.proofs.BeginningLemmas.{entries_are_at, same_entry}
 use Rattle.variant_table.proofs.MemberLemmas.{Contains-head, Contains-later, Contains-none, Contains-cases}
 use Rattle.valid_labels.specs.declared.cause.ValidityCause.{ValidityCause}
 use Rattle.valid_labels.specs.declared.cause.ValidityCause.TheVariants.{Misplaced, Broken}
-use Rattle.valid_labels.specs.Segmentations.{IsMadeOfSources, HasSegmentation, seen_under}
+use Rattle.variant_table.specs.Segmentations.{IsMadeOfSources, HasSegmentation, seen_under}
 use Rattle.valid_labels.specs.Demands.{IsMet}
 use Rattle.valid_labels.specs.Validity.{IsAdmitted}
 use Rattle.valid_labels.specs.Tests.{holds_in, is_made_of_sources, is_wanted}

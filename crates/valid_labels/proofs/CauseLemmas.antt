@@ -17,7 +17,7 @@ use Rattle.variant_table.specs.Entries.{Entry, TableValue}
 use Rattle.variant_table.specs.Places.{AreEntriesAt}
 use Rattle.variant_table.specs.WellFormed.{IsWellFormed}
 use Rattle.valid_labels.specs.declared.cause.ValidityCause.TheVariants.{Misplaced, Broken}
-use Rattle.valid_labels.specs.Segmentations.{IsMadeOfSources, seen_under, inside_of}
+use Rattle.variant_table.specs.Segmentations.{IsMadeOfSources, seen_under, inside_of}
 use Rattle.valid_labels.specs.Demands.{IsMet}
 use Rattle.valid_labels.specs.Tests.{holds_in, is_made_of_sources, is_wanted}
 use Rattle.valid_labels.specs.Causes.{held_places, is_misplaced, broken_from, found_at, misplaced_below, misplaced_or}

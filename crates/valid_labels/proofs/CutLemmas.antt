@@ -7,7 +7,7 @@ use Rattle.std.proofs.lemmas.List.{take_all, length-take-le}
 use Rattle.label_patterns.specs.declared.condition.Condition.{Condition}
 use Rattle.label_patterns.specs.Matches.{Rounds, no_round, one_more}
 use Rattle.variant_table.specs.Entries.{Entry}
-use Rattle.valid_labels.proofs.ListLemmas.{all-push}
+use Rattle.variant_table.proofs.MemberLists.{all-push}
 use Rattle.valid_labels.proofs.PartLemmas.{part-length, first-part, first-inside, after-first, take-part}
 
 -- the sources of entries, joined

@@ -15,7 +15,7 @@ use Rattle.ruleset_text.specs.Definitions.{Demand}
 use Rattle.variant_table.proofs.MemberLemmas.{Contains-head, Contains-none, Contains-one}
 use Rattle.valid_labels.specs.Demands.{IsMet}
 use Rattle.valid_labels.specs.inner.Ends.{IsRefusing, IsRefusedAt, NoneRefuses, lesser_of}
-use Rattle.valid_labels.proofs.ListLemmas.{all-push}
+use Rattle.variant_table.proofs.MemberLists.{all-push}
 
 -- what is known of all demands is known of each
 pub demand-at : (P : Demand → Type 0) (ds : List declared.Demand) (i : ℕ) (d : declared.Demand) → i < length ds → d ≡ get_or ds i d → AllByRecursion P (map demand ds) → P (demand d)

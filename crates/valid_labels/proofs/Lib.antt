@@ -1,5 +1,3 @@
--- Members of lists that are made of others, and tests of all members.
-pub mod ListLemmas
 -- Parts of a label between two places.
 pub mod PartLemmas
 -- The places that steps lead to, as a set that computes.

@@ -12,7 +12,7 @@ use Rattle.variant_table.proofs.MemberLemmas.{Contains-head, Contains-later, Con
 use Rattle.valid_labels.specs.Pieces.{IsPiece}
 use Rattle.valid_labels.specs.Tests.{is_covered, lone_variants}
 use Rattle.valid_labels.specs.inner.Pieces.{items_of, AreLone, IsLongest}
-use Rattle.valid_labels.proofs.ListLemmas.{Contains-map, all-members}
+use Rattle.variant_table.proofs.MemberLists.{Contains-map, all-members}
 use Rattle.valid_labels.proofs.TestLemmas.{lone-agree, variant-filled}
 use Rattle.variant_table.proofs.ListLemmas.{take_next}
 

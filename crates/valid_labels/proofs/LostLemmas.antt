@@ -12,7 +12,7 @@ use Rattle.label_patterns.proofs.LawLemmas.{parts, stay}
 use Rattle.ruleset_text.specs.declared.definition.DemandKind.{DemandKind}
 use Rattle.ruleset_text.specs.Definitions.{Demand}
 use Rattle.variant_table.specs.Entries.{TableValue}
-use Rattle.valid_labels.specs.Segmentations.{seen_under}
+use Rattle.variant_table.specs.Segmentations.{seen_under}
 use Rattle.valid_labels.specs.Pieces.{IsPiece, PieceStands, PieceMayStand, IsMadeOfPieces, MayReach}
 use Rattle.valid_labels.specs.Demands.{IsWanted, IsMet}
 use Rattle.valid_labels.specs.Validity.{IsSound, IsValid, IsRefused, LeadsNowhere, IsLost}

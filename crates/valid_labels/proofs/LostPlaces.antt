@@ -6,7 +6,7 @@ use Rattle.std.proofs.lemmas.List.{take-append-drop, length-take-le}
 use Rattle.label_patterns.proofs.BarringLemmas.{barring-stays}
 use Rattle.label_patterns.proofs.LawLemmas.{parts, stay}
 use Rattle.variant_table.specs.Entries.{TableValue}
-use Rattle.valid_labels.specs.Segmentations.{seen_under}
+use Rattle.variant_table.specs.Segmentations.{seen_under}
 use Rattle.valid_labels.specs.Pieces.{IsPiece, PieceMayStand, MayReach}
 use Rattle.valid_labels.specs.Validity.{IsSound, IsValid, IsRefused, LeadsNowhere, IsLost, IsShortestLost, HasNoLostBeginning}
 use Rattle.valid_labels.specs.inner.Ends.{IsRefusedAt, NoneRefuses, IsPast, IsLostFrom, IsLeastLost, NoneIsLost}

@@ -10,14 +10,15 @@ use Rattle.variant_table.specs.declared.version.Version.TheVariants.{One, Two, T
 use Rattle.variant_table.specs.Entries.{Entry, TableValue, IsOfVersion, IsPlain, replacements, sequences_in, source_of, whole}
 use Rattle.variant_table.specs.WellFormed.{AreOfVersion, IsTable}
 use Rattle.variant_table.proofs.MemberLemmas.{Contains-cases, Contains-head}
-use Rattle.valid_labels.specs.Segmentations.{IsMadeOfSources, seen_under}
+use Rattle.variant_table.specs.Segmentations.{IsMadeOfSources, seen_under}
 use Rattle.valid_labels.specs.Pieces.{IsCovered, IsVariant, IsPiece, PieceStands}
 use Rattle.valid_labels.specs.Demands.{IsMet, MeetsDemands}
 use Rattle.valid_labels.specs.Validity.{AsksNothing, IsAdmitted, IsSound, IsValid}
 use Rattle.valid_labels.specs.Tests.{is_covered}
-use Rattle.valid_labels.specs.Laws.{AdmittedAreValid, IsMadeOfReplacements, NothingIsAsked}
+use Rattle.valid_labels.specs.Laws.{AdmittedAreValid, NothingIsAsked}
+use Rattle.variant_table.specs.Segmentations.{IsMadeOfReplacements}
 use Rattle.valid_labels.proofs.CutLemmas.{EntryStands, cut-steps}
-use Rattle.valid_labels.proofs.ListLemmas.{Contains-flat_map}
+use Rattle.variant_table.proofs.MemberLists.{Contains-flat_map}
 use Rattle.valid_labels.proofs.PartLemmas.{first-part, first-inside, after-first}
 use Rattle.valid_labels.proofs.SegmentationLemmas.{IsInside, HoldsIn, segmentation-cut, segmentation-free}
 use Rattle.valid_labels.proofs.TestLemmas.{rounds-map, covered-agrees}

@@ -8,7 +8,7 @@ use Rattle.label_patterns.specs.Conditions.{ConditionHolds}
 use Rattle.label_patterns.specs.Matches.{Seen, Rounds}
 use Rattle.ruleset_text.specs.Definitions.{Definitions}
 use Rattle.variant_table.specs.Entries.{Entry, TableValue}
-use Rattle.valid_labels.specs.Segmentations.{HasSegmentation, seen_under}
+use Rattle.variant_table.specs.Segmentations.{HasSegmentation, seen_under}
 use Rattle.valid_labels.specs.Pieces.{PieceStands, PieceMayStand}
 use Rattle.valid_labels.specs.inner.Pieces.{AreLone}
 use Rattle.valid_labels.specs.inner.Steps.{StepIs}

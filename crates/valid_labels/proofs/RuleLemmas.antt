@@ -14,7 +14,7 @@ use Rattle.ruleset_text.specs.Rules.{has, is_anchor, is_before, is_after, is_con
 use Rattle.idn_class.specs.declared.properties.Properties.{Properties}
 use Rattle.ruleset_text.specs.WellFormed.{IsDefinition, AreDefinitions}
 use Rattle.ruleset_text.proofs.KnownPatternLemmas.{all_before, rules_in, demands_in, patterns}
-use Rattle.valid_labels.proofs.ListLemmas.{not-true}
+use Rattle.variant_table.proofs.MemberLists.{not-true}
 use Rattle.label_patterns.proofs.TestLemmas.{and-both}
 
 no-end : (p : Pattern) → has sign.End p ≡ false → IgnoresEnd p

@@ -3,7 +3,7 @@ use Rattle.std.proofs.Common.{◌≡◌, ℕ, ◌+◌, List, [], ◌∷◌, leng
 use Rattle.std.specs.Prelude.{◌↔◌, Option, None, false, Contains}
 use Rattle.label_patterns.specs.declared.condition.Condition.{Condition}
 use Rattle.valid_labels.specs.Pieces.{IsCovered}
-use Rattle.valid_labels.proofs.ListLemmas.{all-map}
+use Rattle.variant_table.proofs.MemberLists.{all-map}
 use Rattle.valid_labels.proofs.CutLemmas.{AllAsked, IsCut}
 use Rattle.std.specs.List.{AllByRecursion}
 use Rattle.std.proofs.lemmas.List.Elements.{All-contains, All-from_recursion}
@@ -11,7 +11,7 @@ use Rattle.label_patterns.specs.Patterns.{Pattern}
 use Rattle.label_patterns.specs.Matches.{Seen}
 use Rattle.label_patterns.specs.Conditions.{ConditionHolds}
 use Rattle.variant_table.specs.Entries.{Entry, TableValue}
-use Rattle.valid_labels.specs.Segmentations.{IsMadeOfSources, HasSegmentation, HasNoConditions, AllHold, seen_under}
+use Rattle.variant_table.specs.Segmentations.{IsMadeOfSources, HasSegmentation, HasNoConditions, AllHold, seen_under}
 
 -- what of the table's entries is true of each of these, as they are among them
 pub all-among : (P : Entry → Type 0) (entries segmentation : List Entry) → AllByRecursion P entries → AllByRecursion (Contains entries) segmentation → AllByRecursion P segmentation

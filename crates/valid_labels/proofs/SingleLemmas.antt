@@ -23,7 +23,7 @@ use Rattle.variant_table.proofs.BeginningLemmas.{same_entry}
 use Rattle.variant_table.proofs.MemberLemmas.{Contains-none, Contains-one}
 use Rattle.valid_labels.specs.declared.single_places.SinglePlaces.{SinglePlaces}
 use Rattle.valid_labels.specs.declared.cutting.SingleSteps.{SingleSteps}
-use Rattle.valid_labels.specs.Segmentations.{seen_under}
+use Rattle.variant_table.specs.Segmentations.{seen_under}
 use Rattle.valid_labels.specs.inner.Pieces.{AreLone, NoneBegins}
 use Rattle.valid_labels.specs.inner.Singles.{asked_at, places_of_kind, AreHoldingSteps, AreSingles, IsSingle}
 use Rattle.valid_labels.specs.inner.Steps.{AreSteps, StepIs}

@@ -16,7 +16,7 @@ use Rattle.variant_table.specs.Entries.{Entry, sequences_in}
 use Rattle.variant_table.specs.WellFormed.{IsWellFormed}
 use Rattle.variant_table.proofs.MemberLemmas.{Contains-head}
 use Rattle.valid_labels.specs.inner.Steps.{SourceIs, SequenceIs, StepIs}
-use Rattle.valid_labels.proofs.ListLemmas.{Contains-map}
+use Rattle.variant_table.proofs.MemberLists.{Contains-map}
 use Rattle.valid_labels.proofs.PartLemmas.{part-length, first-part}
 use Rattle.valid_labels.proofs.TestLemmas.{sequence-filled, piece-filled}
 

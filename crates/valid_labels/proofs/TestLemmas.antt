@@ -17,14 +17,14 @@ use Rattle.ruleset_text.specs.Definitions.{Demand}
 use Rattle.variant_table.specs.Entries.{Entry, TableValue, replacements, sequences_in}
 use Rattle.variant_table.specs.WellFormed.{IsEntry, IsSequence, IsWellFormed}
 use Rattle.variant_table.proofs.MemberLemmas.{Contains-head, Contains-later}
-use Rattle.valid_labels.specs.Segmentations.{IsMadeOfSources, HasSegmentation, seen_under, inside_of}
+use Rattle.variant_table.specs.Segmentations.{IsMadeOfSources, HasSegmentation, seen_under, inside_of}
 use Rattle.valid_labels.specs.Pieces.{IsCovered, IsVariant, IsPiece, PieceIs, IsMadeOfPieces, MayReach}
 use Rattle.valid_labels.specs.Demands.{IsMet, IsWanted, MeetsDemands}
 use Rattle.valid_labels.specs.Validity.{AsksNothing, IsAdmitted, IsValid, IsRefused, LeadsNowhere, IsLost}
 use Rattle.valid_labels.specs.Tests.{Piece, cut_places, not_asked, sources_of, is_covered, lone_variants, pieces_of, holds_in, may_hold_in, is_made_of_sources, has_segmentation, is_made_of_pieces, may_reach, is_wanted, are_met, meets_demands, is_admitted, is_valid, is_never, is_refused, leads_past, one_up_to, leads_on, is_lost, asks_nothing}
 use Rattle.valid_labels.specs.Laws.{TestsAgree}
 use Rattle.valid_labels.proofs.CutLemmas.{EntryStands, cut-steps, steps-cut}
-use Rattle.valid_labels.proofs.ListLemmas.{Contains-map, Contains-flat_map, Contains-filter, not-true, any-one, all-members}
+use Rattle.variant_table.proofs.MemberLists.{Contains-map, Contains-flat_map, Contains-filter, not-true, any-one, all-members}
 use Rattle.valid_labels.proofs.PieceLemmas.{OneStands, IsFilled, Tells, cut-places-are}
 use Rattle.valid_labels.proofs.SegmentationLemmas.{IsInside, NotAsked, HoldsIn, made-cut, segmentation-cut, covered-cut}
 

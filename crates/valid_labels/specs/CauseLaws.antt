@@ -4,7 +4,7 @@ use Rattle.std.specs.Option.{is_some}
 use Rattle.variant_table.specs.Entries.{TableValue}
 use Rattle.valid_labels.specs.declared.cause.ValidityCause.{ValidityCause}
 use Rattle.valid_labels.specs.Causes.{IsCause, cause_of}
-use Rattle.valid_labels.specs.Segmentations.{IsMadeOfSources}
+use Rattle.variant_table.specs.Segmentations.{IsMadeOfSources}
 use Rattle.valid_labels.specs.Validity.{IsSound, IsAdmitted}
 
 -- the cause that is told is the one that there is; and a label that is made of sources and may not be asked about has one

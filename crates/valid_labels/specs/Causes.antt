@@ -10,7 +10,7 @@ use Rattle.variant_table.specs.Entries.{Entry, TableValue}
 use Rattle.variant_table.specs.Places.{entries_at}
 use Rattle.valid_labels.specs.declared.cause.ValidityCause.{ValidityCause}
 use Rattle.valid_labels.specs.declared.cause.ValidityCause.TheVariants.{Misplaced, Broken}
-use Rattle.valid_labels.specs.Segmentations.{IsMadeOfSources, HasSegmentation, seen_under, inside_of}
+use Rattle.variant_table.specs.Segmentations.{IsMadeOfSources, HasSegmentation, seen_under, inside_of}
 use Rattle.valid_labels.specs.Demands.{IsMet}
 use Rattle.valid_labels.specs.Tests.{cut_places, holds_in, is_made_of_sources, is_wanted, sources_of}
 

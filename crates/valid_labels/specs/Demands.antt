@@ -7,7 +7,7 @@ use Rattle.ruleset_text.specs.declared.definition.DemandKind.TheVariants.{Never,
 use Rattle.ruleset_text.specs.declared.definition.DemandKind.{DemandKind}
 use Rattle.ruleset_text.specs.Definitions.{Demand}
 use Rattle.variant_table.specs.Entries.{TableValue}
-use Rattle.valid_labels.specs.Segmentations.{seen_under}
+use Rattle.variant_table.specs.Segmentations.{seen_under}
 
 -- no part of the label may match the pattern, or some part has to
 abbrev pub IsWanted : DemandKind → Type 0 → Type 0

@@ -1,19 +1,13 @@
 -- Worked examples of the definitions, by computation.
 use Rattle.std.specs.Prelude.{◌≡◌, true, false, Option, Some, None, List, [], ◌∷◌, ◌++◌, map, ℕ, codes}
 use Rattle.label_patterns.specs.declared.condition.Condition.{Condition}
-use Rattle.label_patterns.specs.declared.condition.ConditionKind.TheVariants.{When, Unless}
-use Rattle.label_patterns.specs.declared.span.Span.{Span}
+use Rattle.label_patterns.specs.declared.condition.ConditionKind.TheVariants.{When}
 use Rattle.label_patterns.specs.Patterns.{Pattern, Point, Set, Any, Start, End, Anchor, Group, Optional, Many, Then, Either}
 use Rattle.ruleset_text.specs.declared.definition.DemandKind.TheVariants.{Never, Always}
-use Rattle.ruleset_text.specs.Definitions.{Demand, nothing_defined}
-use Rattle.variant_table.specs.declared.version.Version.TheVariants.{Three}
-use Rattle.variant_table.specs.Entries.{Entry, TableValue, table_of, plain_variant}
+use Rattle.ruleset_text.specs.Definitions.{Demand}
+use Rattle.variant_table.specs.Entries.{Entry, TableValue, plain_variant}
+use Rattle.variant_table.specs.ExampleTables.{table_with, when_first, unless_first}
 use Rattle.valid_labels.specs.Tests.{is_made_of_sources, has_segmentation, is_admitted, is_valid, is_lost}
-use Rattle.idn_class.specs.declared.properties.Properties.TheVariants.{Profile}
-
--- a ruleset of these sets, rules and demands
-abbrev pub table_with : List (List Span) → List Pattern → List Demand → List Entry → TableValue
-table_with sets rules demands entries = table_of Three (record (nothing_defined Profile) { sets = sets; rules = rules; demands = demands }) entries
 
 abbrev pub never : Pattern → Demand
 never p = record { kind = Never; pattern = p }
@@ -21,14 +15,7 @@ never p = record { kind = Never; pattern = p }
 abbrev pub always : Pattern → Demand
 always p = record { kind = Always; pattern = p }
 
--- the condition on the first rule
-abbrev pub when_first : Option Condition
-when_first = Some (record { kind = When; rule = 0 })
-
-abbrev pub unless_first : Option Condition
-unless_first = Some (record { kind = Unless; rule = 0 })
-
--- that on the second
+-- the condition on the second rule
 abbrev pub when_second : Option Condition
 when_second = Some (record { kind = When; rule = 1 })
 

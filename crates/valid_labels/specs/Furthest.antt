@@ -2,7 +2,7 @@
 use Rattle.std.specs.Prelude.{◌≡◌, ◌↔◌, ℕ, zero, suc, ◌<◌, ◌≤◌, List, length, take, if◌then◌else◌}
 use Rattle.variant_table.specs.Entries.{TableValue}
 use Rattle.variant_table.specs.WellFormed.{IsWellFormed}
-use Rattle.valid_labels.specs.Segmentations.{IsMadeOfSources}
+use Rattle.variant_table.specs.Segmentations.{IsMadeOfSources}
 use Rattle.valid_labels.specs.Tests.{is_made_of_sources}
 
 -- the greatest of these numbers of first code points of the label that are made of sources

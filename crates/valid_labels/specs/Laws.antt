@@ -1,11 +1,10 @@
 -- Laws of the definitions.
-use Rattle.std.specs.Prelude.{◌≡◌, ◌≢◌, ◌↔◌, ℕ, List, ◌++◌, IsTrue, Contains}
-use Rattle.std.specs.List.{flat_map, AllByRecursion}
+use Rattle.std.specs.Prelude.{◌≢◌, ◌↔◌, ℕ, List, ◌++◌, IsTrue}
 use Rattle.variant_table.specs.declared.version.Version.TheVariants.{Three}
-use Rattle.variant_table.specs.Entries.{TableValue, replacements}
+use Rattle.variant_table.specs.Entries.{TableValue}
 use Rattle.variant_table.specs.WellFormed.{IsTable}
 use Rattle.valid_labels.specs.declared.validity.Admission.TheVariants.{NotAdmitted}
-use Rattle.valid_labels.specs.Segmentations.{IsMadeOfSources, HasSegmentation, HasNoConditions}
+use Rattle.variant_table.specs.Segmentations.{IsMadeOfSources, HasSegmentation, HasNoConditions, IsMadeOfReplacements}
 use Rattle.valid_labels.specs.Testing.{IsAdmission}
 use Rattle.valid_labels.specs.Validity.{IsSound, AsksNothing, IsAdmitted, IsValid, IsLost}
 use Rattle.valid_labels.specs.Tests as tests
@@ -32,11 +31,6 @@ pub record LostForGood : Type 0 where
 -- a label that may be asked about is valid
 abbrev pub AdmittedAreValid : Type 0
 AdmittedAreValid = (table : TableValue) (label : List ℕ) → IsAdmitted table label → IsValid table label
-
--- the label is a joining of sources and variants of the table
-abbrev pub IsMadeOfReplacements : TableValue → List ℕ → Type 0
-IsMadeOfReplacements table label =
-    (parts : List (List ℕ)) × AllByRecursion (Contains (flat_map replacements table.entries)) parts × (flat_map (λ s. s) parts ≡ label)
 
 -- under a table that asks nothing a label may be asked about where it is made of sources, so none is refused as not valid; and it
 -- is valid where it is made of sources and variants. A table of version 1 or 2 asks nothing

@@ -1,5 +1,4 @@
 -- The definitions that contracts cite.
-pub mod Segmentations
 pub mod Pieces
 pub mod Demands
 pub mod Validity

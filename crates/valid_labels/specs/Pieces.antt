@@ -6,7 +6,7 @@ use Rattle.label_patterns.specs.Matches.{Rounds}
 use Rattle.label_patterns.specs.Conditions.{ConditionHolds}
 use Rattle.label_patterns.specs.Barring.{IsBarred}
 use Rattle.variant_table.specs.Entries.{Entry, TableValue, sequences_in}
-use Rattle.valid_labels.specs.Segmentations.{seen_under}
+use Rattle.variant_table.specs.Segmentations.{seen_under}
 
 -- a sequence is made of sources of the table, of outside ones too
 abbrev pub IsCovered : TableValue → List ℕ → Type 0

@@ -7,7 +7,7 @@ use Rattle.valid_labels.specs.declared.validity.Admission.{Admission}
 use Rattle.valid_labels.specs.declared.validity.Admission.TheVariants.{NotCut, NotAdmitted, Admitted}
 use Rattle.valid_labels.specs.declared.validity.Validity.{Validity}
 use Rattle.valid_labels.specs.declared.validity.Validity.TheVariants as validity
-use Rattle.valid_labels.specs.Segmentations.{IsMadeOfSources}
+use Rattle.variant_table.specs.Segmentations.{IsMadeOfSources}
 use Rattle.valid_labels.specs.Validity.{IsAdmitted, IsValid, IsShortestLost, HasNoLostBeginning}
 
 -- the table whose labels are tested, and the label that was tested last

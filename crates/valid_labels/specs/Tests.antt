@@ -10,7 +10,7 @@ use Rattle.ruleset_text.specs.declared.definition.DemandKind.{DemandKind}
 use Rattle.ruleset_text.specs.declared.definition.DemandKind.TheVariants.{Never, Always}
 use Rattle.ruleset_text.specs.Definitions.{Demand}
 use Rattle.variant_table.specs.Entries.{Entry, TableValue, sequences_in}
-use Rattle.valid_labels.specs.Segmentations.{seen_under, inside_of}
+use Rattle.variant_table.specs.Segmentations.{seen_under, inside_of}
 
 -- ---- sets of places that steps lead to
 

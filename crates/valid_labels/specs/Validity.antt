@@ -8,7 +8,7 @@ use Rattle.ruleset_text.specs.Definitions.{Demand}
 use Rattle.ruleset_text.specs.WellFormed.{AreDefinitions}
 use Rattle.variant_table.specs.Entries.{TableValue}
 use Rattle.variant_table.specs.WellFormed.{IsWellFormed}
-use Rattle.valid_labels.specs.Segmentations.{seen_under, HasSegmentation, HasNoConditions}
+use Rattle.variant_table.specs.Segmentations.{seen_under, HasSegmentation, HasNoConditions}
 use Rattle.valid_labels.specs.Pieces.{IsPiece, IsMadeOfPieces, MayReach}
 use Rattle.valid_labels.specs.Demands.{MeetsDemands}
 

@@ -6,7 +6,7 @@ ghost use Rattle.label_patterns.specs.Places.{Has};
 ghost use Rattle.label_patterns.specs.inner.Masks.{AreMasks};
 ghost use Rattle.ruleset_text.specs.DemandTrees.{demand};
 ghost use Rattle.valid_labels.specs.Causes.{broken_from, cause_of, held_places as held_places_of, is_misplaced as is_misplaced_by, found_at as found_at_place, misplaced_at as misplaced_at_place, misplaced_below};
-ghost use Rattle.valid_labels.specs.Segmentations.{seen_under};
+ghost use Rattle.variant_table.specs.Segmentations.{seen_under};
 
 use crate::asking::{HoldingInside, holds};
 use crate::cutting::reached;

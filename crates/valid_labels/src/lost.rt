@@ -1,6 +1,6 @@
 //! Beginnings of labels with which no valid label begins.
 ghost use Rattle.std.specs.Prelude.{◌≡◌, ◌≤◌, length, MatchOption};
-ghost use Rattle.valid_labels.specs.Segmentations.{seen_under};
+ghost use Rattle.variant_table.specs.Segmentations.{seen_under};
 ghost use Rattle.valid_labels.specs.Validity.{HasNoLostBeginning, IsShortestLost};
 ghost use Rattle.valid_labels.specs.inner.Singles.{AreSingles};
 ghost use Rattle.valid_labels.specs.inner.Ends.{IsLeastLost, IsRefusedAt, NoneIsLost, NoneRefuses};

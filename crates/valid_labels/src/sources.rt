@@ -3,7 +3,7 @@ ghost use Rattle.std.specs.Prelude.{◌≡◌, ◌↔◌, ◌<◌, ◌≤◌, �
 ghost use Rattle.label_patterns.specs.Places.{Has};
 ghost use Rattle.variant_table.specs.WellFormed.{IsWellFormed};
 ghost use Rattle.valid_labels.specs.Furthest.{furthest as furthest_place};
-ghost use Rattle.valid_labels.specs.Segmentations.{IsMadeOfSources};
+ghost use Rattle.variant_table.specs.Segmentations.{IsMadeOfSources};
 ghost use Rattle.valid_labels.specs.Tests.{is_covered as is_covered_by};
 ghost use Rattle.valid_labels.specs.Validity.{AsksNothing};
 

@@ -4,7 +4,7 @@ ghost use Rattle.std.specs.List.{AllByRecursion};
 ghost use Rattle.label_patterns.specs.inner.Masks.{AreMasks};
 ghost use Rattle.valid_labels.specs.Demands.{IsMet};
 ghost use Rattle.valid_labels.specs.Pieces.{IsMadeOfPieces};
-ghost use Rattle.valid_labels.specs.Segmentations.{HasSegmentation, seen_under};
+ghost use Rattle.variant_table.specs.Segmentations.{HasSegmentation, seen_under};
 ghost use Rattle.valid_labels.specs.Testing.{IsValidity};
 ghost use Rattle.valid_labels.specs.Validity.{IsAdmitted, IsValid};
 ghost use Rattle.valid_labels.specs.inner.Singles.{AreSingles, HasRoom};

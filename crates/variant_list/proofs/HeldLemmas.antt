@@ -10,7 +10,7 @@ use Rattle.label_patterns.specs.declared.condition.Condition.{Condition}
 use Rattle.label_patterns.specs.Conditions.{ConditionHolds}
 use Rattle.label_patterns.proofs.TestLemmas.{condition-agrees}
 use Rattle.variant_table.specs.Entries.{Entry, TableValue, Variant, itself, source_of, whole, replacements, sequences_in}
-use Rattle.valid_labels.specs.Segmentations.{seen_under}
+use Rattle.variant_table.specs.Segmentations.{seen_under}
 use Rattle.variant_list.specs.declared.part.Part.{Part}
 use Rattle.variant_list.specs.declared.part.Part.TheVariants.{Whole}
 use Rattle.variant_list.specs.Parts.{full_replacements, part_has}

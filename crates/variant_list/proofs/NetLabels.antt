@@ -20,7 +20,7 @@ use Rattle.variant_list.proofs.VariantLists.{IsRising-in_order, Contains-in_orde
 use Rattle.variant_list.proofs.PlanLemmas.{Contains-at, slice_get-Contains}
 use Rattle.variant_list.proofs.SpelledByLemmas.{AreUses-drop}
 use Rattle.variant_table.proofs.MemberLemmas.{Contains-head, Contains-none, Contains-one}
-use Rattle.valid_labels.proofs.ListLemmas.{Contains-map, Contains-flat_map}
+use Rattle.variant_table.proofs.MemberLists.{Contains-map, Contains-flat_map}
 use Rattle.variant_table.proofs.EntryLemmas.{slice_get-drop, slice_get-take}
 
 taken_below : {X : Type 0} (xs : List X) (m i : ℕ) (x : X) → slice_get (take m xs) i ≡ Some x → i < m

@@ -10,7 +10,7 @@ use Rattle.label_patterns.specs.Patterns.{Pattern}
 use Rattle.label_patterns.specs.Matches.{Seen}
 use Rattle.label_patterns.specs.Conditions.{ConditionHolds}
 use Rattle.variant_table.specs.Entries.{Entry, TableValue, Variant, replacements, marks, whole, itself, unblocked, unblocked_entry}
-use Rattle.valid_labels.specs.Segmentations.{AllHold, seen_under}
+use Rattle.variant_table.specs.Segmentations.{AllHold, seen_under}
 use Rattle.variant_list.specs.declared.part.Part.{Part}
 use Rattle.variant_list.specs.declared.part.Part.TheVariants.{Whole, Unblocked, Tagged}
 use Rattle.variant_list.specs.Laws.{without_blocked}
@@ -18,7 +18,7 @@ use Rattle.variant_list.specs.Spelling.{Replaces, JoinsReplacements, PartSpells,
 use Rattle.variant_list.specs.Parts.{full_replacements, are_of, part_has, HasNoTags}
 use Rattle.variant_list.proofs.ListMembers.{Contains-filter}
 use Rattle.variant_table.proofs.MemberLemmas.{Contains-head, Contains-later, Contains-cases}
-use Rattle.valid_labels.proofs.ListLemmas.{Contains-map}
+use Rattle.variant_table.proofs.MemberLists.{Contains-map}
 
 -- what replaces the source of an entry is one of its replacements
 pub Replaces-of_entry : (part : Part) (table : TableValue) (label : List ℕ) (place : ℕ) (e : Entry) (r : List ℕ) → Replaces part table label place e r → Contains (replacements e) r

@@ -3,7 +3,7 @@ use Rattle.std.proofs.Common.{ℕ, ◌+◌, ◌↔◌, List, [], ◌∷◌, leng
 use Rattle.ruleset_text.specs.Definitions.{Definitions}
 use Rattle.variant_table.specs.declared.version.Version.{Version}
 use Rattle.variant_table.specs.Entries.{Entry, TableValue, table_of}
-use Rattle.valid_labels.specs.Segmentations.{IsSegmentation}
+use Rattle.variant_table.specs.Segmentations.{IsSegmentation}
 use Rattle.variant_list.specs.declared.part.Part.{Part}
 use Rattle.variant_list.specs.Spelling.{JoinsReplacements, PartSpells, Replaces}
 use Rattle.variant_list.specs.RulesetLaws.{RulesetsListTheSame, as_ruleset}

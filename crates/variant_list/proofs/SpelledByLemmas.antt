@@ -21,7 +21,7 @@ use Rattle.variant_list.proofs.ListMembers.{Contains-filter, filter-few}
 use Rattle.variant_list.proofs.UsesLemmas.{nothing_spelled, UsesSpell-here, UsesSpell-label, IsUseOf-fits, uses_at-IsUseOf, length-uses_from}
 use Rattle.variant_list.proofs.PartLemmas.{Replaces-of_entry}
 use Rattle.variant_table.proofs.MemberLemmas.{Contains-head, Contains-one}
-use Rattle.valid_labels.proofs.ListLemmas.{Contains-map, Contains-flat_map}
+use Rattle.variant_table.proofs.MemberLists.{Contains-map, Contains-flat_map}
 
 -- from a later place on
 spelled_from-each : (uses : List (List Use)) (k : ℕ) → k ≤ length uses → slice_index_or (spelled_from_each uses) k [] ≡ spelled_by (drop k uses)

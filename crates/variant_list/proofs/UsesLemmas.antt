@@ -9,7 +9,7 @@ use Rattle.variant_table.specs.Entries.{Entry, TableValue, Variant, sequences_in
 use Rattle.variant_table.specs.Places.{entries_at}
 use Rattle.variant_table.specs.WellFormed.{IsWellFormed}
 use Rattle.variant_table.proofs.BeginningLemmas.{entries_are_at}
-use Rattle.valid_labels.specs.Segmentations.{seen_under}
+use Rattle.variant_table.specs.Segmentations.{seen_under}
 use Rattle.variant_list.specs.declared.part.Part.{Part}
 use Rattle.variant_list.specs.Parts.{full_replacements, part_has}
 use Rattle.variant_list.specs.Spelling.{Replaces, PartSpells}
@@ -20,7 +20,7 @@ use Rattle.variant_list.specs.Uses.{Use, IsCut, points_of, UsesSpell, use_of, ho
 use Rattle.variant_list.proofs.ListMembers.{Contains-filter}
 use Rattle.variant_list.proofs.HeldLemmas.{held_by}
 use Rattle.variant_list.proofs.SpellingLemmas.{FirstPiece, PartSpells-first, SpellsFrom-end, SpellsFrom-piece, SpellsFrom-cases, SpellsFrom-nothing, source_is_sequence}
-use Rattle.valid_labels.proofs.ListLemmas.{Contains-map, Contains-flat_map}
+use Rattle.variant_table.proofs.MemberLists.{Contains-map, Contains-flat_map}
 
 -- where the label has no place, only the empty label is spelled
 pub nothing_spelled : (cut : List Use) (v : List ℕ) → IsCut [] cut → points_of cut ≡ v → [] ≡ v

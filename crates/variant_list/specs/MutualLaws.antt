@@ -4,7 +4,7 @@ use Rattle.std.specs.List.{slice_get}
 use Rattle.variant_table.specs.Entries.{TableValue}
 use Rattle.variant_table.specs.WellFormed.{IsWellFormed}
 use Rattle.variant_table.specs.Gaps.{AreGapsOf}
-use Rattle.valid_labels.specs.Segmentations.{HasSegmentation}
+use Rattle.variant_table.specs.Segmentations.{HasSegmentation}
 use Rattle.variant_list.specs.Labels.{IsBelow}
 use Rattle.variant_list.specs.Laws.{IsOfPoints, VariantsHaveNoConditions}
 use Rattle.variant_list.specs.Variants.{AreVariants}

@@ -5,7 +5,7 @@ use Rattle.label_patterns.specs.declared.condition.Condition.{Condition}
 use Rattle.label_patterns.specs.Tests.{condition_holds}
 use Rattle.variant_table.specs.Entries.{Entry, TableValue, Variant, sequences_in}
 use Rattle.variant_table.specs.Places.{entries_at}
-use Rattle.valid_labels.specs.Segmentations.{seen_under}
+use Rattle.variant_table.specs.Segmentations.{seen_under}
 use Rattle.variant_list.specs.declared.part.Part.{Part}
 use Rattle.variant_list.specs.Parts.{full_replacements, part_has}
 

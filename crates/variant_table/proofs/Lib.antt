@@ -64,3 +64,5 @@ pub mod AddingLemmas
 pub mod GrownLemmas
 -- What a line that defines something makes of a table.
 pub mod DefiningLemmas
+-- Members of lists that are made of others, and tests of all members.
+pub mod MemberLists

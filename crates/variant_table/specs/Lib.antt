@@ -15,4 +15,6 @@ pub mod Singles
 pub mod Reading
 pub mod Faults
 pub mod Gaps
+pub mod Segmentations
+pub mod ExampleTables
 pub mod inner

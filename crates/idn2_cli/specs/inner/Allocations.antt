@@ -3,7 +3,7 @@ use Rattle.std.specs.Prelude.{◌≡◌, ◌≤◌, ℕ, ◌||◌, Bool, false, 
 use Rattle.std.specs.List.{list_any}
 use Rattle.variant_table.specs.Entries.{TableValue}
 use Rattle.variant_list.specs.Positions.{Built}
-use Rattle.idn2_cli.specs.Answers.{is_among}
+use Rattle.idn2_answers.specs.Answers.{is_among}
 use Rattle.idn2_cli.specs.declared.modes.allocations.Tests.{Tests}
 use Rattle.idn2_cli.specs.declared.modes.allocations.Tests.TheVariants.{Unblocked, OfTags}
 use Rattle.idn2_cli.specs.declared.modes.allocations.SubTables.{SubTables}

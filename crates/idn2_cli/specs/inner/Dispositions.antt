@@ -4,9 +4,9 @@ use Rattle.variant_table.specs.declared.version.Version.TheVariants.{One}
 use Rattle.variant_table.specs.Entries.{TableValue, unblocked}
 use Rattle.idn2_options.specs.Settings.{Settings}
 use Rattle.answer_json.specs.declared.block.Disposition.{Disposition}
-use Rattle.idn2_cli.specs.Said.{Said}
+use Rattle.idn2_answers.specs.Said.{Said}
 use Rattle.idn2_cli.specs.inner.Allocations.{Allowed, AreSubTablesOf, allows}
-use Rattle.idn2_cli.specs.Answers.{Filter, IsAllocatable, allocation, block_to, stop_of, variants_after}
+use Rattle.idn2_answers.specs.Answers.{Filter, IsAllocatable, allocation, block_to, stop_of, variants_after}
 use Rattle.idn2_cli.specs.declared.modes.allocations.SubTables.{SubTables}
 use Rattle.idn2_cli.specs.declared.modes.dispositions.Dispositions.{Dispositions}
 use Rattle.idn2_cli.specs.declared.modes.dispositions.Dispositions.TheVariants.{Unstated, AllAllocatable, BySpelling}

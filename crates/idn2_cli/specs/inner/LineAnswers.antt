@@ -7,11 +7,11 @@ use Rattle.idn_text.specs.Lines.{Numbered}
 use Rattle.idn_label.specs.Decode.{decode_utf8_answer}
 use Rattle.idn_label.specs.Lookup.{utf8_answer}
 use Rattle.idn2_options.specs.declared.command_line.form.Form.{Form}
-use Rattle.idn2_cli.specs.Answers.{LineAnswer}
-use Rattle.idn2_cli.specs.Said.{Said, LookedUp, Decoded, said_text}
-use Rattle.idn2_cli.specs.Transcript.{Piece, outputs}
-use Rattle.idn2_cli.specs.Ends.{Held}
-use Rattle.idn2_cli.specs.declared.output.stop.Stop.{Stop}
+use Rattle.idn2_answers.specs.Answers.{LineAnswer}
+use Rattle.idn2_answers.specs.Said.{Said, LookedUp, Decoded, said_text}
+use Rattle.idn2_output.specs.Pieces.{Piece, outputs}
+use Rattle.idn2_output.specs.Writing.{Held}
+use Rattle.idn2_output.specs.declared.stop.Stop.{Stop}
 use Rattle.idn2_cli.specs.declared.modes.answering.Kind.{Kind}
 use Rattle.idn2_cli.specs.declared.modes.answering.Kind.TheVariants as kind
 

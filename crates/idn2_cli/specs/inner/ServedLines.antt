@@ -3,7 +3,7 @@ use Rattle.std.specs.Prelude.{Option, Some, None, Result, Ok, Err}
 use Rattle.idn_text.specs.declared.refusal.Refusal.{Refusal}
 use Rattle.idn2_cli.specs.declared.modes.answering.Served.{Served}
 use Rattle.idn2_cli.specs.declared.modes.answering.Served.TheVariants as served
-use Rattle.idn2_cli.specs.declared.output.stop.Stop.{Stop}
+use Rattle.idn2_output.specs.declared.stop.Stop.{Stop}
 
 abbrev pub result_of : Served → Result (Option Refusal) Stop
 result_of served.Answered = Ok None

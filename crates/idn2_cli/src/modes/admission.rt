@@ -6,7 +6,7 @@ ghost use Rattle.idn_text.specs.declared.refusal.Refusal.TheVariants as refusals
 ghost use Rattle.valid_labels.specs.Validity.{IsAdmitted, IsSound};
 ghost use Rattle.variant_list.specs.Spelled.{spelled};
 ghost use Rattle.variant_list.specs.Variants.{in_order};
-ghost use Rattle.idn2_cli.specs.Answers.{IsRefusedAs};
+ghost use Rattle.idn2_answers.specs.Answers.{IsRefusedAs};
 ghost use Rattle.idn2_cli.specs.inner.Ruling.{IsValidityBy, KeepsOf, KeepsShared, lesser_count, lost_in, passes, ruling_in, ruling_of};
 
 use idn_text::Refusal;

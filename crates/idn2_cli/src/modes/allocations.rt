@@ -1,9 +1,9 @@
 //! Which variants of a label may be allocated (RFC 7940, section 7.3).
 
-ghost use Rattle.std.specs.Prelude.{◌≡◌, ◌≢◌, ◌↔◌, ◌≤◌, ℕ, List, [], length, IsTrue, IfOk};
+ghost use Rattle.std.specs.Prelude.{◌≡◌, ◌↔◌, ◌≤◌, ℕ, List, [], length, IsTrue, IfOk};
 ghost use Rattle.std.specs.List.{list_any};
-ghost use Rattle.valid_labels.specs.Segmentations.{HasSegmentation};
-ghost use Rattle.idn2_cli.specs.Answers.{IsAllocatable, is_among};
+ghost use Rattle.variant_table.specs.Segmentations.{HasSegmentation};
+ghost use Rattle.idn2_answers.specs.Answers.{IsAllocatable, is_among};
 ghost use Rattle.idn2_cli.specs.inner.Allocations.{AreSubTablesOf, allows};
 
 use std::alloc::{AllocError, Global};

@@ -1,27 +1,25 @@
 //! What a mode does with one line.
 
 ghost use Rattle.std.specs.Prelude.{◌≡◌, ◌≢◌, ◌≤◌, ℕ, Bool, List, [], ◌∷◌, ◌++◌, length, IsUtf8, IfOk, IfErr, Some, false};
-ghost use Rattle.idn2_cli.specs.Answers.{LineAnswer, text_answer};
+ghost use Rattle.idn2_answers.specs.Answers.{LineAnswer, text_answer};
 ghost use Rattle.answer_json.specs.Answers.{line_of};
 ghost use Rattle.answer_json.specs.Inputs.{told_of};
-ghost use Rattle.idn2_cli.specs.Said.{Decoded, LookedUp, said_object, said_text};
-ghost use Rattle.idn2_cli.specs.Transcript.{Output};
+ghost use Rattle.idn2_answers.specs.Said.{Decoded, LookedUp, said_object, said_text};
+ghost use Rattle.idn2_output.specs.Pieces.{Output};
 ghost use Rattle.idn2_cli.specs.inner.Asked.{asked_line};
 ghost use Rattle.idn2_cli.specs.inner.LineAnswers.{KeepsIfRefused, longest, refusal_in, reply_pieces, said_by};
 ghost use Rattle.idn2_cli.specs.inner.ServedLines.{answered_as, result_of};
-ghost use Rattle.idn2_cli.specs.inner.Objects.{HasSpace, object_told};
-ghost use Rattle.idn2_cli.specs.inner.Emitting.{Emits, StopsForMemory};
+ghost use Rattle.idn2_output.specs.Objects.{HasSpace, object_told};
+ghost use Rattle.idn2_output.specs.Writing.{Emits, StopsForMemory};
 ghost use Rattle.idn2_cli.specs.declared.modes.answering.Served.TheVariants as served;
-ghost use Rattle.idn2_cli.specs.declared.output.stop.Stop.TheVariants as stop;
+ghost use Rattle.idn2_output.specs.declared.stop.Stop.TheVariants as stop;
 
-use crate::output::asked::Asked;
-use crate::output::buffers::Buffers;
-use crate::output::console::Console;
-use crate::output::object::Object;
-use crate::output::stop::Stop;
+use crate::modes::asked::Asked;
+use crate::modes::buffers::Buffers;
 use answer_json::Input;
 use idn_text::{MAX_LINE_LEN, Refusal, Sink};
 use idn2_options::Form;
+use idn2_output::{Console, Object, Stop};
 use std::alloc::Global;
 
 /// What became of a line. Two bytes are enough for it, so it is handed back in registers.

@@ -4,19 +4,16 @@ ghost use Rattle.std.specs.Prelude.{◌≡◌, ◌≤◌, ◌==◌, ◌++◌, �
 ghost use Rattle.idn_text.specs.Points.{AreScalarValues};
 ghost use Rattle.variant_table.specs.Gaps.{gaps_of, pairs_of};
 ghost use Rattle.idn2_cli.specs.inner.GapSequences.{HoldSequences};
-ghost use Rattle.idn2_cli.specs.Said.{Counted, Gap, finding_text, gap_line, table_line};
-ghost use Rattle.idn2_cli.specs.Transcript.{Output, check_findings, outputs, status_if};
-ghost use Rattle.idn2_cli.specs.inner.Emitting.{Emits};
-ghost use Rattle.idn2_cli.specs.declared.output.stop.Stop.TheVariants as stop;
+ghost use Rattle.idn2_answers.specs.Said.{Counted, Gap, finding_text, gap_line, table_line};
+ghost use Rattle.idn2_output.specs.Pieces.{Output, outputs};
+ghost use Rattle.idn2_answers.specs.Transcript.{check_findings, status_if};
+ghost use Rattle.idn2_output.specs.Writing.{Emits};
+ghost use Rattle.idn2_output.specs.declared.stop.Stop.TheVariants as stop;
 
-use crate::output::buffers::append;
-use crate::output::console::Console;
-use crate::output::object::Object;
-use crate::output::status::Status;
-use crate::output::stop::Stop;
 use arrayvec::{ArrayString, ArrayVec};
 use idn_text::Sink;
 use idn2_options::Form;
+use idn2_output::{Console, Object, Status, Stop, append};
 use itoa::Buffer;
 use std::alloc::Global;
 use variant_table::{Table, write_sequence};

@@ -2,19 +2,19 @@
 
 ghost use Rattle.std.specs.Prelude.{◌≡◌, ◌≢◌, ◌≤◌, ℕ, Bool, false, List, length, chars, IfOk};
 ghost use Rattle.idn_text.specs.Points.{AreScalarValues};
-ghost use Rattle.idn2_cli.specs.Answers.{LineAnswer};
+ghost use Rattle.idn2_answers.specs.Answers.{LineAnswer};
 ghost use Rattle.idn2_cli.specs.inner.Asked.{asked_line};
-ghost use Rattle.idn2_cli.specs.inner.Emitting.{Emits, StopsForMemory};
+ghost use Rattle.idn2_output.specs.Writing.{Emits, StopsForMemory};
 ghost use Rattle.idn2_cli.specs.inner.LineAnswers.{KeepsIfRefused, refusal_in, reply_pieces};
 ghost use Rattle.idn2_cli.specs.inner.ServedLines.{result_of};
 ghost use Rattle.idn2_cli.specs.declared.modes.answering.Served.TheVariants as served;
-ghost use Rattle.idn2_cli.specs.declared.output.stop.Stop.TheVariants as stop;
+ghost use Rattle.idn2_output.specs.declared.stop.Stop.TheVariants as stop;
 
 use crate::modes::answering::{Answering, Served};
-use crate::output::asked::Asked;
-use crate::output::buffers::Buffers;
-use crate::output::console::Console;
+use crate::modes::asked::Asked;
+use crate::modes::buffers::Buffers;
 use idn_text::{MAX_LINE_LEN, Refusal, Sink, decode_points};
+use idn2_output::Console;
 use std::alloc::Global;
 
 /// A mode that is handed the code points of a line.

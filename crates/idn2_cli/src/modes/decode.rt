@@ -4,18 +4,18 @@ ghost use Rattle.std.specs.Prelude.{◌≡◌, ◌≢◌, ◌≤◌, length, tak
 ghost use Rattle.idn_label.specs.Answers.{Gives};
 ghost use Rattle.idn_label.specs.Decode.{decode_answer};
 ghost use Rattle.idn_label.specs.Steps.{in_utf8};
-ghost use Rattle.idn2_cli.specs.Answers.{one_answer};
+ghost use Rattle.idn2_answers.specs.Answers.{one_answer};
 ghost use Rattle.idn2_cli.specs.Memory.{DecodesLineWithoutMemory};
-ghost use Rattle.idn2_cli.specs.Said.{Decoded};
+ghost use Rattle.idn2_answers.specs.Said.{Decoded};
 ghost use Rattle.idn2_cli.specs.inner.LineAnswers.{with_feed, decoded_answer};
 
 use crate::modes::answering::{Answering, Kind, Served, answered, refused, reply};
-use crate::output::asked::Asked;
-use crate::output::buffers::{Buffers, MAX_ANSWER_LEN};
-use crate::output::console::Console;
+use crate::modes::asked::Asked;
+use crate::modes::buffers::{Buffers, MAX_ANSWER_LEN};
 use idn_class::Properties;
 use idn_label::{DecodedLabel, decode_utf8};
 use idn_text::{MAX_LINE_LEN, Refusal, Sink};
+use idn2_output::Console;
 use std::alloc::Global;
 
 /// Decoding (RFC 5891 section 5.3).

@@ -1,8 +1,8 @@
 //! The dispositions of variants: which may be allocated, and which are blocked (RFC 7940 section 7.3).
 
 ghost use Rattle.std.specs.Prelude.{◌≡◌, ◌≤◌, length, IfOk, Some};
-ghost use Rattle.valid_labels.specs.Segmentations.{HasSegmentation};
-ghost use Rattle.idn2_cli.specs.Answers.{allocation};
+ghost use Rattle.variant_table.specs.Segmentations.{HasSegmentation};
+ghost use Rattle.idn2_answers.specs.Answers.{allocation};
 ghost use Rattle.idn2_cli.specs.inner.Dispositions.{AreOfTable, AreOfLabel, field_by};
 
 use crate::modes::allocations::{Allocations, SubTables};

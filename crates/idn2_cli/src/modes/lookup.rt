@@ -4,16 +4,16 @@ ghost use Rattle.std.specs.Prelude.{◌≡◌, ◌≢◌, ◌≤◌, length, tak
 ghost use Rattle.idn_label.specs.Answers.{Gives};
 ghost use Rattle.idn_label.specs.Lookup.{lookup_answer};
 ghost use Rattle.idn_label.specs.Memory.{LooksUpWithoutMemory};
-ghost use Rattle.idn2_cli.specs.Answers.{one_answer};
-ghost use Rattle.idn2_cli.specs.Said.{LookedUp};
+ghost use Rattle.idn2_answers.specs.Answers.{one_answer};
+ghost use Rattle.idn2_answers.specs.Said.{LookedUp};
 ghost use Rattle.idn2_cli.specs.inner.LineAnswers.{with_feed, query_answer};
 
 use crate::modes::answering::{Answering, Kind, Served, answered, refused, reply};
-use crate::output::asked::Asked;
-use crate::output::buffers::Buffers;
-use crate::output::console::Console;
+use crate::modes::asked::Asked;
+use crate::modes::buffers::Buffers;
 use idn_label::{LookupBuffers, lookup_utf8};
 use idn_text::{Refusal, Sink};
+use idn2_output::Console;
 use std::alloc::Global;
 
 /// Lookup (UTS 46 section 4.2).

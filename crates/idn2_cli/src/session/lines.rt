@@ -3,27 +3,24 @@
 ghost use Rattle.std.specs.Prelude.{◌≡◌, ◌≢◌, ◌≤◌, ◌^◌, IfOk, Err};
 ghost use Rattle.std.specs.Result.{is_err};
 ghost use Rattle.idn_text.specs.Reading.{IsUnread, line_at};
-ghost use Rattle.idn2_cli.specs.inner.Emitting.{Emits, StopsForMemory};
-ghost use Rattle.idn2_cli.specs.inner.Explaining.{explained_by};
+ghost use Rattle.idn2_output.specs.Writing.{Emits, StopsForMemory};
+ghost use Rattle.idn2_refusals.specs.Explaining.{explained_by};
 ghost use Rattle.idn2_cli.specs.inner.LineAnswers.{KeepsIfRefused, refusal_in, reply_pieces};
 ghost use Rattle.idn2_cli.specs.inner.ServedLines.{result_of};
 ghost use Rattle.idn2_cli.specs.declared.modes.answering.Served.TheVariants as served;
-ghost use Rattle.idn2_cli.specs.Answers.{line_answer};
-ghost use Rattle.idn2_cli.specs.Transcript.{line_pieces};
+ghost use Rattle.idn2_answers.specs.Answers.{line_answer};
+ghost use Rattle.idn2_answers.specs.Transcript.{line_pieces};
 ghost use Rattle.idn2_cli.specs.Ends.{Does, lines_job};
 ghost use Rattle.idn2_cli.specs.Memory.{BodyNeedsNone, NeedsNone};
-ghost use Rattle.idn2_cli.specs.declared.output.stop.Stop.TheVariants as stop;
+ghost use Rattle.idn2_output.specs.declared.stop.Stop.TheVariants as stop;
 
 use crate::modes::answering::{Answering, Served};
-use crate::output::asked::Asked;
-use crate::output::buffers::Buffers;
-use crate::output::console::Console;
-use crate::output::status::Status;
-use crate::output::stop::Stop;
-use crate::refusals::cause::Explaining;
-use crate::refusals::refusing::refuse;
+use crate::modes::asked::Asked;
+use crate::modes::buffers::Buffers;
 use idn_text::{Lines, Refusal, Sink, Source};
 use idn2_options::Form;
+use idn2_output::{Console, Status, Stop};
+use idn2_refusals::{Explaining, refuse};
 use std::alloc::Global;
 
 /// Answers each line to the end of the input, and gives the status of the run.

@@ -7,28 +7,26 @@ ghost use Rattle.idn_label.specs.FirstFault.{IsRegistrable};
 ghost use Rattle.registered_labels.specs.Registered.{AreRegistered};
 ghost use Rattle.variant_table.specs.Entries.{TableValue};
 ghost use Rattle.idn2_options.specs.Settings.{IsWithinLimits, keeping};
-ghost use Rattle.idn2_cli.specs.Answers.{jump_answer, requested_label, variants_answer, IsJumpAnswer, IsListing};
-ghost use Rattle.idn2_cli.specs.Ends.{held, closing_status, Does, Ends, Closes, mode_job, refusal_of};
-ghost use Rattle.idn2_cli.specs.Transcript.{TableGiven, IsCheck, IsReadAs, IsTableOf, check_findings, check_pieces, check_status};
+ghost use Rattle.idn2_answers.specs.Answers.{jump_answer, variants_answer, IsJumpAnswer, IsListing};
+ghost use Rattle.idn2_refusals.specs.Requests.{requested_label};
+ghost use Rattle.idn2_output.specs.Writing.{held, refusal_of, Emits};
+ghost use Rattle.idn2_refusals.specs.Reports.{closing_status};
+ghost use Rattle.idn2_cli.specs.Ends.{Does, Ends, Closes, mode_job};
+ghost use Rattle.idn2_answers.specs.Transcript.{TableGiven, IsCheck, IsReadAs, IsTableOf, check_findings, check_pieces, check_status};
 ghost use Rattle.idn2_cli.specs.Headline.{PrintsListings};
-ghost use Rattle.idn2_cli.specs.inner.Emitting.{Emits};
 ghost use Rattle.idn2_options.specs.declared.command_line.mode.Mode.TheVariants as modes;
 
 use crate::modes::code_points::ByPoints;
 use crate::modes::{
     Decode, Dispositions, Jumps, Lookup, Register, Variants, check_table, ruling_of_table,
 };
-use crate::output::console::Console;
-use crate::output::status::Status;
-use crate::output::stop::Stop;
-use crate::refusals::cause::Explaining;
-use crate::refusals::table::refuse_table;
 use crate::session::lines::serve_lines;
-use crate::session::report::report;
 use answer_json::MAX_OBJECT_LEN;
 use idn_class::Properties;
 use idn_text::{Lines, Sink, Source};
 use idn2_options::{Form, Mode, Options};
+use idn2_output::{Console, Status, Stop};
+use idn2_refusals::{Explaining, refuse_table, report};
 use registered_labels::RegisteredLabels;
 use std::alloc::Global;
 use variant_table::{Notation, Table, TableFault};

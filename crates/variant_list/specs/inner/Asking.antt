@@ -2,7 +2,7 @@
 use Rattle.std.specs.Prelude.{◌≡◌, ℕ, List, Option, Some, None, All}
 use Rattle.label_patterns.specs.Matches.{Seen}
 use Rattle.variant_table.specs.Entries.{TableValue, whole}
-use Rattle.valid_labels.specs.Segmentations.{seen_under}
+use Rattle.variant_table.specs.Segmentations.{seen_under}
 
 -- the label as the rules of the table see it, or none, where neither a source nor a variant has a condition
 abbrev pub CanAsk : TableValue → List ℕ → Option Seen → Type 0

@@ -2,7 +2,7 @@
 use Rattle.std.specs.Prelude.{◌≡◌, ℕ, false, List, drop, Contains}
 use Rattle.std.specs.List.{flat_map, AllByRecursion}
 use Rattle.variant_table.specs.Entries.{Entry, TableValue}
-use Rattle.valid_labels.specs.Segmentations.{AllHold, seen_under}
+use Rattle.variant_table.specs.Segmentations.{AllHold, seen_under}
 use Rattle.variant_list.specs.declared.part.Part.{Part}
 use Rattle.variant_list.specs.Spelling.{JoinsReplacements}
 

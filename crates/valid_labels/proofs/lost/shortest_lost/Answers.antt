@@ -2,7 +2,7 @@ use Rattle.std.proofs.Common.{ℕ, subst}
 use Rattle.std.specs.Prelude.{MatchOption}
 use Rattle.label_patterns.specs.Matches.{no_round}
 use Rattle.variant_table.specs.Entries.{TableValue}
-use Rattle.valid_labels.specs.Segmentations.{seen_under}
+use Rattle.variant_table.specs.Segmentations.{seen_under}
 use Rattle.valid_labels.specs.inner.Ends.{IsRefusedAt, NoneRefuses}
 use Rattle.valid_labels.specs.inner.Pieces.{items_of}
 use Rattle.valid_labels.proofs.LostPlaces.{shortest-lost}

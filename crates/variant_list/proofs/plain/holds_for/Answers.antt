@@ -7,7 +7,7 @@ use Rattle.label_patterns.specs.Matches.{Seen, HasItsSets}
 use Rattle.label_patterns.specs.Patterns.{Pattern}
 use Rattle.ruleset_text.specs.Definitions.{Definitions}
 use Rattle.variant_table.specs.Entries.{Entry, TableValue, Variant, whole}
-use Rattle.valid_labels.specs.Segmentations.{seen_under}
+use Rattle.variant_table.specs.Segmentations.{seen_under}
 use Rattle.variant_list.proofs.PartLemmas.{mapped-same}
 use Rattle.variant_list.proofs.plain.holds_for.Goals as goal
 

@@ -2,7 +2,7 @@ use Rattle.std.proofs.Common.{◌≡◌, ◌↔◌, ℕ, ◌<◌, Bool, true, Li
 use Rattle.std.specs.List.{Contains}
 use Rattle.std.proofs.lemmas.List.{set-get_or}
 use Rattle.variant_list.specs.Positions.{Built}
-use Rattle.idn2_cli.specs.Answers.{is_among}
+use Rattle.idn2_answers.specs.Answers.{is_among}
 use Rattle.idn2_cli.proofs.AllocationLemmas.{none-more, one-more, is_among-by}
 use Rattle.idn2_cli.proofs.modes.allocations.spells_one.Goals as goal
 

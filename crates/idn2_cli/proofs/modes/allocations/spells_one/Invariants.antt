@@ -1,7 +1,7 @@
 use Rattle.std.proofs.Common.{◌≡◌, false, take}
 use Rattle.std.specs.List.{list_any}
 use Rattle.variant_list.specs.Positions.{Built}
-use Rattle.idn2_cli.specs.Answers.{is_among}
+use Rattle.idn2_answers.specs.Answers.{is_among}
 use Rattle.idn2_cli.proofs.modes.allocations.spells_one.Given as goal
 
 -- the tests are as they were, and none so far tells of the variant

@@ -4,30 +4,29 @@ use Rattle.idn_class.specs.declared.properties.Properties.{Properties}
 use Rattle.idn_class.specs.Known.{AreKnown}
 use Rattle.idn_class.proofs.KnownLemmas.{AreKnown-nil}
 use Rattle.idn_label.specs.FirstFault.{IsRegistrable}
-use Rattle.variant_list.specs.Steps.{IfDecided}
+use Rattle.variant_list.specs.Steps.{IfDecided, Decides, SeeksOver, moved_over}
 use Rattle.variant_list.specs.declared.cursor.Outcome.{Outcome}
 use Rattle.variant_list.specs.declared.cursor.Outcome.TheVariants as outcome
 use Rattle.idn2_cli.specs.inner.KeptLines.{IsBegun}
 use Rattle.std.proofs.lemmas.Result.{err_from_is_err_and}
 use Rattle.variant_list.proofs.CallAnswers.{not_ok}
 use Rattle.variant_list.specs.Positions.{Position, tested_ahead}
-use Rattle.variant_list.specs.Steps.{Decides, SeeksOver, moved_over}
 use Rattle.variant_list.specs.Stepping.{StepsTo}
 use Rattle.idn_label.specs.Memory.{NeedsNoMemory}
 use Rattle.idn2_cli.specs.declared.modes.dispositions.Dispositions.{Dispositions}
 use Rattle.idn2_options.specs.Settings.{Settings}
 use Rattle.answer_json.specs.declared.block.Disposition.{Disposition}
-use Rattle.idn2_cli.specs.Answers.{Filter}
+use Rattle.idn2_answers.specs.Answers.{Filter}
 use Rattle.idn2_cli.specs.inner.Ruling.{filter_by, ruling_in}
-use Rattle.idn2_cli.specs.Said.{Said, Listed, said_text}
+use Rattle.idn2_answers.specs.Said.{Said, Listed, said_text}
 use Rattle.idn2_cli.specs.inner.Asked.{asked_line}
 use Rattle.idn2_cli.specs.inner.Allocations.{Allowed}
 use Rattle.idn2_cli.specs.inner.Dispositions.{field_by}
 use Rattle.idn2_cli.specs.inner.LineAnswers.{reaches}
-use Rattle.idn2_cli.specs.Transcript.{Output}
-use Rattle.idn2_cli.proofs.FilterLemmas.{filter_by-IsSound}
+use Rattle.idn2_output.specs.Pieces.{Output}
+use Rattle.idn2_cli.proofs.RuledFilters.{filter_by-IsSound}
 use Rattle.idn2_cli.proofs.ListingLemmas.{IsWritable}
-use Rattle.idn2_cli.proofs.WrittenPieces.{stops_first, stops_after, emits_as, writes_as}
+use Rattle.idn2_output.proofs.WrittenPieces.{stops_first, stops_after, emits_as, writes_as}
 use Rattle.idn2_cli.proofs.ListingProgress.{listing-start, found-writable, spent-writable, halted-writable, listing-spent, listing-halted, listing-ended, listing-found, listing-broken, listing-reached, found-from, spent-from, halted-from, ended-from}
 use Rattle.idn2_cli.proofs.modes.block.write_block.Goals as goal
 

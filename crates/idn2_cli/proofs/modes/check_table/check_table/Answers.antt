@@ -3,11 +3,12 @@ use Rattle.std.proofs.lemmas.List.{append-nil}
 use Rattle.std.proofs.lemmas.Result.{err_from_is_err_and}
 use Rattle.variant_table.specs.Gaps.{pairs_of}
 use Rattle.idn2_cli.specs.inner.GapSequences.{HoldSequences}
-use Rattle.idn2_cli.specs.Said.{Counted, Gap, finding_text}
-use Rattle.idn2_cli.specs.Transcript.{Output, check_findings, outputs, status_if}
-use Rattle.idn2_cli.specs.Ends.{Writes}
+use Rattle.idn2_answers.specs.Said.{Counted, Gap, finding_text}
+use Rattle.idn2_output.specs.Pieces.{Output, outputs}
+use Rattle.idn2_answers.specs.Transcript.{check_findings, status_if}
+use Rattle.idn2_output.specs.Writing.{Writes}
 use Rattle.idn2_cli.proofs.CheckLemmas.{gap_at, check-split, pairs_of-length}
-use Rattle.idn2_cli.proofs.WrittenPieces.{emits_as, writes_as, writes_join, writes_nothing, stops_first, stops_between}
+use Rattle.idn2_output.proofs.WrittenPieces.{emits_as, writes_as, writes_join, writes_nothing, stops_first, stops_between}
 use Rattle.idn2_cli.proofs.modes.check_table.check_table.Goals as goal
 
 pub write_gaps-requires : goal.write_gaps-requires

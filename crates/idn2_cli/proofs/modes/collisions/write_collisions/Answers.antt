@@ -9,17 +9,17 @@ use Rattle.answer_json.specs.declared.block.Disposition.{Disposition}
 use Rattle.idn_label.specs.FirstFault.{IsRegistrable}
 use Rattle.variant_table.specs.Entries.{TableValue}
 use Rattle.idn2_cli.specs.inner.Ruling.{KeepsOf, filter_by, passes, ruling_in}
-use Rattle.idn2_cli.proofs.FilterLemmas.{accepts-failed, accepts-passed}
+use Rattle.idn2_cli.proofs.RuledFilters.{accepts-failed, accepts-passed}
 use Rattle.idn2_cli.proofs.RulingLemmas.{kept-shared}
-use Rattle.idn2_cli.specs.Said.{Said, Listed, said_text}
+use Rattle.idn2_answers.specs.Said.{Said, Listed, said_text}
 use Rattle.idn2_cli.specs.inner.Asked.{asked_line}
 use Rattle.idn2_cli.specs.inner.Allocations.{Allowed}
 use Rattle.idn2_cli.specs.inner.Dispositions.{field_by}
 use Rattle.idn2_cli.specs.inner.KeptLines.{IsBegun}
 use Rattle.idn2_cli.specs.declared.modes.dispositions.Dispositions.{Dispositions}
 use Rattle.idn2_cli.specs.inner.LineAnswers.{reaches}
-use Rattle.idn2_cli.specs.Transcript.{Output}
-use Rattle.idn2_cli.proofs.WrittenPieces.{stops_first, emits_as, writes_as}
+use Rattle.idn2_output.specs.Pieces.{Output}
+use Rattle.idn2_output.proofs.WrittenPieces.{stops_first, emits_as, writes_as}
 use Rattle.idn2_cli.proofs.CollisionSteps.{under_way-passed, under_way-start, under_way-ended, under_way-broken, under_way-registrable, under_way-found, under_way-reached}
 use Rattle.idn2_cli.proofs.modes.collisions.write_collisions.Goals as goal
 

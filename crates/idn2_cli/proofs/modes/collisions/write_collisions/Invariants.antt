@@ -3,7 +3,7 @@ use Rattle.registered_labels.specs.Collisions.{collisions_ahead}
 use Rattle.idn2_cli.specs.inner.Dispositions.{field_by}
 use Rattle.idn2_cli.specs.inner.KeptLines.{IsBegun}
 use Rattle.idn2_cli.specs.inner.Ruling.{KeepsOf, filter_by, ruling_in}
-use Rattle.idn2_cli.specs.Said.{said_text}
+use Rattle.idn2_answers.specs.Said.{said_text}
 use Rattle.idn2_cli.specs.inner.Asked.{asked_line}
 use Rattle.idn2_cli.proofs.CollisionSteps.{IsUnderWay}
 use Rattle.idn2_cli.proofs.modes.collisions.write_collisions.Given as goal

@@ -2,11 +2,11 @@ use Rattle.std.proofs.Common.{ap}
 use Rattle.idn_label.proofs.RequirementLemmas.{MeetsRequirements-registrable}
 use Rattle.variant_list.specs.Spelled.{spelled}
 use Rattle.variant_list.proofs.FromLemmas.{among_from-in_order}
-use Rattle.idn2_cli.specs.Answers.{requested_label}
+use Rattle.idn2_refusals.specs.Requests.{requested_label}
 use Rattle.idn2_cli.specs.inner.ServedLines.{result_of}
 use Rattle.idn2_cli.proofs.RefusedLines.{answered_memory, answered_none, emits_answered, kept_as_it_was, kept_if_answered, refused_is, replies_refusal}
-use Rattle.idn2_cli.proofs.WrittenPieces.{stops_first}
-use Rattle.idn2_cli.proofs.AdmittedLabels.{admitted-made, admitted_answer, refused_answer, some-length}
+use Rattle.idn2_output.proofs.WrittenPieces.{stops_first}
+use Rattle.idn2_answers.proofs.AdmittedLabels.{admitted-made, admitted_answer, refused_answer, some-length}
 use Rattle.idn2_cli.proofs.modes.jumps.answer_least.Goals as goal
 
 pub admitted_net-requires-clause-some : goal.admitted_net-requires-clause-some

@@ -1,6 +1,6 @@
 use Rattle.std.proofs.Common.{ℕ, List, Option, sym, subst}
 use Rattle.idn2_cli.specs.Memory.{BodyNeedsNone}
-use Rattle.idn2_cli.specs.inner.Emitting.{StopsForMemory}
+use Rattle.idn2_output.specs.Writing.{StopsForMemory}
 use Rattle.idn2_cli.specs.inner.ServedLines.{result_of}
 use Rattle.idn2_cli.proofs.session.lines.answer_line.Goals as goal
 

@@ -1,10 +1,10 @@
 use Rattle.std.proofs.Common.{◌≡◌, Some}
 use Rattle.std.proofs.lemmas.Result.{err_from_is_err_and}
 use Rattle.idn_text.specs.Reading.{line_at}
-use Rattle.idn2_cli.specs.Answers.{line_answer}
-use Rattle.idn2_cli.specs.inner.Explaining.{explained_by}
+use Rattle.idn2_answers.specs.Answers.{line_answer}
+use Rattle.idn2_refusals.specs.Explaining.{explained_by}
 use Rattle.idn2_cli.specs.inner.LineAnswers.{refusal_in}
-use Rattle.idn2_cli.specs.declared.output.stop.Stop.TheVariants as stop
+use Rattle.idn2_output.specs.declared.stop.Stop.TheVariants as stop
 use Rattle.idn2_cli.proofs.RefusedLines.{cause_needs_none, stopped_pieces}
 use Rattle.idn2_cli.proofs.session.lines.serve_line.Goals as goal
 

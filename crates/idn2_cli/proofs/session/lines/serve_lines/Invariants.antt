@@ -1,5 +1,5 @@
 use Rattle.std.proofs.Common.{◌-◌, ◌^◌}
-use Rattle.idn2_cli.specs.inner.Explaining.{explained_by}
+use Rattle.idn2_refusals.specs.Explaining.{explained_by}
 use Rattle.idn2_cli.proofs.LineSteps.{SoFar}
 use Rattle.idn2_cli.proofs.session.lines.serve_lines.Given as goal
 

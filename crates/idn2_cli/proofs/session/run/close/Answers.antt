@@ -1,5 +1,5 @@
 use Rattle.std.proofs.Common.{refl, ap, ◌∙◌}
-use Rattle.idn2_cli.specs.Ends.{closing_status}
+use Rattle.idn2_refusals.specs.Reports.{closing_status}
 use Rattle.idn2_cli.proofs.RunEnds.{closes_by}
 use Rattle.idn2_cli.proofs.session.run.close.Goals as goal
 

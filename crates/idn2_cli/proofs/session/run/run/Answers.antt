@@ -1,7 +1,7 @@
 use Rattle.std.proofs.Common.{ap, sym, ◌≡◌, ◌∙◌, None}
 use Rattle.idn2_options.specs.Settings.{Settings, keeping}
 use Rattle.idn2_cli.specs.Ends.{mode_job}
-use Rattle.idn2_cli.proofs.AdmittedLabels.{sound_table}
+use Rattle.idn2_answers.proofs.AdmittedLabels.{sound_table}
 use Rattle.idn2_cli.proofs.BlockMembers.{variants_answer-IsListing}
 use Rattle.idn2_cli.proofs.RunEnds.{ends_as}
 use Rattle.idn2_cli.proofs.HeadlineLemmas.{headline}

@@ -1,10 +1,10 @@
 use Rattle.std.proofs.Common.{ap, sym, ◌∙◌, rules}
 use Rattle.std.specs.Option.{option_copied}
 use Rattle.idn2_options.specs.Settings.{keeping}
-use Rattle.idn2_cli.specs.Ends.{Held}
+use Rattle.idn2_output.specs.Writing.{Held}
 use Rattle.idn2_cli.proofs.LentWriters.{same_loans, given_back}
 use Rattle.idn2_cli.proofs.HeadlineLemmas.{headline}
-use Rattle.idn2_cli.proofs.AdmittedLabels.{sound_table}
+use Rattle.idn2_answers.proofs.AdmittedLabels.{sound_table}
 use Rattle.idn2_cli.proofs.BlockMembers.{variants_answer-IsListing, check_findings-IsCheck}
 use Rattle.idn2_cli.proofs.JumpAnswers.{jump_answer-IsJumpAnswer}
 use Rattle.idn2_cli.proofs.session.run.run_among.Goals as goal

@@ -1,16 +1,16 @@
 use Rattle.std.proofs.Common.{inl, refl, subst, Ok, ap, chars, true, ◌∙◌}
-use Rattle.idn2_cli.specs.Explained.{Explained}
+use Rattle.idn2_refusals.specs.Explained.{Explained, ByRequest, if_wanted}
 use Rattle.idn2_options.specs.declared.command_line.form.Form.{Form}
 use Rattle.idn_class.specs.declared.properties.Properties.{Properties}
 use Rattle.idn2_options.specs.Settings.{Settings}
 use Rattle.idn2_options.specs.declared.command_line.mode.Mode.TheVariants.{Jump}
 use Rattle.variant_table.specs.Texts.{IsTextOf, IsToldOf}
 use Rattle.variant_table.specs.declared.fault.TableFault.TheVariants.{Memory}
-use Rattle.idn2_cli.specs.Answers.{jump_answer, requested_label}
+use Rattle.idn2_answers.specs.Answers.{jump_answer}
+use Rattle.idn2_refusals.specs.Requests.{requested_label}
 use Rattle.idn2_cli.specs.Ends.{Job, lines_job}
-use Rattle.idn2_cli.specs.Explained.{ByRequest, if_wanted}
 use Rattle.idn2_cli.specs.Memory.{IsRefusedWithoutMemory}
-use Rattle.idn2_cli.specs.inner.Explaining.{explained_by}
+use Rattle.idn2_refusals.specs.Explaining.{explained_by}
 use Rattle.idn2_cli.proofs.RunEnds.{as_mode, in_form, jumps_by_table, refused_lines}
 use Rattle.idn2_cli.proofs.session.run.serve_jumps.Goals as goal
 

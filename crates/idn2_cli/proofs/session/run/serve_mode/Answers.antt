@@ -7,14 +7,14 @@ use Rattle.idn_label.specs.Register.{register_answer}
 use Rattle.idn_label.specs.Steps.{in_utf8}
 use Rattle.std.specs.Option.{option_copied}
 use Rattle.idn2_options.specs.Settings.{Settings, keeping, tells_causes}
-use Rattle.idn2_cli.specs.Answers.{LineAnswer, one_answer, u_label_of}
-use Rattle.idn2_cli.specs.Said.{LookedUp, Registered, Decoded}
-use Rattle.idn2_cli.specs.inner.Emitting.{Emits}
+use Rattle.idn2_answers.specs.Answers.{LineAnswer, one_answer, u_label_of}
+use Rattle.idn2_answers.specs.Said.{LookedUp, Registered, Decoded}
+use Rattle.idn2_output.specs.Writing.{Emits}
 use Rattle.idn2_options.specs.declared.command_line.form.Form.{Form}
-use Rattle.idn2_cli.specs.Explained.{ByLabel, ByName, ByQuery, Explained, if_wanted}
+use Rattle.idn2_refusals.specs.Explained.{ByLabel, ByName, ByQuery, Explained, if_wanted}
 use Rattle.idn2_cli.specs.Memory.{DecodesLineWithoutMemory}
-use Rattle.idn2_cli.specs.Transcript.{IsReadAs, check_pieces, no_table}
-use Rattle.idn2_cli.specs.inner.Explaining.{explained_by}
+use Rattle.idn2_answers.specs.Transcript.{IsReadAs, check_pieces, no_table}
+use Rattle.idn2_refusals.specs.Explaining.{explained_by}
 use Rattle.idn2_cli.specs.Ends.{Job, lines_job}
 use Rattle.idn2_options.specs.declared.command_line.mode.Mode.TheVariants.{Lookup, Register, Decode}
 use Rattle.idn2_cli.proofs.RunEnds.{as_mode, checked, does_as, jump_job-kept}

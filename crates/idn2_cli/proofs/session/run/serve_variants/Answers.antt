@@ -7,10 +7,10 @@ use Rattle.variant_list.specs.Spelled.{spelled}
 use Rattle.idn2_options.specs.Settings.{Settings, keeping}
 use Rattle.variant_table.specs.Texts.{IsTextOf, IsToldOf}
 use Rattle.variant_table.specs.declared.fault.TableFault.TheVariants.{Memory}
-use Rattle.idn2_cli.specs.Answers.{filter_of, tested_after, variants_answer}
-use Rattle.idn2_cli.specs.Explained.{ByTable, if_wanted}
+use Rattle.idn2_answers.specs.Answers.{filter_of, tested_after, variants_answer}
+use Rattle.idn2_refusals.specs.Explained.{ByTable, if_wanted}
 use Rattle.idn2_cli.specs.Memory.{IsRefusedWithoutMemory}
-use Rattle.idn2_cli.specs.inner.Explaining.{explained_by}
+use Rattle.idn2_refusals.specs.Explaining.{explained_by}
 use Rattle.idn2_cli.specs.Ends.{lines_job}
 use Rattle.idn2_options.specs.declared.command_line.mode.Mode.TheVariants.{Variants}
 use Rattle.idn2_cli.proofs.RunEnds.{as_mode, in_form, lists_by_table, refused_lines}

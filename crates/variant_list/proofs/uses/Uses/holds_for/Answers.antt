@@ -8,7 +8,7 @@ use Rattle.label_patterns.specs.Matches.{Seen, HasItsSets}
 use Rattle.label_patterns.specs.Patterns.{Pattern}
 use Rattle.ruleset_text.specs.Definitions.{Definitions}
 use Rattle.variant_table.specs.Entries.{Entry, TableValue, Variant, whole}
-use Rattle.valid_labels.specs.Segmentations.{seen_under}
+use Rattle.variant_table.specs.Segmentations.{seen_under}
 use Rattle.variant_list.specs.Uses.{holds_for}
 use Rattle.variant_list.specs.inner.Asking.{CanAsk}
 use Rattle.variant_list.proofs.HeldLemmas.{at-of, held-free, held_by, same_by}

@@ -3,10 +3,11 @@ use Rattle.std.specs.Prelude.{bytes_eq}
 use Rattle.std.specs.List.{list_any}
 use Rattle.std.proofs.Math.Bool.{or-false}
 use Rattle.variant_list.specs.Positions.{Built}
-use Rattle.idn2_cli.specs.Answers.{is_among}
+use Rattle.idn2_answers.specs.Answers.{is_among}
 use Rattle.idn2_cli.specs.inner.Allocations.{Allowed, allowed_of, allows}
 use Rattle.idn2_cli.specs.declared.modes.allocations.Tests.{Tests}
-use Rattle.idn2_cli.proofs.AllocationLemmas.{is_among-by, true-or}
+use Rattle.idn2_cli.proofs.AllocationLemmas.{is_among-by}
+use Rattle.idn2_answers.proofs.AllocatableLabels.{true-or}
 use Rattle.idn2_cli.proofs.modes.allocations.Allocations.allow.Goals.{in-Unblocked, in-OfTags+then-eq, in-OfTags+else-eq}
 use Rattle.idn2_cli.proofs.modes.allocations.Allocations.allow.Goals as goal
 

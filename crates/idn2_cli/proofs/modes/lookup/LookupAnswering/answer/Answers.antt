@@ -1,5 +1,5 @@
 use Rattle.std.proofs.Common.{◌∙◌, ap, Err}
-use Rattle.idn2_cli.specs.Said.{LookedUp}
+use Rattle.idn2_answers.specs.Said.{LookedUp}
 use Rattle.idn2_cli.specs.inner.LineAnswers.{query_answer}
 use Rattle.idn2_cli.proofs.TextAnswers.{query_answer-utf8, text_answer-query, answered-filled, emits_answer, one_answer-answered, one_answer-refused}
 use Rattle.idn2_cli.proofs.RefusedLines.{answered_none, emits_answered, kept_as_it_was, kept_if_answered, replies_refusal, refused_is, refused_without}

@@ -1,0 +1,187 @@
+-- What a listing asks of labels, and what is known of it.
+use Rattle.std.proofs.Common.{◌≡◌, ◌≤◌, ◌<◌, ◌⊎◌, inl, inr, ◌++◌, ◌&&◌, ◌||◌, ◌↔◌, ℕ, zero, suc, List, [], ◌∷◌, Option, Some, None, Bool, true, false, IsTrue, take, drop, length, refl, sym, ap, subst, ◌∙◌, arith}
+use Rattle.std.specs.Prelude.{nat_le}
+use Rattle.std.specs.Option.{is_none}
+use Rattle.std.proofs.lemmas.Bool.Decides.{nat_tests}
+use Rattle.std.proofs.lemmas.List.{take-append-drop, take_all}
+use Rattle.std.proofs.lemmas.Bool.{and_from, or_from, false_from_ne_true}
+use Rattle.idn_class.specs.declared.properties.Properties.{Properties}
+use Rattle.idn_class.specs.Hopeless as class
+use Rattle.idn_class.specs.Hopeless.{hopeless, IsHopeless}
+use Rattle.idn_class.proofs.HopelessSteps.{hopeless-nil}
+use Rattle.idn_class.proofs.HopelessTests.{hopeless-from}
+use Rattle.idn_label.specs.FirstFault.{first_fault, IsRegistrable}
+use Rattle.idn_label.proofs.HopeLemmas.{none_hopeless}
+use Rattle.idn_label.proofs.RequirementLemmas.{MeetsRequirements-registrable}
+use Rattle.variant_table.specs.Entries.{TableValue}
+use Rattle.valid_labels.specs.Validity as validity
+use Rattle.valid_labels.specs.Validity.{IsLost, IsValid, HasNoLostBeginning}
+use Rattle.valid_labels.specs.Tests.{asks_nothing, is_lost, is_valid}
+use Rattle.valid_labels.proofs.LostLemmas.{lost-invalid}
+use Rattle.valid_labels.proofs.TestLemmas.{tests-agree}
+use Rattle.variant_list.specs.Beginnings.{HasHope, has_hope}
+use Rattle.std.proofs.Math.Seq.{take-append_seam}
+use Rattle.std.proofs.lemmas.List.{length-append}
+use Rattle.variant_list.proofs.BeginningLemmas.{hope-gives, shortest_hopeless-none}
+use Rattle.idn2_answers.proofs.HopeLemmas.{clear}
+use Rattle.idn2_answers.specs.Answers.{Filter, filter_if, filter_of, is_registrable, registrable_labels, ruled_labels}
+
+module _ (properties : Properties) where
+  -- each label that is accepted may be registered, and none of them begins with a hopeless list
+  pub record IsSound (f : Filter) : Type 0 where
+    pub registrable : (v : List ℕ) → f.accepts v ≡ true → IsRegistrable properties v
+    pub for_good : (w z : List ℕ) → f.hopeless w ≡ true → f.accepts (w ++ z) ≡ false
+
+  -- it has at most 63 code points
+  pub accepted-short : (f : Filter) → IsSound f → (v : List ℕ) → f.accepts v ≡ true → length v ≤ 63
+  accepted-short f sound v accepted = (MeetsRequirements-registrable properties v (sound.registrable v accepted)).points
+
+  pub is_registrable-from : (v : List ℕ) → is_registrable properties v ≡ true → IsRegistrable properties v
+  is_registrable-from v h = none (first_fault properties v) h
+    where
+      none : {X : Type 0} (r : Option X) → is_none r ≡ true → r ≡ None
+      none None h = refl
+      none (Some x) h = cc
+
+  pub registrable_labels-IsSound : IsSound (registrable_labels properties)
+  registrable_labels-IsSound = record { registrable = is_registrable-from; for_good = none_hopeless properties }
+
+-- ---- both halves of a test
+
+both-left : (a b : Bool) → (a && b) ≡ true → a ≡ true
+both-left true b h = refl
+both-left false b h = cc
+
+both-right : (a b : Bool) → (a && b) ≡ true → b ≡ true
+both-right true b h = h
+both-right false b h = cc
+
+pub not-left : (a b : Bool) → a ≡ false → (a && b) ≡ false
+not-left false b h = refl
+not-left true b h = cc
+
+pub not-right : (a b : Bool) → b ≡ false → (a && b) ≡ false
+not-right true b h = h
+not-right false b h = refl
+
+neither-left : (a b : Bool) → (a || b) ≡ false → a ≡ false
+neither-left false b h = refl
+neither-left true b h = cc
+
+neither-right : (a b : Bool) → (a || b) ≡ false → b ≡ false
+neither-right false b h = h
+neither-right true b h = cc
+
+one-of : (a b : Bool) → (a || b) ≡ true → (a ≡ true) ⊎ (b ≡ true)
+one-of true b h = inl refl
+one-of false b h = inr h
+
+-- ---- labels that are valid under a table, too
+
+unless-true : (b : Bool) → (b ≡ true → ⊥) → b ≡ false
+unless-true true h = absurd (h refl)
+unless-true false h = refl
+
+-- a label that begins with a lost list has such a beginning
+lost_beginning : (lost : List ℕ → Bool) (w z : List ℕ) → lost [] ≡ false → lost w ≡ true → has_hope lost (w ++ z) ≡ false
+lost_beginning lost [] z none is = let clash : false ≡ true = sym none ∙ is in cc
+lost_beginning lost (c ∷ w) z none is = unless-true (has_hope lost ((c ∷ w) ++ z)) clash
+  where
+    at_it : lost (take (length (c ∷ w)) ((c ∷ w) ++ z)) ≡ true
+    at_it = ap lost (take-append_seam (c ∷ w) z) ∙ is
+
+    clash : has_hope lost ((c ∷ w) ++ z) ≡ true → ⊥
+    clash h =
+        let clear : lost (take (length (c ∷ w)) ((c ∷ w) ++ z)) ≡ false = hope-gives lost ((c ∷ w) ++ z) h (length (c ∷ w)) (omega arith) (omega (arith, length-append (c ∷ w) z)) in
+        let bad : false ≡ true = sym clear ∙ at_it in cc
+
+pub ruled-for_good : (properties : Properties) (table : TableValue) (w z : List ℕ) → (ruled_labels properties table).hopeless w ≡ true → (ruled_labels properties table).accepts (w ++ z) ≡ false
+ruled-for_good properties table w z is = elim (one-of (hopeless properties w) (is_lost table w) is) [
+  | inl h ↦ not-left (is_registrable properties (w ++ z)) _ (none_hopeless properties w z h)
+  | inr l ↦ not-right (is_registrable properties (w ++ z)) _ (not-right (is_valid table (w ++ z)) _ (lost_beginning (is_lost table) w z refl l))
+]
+
+module _ (properties : Properties) where
+  pub ruled_labels-IsSound : (table : TableValue) → IsSound properties (ruled_labels properties table)
+  ruled_labels-IsSound table = record {
+    registrable = λ v h. is_registrable-from properties v (both-left (is_registrable properties v) (is_valid table v && has_hope (is_lost table) v) h);
+    for_good = ruled-for_good properties table;
+  }
+
+  pub filter_of-IsSound : (table : TableValue) → IsSound properties (filter_of properties table)
+  filter_of-IsSound table = by_test (asks_nothing table)
+    where
+      by_test : (b : Bool) → IsSound properties (filter_if properties b table)
+      by_test true = registrable_labels-IsSound properties
+      by_test false = ruled_labels-IsSound table
+
+-- ---- no beginning of a valid label is lost, and none of a label with hope is hopeless
+
+not_lost : (table : TableValue) (v : List ℕ) → validity.IsSound table → IsValid table v → (k : ℕ) → IsLost table (take k v) → ⊥
+not_lost table v sound valid k is = lost-invalid table (take k v) (drop k v) sound is (subst (IsValid table) (sym (take-append-drop k v)) valid)
+
+module _ (properties : Properties) where
+  empty_has_hope : IsHopeless properties [] → ⊥
+  empty_has_hope h = let clash : false ≡ true = sym (hopeless-nil properties) ∙ hopeless-from properties [] h in cc
+
+  hope-rule : (v : List ℕ) → HasHope (hopeless properties) v → class.HasHope properties v
+  hope-rule v h zero bad = empty_has_hope bad
+  hope-rule [] h (suc k) bad = empty_has_hope bad
+  hope-rule (c ∷ v) h (suc k) bad = by_length (nat_le (suc k) (length (c ∷ v))) refl
+    where
+      clash : (n : ℕ) → 1 ≤ n → n ≤ length (c ∷ v) → IsHopeless properties (take n (c ∷ v)) → ⊥
+      clash n low high at = let both : false ≡ true = sym (h n low high) ∙ hopeless-from properties (take n (c ∷ v)) at in cc
+
+      all : (n : ℕ) → length (c ∷ v) ≤ n → take n (c ∷ v) ≡ take (length (c ∷ v)) (c ∷ v)
+      all n long = take_all n (c ∷ v) long ∙ sym (take_all (length (c ∷ v)) (c ∷ v) (omega arith))
+
+      by_length : (b : Bool) → nat_le (suc k) (length (c ∷ v)) ≡ b → ⊥
+      by_length true is = clash (suc k) (omega arith) (grind (arith, nat_tests)) bad
+      by_length false is =
+          let long : length (c ∷ v) ≤ suc k = grind (arith, nat_tests) in
+          clash (length (c ∷ v)) (omega arith) (omega arith) (subst (IsHopeless properties) (all (suc k) long) bad)
+
+-- ---- what the filter of a table asks of a label that is valid where the table asks nothing
+
+module _ (properties : Properties) where
+  -- it accepts exactly the registrable labels that are valid
+  pub accepted-is : (table : TableValue) (v : List ℕ) → validity.IsSound table → (asks_nothing table ≡ true → IsValid table v)
+      → ((filter_of properties table).accepts v ≡ true) ↔ (IsRegistrable properties v × IsValid table v)
+  accepted-is table v sound free = by_test (asks_nothing table) free
+    where
+      valid_test : IsTrue (is_valid table v) ↔ IsValid table v
+      valid_test = tests-agree.valid table v sound
+
+      no_lost : IsValid table v → has_hope (is_lost table) v ≡ true
+      no_lost valid = ap is_none (shortest_hopeless-none (is_lost table) v (λ k low high. false_from_ne_true (is_lost table (take k v)) (λ is. not_lost table v sound valid k ((tests-agree.lost table (take k v) sound).0 is))))
+
+      by_test : (b : Bool) → (b ≡ true → IsValid table v) → ((filter_if properties b table).accepts v ≡ true) ↔ (IsRegistrable properties v × IsValid table v)
+      by_test true valid = (λ h. (is_registrable-from properties v h, valid refl), λ both. ap is_none both.0)
+      by_test false valid = (
+        λ h. (
+          is_registrable-from properties v (both-left (is_registrable properties v) (is_valid table v && has_hope (is_lost table) v) h),
+          valid_test.0 (both-left (is_valid table v) (has_hope (is_lost table) v) (both-right (is_registrable properties v) (is_valid table v && has_hope (is_lost table) v) h)),
+        ),
+        λ both. and_from (is_registrable properties v) _ (ap is_none both.0) (and_from (is_valid table v) _ (valid_test.1 both.1) (no_lost both.1)),
+      )
+
+  -- no beginning is hopeless to it exactly where none is hopeless and none is lost
+  pub hope-is : (table : TableValue) (v : List ℕ) → validity.IsSound table → (asks_nothing table ≡ true → IsValid table v)
+      → HasHope (filter_of properties table).hopeless v ↔ (class.HasHope properties v × HasNoLostBeginning table v)
+  hope-is table v sound free = by_test (asks_nothing table) free
+    where
+      none_lost : HasHope (is_lost table) v → HasNoLostBeginning table v
+      none_lost h zero high is = absurd (let bad : 0 < 0 = is.some in omega (arith, bad))
+      none_lost h (suc k) high is =
+          let clash : false ≡ true = sym (h (suc k) (omega arith) high) ∙ (tests-agree.lost table (take (suc k) v) sound).1 is in cc
+
+      by_test : (b : Bool) → (b ≡ true → IsValid table v) → HasHope (filter_if properties b table).hopeless v ↔ (class.HasHope properties v × HasNoLostBeginning table v)
+      by_test true valid = (λ h. (hope-rule properties v h, λ k high. not_lost table v sound (valid refl) k), λ both k low high. clear properties (take k v) (both.0 k))
+      by_test false valid = (
+        λ h. (
+          hope-rule properties v (λ k low high. neither-left (hopeless properties (take k v)) (is_lost table (take k v)) (h k low high)),
+          none_lost (λ k low high. neither-right (hopeless properties (take k v)) (is_lost table (take k v)) (h k low high)),
+        ),
+        λ both k low high. or_from (hopeless properties (take k v)) (is_lost table (take k v)) (clear properties (take k v) (both.0 k))
+            (false_from_ne_true (is_lost table (take k v)) (λ is. both.1 k high ((tests-agree.lost table (take k v) sound).0 is))),
+      )

@@ -1,0 +1,16 @@
+-- The shortest hopeless beginning of a label, as a listing asks for it.
+pub mod HopeLemmas
+-- What a listing asks of labels, and what is known of it.
+pub mod FilterLemmas
+-- The stop of a listing: the lesser of two labels, and the labels up to one.
+pub mod LabelStops
+-- A listing that is kept to registered labels has the collisions that its filter accepts.
+pub mod KeptLabels
+-- Labels that a table admits, and others.
+pub mod AdmittedLabels
+-- Which labels may be allocated, as a test tells it.
+pub mod AllocatableLabels
+-- The disposition of a variant: whether it may be allocated.
+pub mod DisposedLabels
+-- What a line that is registered stands for.
+pub mod RegisteredLines

@@ -1,0 +1,4 @@
+-- The definitions that contracts cite.
+pub mod Said
+pub mod Answers
+pub mod Transcript

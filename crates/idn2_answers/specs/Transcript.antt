@@ -1,0 +1,191 @@
+-- The transcript of a run: all that it writes where nothing fails, piece by piece.
+use Rattle.std.specs.Prelude.{ℕ, List, [], ◌∷◌, ◌++◌, ◌≡◌, Option, Result, Ok, Err, ◌==◌, Bool, not, length, map, if◌then◌else◌}
+use Rattle.std.specs.List.{flat_map, list_any}
+use Rattle.std.specs.Result.{is_err}
+use Rattle.idn_class.specs.declared.properties.Properties.{Properties}
+use Rattle.idn_class.specs.declared.properties.Properties.TheVariants.{Profile}
+use Rattle.idn_text.specs.declared.refusal.Refusal.{Refusal}
+use Rattle.variant_table.specs.declared.version.Version.TheVariants.{One}
+use Rattle.variant_table.specs.Entries.{Entry, TableValue, empty_table}
+use Rattle.variant_table.specs.declared.version.Notation.{Notation}
+use Rattle.variant_table.specs.Texts.{IsTextOf, IsFaultOf}
+use Rattle.variant_table.specs.Faults.{LineFault, table_fault as fault_of_line}
+use Rattle.idn2_options.specs.declared.command_line.mode.Mode.{Mode}
+use Rattle.idn2_options.specs.declared.command_line.mode.Mode.TheVariants.{Lookup, Register, Decode, Variants, Jump, CheckTable}
+use Rattle.idn_text.specs.Lines.{Numbered}
+use Rattle.variant_table.specs.Gaps.{gaps_of, AreGapsOf}
+use Rattle.idn2_options.specs.Settings.{Settings, tells_causes}
+use Rattle.idn2_answers.specs.Answers.{LineAnswer, mode_answer, line_answer}
+use Rattle.idn2_refusals.specs.Explained.{Unexplained, ByLabel, ByName, ByQuery, ByTable, ByRequest, if_wanted, Explained, body_cause}
+use Rattle.idn2_refusals.specs.TableCauses.{fault_cause, told_if}
+use Rattle.idn2_refusals.specs.Messages.{refusal_piece, fault_piece}
+use Rattle.idn2_output.specs.Pieces.{Piece, Output, outputs}
+use Rattle.idn2_answers.specs.Said.{Said, Finding, Gap, Counted, said_text, finding_text}
+use Rattle.idn2_refusals.specs.declared.cause.LineCause.{LineCause}
+use Rattle.answer_json.specs.Objects.{refused}
+use Rattle.idn2_options.specs.declared.command_line.form.Form.{Form}
+use Rattle.idn2_output.specs.declared.status.Status.{Status}
+use Rattle.idn2_output.specs.declared.status.Status.TheVariants.{Clean, Refused, Unusable}
+use Rattle.idn_text.specs.declared.refusal.Refusal.TheVariants as refusals
+use Rattle.variant_table.specs.Faults as faults
+
+-- ---- the table of a run
+
+-- a table, or the line of its first fault, from 1, the fault, and its cause, if there is one
+abbrev pub TableGiven : Type 0
+TableGiven = Result TableValue (ℕ × Refusal × Option LineCause)
+
+-- the table of a mode that names none
+abbrev pub no_table : TableValue
+no_table = empty_table Profile One
+
+-- the fault of a line of a table as a refusal
+abbrev pub table_refusal : LineFault → Refusal
+table_refusal faults.Limit = refusals.Limit
+table_refusal faults.Syntax = refusals.Syntax
+table_refusal faults.BadClass = refusals.BadClass
+table_refusal faults.SameVariant = refusals.SameVariant
+table_refusal faults.SameSource = refusals.SameSource
+table_refusal faults.NoSuchName = refusals.NoSuchName
+table_refusal faults.SameName = refusals.SameName
+
+-- the text has this first fault, and this is its cause
+abbrev pub HasFault : Properties → Notation → List ℕ → ℕ × Refusal × Option LineCause → Type 0
+HasFault properties notation text fault =
+    (kind : LineFault) × (table_refusal kind ≡ fault.1) × IsFaultOf properties notation text fault.0 kind
+    × (fault.2 ≡ fault_cause properties notation text (fault_of_line fault.0 kind))
+
+-- the text spells this table, or has this first fault
+abbrev pub IsReadAs : Properties → Notation → List ℕ → TableGiven → Type 0
+IsReadAs properties notation text (Ok table) = IsTextOf properties notation text table
+IsReadAs properties notation text (Err fault) = HasFault properties notation text fault
+
+-- the table by which a mode works, as its text says; a mode that names no table has the empty one
+abbrev pub IsTableOf : Properties → Mode → Notation → List ℕ → TableGiven → Type 0
+IsTableOf properties Variants notation text table = IsReadAs properties notation text table
+IsTableOf properties Jump notation text table = IsReadAs properties notation text table
+IsTableOf properties CheckTable notation text table = IsReadAs properties notation text table
+IsTableOf properties mode notation text table = table ≡ Ok no_table
+
+-- ---- what a run says
+
+-- in answer to a line; that a line is refused, and its cause, if one is told; what is found in a table; the fault of a line of a
+-- table, and its cause, if one is told
+pub data Statement : Type 0 where
+  Says : (line : Numbered) (said : Said) → Statement
+  Refuses : (line : Numbered) (refusal : Refusal) (cause : Option LineCause) → Statement
+  Finds : (finding : Finding) → Statement
+  Faults : (line : ℕ) (refusal : Refusal) (cause : Option LineCause) → Statement
+
+-- a statement as it is written: answers and what is found go to the output in either form; a refusal is a message, or an object of
+-- the output
+abbrev pub piece_in : Form → Statement → Piece
+piece_in form (Says line said) = Output (said_text form line said)
+piece_in form (Finds finding) = Output (finding_text form finding)
+piece_in form (Refuses line refusal cause) = refusal_piece form line refusal cause
+piece_in form (Faults line refusal cause) = fault_piece form line refusal cause
+
+-- ---- the lines of the input
+
+-- how a mode explains
+abbrev pub explained_by_mode : Mode → Settings → TableValue → Explained
+explained_by_mode Lookup o table = ByQuery o.std3
+explained_by_mode Register o table = ByLabel o.properties
+explained_by_mode Decode o table = ByName o.properties
+explained_by_mode Variants o table = ByTable o.properties table
+explained_by_mode Jump o table = ByRequest o.properties table
+explained_by_mode CheckTable o table = Unexplained
+
+-- the same, if causes are wanted
+abbrev pub explained_in : Mode → Settings → TableValue → Explained
+explained_in mode o table = if_wanted (tells_causes o) (explained_by_mode mode o table)
+
+-- what is said of a line that has this answer
+abbrev pub answer_statements : Explained → Numbered → LineAnswer → List Statement
+answer_statements how line (Ok said) = map (Says line) said
+answer_statements how line (Err refusal) = Refuses line refusal (body_cause how line.body refusal) ∷ []
+
+-- what is said of lines, in order
+abbrev pub lines_statements : Explained → (List ℕ → LineAnswer) → List Numbered → List Statement
+lines_statements how answer lines = flat_map (λ line. answer_statements how line (line_answer answer line.body)) lines
+
+-- the pieces of an answer, or of a refusal, as they are written
+abbrev pub pieces_for : Form → Explained → Numbered → LineAnswer → List Piece
+pieces_for form how line (Ok said) = outputs (said_text form line) said
+pieces_for form how line (Err refusal) = piece_in form (Refuses line refusal (body_cause how line.body refusal)) ∷ []
+
+-- the pieces of a line
+abbrev pub line_pieces : Form → Explained → (List ℕ → LineAnswer) → Numbered → List Piece
+line_pieces form how answer line = pieces_for form how line (line_answer answer line.body)
+
+-- the pieces of lines, in order
+abbrev pub lines_pieces : Form → Explained → (List ℕ → LineAnswer) → List Numbered → List Piece
+lines_pieces form how answer lines = flat_map (line_pieces form how answer) lines
+
+-- whether some line is refused
+abbrev pub has_refused : (List ℕ → LineAnswer) → List Numbered → Bool
+has_refused answer lines = list_any (λ line. is_err (line_answer answer line.body)) lines
+
+-- 1 where something is refused, else 0
+abbrev pub status_if : Bool → Status
+status_if refused = if refused then Refused else Clean
+
+-- ---- the check of a table
+
+-- what a check finds
+abbrev pub check_findings : List Entry → List Finding
+check_findings table = map Gap (gaps_of table) ++ Counted (length table) (length (gaps_of table)) ∷ []
+
+-- what a check finds, by what it has to be: each pair that symmetry or transitivity requires and the table lacks, in
+-- order, and then how many entries and how many such pairs there are
+pub record IsCheck (table : List Entry) (findings : List Finding) : Type 0 where
+  pub gaps : List (List ℕ × List ℕ)
+  pub exactly : AreGapsOf table gaps
+  pub found : findings ≡ map Gap gaps ++ Counted (length table) (length gaps) ∷ []
+
+-- what is said of a table; of a faulty one its fault, with its cause, if causes are wanted
+abbrev pub check_statements : Bool → TableGiven → List Statement
+check_statements wanted (Err fault) = Faults fault.0 fault.1 (told_if wanted fault.2) ∷ []
+check_statements wanted (Ok table) = map Finds (check_findings table.entries)
+
+-- what is said of a table, as it is written
+abbrev pub check_pieces : Form → Bool → TableGiven → List Piece
+check_pieces form wanted (Err fault) = piece_in form (Faults fault.0 fault.1 (told_if wanted fault.2)) ∷ []
+check_pieces form wanted (Ok table) = outputs (finding_text form) (check_findings table.entries)
+
+-- 2 for a faulty table, 1 for one with a gap, else 0
+abbrev pub check_status : TableGiven → Status
+check_status (Err fault) = Unusable
+check_status (Ok table) = status_if (not (length (gaps_of table.entries) == 0))
+
+-- ---- the whole run
+
+-- what a mode says over these lines; the check of a table reads none
+abbrev pub mode_statements : Mode → Settings → TableValue → List Numbered → List Statement
+mode_statements CheckTable o table lines = check_statements (tells_causes o) (Ok table)
+mode_statements mode o table lines = lines_statements (explained_in mode o table) (mode_answer mode o table) lines
+
+-- its pieces
+abbrev pub mode_pieces : Mode → Settings → TableValue → List Numbered → List Piece
+mode_pieces CheckTable o table lines = check_pieces o.form (tells_causes o) (Ok table)
+mode_pieces mode o table lines = lines_pieces o.form (explained_in mode o table) (mode_answer mode o table) lines
+
+-- 1 where a line is refused, else 0
+abbrev pub mode_status : Mode → Settings → TableValue → List Numbered → Status
+mode_status CheckTable o table lines = check_status (Ok table)
+mode_status mode o table lines = status_if (has_refused (mode_answer mode o table) lines)
+
+-- what a run says, in order: what its mode says, or the fault of the table
+abbrev pub statements : Settings → TableGiven → List Numbered → List Statement
+statements o (Err fault) lines = check_statements (tells_causes o) (Err fault)
+statements o (Ok table) lines = mode_statements o.mode o table lines
+
+-- the pieces of a run, in order: those of its mode, or the one of a faulty table
+abbrev pub transcript : Settings → TableGiven → List Numbered → List Piece
+transcript o (Err fault) lines = check_pieces o.form (tells_causes o) (Err fault)
+transcript o (Ok table) lines = mode_pieces o.mode o table lines
+
+-- the status of a run
+abbrev pub status_of : Settings → TableGiven → List Numbered → Status
+status_of o (Err fault) lines = check_status (Err fault)
+status_of o (Ok table) lines = mode_status o.mode o table lines

@@ -1,5 +1,0 @@
-use Rattle.idn2_cli.proofs.ListingLaws.{admitted-listed}
-use Rattle.idn2_cli.proofs.laws.admitted_labels_are_listed.Goals as goal
-
-pub returns : goal.returns
-returns c = admitted-listed

@@ -1,5 +1,0 @@
-use Rattle.idn2_cli.proofs.ListingLaws.{listed-mutual}
-use Rattle.idn2_cli.proofs.laws.listed_labels_are_mutual.Goals as goal
-
-pub returns : goal.returns
-returns c = listed-mutual

@@ -1,5 +1,0 @@
-use Rattle.idn2_cli.proofs.ListingLaws.{not-valid-told}
-use Rattle.idn2_cli.proofs.laws.not_valid_is_never_told.Goals as goal
-
-pub returns : goal.returns
-returns c = not-valid-told

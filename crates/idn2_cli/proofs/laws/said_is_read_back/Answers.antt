@@ -1,5 +1,0 @@
-use Rattle.idn2_cli.proofs.ReadBackLemmas.{said_read_back}
-use Rattle.idn2_cli.proofs.laws.said_is_read_back.Goals as goal
-
-pub returns : goal.returns
-returns c = said_read_back

@@ -1,9 +1,0 @@
-use Rattle.idn2_cli.proofs.WrittenPieces.{writes_message, stops_message}
-use Rattle.idn2_cli.proofs.output.console.Console.message.Goals as goal
-use Rattle.idn2_cli.proofs.output.console.Console.message.Goals.{in-Ok, in-Err}
-
-pub returns-clause-written : goal.returns-clause-written
-returns-clause-written g c = rw (← c.self.view_is) (elim c.match-write_text.branch [
-  | in-Ok w ↦ rw w.result-is (writes_message _ _ c.args.text.now w.in-Ok.ensures.whole)
-  | in-Err w ↦ rw w.result-is (stops_message _ _ c.args.text.now w.in-Err._fault.taken w.in-Err.ensures.part)
-])

@@ -1,0 +1,22 @@
+-- The examples, computed.
+pub mod ExampleLemmas
+-- What is told of a refused line is its cause, and each but two kinds of them has one.
+pub mod LineCauseLaws
+-- The examples of causes, computed.
+pub mod CauseExampleLemmas
+-- What a run says is the same in both forms.
+pub mod FormLemmas
+-- Laws of the labels that are listed.
+pub mod ListingLaws
+-- Over a table of version 2 and over the ruleset of the same entries a run says the same.
+pub mod RulesetLaws
+-- Objects that are read back as they are meant: what is said of a line.
+pub mod ReadBackLemmas
+-- The same of refusals, with what is told of their causes.
+pub mod ReadBackDetails
+-- What the causes of refused lines tell is small, and UTF-8.
+pub mod ReadBackCauses
+-- The same of tables and of registered labels.
+mod ReadBackTables
+-- What a listing counts.
+pub mod ReadBackCounts

@@ -1,0 +1,433 @@
+-- The object of a refusal is read back, where its cause has small numbers and texts of UTF-8.
+use Rattle.std.proofs.Common.{◌≡◌, ℕ, ◌+◌, ◌<◌, ◌/◌, ◌%◌, ◌^◌, nat_lt, Bool, true, false, ◌==◌, List, [], ◌∷◌, ◌++◌, codes, cond, Option, Some, None, refl, ◌∙◌, if◌then◌else◌, arith}
+use Rattle.std.specs.Prelude.{IsUtf8}
+use Rattle.std.specs.Char.{is_ascii}
+use Rattle.std.proofs.lemmas.Bool.{and_from}
+use Rattle.std.proofs.lemmas.Bool.Decides.{nat_tests}
+use Rattle.std.proofs.lemmas.List.Folds.{list_all-append}
+use Rattle.idna.specs.Validity.{is_all_ascii}
+use Rattle.idn_text.specs.Points.{four_digits, hex_digit}
+use Rattle.idn_text.specs.Refusals.{refusal_number, refusal_text}
+use Rattle.idn_text.specs.declared.refusal.Refusal.{Refusal}
+use Rattle.idn_text.specs.declared.refusal.Refusal.TheVariants as refusals
+use Rattle.idn_class.specs.declared.barring.BarringLine.{BarringLine}
+use Rattle.idn_class.specs.declared.barring.BarringLine.TheVariants as lines
+use Rattle.idn_class.specs.declared.bidi_class.BidiClass.{BidiClass}
+use Rattle.idn_class.specs.declared.bidi_class.BidiClass.TheVariants as bidi
+use Rattle.idn_class.specs.declared.broken.BidiCondition.{BidiCondition}
+use Rattle.idn_class.specs.declared.broken.BidiCondition.TheVariants as conditions
+use Rattle.idn_cause.specs.declared.cause.Cause.{Cause}
+use Rattle.idn_cause.specs.declared.cause.Cause.TheVariants.{Barred, Changed, Hyphen, Point, Condition as Broken, Points, Octets}
+use Rattle.idn_cause.specs.declared.a_label.ALabelCause.{ALabelCause}
+use Rattle.idn_cause.specs.declared.a_label.ALabelCause.TheVariants.{NoCode, NotAscii, NoPunycode, Other, Decoded, Copied}
+use Rattle.idn_cause.specs.declared.query.LengthCause.{LengthCause}
+use Rattle.idn_cause.specs.declared.query.LengthCause.TheVariants.{LabelOctets, NameOctets}
+use Rattle.label_patterns.specs.declared.condition.ConditionKind.{ConditionKind}
+use Rattle.label_patterns.specs.declared.condition.ConditionKind.TheVariants.{When, Unless}
+use Rattle.ruleset_text.specs.declared.definition.DemandKind.{DemandKind}
+use Rattle.ruleset_text.specs.declared.definition.DemandKind.TheVariants.{Never, Always}
+use Rattle.ruleset_text.specs.declared.fault.FaultPlace.{FaultPlace}
+use Rattle.ruleset_text.specs.declared.fault.FaultPlace.TheVariants as places
+use Rattle.answer_json.specs.Answers.{Field, AreSmall, count, text, if_given}
+use Rattle.answer_json.specs.Details.{Details, no_details, details_fields, decoded_field, demand_fields, length_fields, point, refusal_fields, rule_fields, where_fields}
+use Rattle.answer_json.specs.Hexadecimal.{leading_digit, point_text}
+use Rattle.answer_json.specs.Inputs.{told_of}
+use Rattle.answer_json.specs.Objects.{refused, registered_fault, table_fault}
+use Rattle.answer_json.specs.Unicode.{AreUnicode}
+use Rattle.idn2_refusals.specs.CauseDetails.{a_label_details, at_byte, barring_rule, cause_details, condition_rule, context_rule, fault_place_details, length_details, line_details, point_at_byte, told_details}
+use Rattle.idn2_refusals.specs.CauseTexts.{appendix_text, bidi_text, condition_text, demand_text}
+use Rattle.idn2_laws.specs.ReadBack.{IsReadBack, byte_of}
+use Rattle.idn2_refusals.specs.declared.cause.LineCause.{LineCause}
+use Rattle.idn2_refusals.specs.declared.cause.LineCause.TheVariants.{Byte, LongLine, OfLabel, OfALabel, OfName, OfQuery, Misplaced, Broken as BrokenDemand, Ends, OfTable, ByteOrderMark}
+use Rattle.idn2_laws.proofs.ReadBackLemmas.{ascii_utf8, input_small, input_unicode, object_read_back}
+
+-- ---- the code point of a refusal is ASCII
+
+digit_ascii : (d : ℕ) → d < 16 → is_ascii (hex_digit d) ≡ true
+digit_ascii d small = grind (arith, nat_tests)
+
+pub ascii_append : (a b : List ℕ) → is_all_ascii a ≡ true → is_all_ascii b ≡ true → is_all_ascii (a ++ b) ≡ true
+ascii_append a b first second = list_all-append is_ascii a b ∙ and_from (is_all_ascii a) (is_all_ascii b) first second
+
+pub ascii_cons : (c : ℕ) (cs : List ℕ) → is_ascii c ≡ true → is_all_ascii cs ≡ true → is_all_ascii (c ∷ cs) ≡ true
+ascii_cons c cs first second = and_from (is_ascii c) (is_all_ascii cs) first second
+
+ascii_unless : (b : Bool) (digit : ℕ) → is_ascii digit ≡ true → is_all_ascii (cond b [] (digit ∷ [])) ≡ true
+ascii_unless true digit h = refl
+ascii_unless false digit h = ascii_cons digit [] h refl
+
+leading_ascii : (c unit : ℕ) → is_all_ascii (leading_digit c unit) ≡ true
+leading_ascii c unit = ascii_unless (nat_lt c unit) (hex_digit (c / unit % 16)) (digit_ascii (c / unit % 16) (omega arith))
+
+pub four_ascii : (c : ℕ) → is_all_ascii (four_digits c) ≡ true
+four_ascii c =
+    let d1 = hex_digit (c / 0x1000 % 16) in
+    let d2 = hex_digit (c / 0x100 % 16) in
+    let d3 = hex_digit (c / 0x10 % 16) in
+    let d4 = hex_digit (c % 16) in
+    ascii_cons d1 (d2 ∷ d3 ∷ d4 ∷ []) (digit_ascii (c / 0x1000 % 16) (omega arith))
+    (ascii_cons d2 (d3 ∷ d4 ∷ []) (digit_ascii (c / 0x100 % 16) (omega arith))
+    (ascii_cons d3 (d4 ∷ []) (digit_ascii (c / 0x10 % 16) (omega arith)) (ascii_cons d4 [] (digit_ascii (c % 16) (omega arith)) refl)))
+
+point_utf8 : (c : ℕ) → IsUtf8 (point_text c)
+unfolding point_text
+point_utf8 c =
+    let a = leading_digit c 0x10000000 in
+    let b = leading_digit c 0x1000000 in
+    let d = leading_digit c 0x100000 in
+    let e = leading_digit c 0x10000 in
+    ascii_utf8 (codes "U+" ++ (a ++ (b ++ (d ++ (e ++ four_digits c)))))
+    (ascii_append a (b ++ (d ++ (e ++ four_digits c))) (leading_ascii c 0x10000000)
+    (ascii_append b (d ++ (e ++ four_digits c)) (leading_ascii c 0x1000000)
+    (ascii_append d (e ++ four_digits c) (leading_ascii c 0x100000) (ascii_append e (four_digits c) (leading_ascii c 0x10000) (four_ascii c)))))
+
+-- ---- members that may be left out
+
+abbrev IsSmallIfGiven : Option ℕ → Type 0
+IsSmallIfGiven None = Unit {0}
+IsSmallIfGiven (Some n) = n < 2 ^ 64
+
+abbrev IsUtf8IfGiven : Option (List ℕ) → Type 0
+IsUtf8IfGiven None = Unit {0}
+IsUtf8IfGiven (Some bytes) = IsUtf8 bytes
+
+-- what is told is small, and UTF-8
+record AreGood (fields : List Field) : Type 0 where
+  small : AreSmall fields
+  unicode : AreUnicode fields
+
+small_append : (xs ys : List Field) → AreSmall xs → AreSmall ys → AreSmall (xs ++ ys)
+small_append [] ys h k = k
+small_append (x ∷ xs) ys h k = (h.0, small_append xs ys h.1 k)
+
+unicode_append : (xs ys : List Field) → AreUnicode xs → AreUnicode ys → AreUnicode (xs ++ ys)
+unicode_append [] ys h k = k
+unicode_append (x ∷ xs) ys h k = (h.0, h.1, unicode_append xs ys h.2 k)
+
+joined : (xs ys : List Field) → AreGood xs → AreGood ys → AreGood (xs ++ ys)
+joined xs ys h k = record { small = small_append xs ys h.small k.small; unicode = unicode_append xs ys h.unicode k.unicode }
+
+good_count : (name : List ℕ) (n : Option ℕ) → is_all_ascii name ≡ true → IsSmallIfGiven n → AreGood (if_given name count n)
+good_count name None ascii h = record { small = tt; unicode = tt }
+good_count name (Some n) ascii h = record { small = (h, tt); unicode = (ascii_utf8 name ascii, tt, tt) }
+
+good_text : (name : List ℕ) (bytes : Option (List ℕ)) → is_all_ascii name ≡ true → IsUtf8IfGiven bytes → AreGood (if_given name text bytes)
+good_text name None ascii h = record { small = tt; unicode = tt }
+good_text name (Some bytes) ascii h = record { small = (tt, tt); unicode = (ascii_utf8 name ascii, h, tt) }
+
+good_point : (name : List ℕ) (c : Option ℕ) → is_all_ascii name ≡ true → AreGood (if_given name point c)
+good_point name None ascii = record { small = tt; unicode = tt }
+good_point name (Some c) ascii = record { small = (tt, tt); unicode = (ascii_utf8 name ascii, point_utf8 c, tt) }
+
+good_decoded : (decoded : Bool) → AreGood (decoded_field decoded)
+good_decoded false = record { small = tt; unicode = tt }
+good_decoded true = record { small = (tt, tt); unicode = (ascii_utf8 (codes "decoded") refl, tt, tt) }
+
+-- ---- details
+
+record AreGoodDetails (d : Details) : Type 0 where
+  label : IsSmallIfGiven d.label
+  place : IsSmallIfGiven d.place
+  condition : IsUtf8IfGiven d.condition
+  rule : IsUtf8IfGiven d.rule
+  bidi_class : IsUtf8IfGiven d.bidi_class
+  demand : IsSmallIfGiven d.demand
+  kind : IsUtf8IfGiven d.kind
+  code_points : IsSmallIfGiven d.code_points
+  octets : IsSmallIfGiven d.octets
+  alabel : IsUtf8IfGiven d.alabel
+  byte : IsSmallIfGiven d.byte
+
+module _ (d : Details) (h : AreGoodDetails d) where
+  good_where : AreGood (where_fields d)
+  good_where =
+      joined _ (if_given (codes "place") count d.place)
+      (joined _ (if_given (codes "code_point") point d.code_point)
+      (joined (if_given (codes "label") count d.label) (decoded_field d.decoded) (good_count (codes "label") d.label refl h.label) (good_decoded d.decoded))
+      (good_point (codes "code_point") d.code_point refl))
+      (good_count (codes "place") d.place refl h.place)
+
+  good_rule : AreGood (rule_fields d)
+  good_rule =
+      joined _ (if_given (codes "nfc") point d.nfc)
+      (joined _ (if_given (codes "bidi_class") text d.bidi_class)
+      (joined (if_given (codes "condition") text d.condition) (if_given (codes "rule") text d.rule) (good_text (codes "condition") d.condition refl h.condition) (good_text (codes "rule") d.rule refl h.rule))
+      (good_text (codes "bidi_class") d.bidi_class refl h.bidi_class))
+      (good_point (codes "nfc") d.nfc refl)
+
+  good_demand : AreGood (demand_fields d)
+  good_demand = joined (if_given (codes "demand") count d.demand) (if_given (codes "kind") text d.kind) (good_count (codes "demand") d.demand refl h.demand) (good_text (codes "kind") d.kind refl h.kind)
+
+  good_lengths : AreGood (length_fields d)
+  good_lengths =
+      joined _ (if_given (codes "byte") count d.byte)
+      (joined _ (if_given (codes "alabel") text d.alabel)
+      (joined (if_given (codes "code_points") count d.code_points) (if_given (codes "octets") count d.octets) (good_count (codes "code_points") d.code_points refl h.code_points) (good_count (codes "octets") d.octets refl h.octets))
+      (good_text (codes "alabel") d.alabel refl h.alabel))
+      (good_count (codes "byte") d.byte refl h.byte)
+
+  good_details : AreGood (details_fields d)
+  good_details = joined _ (length_fields d) (joined _ (demand_fields d) (joined (where_fields d) (rule_fields d) good_where good_rule) good_demand) good_lengths
+
+record IsGoodRefusal (refusal : Refusal) : Type 0 where
+  number : refusal_number refusal < 2 ^ 64
+  words : is_all_ascii (refusal_text refusal) ≡ true
+
+good_refusal : (refusal : Refusal) → IsGoodRefusal refusal
+good_refusal refusals.NotUtf8 = record { number = omega arith; words = refl }
+good_refusal refusals.LineTooLong = record { number = omega arith; words = refl }
+good_refusal refusals.Empty = record { number = omega arith; words = refl }
+good_refusal refusals.OutOfOrder = record { number = omega arith; words = refl }
+good_refusal refusals.FileTooLong = record { number = omega arith; words = refl }
+good_refusal refusals.Disallowed = record { number = omega arith; words = refl }
+good_refusal refusals.Unassigned = record { number = omega arith; words = refl }
+good_refusal refusals.NotNfc = record { number = omega arith; words = refl }
+good_refusal refusals.Hyphen = record { number = omega arith; words = refl }
+good_refusal refusals.LeadingMark = record { number = omega arith; words = refl }
+good_refusal refusals.ContextJ = record { number = omega arith; words = refl }
+good_refusal refusals.ContextO = record { number = omega arith; words = refl }
+good_refusal refusals.Bidi = record { number = omega arith; words = refl }
+good_refusal refusals.LabelTooLong = record { number = omega arith; words = refl }
+good_refusal refusals.BadALabel = record { number = omega arith; words = refl }
+good_refusal refusals.LookupInvalid = record { number = omega arith; words = refl }
+good_refusal refusals.LookupLength = record { number = omega arith; words = refl }
+good_refusal refusals.Syntax = record { number = omega arith; words = refl }
+good_refusal refusals.SameSource = record { number = omega arith; words = refl }
+good_refusal refusals.SameVariant = record { number = omega arith; words = refl }
+good_refusal refusals.BadClass = record { number = omega arith; words = refl }
+good_refusal refusals.Limit = record { number = omega arith; words = refl }
+good_refusal refusals.NoSuchName = record { number = omega arith; words = refl }
+good_refusal refusals.SameName = record { number = omega arith; words = refl }
+good_refusal refusals.NotInTable = record { number = omega arith; words = refl }
+good_refusal refusals.NotValid = record { number = omega arith; words = refl }
+good_refusal refusals.Usage = record { number = omega arith; words = refl }
+good_refusal refusals.ReadFault = record { number = omega arith; words = refl }
+good_refusal refusals.WriteFault = record { number = omega arith; words = refl }
+good_refusal refusals.Memory = record { number = omega arith; words = refl }
+
+good_fields : (refusal : Refusal) (d : Details) → AreGoodDetails d → AreGood (refusal_fields refusal d)
+good_fields refusal d h =
+    let r = good_refusal refusal in
+    let rest = good_details d h in record {
+      small = (r.number, (tt, rest.small));
+      unicode = (ascii_utf8 (codes "number") refl, tt, (ascii_utf8 (codes "text") refl, ascii_utf8 (refusal_text refusal) r.words, rest.unicode));
+    }
+
+-- ---- causes
+
+abbrev pub IsFittingCause : Cause → Type 0
+IsFittingCause (Barred place c line) = place < 2 ^ 63
+IsFittingCause (Changed place c form) = place < 2 ^ 63
+IsFittingCause (Hyphen place len) = place < 2 ^ 63
+IsFittingCause (Point place c) = place < 2 ^ 63
+IsFittingCause (Broken broken c class) = broken.place < 2 ^ 63
+IsFittingCause (Points n) = n < 2 ^ 64
+IsFittingCause (Octets n) = n < 2 ^ 64
+
+abbrev pub IsFittingALabel : ALabelCause → Type 0
+IsFittingALabel NoCode = Unit {0}
+IsFittingALabel (NotAscii place c) = place < 2 ^ 63
+IsFittingALabel NoPunycode = Unit {0}
+IsFittingALabel (Other octets) = IsUtf8 octets.items
+IsFittingALabel (Decoded cause) = IsFittingCause cause
+IsFittingALabel (Copied cause) = IsFittingCause cause
+
+abbrev pub IsFittingLength : LengthCause → Type 0
+IsFittingLength (LabelOctets number octets) = (number < 2 ^ 63) × (octets < 2 ^ 64)
+IsFittingLength (NameOctets octets) = octets < 2 ^ 64
+
+abbrev pub IsFitting : LineCause → Type 0
+IsFitting (Byte place byte) = place < 2 ^ 63
+IsFitting LongLine = Unit {0}
+IsFitting (OfLabel cause) = IsFittingCause cause
+IsFitting (OfALabel cause) = IsFittingALabel cause
+IsFitting (OfName cause) = (cause.label < 2 ^ 63) × IsFittingALabel cause.cause
+IsFitting (OfQuery cause) = IsFittingLength cause
+IsFitting (Misplaced place c kind rule) = (place < 2 ^ 63) × IsUtf8 rule.items
+IsFitting (BrokenDemand number kind) = number < 2 ^ 63
+IsFitting (Ends place) = place < 2 ^ 63
+IsFitting (OfTable place quoted) = byte_of place < 2 ^ 63
+IsFitting ByteOrderMark = Unit {0}
+
+abbrev pub IsFittingIfTold : Option LineCause → Type 0
+IsFittingIfTold None = Unit {0}
+IsFittingIfTold (Some cause) = IsFitting cause
+
+next_small : (n : ℕ) → n < 2 ^ 63 → n + 1 < 2 ^ 64
+next_small n small = omega (arith, small)
+
+good_none : AreGoodDetails no_details
+good_none = record { label = tt; place = tt; condition = tt; rule = tt; bidi_class = tt; demand = tt; kind = tt; code_points = tt; octets = tt; alabel = tt; byte = tt }
+
+barring_ascii : (line : BarringLine) → IsUtf8 (barring_rule line)
+barring_ascii lines.NoScalarValue = ascii_utf8 (codes "no scalar value") refl
+barring_ascii lines.OutsideProfile = ascii_utf8 (codes "profile") refl
+barring_ascii lines.Exceptions = ascii_utf8 (codes "RFC 5892 2.6") refl
+barring_ascii lines.Unassigned = ascii_utf8 (codes "RFC 5892 2.10") refl
+barring_ascii lines.Unstable = ascii_utf8 (codes "RFC 5892 2.2") refl
+barring_ascii lines.IgnorableProperties = ascii_utf8 (codes "RFC 5892 2.3") refl
+barring_ascii lines.IgnorableBlocks = ascii_utf8 (codes "RFC 5892 2.4") refl
+barring_ascii lines.OldHangulJamo = ascii_utf8 (codes "RFC 5892 2.9") refl
+barring_ascii lines.NoLetterDigit = ascii_utf8 (codes "RFC 5892 2.1") refl
+
+condition_ascii : (condition : BidiCondition) → IsUtf8 (condition_rule condition)
+condition_ascii conditions.First = ascii_utf8 (codes "RFC 5893 2 condition 1") refl
+condition_ascii conditions.RtlHolds = ascii_utf8 (codes "RFC 5893 2 condition 2") refl
+condition_ascii conditions.RtlEnds = ascii_utf8 (codes "RFC 5893 2 condition 3") refl
+condition_ascii conditions.RtlNumbers = ascii_utf8 (codes "RFC 5893 2 condition 4") refl
+condition_ascii conditions.LtrHolds = ascii_utf8 (codes "RFC 5893 2 condition 5") refl
+condition_ascii conditions.LtrEnds = ascii_utf8 (codes "RFC 5893 2 condition 6") refl
+
+bidi_ascii : (class : BidiClass) → IsUtf8 (bidi_text class)
+bidi_ascii bidi.L = ascii_utf8 (codes "L") refl
+bidi_ascii bidi.R = ascii_utf8 (codes "R") refl
+bidi_ascii bidi.AL = ascii_utf8 (codes "AL") refl
+bidi_ascii bidi.AN = ascii_utf8 (codes "AN") refl
+bidi_ascii bidi.EN = ascii_utf8 (codes "EN") refl
+bidi_ascii bidi.ES = ascii_utf8 (codes "ES") refl
+bidi_ascii bidi.CS = ascii_utf8 (codes "CS") refl
+bidi_ascii bidi.ET = ascii_utf8 (codes "ET") refl
+bidi_ascii bidi.ON = ascii_utf8 (codes "ON") refl
+bidi_ascii bidi.BN = ascii_utf8 (codes "BN") refl
+bidi_ascii bidi.NSM = ascii_utf8 (codes "NSM") refl
+bidi_ascii bidi.Other = ascii_utf8 (codes "-") refl
+
+choice_ascii : (b : Bool) (first other : List ℕ) → is_all_ascii first ≡ true → is_all_ascii other ≡ true → is_all_ascii (if b then first else other) ≡ true
+choice_ascii true first other h k = h
+choice_ascii false first other h k = k
+
+appendix_ascii : (c : ℕ) → is_all_ascii (appendix_text c) ≡ true
+appendix_ascii c =
+    choice_ascii (c == 0x200C) (codes "1") _ refl
+    (choice_ascii (c == 0x200D) (codes "2") _ refl
+    (choice_ascii (c == 0xB7) (codes "3") _ refl
+    (choice_ascii (c == 0x375) (codes "4") _ refl
+    (choice_ascii (c == 0x5F3) (codes "5") _ refl
+    (choice_ascii (c == 0x5F4) (codes "6") _ refl
+    (choice_ascii (c == 0x30FB) (codes "7") _ refl
+    (choice_ascii (c / 16 == 0x66) (codes "8") (codes "9") refl refl)))))))
+
+appendix_utf8 : (c : ℕ) → IsUtf8 (codes "RFC 5892 A." ++ appendix_text c)
+appendix_utf8 c = ascii_utf8 (codes "RFC 5892 A." ++ appendix_text c) (appendix_ascii c)
+
+context_ascii : (refusal : Refusal) (c : ℕ) → IsUtf8IfGiven (context_rule refusal c)
+context_ascii refusals.NotUtf8 c = tt
+context_ascii refusals.LineTooLong c = tt
+context_ascii refusals.Empty c = tt
+context_ascii refusals.OutOfOrder c = tt
+context_ascii refusals.FileTooLong c = tt
+context_ascii refusals.Disallowed c = tt
+context_ascii refusals.Unassigned c = tt
+context_ascii refusals.NotNfc c = tt
+context_ascii refusals.Hyphen c = tt
+context_ascii refusals.LeadingMark c = tt
+context_ascii refusals.ContextJ c = appendix_utf8 c
+context_ascii refusals.ContextO c = appendix_utf8 c
+context_ascii refusals.Bidi c = tt
+context_ascii refusals.LabelTooLong c = tt
+context_ascii refusals.BadALabel c = tt
+context_ascii refusals.LookupInvalid c = tt
+context_ascii refusals.LookupLength c = tt
+context_ascii refusals.Syntax c = tt
+context_ascii refusals.SameSource c = tt
+context_ascii refusals.SameVariant c = tt
+context_ascii refusals.BadClass c = tt
+context_ascii refusals.Limit c = tt
+context_ascii refusals.NoSuchName c = tt
+context_ascii refusals.SameName c = tt
+context_ascii refusals.NotInTable c = tt
+context_ascii refusals.NotValid c = tt
+context_ascii refusals.Usage c = tt
+context_ascii refusals.ReadFault c = tt
+context_ascii refusals.WriteFault c = tt
+context_ascii refusals.Memory c = tt
+
+good_cause : (refusal : Refusal) (cause : Cause) → IsFittingCause cause → AreGoodDetails (cause_details refusal cause)
+unfolding cause_details
+good_cause refusal (Barred place c line) h = record { label = tt; place = next_small place h; condition = tt; rule = barring_ascii line; bidi_class = tt; demand = tt; kind = tt; code_points = tt; octets = tt; alabel = tt; byte = tt }
+good_cause refusal (Changed place c form) h = record { label = tt; place = next_small place h; condition = tt; rule = tt; bidi_class = tt; demand = tt; kind = tt; code_points = tt; octets = tt; alabel = tt; byte = tt }
+good_cause refusal (Hyphen place len) h = record { label = tt; place = next_small place h; condition = tt; rule = tt; bidi_class = tt; demand = tt; kind = tt; code_points = tt; octets = tt; alabel = tt; byte = tt }
+good_cause refusal (Point place c) h = record { label = tt; place = next_small place h; condition = tt; rule = context_ascii refusal c; bidi_class = tt; demand = tt; kind = tt; code_points = tt; octets = tt; alabel = tt; byte = tt }
+good_cause refusal (Broken broken c class) h = record { label = tt; place = next_small broken.place h; condition = tt; rule = condition_ascii broken.condition; bidi_class = bidi_ascii class; demand = tt; kind = tt; code_points = tt; octets = tt; alabel = tt; byte = tt }
+good_cause refusal (Points n) h = record { label = tt; place = tt; condition = tt; rule = tt; bidi_class = tt; demand = tt; kind = tt; code_points = h; octets = tt; alabel = tt; byte = tt }
+good_cause refusal (Octets n) h = record { label = tt; place = tt; condition = tt; rule = tt; bidi_class = tt; demand = tt; kind = tt; code_points = tt; octets = h; alabel = tt; byte = tt }
+
+-- the same details, of what an A-label stands for
+good_decoded_details : (d : Details) → AreGoodDetails d → AreGoodDetails (record d { decoded = true })
+good_decoded_details d h = record { label = h.label; place = h.place; condition = h.condition; rule = h.rule; bidi_class = h.bidi_class; demand = h.demand; kind = h.kind; code_points = h.code_points; octets = h.octets; alabel = h.alabel; byte = h.byte }
+
+-- and of the label of a number
+good_label_details : (d : Details) (n : ℕ) → n < 2 ^ 63 → AreGoodDetails d → AreGoodDetails (record d { label = Some (n + 1) })
+good_label_details d n small h = record { label = next_small n small; place = h.place; condition = h.condition; rule = h.rule; bidi_class = h.bidi_class; demand = h.demand; kind = h.kind; code_points = h.code_points; octets = h.octets; alabel = h.alabel; byte = h.byte }
+
+good_a_label : (refusal : Refusal) (cause : ALabelCause) → IsFittingALabel cause → AreGoodDetails (a_label_details refusal cause)
+unfolding a_label_details
+good_a_label refusal NoCode h = good_none
+good_a_label refusal (NotAscii place c) h = record { label = tt; place = next_small place h; condition = tt; rule = tt; bidi_class = tt; demand = tt; kind = tt; code_points = tt; octets = tt; alabel = tt; byte = tt }
+good_a_label refusal NoPunycode h = record { label = tt; place = tt; condition = tt; rule = ascii_utf8 (codes "RFC 3492 6.2") refl; bidi_class = tt; demand = tt; kind = tt; code_points = tt; octets = tt; alabel = tt; byte = tt }
+good_a_label refusal (Other octets) h = record { label = tt; place = tt; condition = tt; rule = tt; bidi_class = tt; demand = tt; kind = tt; code_points = tt; octets = tt; alabel = h; byte = tt }
+good_a_label refusal (Decoded cause) h = good_decoded_details (cause_details refusal cause) (good_cause refusal cause h)
+good_a_label refusal (Copied cause) h = good_cause refusal cause h
+
+good_length : (cause : LengthCause) → IsFittingLength cause → AreGoodDetails (length_details cause)
+good_length (LabelOctets number octets) h = record { label = next_small number h.0; place = tt; condition = tt; rule = tt; bidi_class = tt; demand = tt; kind = tt; code_points = tt; octets = h.1; alabel = tt; byte = tt }
+good_length (NameOctets octets) h = record { label = tt; place = tt; condition = tt; rule = tt; bidi_class = tt; demand = tt; kind = tt; code_points = tt; octets = h; alabel = tt; byte = tt }
+
+good_byte : (place : ℕ) → place < 2 ^ 63 → AreGoodDetails (at_byte place)
+good_byte place h = record { label = tt; place = tt; condition = tt; rule = tt; bidi_class = tt; demand = tt; kind = tt; code_points = tt; octets = tt; alabel = tt; byte = next_small place h }
+
+good_point_byte : (place c : ℕ) → place < 2 ^ 63 → AreGoodDetails (point_at_byte place c)
+good_point_byte place c h = record { label = tt; place = tt; condition = tt; rule = tt; bidi_class = tt; demand = tt; kind = tt; code_points = tt; octets = tt; alabel = tt; byte = next_small place h }
+
+good_fault_place : (place : FaultPlace) → byte_of place < 2 ^ 63 → AreGoodDetails (fault_place_details place)
+good_fault_place (places.Lexeme place len) h = good_byte place h
+good_fault_place (places.End place) h = good_byte place h
+good_fault_place (places.Point place c) h = good_point_byte place c h
+good_fault_place (places.InRange place c) h = good_point_byte place c h
+good_fault_place (places.Variant place) h = good_byte place h
+good_fault_place (places.Source place) h = good_byte place h
+good_fault_place (places.Byte place) h = good_byte place h
+good_fault_place (places.NinthPoint place c) h = good_point_byte place c h
+good_fault_place (places.SeventeenthVariant place c) h = good_point_byte place c h
+
+condition_utf8 : (kind : ConditionKind) → IsUtf8 (condition_text kind)
+condition_utf8 When = ascii_utf8 (codes "when") refl
+condition_utf8 Unless = ascii_utf8 (codes "unless") refl
+
+demand_utf8 : (kind : DemandKind) → IsUtf8 (demand_text kind)
+demand_utf8 Never = ascii_utf8 (codes "never") refl
+demand_utf8 Always = ascii_utf8 (codes "always") refl
+
+good_line : (refusal : Refusal) (cause : LineCause) → IsFitting cause → AreGoodDetails (line_details refusal cause)
+good_line refusal (Byte place byte) h = good_byte place h
+good_line refusal LongLine h = good_none
+good_line refusal (OfLabel cause) h = good_cause refusal cause h
+good_line refusal (OfALabel cause) h = good_a_label refusal cause h
+good_line refusal (OfName cause) h = good_label_details (a_label_details refusal cause.cause) cause.label h.0 (good_a_label refusal cause.cause h.1)
+good_line refusal (OfQuery cause) h = good_length cause h
+good_line refusal (Misplaced place c kind rule) h = record { label = tt; place = next_small place h.0; condition = condition_utf8 kind; rule = h.1; bidi_class = tt; demand = tt; kind = tt; code_points = tt; octets = tt; alabel = tt; byte = tt }
+good_line refusal (BrokenDemand number kind) h = record { label = tt; place = tt; condition = tt; rule = tt; bidi_class = tt; demand = next_small number h; kind = demand_utf8 kind; code_points = tt; octets = tt; alabel = tt; byte = tt }
+good_line refusal (Ends place) h = record { label = tt; place = next_small place h; condition = tt; rule = tt; bidi_class = tt; demand = tt; kind = tt; code_points = tt; octets = tt; alabel = tt; byte = tt }
+good_line refusal (OfTable place quoted) h = good_fault_place place h
+good_line refusal ByteOrderMark h = good_point_byte 0 0xFEFF (omega arith)
+
+good_told : (refusal : Refusal) (cause : Option LineCause) → IsFittingIfTold cause → AreGoodDetails (told_details refusal cause)
+good_told refusal None h = good_none
+good_told refusal (Some cause) h = good_line refusal cause h
+
+-- ---- the objects of refusals
+
+module _ (n : ℕ) (small : n < 2 ^ 64) (refusal : Refusal) (cause : Option LineCause) (h : IsFittingIfTold cause) where
+  told : AreGood (refusal_fields refusal (told_details refusal cause))
+  told = good_fields refusal (told_details refusal cause) (good_told refusal cause h)
+
+  pub refused_good : (body : Option (List ℕ)) → IsReadBack (refused n (told_of body) refusal (told_details refusal cause))
+  refused_good body =
+      object_read_back _ ((small, (input_small (told_of body), tt)), told.small)
+      ((ascii_utf8 (codes "line") refl, tt, ((input_unicode body).0, (input_unicode body).1, tt)), told.unicode)
+
+  pub table_fault_good : IsReadBack (table_fault n refusal (told_details refusal cause))
+  table_fault_good = object_read_back _ ((small, tt), told.small) ((ascii_utf8 (codes "table_line") refl, tt, tt), told.unicode)
+
+  pub registered_fault_good : IsReadBack (registered_fault n refusal (told_details refusal cause))
+  registered_fault_good = object_read_back _ ((small, tt), told.small) ((ascii_utf8 (codes "registered_line") refl, tt, tt), told.unicode)

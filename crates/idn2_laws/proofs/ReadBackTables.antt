@@ -1,0 +1,175 @@
+-- The objects of tables and of registered labels are read back.
+use Rattle.std.proofs.Common.{◌≡◌, ℕ, suc, ◌-◌, ◌/◌, ◌%◌, ◌<◌, ◌≤◌, ◌^◌, ◌==◌, nat_lt, Bool, true, false, ◌&&◌, List, [], ◌∷◌, ◌++◌, map, codes, length, take, chars, cond, slice_index, Option, Some, None, refl, ap, arith}
+use Rattle.std.specs.Prelude.{slice_get}
+use Rattle.std.specs.List.{AllByRecursion}
+use Rattle.std.specs.Option.{option_map}
+use Rattle.std.specs.Str.{is_utf8}
+use Rattle.std.specs.Str.Lines.{strip_carriage_return}
+use Rattle.std.proofs.lemmas.Bool.Decides.{nat_tests}
+use Rattle.std.proofs.lemmas.List.Elements.{All-from_recursion}
+use Rattle.std.proofs.lemmas.Str.{utf8_valid_len_le}
+use Rattle.idn_class.specs.declared.properties.Properties.{Properties}
+use Rattle.idna.specs.Validity.{is_all_ascii}
+use Rattle.idn_text.specs.Lines.{body_of, raw_lines}
+use Rattle.idn_text.specs.Points.{four_digits, hex_digit}
+use Rattle.idn_text.specs.declared.refusal.Refusal.{Refusal}
+use Rattle.idn_text.specs.declared.refusal.Refusal.TheVariants as refusals
+use Rattle.idn_cause.specs.Causes.{cause_of, shared}
+use Rattle.idn_cause.specs.declared.cause.Cause.{Cause}
+use Rattle.idn_cause.proofs.CauseLaws.{cause-is}
+use Rattle.ruleset_text.specs.Canonical.{point_text}
+use Rattle.ruleset_text.specs.EntryText.{sequence_text}
+use Rattle.variant_table.specs.Gaps.{gaps_of}
+use Rattle.table_cause.specs.FaultPlaces.{fault_place, faulty_line}
+use Rattle.ruleset_text.specs.declared.fault.FaultPlace.{FaultPlace}
+use Rattle.idn2_refusals.specs.Explained.{ByRegisteredLine, bad_byte, body_cause, points_cause}
+use Rattle.idn2_laws.specs.ReadBack.{FindingsAreReadBack, IsReadBack, IsShortBody, RegisteredFaultsAreReadBack, TableFaultsAreReadBack, TellsFewOctetsIfAny}
+use Rattle.idn2_answers.specs.Said.{Counted, Gap, finding_object}
+use Rattle.idn2_refusals.specs.TableCauses.{begins_with_mark, cause_at, fault_cause, is_syntax_of_first, told_if}
+use Rattle.idn2_refusals.specs.WrongLines.{body_at, body_if_any, differs_at, points_at, points_in, told_of_wrong_line, wrong_line_cause}
+use Rattle.idn2_refusals.specs.declared.cause.LineCause.TheVariants.{OfLabel, ByteOrderMark}
+use Rattle.idn2_laws.proofs.ReadBackCauses.{cause_fits, points-length, taken}
+use Rattle.idn2_laws.proofs.ReadBackDetails.{IsFitting, IsFittingIfTold, ascii_append, ascii_cons, four_ascii, registered_fault_good, table_fault_good}
+use Rattle.idn2_laws.proofs.ReadBackLemmas.{ascii_utf8, digit_ascii, object_read_back}
+use Rattle.idn2_refusals.proofs.Utf8Bytes.{utf8-of_chars}
+
+-- ---- the check of a table
+
+choice_ascii : (b : Bool) (first other : List ℕ) → is_all_ascii first ≡ true → is_all_ascii other ≡ true → is_all_ascii (cond b first other) ≡ true
+choice_ascii true first other h k = h
+choice_ascii false first other h k = k
+
+point_ascii : (c : ℕ) → is_all_ascii (point_text c) ≡ true
+unfolding point_text
+point_ascii c =
+    let four = four_ascii c in
+    let fifth = hex_digit (c / 65536 % 16) in
+    let five = ascii_cons fifth (four_digits c) (digit_ascii (c / 65536 % 16) (omega arith)) four in
+    let sixth = hex_digit (c / 1048576 % 16) in
+    choice_ascii (nat_lt c 65536) (four_digits c) _ four
+    (choice_ascii (nat_lt c 1048576) (fifth ∷ four_digits c) (sixth ∷ fifth ∷ four_digits c) five
+    (ascii_cons sixth (fifth ∷ four_digits c) (digit_ascii (c / 1048576 % 16) (omega arith)) five))
+
+sequence_ascii : (points : List ℕ) → is_all_ascii (sequence_text points) ≡ true
+sequence_ascii [] = refl
+sequence_ascii (c ∷ []) = point_ascii c
+sequence_ascii (c ∷ d ∷ points) =
+    ascii_append (point_text c) (45 ∷ sequence_text (d ∷ points)) (point_ascii c) (ascii_cons 45 (sequence_text (d ∷ points)) refl (sequence_ascii (d ∷ points)))
+
+gap_good : (pair : List ℕ × List ℕ) → IsReadBack (finding_object (Gap pair))
+gap_good pair =
+    object_read_back _ ((tt, (tt, tt)), tt)
+    ((ascii_utf8 (codes "source") refl, ascii_utf8 (sequence_text pair.0) (sequence_ascii pair.0), (ascii_utf8 (codes "missing") refl, ascii_utf8 (sequence_text pair.1) (sequence_ascii pair.1), tt)), tt)
+
+counted_good : (entries gaps : ℕ) → entries < 2 ^ 64 → gaps < 2 ^ 64 → IsReadBack (finding_object (Counted entries gaps))
+counted_good entries gaps few fewer =
+    object_read_back _ ((few, (fewer, tt)), tt) ((ascii_utf8 (codes "entries") refl, tt, (ascii_utf8 (codes "gaps") refl, tt, tt)), tt)
+
+findings_good : (pairs : List (List ℕ × List ℕ)) (entries gaps : ℕ) → entries < 2 ^ 64 → gaps < 2 ^ 64 → AllByRecursion (λ f. IsReadBack (finding_object f)) (map Gap pairs ++ Counted entries gaps ∷ [])
+findings_good [] entries gaps few fewer = (counted_good entries gaps few fewer, tt)
+findings_good (pair ∷ pairs) entries gaps few fewer = (gap_good pair, findings_good pairs entries gaps few fewer)
+
+pub findings_read_back : FindingsAreReadBack
+findings_read_back table sound few =
+    let pairs = gaps_of table.entries in
+    All-from_recursion (λ f. IsReadBack (finding_object f)) (map Gap pairs ++ Counted (length table.entries) (length pairs) ∷ [])
+    (findings_good pairs (length table.entries) (length pairs) (omega (arith, sound.entries.few)) few)
+
+-- ---- the fault of a table
+
+pub table_faults_read_back : TableFaultsAreReadBack
+table_faults_read_back properties wanted notation bytes fault line refusal small within =
+    table_fault_good line small refusal (told_if wanted (fault_cause properties notation bytes fault)) (by_wanted wanted (by_mark (begins_with_mark bytes && is_syntax_of_first fault)))
+  where
+    by_place : (place : Option FaultPlace) → fault_place properties notation bytes fault ≡ place → IsFittingIfTold (option_map (cause_at (faulty_line bytes fault)) place)
+    by_place None e = tt
+    by_place (Some place) e = within place e
+
+    by_mark : (b : Bool) → IsFittingIfTold (cond b (Some ByteOrderMark) (option_map (cause_at (faulty_line bytes fault)) (fault_place properties notation bytes fault)))
+    by_mark true = tt
+    by_mark false = by_place (fault_place properties notation bytes fault) refl
+
+    by_wanted : (b : Bool) → IsFittingIfTold (fault_cause properties notation bytes fault) → IsFittingIfTold (told_if b (fault_cause properties notation bytes fault))
+    by_wanted true h = h
+    by_wanted false h = tt
+
+-- ---- a wrong line of the registered labels
+
+stripped : (line : List ℕ) → length (strip_carriage_return line) ≤ length line
+stripped line = by_test (slice_index line (length line - 1) == 13)
+  where
+    by_test : (b : Bool) → length (cond b (take (length line - 1) line) line) ≤ length line
+    by_test true = taken (length line - 1) line
+    by_test false = omega arith
+
+short_body : (line : List ℕ) → IsShortBody (body_of line)
+short_body line = by_test (nat_lt 1024 (length line)) refl
+  where
+    by_test : (b : Bool) → nat_lt 1024 (length line) ≡ b → (let body : Option (List ℕ) = cond b None (Some (strip_carriage_return line)) in IsShortBody body)
+    by_test true e = tt
+    by_test false e = let le : length line ≤ 1024 = grind (arith, nat_tests) in omega (arith, stripped line, le)
+
+short_at : (bytes : List ℕ) (number : ℕ) → IsShortBody (body_at bytes number)
+short_at bytes number = by_line (slice_get (raw_lines bytes) (number - 1))
+  where
+    by_line : (line : Option (List ℕ)) → IsShortBody (body_if_any line)
+    by_line None = tt
+    by_line (Some line) = short_body line
+
+short_points : (bytes : List ℕ) → length bytes ≤ 1024 → is_utf8 bytes ≡ true → length (chars bytes) ≤ 1024
+short_points bytes short utf8 = let whole = utf8-of_chars bytes utf8 in omega (arith, points-length (chars bytes), ap length whole.encoded, short)
+
+points_short : (body : Option (List ℕ)) → IsShortBody body → length (points_in body) ≤ 1024
+points_short None short = omega arith
+points_short (Some bytes) short = by_test (is_utf8 bytes) refl
+  where
+    by_test : (b : Bool) → is_utf8 bytes ≡ b → length (cond b (chars bytes) []) ≤ 1024
+    by_test true e = short_points bytes short e
+    by_test false e = omega arith
+
+shared_within : (label other : List ℕ) → shared label other ≤ length label
+shared_within [] other = omega arith
+shared_within (c ∷ label) [] = omega arith
+shared_within (c ∷ label) (d ∷ other) = by_test (c == d) (shared_within label other)
+  where
+    by_test : (b : Bool) → shared label other ≤ length label → cond b (suc (shared label other)) 0 ≤ suc (length label)
+    by_test true h = omega (arith, h)
+    by_test false h = omega arith
+
+order_fits : (place : ℕ) (c : Option ℕ) → place ≤ 1024 → IsFitting (differs_at place c)
+order_fits place None h = omega (arith, h)
+order_fits place (Some c) h = omega (arith, h)
+
+module _ (properties : Properties) where
+  label_fits : (points : List ℕ) (refusal : Refusal) → length points ≤ 1024 → TellsFewOctetsIfAny (option_map OfLabel (cause_of properties points refusal)) → IsFittingIfTold (option_map OfLabel (cause_of properties points refusal))
+  label_fits points refusal short = by_cause (cause_of properties points refusal) refl
+    where
+      by_cause : (told : Option Cause) → cause_of properties points refusal ≡ told → TellsFewOctetsIfAny (option_map OfLabel told) → IsFittingIfTold (option_map OfLabel told)
+      by_cause None e few = tt
+      by_cause (Some cause) e few = cause_fits properties points refusal cause ((cause-is properties points refusal cause).0 e) (omega (arith, short)) few
+
+  body_fits : (body : Option (List ℕ)) (refusal : Refusal) → IsShortBody body → TellsFewOctetsIfAny (body_cause (ByRegisteredLine properties) body refusal) → IsFittingIfTold (body_cause (ByRegisteredLine properties) body refusal)
+  unfolding points_cause
+  body_fits None refusal short few = tt
+  body_fits (Some bytes) refusal short few = by_test (is_utf8 bytes) refl few
+    where
+      by_test : (b : Bool) → is_utf8 bytes ≡ b → TellsFewOctetsIfAny (cond b (option_map OfLabel (cause_of properties (chars bytes) refusal)) (Some (bad_byte bytes)))
+          → IsFittingIfTold (cond b (option_map OfLabel (cause_of properties (chars bytes) refusal)) (Some (bad_byte bytes)))
+      by_test true e few = label_fits (chars bytes) refusal (short_points bytes short e) few
+      by_test false e few = omega (arith, utf8_valid_len_le bytes, short)
+
+  wrong_line_fits : (bytes : List ℕ) (number : ℕ) (refusal : Refusal) → TellsFewOctetsIfAny (wrong_line_cause properties bytes number refusal) → IsFittingIfTold (wrong_line_cause properties bytes number refusal)
+  wrong_line_fits bytes number refusals.OutOfOrder few =
+      let label = points_at bytes number in
+      let before = points_at bytes (number - 1) in
+      order_fits (shared label before) (slice_get label (shared label before)) (omega (arith, shared_within label before, points_short (body_at bytes number) (short_at bytes number)))
+  wrong_line_fits bytes number refusals.FileTooLong few = tt
+  wrong_line_fits bytes number refusal few = body_fits (body_at bytes number) refusal (short_at bytes number) few
+
+pub registered_faults_read_back : RegisteredFaultsAreReadBack
+registered_faults_read_back properties wanted bytes number refusal small few =
+    registered_fault_good number small refusal (told_of_wrong_line properties wanted bytes number refusal) (by_wanted wanted few)
+  where
+    by_wanted : (b : Bool) → TellsFewOctetsIfAny (told_of_wrong_line properties b bytes number refusal) → IsFittingIfTold (told_of_wrong_line properties b bytes number refusal)
+    by_wanted true few = wrong_line_fits properties bytes number refusal few
+    by_wanted false few = tt

@@ -1,0 +1,182 @@
+-- Over a table of version 2 and over the ruleset of the same entries a run says the same.
+use Rattle.std.proofs.Common.{◌≡◌, inl, inr, ℕ, ◌==◌, ◌||◌, List, [], ◌∷◌, ◌++◌, length, Bool, true, false, Option, Some, None, Ok, Err, refl, sym, ap, subst, ◌∙◌, if◌then◌else◌}
+use Rattle.std.specs.Prelude.{chars, is_err}
+use Rattle.std.specs.Str.{is_utf8}
+use Rattle.idn_class.specs.declared.properties.Properties.{Properties}
+use Rattle.idn_text.specs.Lines.{Numbered, raw_lines}
+use Rattle.idn_text.specs.declared.refusal.Refusal.{Refusal}
+use Rattle.idn_text.specs.declared.refusal.Refusal.TheVariants.{Empty, NotUtf8}
+use Rattle.ruleset_text.specs.Definitions.{Definitions, nothing_defined}
+use Rattle.variant_table.specs.declared.version.Version.{Version}
+use Rattle.variant_table.specs.declared.version.Version.TheVariants.{One, Two, Three}
+use Rattle.variant_table.specs.declared.version.Notation.TheVariants.{Table, Ruleset}
+use Rattle.variant_table.specs.Texts.{IsTextOf}
+use Rattle.variant_table.specs.Versions.{is_version_line}
+use Rattle.variant_table.specs.WellFormed.{AreOfVersion}
+use Rattle.variant_table.proofs.RulesetLemmas.{as_three}
+use Rattle.variant_table.specs.Entries.{Entry, TableValue, table_of}
+use Rattle.valid_labels.specs.Furthest.{furthest}
+use Rattle.variant_table.specs.Segmentations.{IsMadeOfSources}
+use Rattle.valid_labels.specs.Validity.{IsAdmitted}
+use Rattle.valid_labels.proofs.NothingLemmas.{older-asks_nothing}
+use Rattle.variant_list.specs.declared.part.Part.{Part}
+use Rattle.variant_list.specs.declared.part.Part.TheVariants.{Whole, Unblocked, Tagged}
+use Rattle.variant_list.specs.RulesetLaws.{as_ruleset}
+use Rattle.variant_list.proofs.RulesetLemmas.{PartSpells-as_ruleset}
+use Rattle.idn2_options.specs.Settings.{Settings, tells_causes}
+use Rattle.idn2_options.specs.declared.command_line.mode.Mode.{Mode}
+use Rattle.idn2_options.specs.declared.command_line.mode.Mode.TheVariants.{Lookup, Register, Decode, Variants, Jump, CheckTable}
+use Rattle.idn2_answers.specs.Answers.{IsAllocatable, IsRefusedAs, IsSubTable, LineAnswer, jump_answer, line_answer, variants_answer}
+use Rattle.idn2_refusals.specs.Requests.{requested_label}
+use Rattle.idn2_refusals.specs.Explained.{Explained, ByRequest, ByTable, bad_byte, body_cause, if_wanted, points_cause, table_cause}
+use Rattle.idn2_answers.specs.Transcript.{explained_in, Refuses, answer_statements, has_refused, lines_statements, mode_statements, mode_status, statements, status_if, status_of}
+use Rattle.idn2_laws.specs.ListingLaws.{RulesetsSayTheSame}
+use Rattle.idn2_refusals.specs.declared.cause.LineCause.{LineCause}
+use Rattle.idn2_laws.proofs.ListingLaws.{never-invalid}
+
+-- ---- the text
+
+none-defined : (v : Version) (d : Definitions) → v ≡ Two → AreOfVersion v d → d ≡ nothing_defined d.properties
+none-defined One d two none = none
+none-defined Two d two none = none
+none-defined Three d two none = absurd (let clash : Three ≡ Two = two in cc)
+
+module _ (properties : Properties) where
+  text-as_ruleset : (text other first second : List ℕ) (lines : List (List ℕ)) (table : TableValue) → table.version ≡ Two → raw_lines text ≡ first ∷ lines → raw_lines other ≡ second ∷ lines
+      → is_version_line Table first ≡ true → is_version_line Ruleset second ≡ true → IsTextOf properties Table text table → IsTextOf properties Ruleset other (as_ruleset table)
+  text-as_ruleset text other first second lines table two cut cut_other begins begins_other is =
+      let none : table.definitions ≡ nothing_defined properties = none-defined table.version table.definitions two is.lines.well_formed.defined ∙ ap nothing_defined is.by_these in
+      let same : table ≡ table_of Two (nothing_defined properties) table.entries = ap (λ (v : Version). table_of v table.definitions table.entries) two ∙ ap (λ (d : Definitions). table_of Two d table.entries) none in
+      subst (λ (d : Definitions). IsTextOf properties Ruleset other (table_of Three d table.entries)) (sym none) (as_three properties text other first second lines table.entries cut cut_other begins begins_other (subst (IsTextOf properties Table text) same is))
+
+-- ---- what may be allocated, and what is refused
+
+sub-table : (table : TableValue) (part : Part) → IsSubTable table part → IsSubTable (as_ruleset table) part
+sub-table table Whole is = is
+sub-table table Unblocked is = is
+sub-table table (Tagged tag) is = is
+
+sub-table-back : (table : TableValue) (part : Part) → IsSubTable (as_ruleset table) part → IsSubTable table part
+sub-table-back table Whole is = is
+sub-table-back table Unblocked is = is
+sub-table-back table (Tagged tag) is = is
+
+allocatable-there : (table : TableValue) (label v : List ℕ) → IsAllocatable table label v → IsAllocatable (as_ruleset table) label v
+allocatable-there table label v (inl same) = inl same
+allocatable-there table label v (inr p) = inr (p.0, sub-table table p.0 p.1, (PartSpells-as_ruleset p.0 table label v).0 p.2)
+
+allocatable-back : (table : TableValue) (label v : List ℕ) → IsAllocatable (as_ruleset table) label v → IsAllocatable table label v
+allocatable-back table label v (inl same) = inl same
+allocatable-back table label v (inr p) = inr (p.0, sub-table-back table p.0 p.1, (PartSpells-as_ruleset p.0 table label v).1 p.2)
+
+module _ (definitions : Definitions) (entries : List Entry) (m n : Version) (label : List ℕ) where
+  made-version : IsMadeOfSources (table_of m definitions entries) label → IsMadeOfSources (table_of n definitions entries) label
+  made-version h = (h.0, record { of_table = h.1.of_table; inside = h.1.inside; joined = h.1.joined })
+
+  admitted-version : IsAdmitted (table_of m definitions entries) label → IsAdmitted (table_of n definitions entries) label
+  admitted-version h = record { cut = (h.cut.0, record { of_table = h.cut.1.of_table; inside = h.cut.1.inside; joined = h.cut.1.joined; held = h.cut.1.held }); met = h.met }
+
+module _ (definitions : Definitions) (entries : List Entry) (m n : Version) (label : List ℕ) (refusal : Refusal) where
+  refused-version : IsRefusedAs (table_of m definitions entries) label refusal → IsRefusedAs (table_of n definitions entries) label refusal
+  refused-version (inl h) = inl (λ made. h.0 (made-version definitions entries n m label made), h.1)
+  refused-version (inr h) = inr (made-version definitions entries m n label h.0, λ admitted. h.1 (admitted-version definitions entries n m label admitted), h.2)
+
+-- ---- what a run says
+
+-- answers of lines, where labels have the same ones
+answers-same : (answer other : List ℕ → LineAnswer) (body : Option (List ℕ)) → ((label : List ℕ) → answer label ≡ other label) → line_answer answer body ≡ line_answer other body
+answers-same answer other None same = refl
+answers-same answer other (Some bytes) same =
+    ap (λ (a : LineAnswer). let r : LineAnswer = if is_utf8 bytes then (if length bytes == 0 then Err Empty else a) else Err NotUtf8 in r) (same (chars bytes))
+
+-- what is said of an answer, where refusals have the same causes
+statements-same : (how other : Explained) (line : Numbered) (answer : LineAnswer) → ((body : Option (List ℕ)) (refusal : Refusal) → body_cause how body refusal ≡ body_cause other body refusal) → answer_statements how line answer ≡ answer_statements other line answer
+statements-same how other line (Ok said) same = refl
+statements-same how other line (Err refusal) same = ap (λ (cause : Option LineCause). Refuses line refusal cause ∷ []) (same line.body refusal)
+
+module _ (how how_too : Explained) (answer other : List ℕ → LineAnswer) (causes : (body : Option (List ℕ)) (refusal : Refusal) → body_cause how body refusal ≡ body_cause how_too body refusal) (answers : (label : List ℕ) → answer label ≡ other label) where
+  line-same : (line : Numbered) → answer_statements how line (line_answer answer line.body) ≡ answer_statements how_too line (line_answer other line.body)
+  line-same line = statements-same how how_too line (line_answer answer line.body) causes ∙ ap (answer_statements how_too line) (answers-same answer other line.body answers)
+
+  lines-same : (lines : List Numbered) → lines_statements how answer lines ≡ lines_statements how_too other lines
+  lines-same [] = refl
+  lines-same (line ∷ lines) = ap (λ s. s ++ lines_statements how answer lines) (line-same line) ∙ ap (λ s. answer_statements how_too line (line_answer other line.body) ++ s) (lines-same lines)
+
+  refused-same : (lines : List Numbered) → has_refused answer lines ≡ has_refused other lines
+  refused-same [] = refl
+  refused-same (line ∷ lines) = ap (λ a. is_err a || has_refused answer lines) (answers-same answer other line.body answers) ∙ ap (λ b. is_err (line_answer other line.body) || b) (refused-same lines)
+
+module _ (o : Settings) (definitions : Definitions) (entries : List Entry) where
+  abbrev two : TableValue
+  two = table_of Two definitions entries
+
+  abbrev three : TableValue
+  three = table_of Three definitions entries
+
+  variants-answer-same : (label : List ℕ) → variants_answer o two label ≡ variants_answer o three label
+  variants-answer-same label = refl
+
+  jump-answer-same : (request : List ℕ) → jump_answer o.properties two request ≡ jump_answer o.properties three request
+  jump-answer-same request = refl
+
+  table-cause-same : (label : List ℕ) (refusal : Refusal) → table_cause o.properties two label refusal ≡ table_cause o.properties three label refusal
+  unfolding furthest
+  table-cause-same label refusal = refl
+
+  listing-points-same : (points : List ℕ) (refusal : Refusal) → points_cause (ByTable o.properties two) points refusal ≡ points_cause (ByTable o.properties three) points refusal
+  unfolding points_cause
+  listing-points-same points refusal = table-cause-same points refusal
+
+  request-points-same : (points : List ℕ) (refusal : Refusal) → points_cause (ByRequest o.properties two) points refusal ≡ points_cause (ByRequest o.properties three) points refusal
+  unfolding points_cause
+  request-points-same points refusal = table-cause-same (requested_label points) refusal
+
+  bytes-cause-same : (b : Bool) (bad : LineCause) (cause other : Option LineCause) → cause ≡ other → (if b then cause else Some bad) ≡ (if b then other else Some bad)
+  bytes-cause-same true bad cause other same = same
+  bytes-cause-same false bad cause other same = refl
+
+  listing-cause-same : (b : Bool) (body : Option (List ℕ)) (refusal : Refusal) → body_cause (if_wanted b (ByTable o.properties two)) body refusal ≡ body_cause (if_wanted b (ByTable o.properties three)) body refusal
+  listing-cause-same false body refusal = refl
+  listing-cause-same true None refusal = refl
+  listing-cause-same true (Some bytes) refusal = bytes-cause-same (is_utf8 bytes) (bad_byte bytes) (points_cause (ByTable o.properties two) (chars bytes) refusal) (points_cause (ByTable o.properties three) (chars bytes) refusal) (listing-points-same (chars bytes) refusal)
+
+  request-cause-same : (b : Bool) (body : Option (List ℕ)) (refusal : Refusal) → body_cause (if_wanted b (ByRequest o.properties two)) body refusal ≡ body_cause (if_wanted b (ByRequest o.properties three)) body refusal
+  request-cause-same false body refusal = refl
+  request-cause-same true None refusal = refl
+  request-cause-same true (Some bytes) refusal = bytes-cause-same (is_utf8 bytes) (bad_byte bytes) (points_cause (ByRequest o.properties two) (chars bytes) refusal) (points_cause (ByRequest o.properties three) (chars bytes) refusal) (request-points-same (chars bytes) refusal)
+
+  mode-statements-same : (mode : Mode) (lines : List Numbered) → mode_statements mode o two lines ≡ mode_statements mode o three lines
+  mode-statements-same Lookup lines = refl
+  mode-statements-same Register lines = refl
+  mode-statements-same Decode lines = refl
+  mode-statements-same Variants lines =
+      lines-same (explained_in Variants o two) (explained_in Variants o three) (variants_answer o two) (variants_answer o three) (listing-cause-same (tells_causes o)) variants-answer-same lines
+  mode-statements-same Jump lines =
+      lines-same (explained_in Jump o two) (explained_in Jump o three) (jump_answer o.properties two) (jump_answer o.properties three) (request-cause-same (tells_causes o)) jump-answer-same lines
+  mode-statements-same CheckTable lines = refl
+
+  mode-status-same : (mode : Mode) (lines : List Numbered) → mode_status mode o two lines ≡ mode_status mode o three lines
+  mode-status-same Lookup lines = refl
+  mode-status-same Register lines = refl
+  mode-status-same Decode lines = refl
+  mode-status-same Variants lines =
+      ap status_if (refused-same (explained_in Variants o two) (explained_in Variants o three) (variants_answer o two) (variants_answer o three) (listing-cause-same (tells_causes o)) variants-answer-same lines)
+  mode-status-same Jump lines =
+      ap status_if (refused-same (explained_in Jump o two) (explained_in Jump o three) (jump_answer o.properties two) (jump_answer o.properties three) (request-cause-same (tells_causes o)) jump-answer-same lines)
+  mode-status-same CheckTable lines = refl
+
+pub rulesets-say-the-same : RulesetsSayTheSame
+rulesets-say-the-same = record {
+  read = text-as_ruleset;
+  said = λ o table lines is.
+      subst (λ (v : Version). statements o (Ok (table_of v table.definitions table.entries)) lines ≡ statements o (Ok (as_ruleset table)) lines) (sym is) (mode-statements-same o table.definitions table.entries o.mode lines);
+  status = λ o table lines is.
+      subst (λ (v : Version). status_of o (Ok (table_of v table.definitions table.entries)) lines ≡ status_of o (Ok (as_ruleset table)) lines) (sym is) (mode-status-same o table.definitions table.entries o.mode lines);
+  gaps = λ table. refl;
+  allocatable = λ table label v. (allocatable-there table label v, allocatable-back table label v);
+  refused = λ table label refusal. (
+    refused-version table.definitions table.entries table.version (as_ruleset table).version label refusal,
+    refused-version table.definitions table.entries (as_ruleset table).version table.version label refusal,
+  );
+  valid = λ table label is two. never-invalid table label (older-asks_nothing table is (λ three. (let clash : Two ≡ Three = sym two ∙ three in cc)));
+}

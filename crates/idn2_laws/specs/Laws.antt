@@ -1,0 +1,56 @@
+-- Laws of the definitions.
+use Rattle.std.specs.Prelude.{◌≡◌, ◌≢◌, ◌↔◌, ℕ, ◌≤◌, false, true, List, [], length, map, Option, Some, None, slice_index}
+use Rattle.std.specs.Str.{IsValidUpTo}
+use Rattle.idn_class.specs.declared.properties.Properties.{Properties}
+use Rattle.idn_text.specs.declared.refusal.Refusal.{Refusal}
+use Rattle.idn_text.specs.declared.refusal.Refusal.TheVariants.{NotInTable}
+use Rattle.idn_cause.specs.declared.cause.Cause.TheVariants.{Point}
+use Rattle.variant_table.specs.declared.version.Version.TheVariants.{One}
+use Rattle.variant_table.specs.Entries.{TableValue, has_blocked}
+use Rattle.variant_table.specs.WellFormed.{IsWellFormed}
+use Rattle.valid_labels.specs.Furthest.{IsFurthest}
+use Rattle.variant_table.specs.Segmentations.{HasSegmentation}
+use Rattle.variant_list.specs.declared.part.Part.TheVariants.{Unblocked}
+use Rattle.variant_list.specs.Spelling.{PartSpells, Spells}
+use Rattle.answer_json.specs.declared.block.Disposition.TheVariants.{Allocatable}
+use Rattle.idn_text.specs.Lines.{Numbered}
+use Rattle.idn2_options.specs.Settings.{Settings}
+use Rattle.idn2_options.specs.declared.command_line.form.Form.TheVariants.{Plain, Json}
+use Rattle.idn2_answers.specs.Answers.{IsAllocatable, disposition}
+use Rattle.idn2_refusals.specs.CauseTexts.{tail_text}
+use Rattle.idn2_refusals.specs.Explained.{Unexplained, bad_byte, body_cause, table_cause}
+use Rattle.idn2_answers.specs.Transcript.{TableGiven, piece_in, statements, status_of, transcript}
+use Rattle.idn2_refusals.specs.Messages.{line_message, refused_message}
+use Rattle.idn2_output.specs.Pieces.{messages_of}
+use Rattle.idn2_refusals.specs.declared.cause.LineCause.TheVariants.{Byte, OfLabel}
+
+-- the disposition of a variant. Version 1 has none; a label may itself be allocated, whatever is blocked; where no variant is
+-- blocked and there are no tags, each of a label's variants may be; what may be allocated is a variant of the label; and where there
+-- are no tags it is what the label spells by what is not blocked
+pub record DispositionsAreTold : Type 0 where
+  pub unstated : (table : TableValue) (label v : List ℕ) → table.version ≡ One → disposition table label v ≡ None
+  pub itself : (table : TableValue) (label : List ℕ) → table.version ≢ One → disposition table label label ≡ Some Allocatable
+  pub none_blocked : (table : TableValue) (label v : List ℕ) → table.version ≢ One → IsWellFormed table.entries → has_blocked table.entries ≡ false →
+      table.definitions.tags ≡ [] → Spells table label v → disposition table label v ≡ Some Allocatable
+  pub variants : (table : TableValue) (label v : List ℕ) → HasSegmentation table label → IsAllocatable table label v → Spells table label v
+  pub untagged : (table : TableValue) (label v : List ℕ) → HasSegmentation table label → table.definitions.tags ≡ [] → IsAllocatable table label v ↔ PartSpells Unblocked table label v
+
+-- what messages go on with. Without the option nothing, so that they are as ever; of bytes that are no UTF-8 the first that no UTF-8
+-- goes on with (RFC 3629, section 3) is told, and of a label that can't be cut into sources the code point after the furthest place
+-- that they reach (RFC 7940, section 8.1)
+pub record CausesAreTold : Type 0 where
+  pub unexplained : (body : Option (List ℕ)) (refusal : Refusal) → tail_text refusal (body_cause Unexplained body refusal) ≡ []
+  pub plain : (number : ℕ) (refusal : Refusal) → refused_message number refusal [] ≡ line_message number refusal
+  pub byte : (bytes : List ℕ) (place : ℕ) → IsValidUpTo bytes place → bad_byte bytes ≡ Byte place (slice_index bytes place)
+  pub outside : (properties : Properties) (table : TableValue) (label : List ℕ) (place : ℕ) → IsWellFormed table.entries → length label ≤ 63 → IsFurthest table label place →
+      table_cause properties table label NotInTable ≡ Some (OfLabel (Point place (slice_index label place)))
+
+-- a run writes what it says piece by piece, each statement in the form that is asked for. What it says is the same in both forms:
+-- with objects, what it says with `--explain`. So is its status, and with objects nothing goes to the messages
+pub record FormsSayTheSame : Type 0 where
+  pub written : (o : Settings) (given : TableGiven) (lines : List Numbered) → transcript o given lines ≡ map (piece_in o.form) (statements o given lines)
+  pub same : (o : Settings) (given : TableGiven) (lines : List Numbered)
+      → statements (record o { form = Json }) given lines ≡ statements (record o { form = Plain; explain = true }) given lines
+  pub status : (o : Settings) (given : TableGiven) (lines : List Numbered)
+      → status_of (record o { form = Json }) given lines ≡ status_of (record o { form = Plain }) given lines
+  pub silent : (o : Settings) (given : TableGiven) (lines : List Numbered) → o.form ≡ Json → messages_of (transcript o given lines) ≡ []

@@ -1,0 +1,8 @@
+-- The laws, and worked examples of the definitions.
+pub mod LineCauses
+pub mod ReadBack
+pub mod Laws
+pub mod ListingLaws
+pub mod Examples
+pub mod ListingExamples
+pub mod CauseExamples

@@ -1,0 +1,46 @@
+-- Worked examples of labels that are tested and listed under rulesets, by computation.
+use Rattle.std.specs.Prelude.{◌≡◌, true, List, [], ◌∷◌, ◌++◌, ℕ, codes}
+use Rattle.label_patterns.specs.Patterns.{Any, Either, End, Many, Point, Set, Then, Anchor}
+use Rattle.variant_table.specs.Entries.{TableValue}
+use Rattle.valid_labels.specs.Examples.{after_a, c_for_a, letters, never, outside_within, source, two_for_one, vowel_for_consonant}
+use Rattle.variant_table.specs.ExampleTables.{table_with, when_first}
+use Rattle.valid_labels.specs.Tests.{is_lost, is_valid}
+use Rattle.variant_list.specs.Tested.{tested}
+use Rattle.variant_list.specs.Variants.{variants}
+use Rattle.variant_list.specs.Examples.{blocked, entry}
+
+-- two kinds of digits, never together
+abbrev pub digits_of_two_kinds : TableValue
+digits_of_two_kinds = table_with ((record { first = 48; last = 57 } ∷ []) ∷ (record { first = 2406; last = 2415 } ∷ []) ∷ []) []
+    (never (Either (Then (Set 0) (Then (Many Any) (Set 1))) (Then (Set 1) (Then (Many Any) (Set 0)))) ∷ [])
+    (entry (48 ∷ []) (blocked (2406 ∷ []) ∷ []) ∷ entry (2406 ∷ []) (blocked (48 ∷ []) ∷ []) ∷ entry (49 ∷ []) (blocked (2407 ∷ []) ∷ []) ∷ entry (2407 ∷ []) (blocked (49 ∷ []) ∷ []) ∷ [])
+
+-- no label ends in b, which is a variant of a
+abbrev pub b_within : TableValue
+b_within = table_with [] [] (never (Then (Point 98) End) ∷ []) (entry (codes "a") (blocked (codes "b") ∷ []) ∷ [])
+
+-- the lines 0061, !0062..0063 when x and 0064|!0063, where x holds after a
+abbrev pub outside_after_a : TableValue
+outside_after_a = table_with [] (Then (Point 97) Anchor ∷ []) []
+    (letters (codes "a") ++ record (source (codes "b") when_first []) { outside = true } ∷ record (source (codes "c") when_first []) { outside = true } ∷ entry (codes "d") (blocked (codes "c") ∷ []) ∷ [])
+
+-- the valid ones of the labels that a label spells
+abbrev pub listed : TableValue → List ℕ → List (List ℕ)
+listed table label = variants (is_valid table) table label []
+
+-- a listing tests no label with a lost beginning. A variant is valid as a label of its own: its signs follow consonants, its digits are of one kind, it doesn't end as none may, what is
+-- outside stands where it may, a piece has its condition within a variant, and a variant that is no piece has none
+pub record ListingsOfExamples : Type 0 where
+  pub one_kind_tested : tested (is_lost digits_of_two_kinds) digits_of_two_kinds (codes "01") [] ≡ codes "01" ∷ (2406 ∷ 2407 ∷ []) ∷ []
+  pub end_tested : tested (is_lost b_within) b_within (codes "aa") [] ≡ codes "aa" ∷ codes "ab" ∷ codes "ba" ∷ codes "bb" ∷ []
+  pub barred_not_tested : tested (is_lost c_for_a) c_for_a (codes "aba") [] ≡ codes "aba" ∷ codes "abc" ∷ []
+  pub sign_on_the_consonant : listed vowel_for_consonant (2325 ∷ 2366 ∷ []) ≡ (2325 ∷ 2366 ∷ []) ∷ []
+  pub vowel_in_its_place : listed vowel_for_consonant (2325 ∷ 2326 ∷ []) ≡ (2309 ∷ 2326 ∷ []) ∷ (2325 ∷ 2326 ∷ []) ∷ []
+  pub digits_of_one_kind : listed digits_of_two_kinds (codes "01") ≡ codes "01" ∷ (2406 ∷ 2407 ∷ []) ∷ []
+  pub not_at_the_end : listed b_within (codes "aa") ≡ codes "aa" ∷ codes "ba" ∷ []
+  pub outside_within_the_label : listed outside_within (codes "aba") ≡ codes "aba" ∷ (1072 ∷ codes "ba") ∷ []
+  pub after_a_in_a_variant : listed two_for_one (codes "ac") ≡ codes "aba" ∷ codes "ac" ∷ []
+  pub pieces_of_their_own : listed after_a (codes "cc") ≡ codes "bdbd" ∷ codes "bdc" ∷ codes "cbd" ∷ codes "cc" ∷ []
+  pub b_on_a : listed c_for_a (codes "aba") ≡ codes "aba" ∷ codes "abc" ∷ []
+  pub range_outside : listed outside_after_a (codes "ad") ≡ codes "ac" ∷ codes "ad" ∷ []
+  pub range_outside_alone : listed outside_after_a (codes "dd") ≡ codes "dd" ∷ []

@@ -1,0 +1,88 @@
+//! Laws of the definitions that the contract of `idn2_cli::run` speaks of. Each holds by its proof alone.
+ghost use Rattle.std.specs.Prelude.{ℕ, List};
+ghost use Rattle.idn2_answers.specs.Answers.{LineAnswer};
+ghost use Rattle.idn2_laws.specs.Laws.{CausesAreTold, DispositionsAreTold, FormsSayTheSame};
+ghost use Rattle.idn2_laws.specs.ListingLaws.{AdmittedAreListed, ListedAreMutual, NotValidIsNeverTold, RulesetsSayTheSame, SpelledAreValid};
+ghost use Rattle.idn2_laws.specs.LineCauses.{RefusalsAreExplained};
+ghost use Rattle.idn2_laws.specs.ReadBack.{FindingsAreReadBack, RefusalsAreReadBack, RegisteredFaultsAreReadBack, SaidIsReadBack, TableFaultsAreReadBack};
+ghost use Rattle.idn2_laws.specs.ListingExamples.{ListingsOfExamples};
+ghost use Rattle.idn2_laws.specs.CauseExamples.{ExamplesOfCauses};
+ghost use Rattle.idn2_laws.specs.Examples.{ExamplesOfAllocations, ExamplesOfARun, ExamplesOfBlocks, ExamplesOfLines, ExamplesOfRefusals, ExamplesOfTranscripts};
+
+/// The disposition of a variant, by what the table blocks.
+pub fn dispositions_are_told()
+    ensures { DispositionsAreTold }
+{}
+
+/// A label that may be asked about is among its own variants, and may be allocated.
+pub fn admitted_labels_are_listed()
+    ensures { AdmittedAreListed }
+{}
+
+/// In a table without gaps, of single code points and without conditions at variants, labels that are variants of each
+/// other have the same variants, and so the same least one; and others don't.
+pub fn listed_labels_are_mutual()
+    ensures { ListedAreMutual }
+{}
+
+/// A ruleset says what the table of version 2 with the same entries says.
+pub fn rulesets_say_the_same()
+    ensures { RulesetsSayTheSame }
+{}
+
+/// Where a table asks nothing of its labels, none is refused as not valid.
+pub fn not_valid_is_never_told()
+    ensures { NotValidIsNeverTold }
+{}
+
+/// What a label spells is valid where the table asks nothing.
+pub fn spelled_labels_are_valid()
+    ensures { SpelledAreValid }
+{}
+
+/// What the message of a refused line goes on with.
+pub fn causes_are_told()
+    ensures laws { CausesAreTold }
+    ensures examples { ExamplesOfCauses }
+{}
+
+/// Each line that a mode refuses is told with its cause, where causes are wanted.
+pub fn refusals_are_explained()
+    ensures { RefusalsAreExplained }
+{}
+
+/// A run says the same in both forms.
+pub fn forms_say_the_same()
+    ensures { FormsSayTheSame }
+{}
+
+/// Each object in answer to a line is read back by the grammar of JSON as it is meant, is one line, and is UTF-8, whatever
+/// the line holds. The number of the line is below 2^64; so is that of the registered labels to which a listing is kept.
+pub fn said_is_read_back()
+    ensures { SaidIsReadBack }
+{}
+
+/// So is the object of each line that a mode refuses, with its cause. The octets that a cause tells, of an A-label or of a
+/// name, are fewer than 2^64; each other number is within the line or the table.
+pub fn refusals_are_read_back()
+    ensures { RefusalsAreReadBack }
+{}
+
+/// So are the objects of the check of a table, and that of the fault of a table or of the registered labels. Fewer than 2^64
+/// pairs are missing, and the number of the line and the place in it are small.
+pub fn tables_are_read_back()
+    ensures findings { FindingsAreReadBack }
+    ensures faults { TableFaultsAreReadBack }
+    ensures registered { RegisteredFaultsAreReadBack }
+{}
+
+/// Worked examples hold of the definitions themselves.
+pub fn examples_hold()
+    ensures run { ExamplesOfARun }
+    ensures lines { (answer : List ℕ → LineAnswer) → ExamplesOfLines answer }
+    ensures blocks { ExamplesOfBlocks }
+    ensures allocations { ExamplesOfAllocations }
+    ensures refusals { ExamplesOfRefusals }
+    ensures transcripts { ExamplesOfTranscripts }
+    ensures listings { ListingsOfExamples }
+{}

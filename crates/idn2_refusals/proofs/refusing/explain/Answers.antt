@@ -1,0 +1,8 @@
+use Rattle.std.proofs.lemmas.Result.{err_from_is_err_and}
+use Rattle.idn2_output.proofs.WrittenPieces.{stops_first}
+use Rattle.idn2_refusals.proofs.refusing.explain.Goals as goal
+
+pub returns-in_err-cause-clause-told : goal.returns-in_err-cause-clause-told
+returns-in_err-cause-clause-told g c =
+    let p = err_from_is_err_and c.from_residual.result c.from_residual.ensures.1 in
+    rw (p.1, p.2) (stops_first _ _)

@@ -1,0 +1,10 @@
+use Rattle.std.proofs.Common.{◌∙◌, Err, ap, sym}
+use Rattle.std.proofs.lemmas.Result.{err_from_is_err_and}
+use Rattle.idn2_refusals.proofs.ToldRefusals.{told_memory}
+use Rattle.idn2_refusals.proofs.table.refuse_table.Goals as goal
+
+pub returns-in_err-cause-clause-told : goal.returns-in_err-cause-clause-told
+returns-in_err-cause-clause-told g c =
+    let p = err_from_is_err_and c.from_residual.result c.from_residual.ensures.1 in
+    told_memory c.args.properties c.args.form c.args.wanted c.args.notation c.args.text.now c.args.fault c.args.console.now c.from_residual.result (c.in-Some.line, c.in-Some.refusal)
+    (sym c.told_of.ensures ∙ c.in-Some.is) (p.1 ∙ ap Err p.2)

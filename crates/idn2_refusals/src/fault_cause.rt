@@ -1,0 +1,126 @@
+//! The cause of the fault of a table. It is looked for only once the fault is told, and only if causes are wanted.
+ghost use Rattle.std.specs.Prelude.{◌≡◌, ◌≤◌, IfOk, IfSome, drop, false, take};
+ghost use Rattle.std.specs.List.{list_all};
+ghost use Rattle.std.specs.Option.{option_copied};
+ghost use Rattle.std.specs.Result.{IsOk};
+ghost use Rattle.idn2_refusals.specs.TableCauses.{begins_with_mark, fault_cause, is_syntax_of_first, is_visible as is_visible_byte, may_be_quoted as may_be_quoted_text, quoted as quoted_of, quoted_at as quoted_in, told_if};
+ghost use Rattle.idn2_refusals.specs.CauseRoom.{cause_room};
+
+use crate::cause::{LineCause, Quoted};
+use idn_class::Properties;
+use idn2_output::append;
+use std::alloc::{AllocError, Global};
+use ruleset_text::FaultPlace;
+use table_cause::{fault_place, faulty_line};
+use variant_table::{Notation, TableFault};
+
+/// The most bytes of a lexeme that is quoted.
+const MAX_QUOTED: usize = 32;
+
+/// The cause of the fault of a text, if causes are wanted and one is told.
+pub(crate) fn fault_cause_if_wanted(
+    alloc: Global,
+    wanted: bool,
+    notation: Notation,
+    text: &[u8],
+    fault: TableFault,
+    properties: Properties,
+) -> Result<Option<LineCause>, AllocError>
+    ensures cause { IfOk result (λ cause. cause ≡ told_if wanted (fault_cause properties notation text.now fault)) }
+    ensures unwanted { wanted ≡ false → IsOk result }
+    ensures short { IfOk result (λ cause. IfSome cause (λ cause. cause_room cause ≤ 72)) }
+{
+    if wanted {
+        cause_of_fault(alloc, notation, text, fault, properties)
+    } else {
+        Ok(None)
+    }
+}
+
+/// The cause of the fault of a text, if one is told.
+fn cause_of_fault(
+    alloc: Global,
+    notation: Notation,
+    text: &[u8],
+    fault: TableFault,
+    properties: Properties,
+) -> Result<Option<LineCause>, AllocError>
+    ensures cause { IfOk result (λ cause. cause ≡ fault_cause properties notation text.now fault) }
+    ensures short { IfOk result (λ cause. IfSome cause (λ cause. cause_room cause ≤ 72)) }
+{
+    if begins_with_mark(text) && is_syntax_of_first(fault) {
+        return Ok(Some(LineCause::ByteOrderMark));
+    }
+    match fault_place(alloc, notation, text, fault, properties)? {
+        Some(place) => {
+            let quoted = quoted_at(faulty_line(text, fault), place);
+            Ok(Some(LineCause::OfTable(place, quoted)))
+        }
+        None => Ok(None),
+    }
+}
+
+/// Whether a byte order mark stands at the head of a text.
+fn begins_with_mark(text: &[u8]) -> bool
+    ensures { result ≡ begins_with_mark text.now }
+{
+    text.starts_with(b"\xEF\xBB\xBF")
+}
+
+/// Whether the fault is that the first line can't be read.
+fn is_syntax_of_first(fault: TableFault) -> bool
+    ensures { result ≡ is_syntax_of_first fault }
+{
+    match fault {
+        TableFault::Syntax { line } => line == 1,
+        _ => false,
+    }
+}
+
+/// What is quoted of the line of a fault: the lexeme that can't stand there.
+fn quoted_at(line: Option<&[u8]>, place: FaultPlace) -> Quoted
+    ensures { result.items ≡ quoted_in (option_copied line.entry) place }
+{
+    match (line, place) {
+        (Some(line), FaultPlace::Lexeme(place, len)) => quoted(lexeme_at(line, place, len)),
+        _ => Quoted::new(),
+    }
+}
+
+/// A lexeme that may be quoted, and nothing of another one.
+fn quoted(lexeme: &[u8]) -> Quoted
+    ensures { result.items ≡ quoted_of lexeme.now }
+{
+    let mut text = Quoted::new();
+    if may_be_quoted(lexeme) {
+        append(&mut text, lexeme);
+    }
+    text
+}
+
+/// The bytes from a place on, as many as there are of `len`.
+fn lexeme_at(line: &[u8], place: usize, len: usize) -> &[u8]
+    ensures { result.now ≡ take len (drop place line.now) }
+{
+    let rest = &line[place.min(line.len())..];
+    &rest[..len.min(rest.len())]
+}
+
+/// Whether a lexeme is short, and each of its bytes is seen where it is printed.
+fn may_be_quoted(lexeme: &[u8]) -> bool
+    ensures test { result ≡ may_be_quoted_text lexeme.now }
+{
+    lexeme.len() <= MAX_QUOTED && are_visible(lexeme)
+}
+
+fn are_visible(bytes: &[u8]) -> bool
+    ensures { result ≡ list_all is_visible_byte bytes.now }
+{
+    bytes.iter().all(|byte| is_visible(*byte))
+}
+
+fn is_visible(byte: u8) -> bool
+    ensures { result ≡ is_visible_byte byte }
+{
+    33 <= byte && byte <= 126
+}

@@ -1,0 +1,106 @@
+//! A table that can't be used.
+
+ghost use Rattle.std.specs.Prelude.{◌≡◌, ◌≤◌, [], ◌∷◌, Err, IfOk, IfSome, MatchOption};
+ghost use Rattle.std.specs.Option.{option_copied};
+ghost use Rattle.idn2_refusals.specs.CauseTexts.{tail_text};
+ghost use Rattle.idn2_refusals.specs.TableCauses.{fault_cause, told_if};
+ghost use Rattle.idn2_output.specs.Pieces.{Message};
+ghost use Rattle.idn2_refusals.specs.Messages.{fault_piece, table_message as table_message_of};
+ghost use Rattle.idn2_refusals.specs.CauseRoom.{cause_room};
+ghost use Rattle.idn2_output.specs.Writing.{Emits};
+ghost use Rattle.idn2_refusals.specs.TableFaults.{told_of};
+ghost use Rattle.idn2_output.specs.declared.status.Status.TheVariants as statuses;
+ghost use Rattle.idn2_output.specs.declared.stop.Stop.TheVariants as stop;
+
+use crate::cause::LineCause;
+use crate::details::details_of_refusal;
+use crate::fault_cause::fault_cause_if_wanted;
+use crate::message::{explained_message, table_message};
+use idn_class::Properties;
+use idn_text::{Refusal, Sink};
+use idn2_options::Form;
+use idn2_output::{Console, Object, Status, Stop};
+use std::alloc::Global;
+use variant_table::{Notation, TableFault};
+
+/// Tells the fault of the table that a text is to spell, with its cause, if causes are wanted, and gives the status of the
+/// run. Lack of memory is no fault of the table: nothing is reported, and the run stops. A cause may take memory.
+pub fn refuse_table<W: Sink, E: Sink>(
+    alloc: Global,
+    form: Form,
+    wanted: bool,
+    notation: Notation,
+    text: &[u8],
+    fault: TableFault,
+    properties: Properties,
+    console: &mut Console<'_, '_, W, E>,
+) -> Result<Status, Stop>
+    ensures told { MatchOption (told_of fault) ((result ≡ Err stop.Memory) × (console.new ≡ console.old))
+        (λ told. Emits console.old console.new (fault_piece form told.0 told.1 (told_if wanted (fault_cause properties notation text.now fault)) ∷ []) result) }
+    ensures status { IfOk result (λ status. status ≡ statuses.Unusable) }
+{
+    let Some((line, refusal)) = told_of(fault) else {
+        return Err(Stop::Memory);
+    };
+    let cause = fault_cause_if_wanted(alloc, wanted, notation, text, fault, properties)?;
+    write_fault(form, line, refusal, cause.as_ref(), console)?;
+    Ok(Status::Unusable)
+}
+
+/// Writes why a line of a table is refused, with the cause, if there is one.
+fn write_fault<W: Sink, E: Sink>(
+    form: Form,
+    line: u64,
+    refusal: Refusal,
+    cause: Option<&LineCause>,
+    console: &mut Console<'_, '_, W, E>,
+) -> Result<(), Stop>
+    requires { IfSome cause (λ cause. cause_room cause.now ≤ 72) }
+    ensures { Emits console.old console.new (fault_piece form line refusal (option_copied cause.entry) ∷ []) result }
+{
+    match form {
+        Form::Plain => write_message(line, &refusal, cause, console),
+        Form::Json => {
+            let members = details_of_refusal(&refusal, cause);
+            console.object(&Object::TableFault(line, refusal, &members))
+        }
+    }
+}
+
+/// Writes the message of a line of a table, with the cause, if there is one.
+fn write_message<W: Sink, E: Sink>(
+    line: u64,
+    refusal: &Refusal,
+    cause: Option<&LineCause>,
+    console: &mut Console<'_, '_, W, E>,
+) -> Result<(), Stop>
+    requires { IfSome cause (λ cause. cause_room cause.now ≤ 72) }
+    ensures { Emits console.old console.new (Message (table_message_of line refusal.now (tail_text refusal.now (option_copied cause.entry))) ∷ []) result }
+{
+    match cause {
+        Some(cause) => {
+            let message = explained_message(b"idn2: table line ", line, refusal, cause);
+            console.message(message.as_slice())
+        }
+        None => {
+            let message = table_message(line, refusal);
+            console.message(message.as_str().as_bytes())
+        }
+    }
+}
+
+/// What is told of a table that is not read. There is nothing for lack of memory.
+fn told_of(fault: TableFault) -> Option<(u64, Refusal)>
+    ensures { result ≡ told_of fault }
+{
+    match fault {
+        TableFault::Syntax { line } => Some((line, Refusal::Syntax)),
+        TableFault::SameSource { line } => Some((line, Refusal::SameSource)),
+        TableFault::SameVariant { line } => Some((line, Refusal::SameVariant)),
+        TableFault::BadClass { line } => Some((line, Refusal::BadClass)),
+        TableFault::Limit { line } => Some((line, Refusal::Limit)),
+        TableFault::NoSuchName { line } => Some((line, Refusal::NoSuchName)),
+        TableFault::SameName { line } => Some((line, Refusal::SameName)),
+        TableFault::Memory => None,
+    }
+}
