@@ -102,7 +102,18 @@ def takes_a_start_of_1024_bytes(folder):
 
 
 def refuses_words_that_are_not_utf8(folder):
-    expect([b"\xff"], b"", b"", b"idn2: 50 usage\n", 2)
+    """They are shown with `--explain`. A file of such a name is given by its descriptor."""
+    for words, shown in (([b"\xff"], r"\xFF"), (["-r", b"gr\xfc\xdf\n", b"\xff"], r"gr\xFC\xDF\u{a}"), (["--foo", b"--\xc3"], r"--\xC3"),
+                         (["--variants", b"ma\xc3\x9f\xe2\x82", "a"], r"maß\xE2\x82")):
+        expect(words, b"", b"", b"idn2: 50 usage\n", 2)
+        expect([*words, "--", "--explain"], b"", b"", b"idn2: 50 usage\n", 2)
+        for explained in (["--explain", *words], [*words, "--explain"]):
+            expect(explained, b"", b"", f"idn2: 50 usage: '{shown}' is not UTF-8\n".encode(), 2)
+    name = os.path.join(os.fsencode(folder), b"\xff.txt")
+    with open(name, "wb") as file:
+        file.write(b"0061\n")
+    with open(name, "rb") as file:
+        expect(["--variants", f"/dev/fd/{file.fileno()}", "a"], b"", b"a\ta\n#end 1\n", b"", 0, pass_fds=(file.fileno(),))
 
 
 HELP = """\

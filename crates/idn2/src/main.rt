@@ -2,29 +2,30 @@
 #![tactic(auto)]
 
 mod fault;
+mod output;
 mod pipes;
+mod run;
 mod streams;
 mod system;
+mod taken;
+mod words;
 
-ghost use Rattle.std.specs.Prelude.{◌≡◌, None, IfErr, IfNone, IfOk, IfSome, IsSomeAnd};
-ghost use Rattle.std.specs.Option.{option_copied};
+ghost use Rattle.std.specs.Prelude.{option_map};
 ghost use Rattle.idn2_cli.specs.Settings.{IsWithinLimits};
-ghost use Rattle.registered_labels.specs.Registered.{AreRegistered};
-ghost use Rattle.registered_labels.specs.Texts.{IsFaultOf, IsTextOf};
+ghost use Rattle.idn2.specs.Runs.{HasAnswered};
 
 use fault::Fault;
-use idn_class::Properties;
 use idn_text::{Device, Lines};
-use idn2_cli::{
-    Options, Status, Usage, asks_for_causes, input_text, read_options, report_registered,
-    run_among, usage_cause,
-};
-use registered_labels::{RegisteredFileFault, RegisteredLabels};
+use idn2_cli::{Options, Status, Usage, asks_for_causes, input_text, read_options, usage_cause};
+use output::Output;
+use run::run_by_files;
 use std::alloc::Global;
-use std::io::{BufWriter, Stdout, Write};
+use std::cell::RefCell;
+use std::io::{Stdout, Write};
 use std::process::ExitCode;
-use streams::{Answers, Input, Messages, Output};
-use system::{read_registered, read_table, standard_output, words};
+use streams::{Answers, Input, Messages};
+use system::{read_registered, read_table, standard_output};
+use words::words;
 
 fn main(rt: HostRuntime) -> ExitCode {
     let status = match serve(&rt) {
@@ -47,22 +48,18 @@ fn serve(rt: &HostRuntime) -> Result<Status, Fault> {
     pipes::check_read_once(rt, &options, given.is_some())?;
     let table = read_table(rt, &options)?;
     let file = read_registered(rt, &options)?;
-    let registered = match labels_of(rt.alloc(), &file, options.properties) {
-        Ok(registered) => registered,
-        Err(fault) => {
-            let (mut out, mut err) = (Device::new(rt.stdout()), Device::new(rt.stderr()));
-            let text = file.as_deref().unwrap_or(b"");
-            return Ok(report_registered(rt.alloc(), &options, text, &fault, &mut out, &mut err));
-        }
-    };
-    let output = Output::new(standard_output(rt)?);
-    let status = match given {
-        Some(text) => run_on_words(rt, &options, &table, registered.as_ref(), &text, &output),
-        None => run_on_input(rt, &options, &table, registered.as_ref(), &output),
-    };
+    let output = RefCell::new(Output::new(standard_output(rt)?));
+    let status = answer(
+        rt,
+        &options,
+        &table,
+        file.as_deref(),
+        given.as_deref(),
+        &output,
+    );
     // Where answers were lost the run could report nothing more, whatever its status is.
-    match output.end() {
-        Ok(()) => Ok(status),
+    match output.into_inner().end() {
+        Ok(_stdout) => Ok(status),
         Err(error) => Err(Fault::of_write(rt.alloc(), error.kind(), options.explain)),
     }
 }
@@ -78,23 +75,6 @@ fn cause_of_words(alloc: Global, words: &[String]) -> Option<String> {
     }
 }
 
-/// The registered labels of a file, if there is one: exactly the lines of its text, or the first that is wrong.
-fn labels_of(
-    alloc: Global,
-    file: &Option<Vec<u8>>,
-    properties: Properties,
-) -> Result<Option<RegisteredLabels<'_>>, RegisteredFileFault>
-    ensures registered { IfOk result (λ labels. IfSome labels (AreRegistered properties)) }
-    ensures labels { IfOk result (λ labels. IfSome file.now (λ text. IsSomeAnd labels (IsTextOf properties text.items))) }
-    ensures none { IfOk result (λ labels. IfNone file.now (labels ≡ None)) }
-    ensures fault { IfErr result (λ fault. IsSomeAnd file.now (λ text. IsFaultOf properties text.items fault)) }
-{
-    match file {
-        Some(text) => Ok(Some(RegisteredLabels::read(alloc, text, properties)?)),
-        None => Ok(None),
-    }
-}
-
 /// Prints a text that was requested.
 fn show(rt: &HostRuntime, text: &str, explains: bool) -> Result<Status, Fault> {
     match rt.stdout().write_all(text.as_bytes()) {
@@ -103,47 +83,44 @@ fn show(rt: &HostRuntime, text: &str, explains: bool) -> Result<Status, Fault> {
     }
 }
 
-/// Runs over the lines of the STRINGS.
-fn run_on_words(
+/// Answers the lines of the STRINGS or, if there are none, those of the standard input.
+fn answer(
     rt: &HostRuntime,
     options: &Options,
     table: &[u8],
-    registered: Option<&RegisteredLabels<'_>>,
-    text: &[u8],
-    output: &Output<BufWriter<Stdout>>,
+    file: Option<&[u8]>,
+    given: Option<&[u8]>,
+    output: &RefCell<Output<Stdout>>,
 ) -> Status
-    requires limits { IsWithinLimits options.now }
-    requires registered { IfSome (option_copied registered) (AreRegistered options.now.properties) }
+    requires { IsWithinLimits options.now }
+    ensures { HasAnswered options.now table.now (option_map (λ text. text.now) file.entry) (option_map (λ text. text.now) given.entry) result }
 {
-    run_among(
-        rt.alloc(),
-        options,
-        table,
-        registered,
-        &mut Lines::new(Device::new(text)),
-        &mut Device::new(Answers::new(output)),
-        &mut Device::new(Messages::new(rt.stderr(), output)),
-    )
-}
-
-/// Runs over the lines of standard input.
-fn run_on_input(
-    rt: &HostRuntime,
-    options: &Options,
-    table: &[u8],
-    registered: Option<&RegisteredLabels<'_>>,
-    output: &Output<BufWriter<Stdout>>,
-) -> Status
-    requires limits { IsWithinLimits options.now }
-    requires registered { IfSome (option_copied registered) (AreRegistered options.now.properties) }
-{
-    run_among(
-        rt.alloc(),
-        options,
-        table,
-        registered,
-        &mut Lines::new(Device::new(Input::new(rt.stdin(), output))),
-        &mut Device::new(Answers::new(output)),
-        &mut Device::new(Messages::new(rt.stderr(), output)),
-    )
+    let mut out = Device::new(Answers::new(output));
+    let mut err = Device::new(Messages::new(rt.stderr(), output));
+    match given {
+        Some(text) => {
+            let mut lines = Lines::new(Device::new(text));
+            run_by_files(
+                rt.alloc(),
+                options,
+                table,
+                file,
+                &mut lines,
+                &mut out,
+                &mut err,
+            )
+        }
+        None => {
+            let mut lines = Lines::new(Device::new(Input::new(rt.stdin(), output)));
+            run_by_files(
+                rt.alloc(),
+                options,
+                table,
+                file,
+                &mut lines,
+                &mut out,
+                &mut err,
+            )
+        }
+    }
 }

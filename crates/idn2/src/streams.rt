@@ -1,116 +1,71 @@
-//! The three streams of a run, which share one buffered output: it is flushed before anyone waits for more
-//! input, and before a message is written, so that neither overtakes an answer.
+//! The three streams of a run, which share one output.
 //!
 //! Once the output has failed, every read and every write of these streams fails. So the run ends at its next
 //! step with no message of its own, and the program reports that answers were lost.
-ghost use Rattle.std.specs.Io.{WritesAtMost};
+ghost use Rattle.std.specs.Prelude.{◌≡◌, [], Some};
 
-use std::cell::{Cell, RefCell, RefMut};
-use std::io::{BufWriter, Error, ErrorKind, Read, Result, Write};
+use crate::output::Output;
+use crate::taken::Taken;
+use std::cell::{RefCell, RefMut};
+use std::io::{Error, ErrorKind, Read, Result, Write};
 
-/// An output that the streams below share. It fails for good: a write after one that failed would leave a gap.
+/// Writes answers into the shared output. Contracts see those that it took.
 #[derive(Drop)]
-pub struct Output<W> {
-    writer: RefCell<W>,
-    fault: Cell<Option<ErrorKind>>,
+pub struct Answers<'a, W: Write + Drop> {
+    output: &'a RefCell<Output<W>>,
+    taken: Taken,
 }
 
-impl<W> Output<W> {
-    /// An output of which no call failed yet.
-    pub fn new(writer: W) -> Self {
-        Output {
-            writer: RefCell::new(writer),
-            fault: Cell::new(None),
-        }
-    }
-}
-
-impl<W: Write> Output<W> {
-    /// Writes some of a text, and returns how many bytes of it.
-    fn write(&self, text: &[u8]) -> Result<usize>
-        ensures { WritesAtMost result text.now }
-    {
-        let written = self.lend()?.write(text);
-        if let Err(error) = &written {
-            self.fault.set(Some(error.kind()));
-        }
-        written
-    }
-
-    /// Writes what is still in the buffer. An error means that some answer was lost, now or earlier.
-    fn flush(&self) -> Result<()> {
-        let flushed = self.lend()?.flush();
-        if let Err(error) = &flushed {
-            self.fault.set(Some(error.kind()));
-        }
-        flushed
-    }
-
-    /// The writer, if it has not failed, and else its fault. It is lent for one call at a time, so nobody else has it then.
-    fn lend(&self) -> Result<RefMut<'_, W>> {
-        if let Some(kind) = self.fault.get() {
-            return Err(Error::from(kind));
-        }
-        match self.writer.try_borrow_mut() {
-            Ok(writer) => Ok(writer),
-            Err(_) => Err(Error::from(ErrorKind::Other)),
-        }
-    }
-}
-
-impl<W: Write + Drop> Output<BufWriter<W>> {
-    /// Writes what is still in the buffer, and ends the output. Where some answer was lost, what the buffer still holds
-    /// is dropped with it: by itself the buffer would try once more to write it.
-    pub fn end(self) -> Result<()> {
-        let ended = self.flush();
-        if ended.is_err() {
-            let _lost = self.writer.into_inner().into_parts();
-        }
-        ended
-    }
-}
-
-/// Writes answers into the shared output.
-#[derive(Drop)]
-pub struct Answers<'a, W> {
-    output: &'a Output<W>,
-}
-
-impl<'a, W> Answers<'a, W> {
+impl<'a, W: Write + Drop> Answers<'a, W> {
     /// Answers go into this output.
-    pub fn new(output: &'a Output<W>) -> Self {
-        Answers { output }
+    pub fn new(output: &'a RefCell<Output<W>>) -> Self
+        ensures { result.taken ≡ [] }
+    {
+        Answers {
+            output,
+            taken: Taken::new(),
+        }
     }
 }
 
-impl<W: Write> Write for Answers<'_, W> {
+impl<W: Write + Drop> Write for Answers<'_, W> {
+    ghost contents = { λ answers. Some answers.taken };
+
     fn write(&mut self, text: &[u8]) -> Result<usize> {
-        self.output.write(text)
+        lend(self.output)?.write(text, &mut self.taken)
     }
 
     fn flush(&mut self) -> Result<()> {
-        self.output.flush()
+        lend(self.output)?.flush()
     }
 }
 
-/// Writes messages, after the answers so far.
+/// Writes messages, after the answers so far. Contracts see those that were taken.
 #[derive(Drop)]
-pub struct Messages<'a, E, W> {
+pub struct Messages<'a, E, W: Write + Drop> {
     messages: E,
-    output: &'a Output<W>,
+    output: &'a RefCell<Output<W>>,
+    taken: Taken,
 }
 
-impl<'a, E, W> Messages<'a, E, W> {
+impl<'a, E, W: Write + Drop> Messages<'a, E, W> {
     /// Messages go into `messages`, answers into this output.
-    pub fn new(messages: E, output: &'a Output<W>) -> Self {
-        Messages { messages, output }
+    pub fn new(messages: E, output: &'a RefCell<Output<W>>) -> Self
+        ensures { result.taken ≡ [] }
+    {
+        Messages {
+            messages,
+            output,
+            taken: Taken::new(),
+        }
     }
 }
 
-impl<E: Write, W: Write> Write for Messages<'_, E, W> {
+impl<E: Write, W: Write + Drop> Write for Messages<'_, E, W> {
+    ghost contents = { λ messages. Some messages.taken };
+
     fn write(&mut self, text: &[u8]) -> Result<usize> {
-        self.output.flush()?;
-        self.messages.write(text)
+        lend(self.output)?.write_after(&mut self.messages, text, &mut self.taken)
     }
 
     fn flush(&mut self) -> Result<()> {
@@ -120,21 +75,30 @@ impl<E: Write, W: Write> Write for Messages<'_, E, W> {
 
 /// Reads input, after the answers so far are written.
 #[derive(Drop)]
-pub struct Input<'a, R, W> {
+pub struct Input<'a, R, W: Write + Drop> {
     input: R,
-    output: &'a Output<W>,
+    output: &'a RefCell<Output<W>>,
 }
 
-impl<'a, R, W> Input<'a, R, W> {
+impl<'a, R, W: Write + Drop> Input<'a, R, W> {
     /// Lines come from `input`, answers go into this output.
-    pub fn new(input: R, output: &'a Output<W>) -> Self {
+    pub fn new(input: R, output: &'a RefCell<Output<W>>) -> Self {
         Input { input, output }
     }
 }
 
-impl<R: Read, W: Write> Read for Input<'_, R, W> {
+impl<R: Read, W: Write + Drop> Read for Input<'_, R, W> {
+    ghost remaining = { λ input. R.remaining input.input };
+
     fn read(&mut self, bytes: &mut [u8]) -> Result<usize> {
-        self.output.flush()?;
-        self.input.read(bytes)
+        lend(self.output)?.read_after(&mut self.input, bytes)
+    }
+}
+
+/// The output, lent for one call: nobody else has it then.
+fn lend<W: Write + Drop>(output: &RefCell<Output<W>>) -> Result<RefMut<'_, Output<W>>> {
+    match output.try_borrow_mut() {
+        Ok(output) => Ok(output),
+        Err(_) => Err(Error::from(ErrorKind::Other)),
     }
 }

@@ -1,10 +1,9 @@
-//! What the program takes from the system: its words, its files, its output.
+//! What the program takes from the system: its files, its output.
 
 use crate::fault::Fault;
 use idn2_cli::{Mode, Notation, Options};
-use std::env;
 use std::fs::File;
-use std::io::{self, BufWriter, ErrorKind, Read, Stdout};
+use std::io::{self, BufWriter, Read, Stdout};
 
 /// One byte more than a table's text may have: no later byte changes what is wrong with it.
 const TABLE_BYTES: u64 = 1_048_577;
@@ -18,21 +17,6 @@ const REGISTERED_BYTES: u64 = 4_294_968_321;
 
 /// How many bytes of the output are kept until they are written.
 const OUTPUT_BUFFER_LEN: usize = 65_536;
-
-/// The words of the command line. A word that is not UTF-8 can't be an option or a line.
-pub fn words(rt: &HostRuntime) -> Result<Vec<String>, Fault> {
-    let mut words = Vec::new(rt.alloc());
-    match env::args(rt) {
-        Ok(args) => {
-            for word in args {
-                words.push(word)?;
-            }
-            Ok(words)
-        }
-        Err(error) if error.kind() == ErrorKind::OutOfMemory => Err(Fault::Memory),
-        Err(_) => Err(Fault::Usage(None)),
-    }
-}
 
 /// The bytes of the file of the table or ruleset, as many as can matter; none in a mode without one.
 pub fn read_table(rt: &HostRuntime, options: &Options) -> Result<Vec<u8>, Fault> {

@@ -1,0 +1,52 @@
+-- A run by the bytes of its files.
+use Rattle.std.specs.Prelude.{◌≡◌, ◌⊎◌, ℕ, List, [], Option, Some, None, IfSome, Ok}
+use Rattle.idn_text.specs.Reading.{Reading, IsUnread}
+use Rattle.registered_labels.specs.Texts.{IsFaultOf, IsTextOf}
+use Rattle.registered_labels.specs.declared.labels.RegisteredFileFault.{RegisteredFileFault}
+use Rattle.variant_table.specs.Entries.{TableValue}
+use Rattle.idn2_cli.specs.Settings.{Settings, keeping}
+use Rattle.idn2_options.specs.declared.command_line.mode.Mode.TheVariants.{Variants}
+use Rattle.idn2_output.specs.declared.status.Status.{Status}
+use Rattle.idn2_output.specs.Writing.{Held}
+use Rattle.idn2_cli.specs.Ends.{Ends, TellsUnread, mode_job}
+use Rattle.idn2_cli.specs.Headline.{PrintsListings}
+use Rattle.idn2_answers.specs.Transcript.{TableGiven, IsReadAs, IsTableOf}
+
+-- by a table of this text, with listings kept to these labels, or whole: the input is read from here to there, the output and the
+-- messages take what the run says, and for a table without a fault the lines of each listing are those of the theorem
+pub record Runs (o : Settings) (table : List ℕ) (labels : Option (List (List ℕ))) (start now : Reading) (old new : Held) (status : Status) : Type 0 where
+  pub ends : (given : TableGiven) × IsTableOf o.properties o.mode o.notation table given
+      × Ends (mode_job (keeping labels o) given) start now old new status
+  pub headline : (given : TableValue) → o.mode ≡ Variants → IsReadAs o.properties o.notation table (Ok given)
+      → PrintsListings (keeping labels o) given start now old.output.contents new.output.contents status
+
+-- the labels are those of which a file of this text has the lines
+pub record RunsAmong (o : Settings) (table text : List ℕ) (start now : Reading) (old new : Held) (status : Status) : Type 0 where
+  pub labels : List (List ℕ)
+  pub read : IsTextOf o.properties text labels
+  pub runs : Runs o table (Some labels) start now old new status
+
+-- a file of this text has a fault, which is told, and no line is read
+pub record TellsFault (o : Settings) (text : List ℕ) (start now : Reading) (old new : Held) (status : Status) : Type 0 where
+  pub fault : RegisteredFileFault
+  pub found : IsFaultOf o.properties text fault
+  pub unread : now ≡ start
+  pub told : TellsUnread o text fault old new status
+
+-- by the text of a file of registered labels, if there is one
+abbrev pub RunsByFiles : Settings → (table : List ℕ) → (file : Option (List ℕ)) → (start now : Reading) → (old new : Held) → Status → Type 0
+RunsByFiles o table None start now old new status = Runs o table None start now old new status
+RunsByFiles o table (Some text) start now old new status =
+    RunsAmong o table text start now old new status ⊎ TellsFault o text start now old new status
+
+-- the whole of it: the lines are those of a text, where one is given, and nothing was taken before
+pub record HasAnswered (o : Settings) (table : List ℕ) (file given : Option (List ℕ)) (status : Status) : Type 0 where
+  pub start : Reading
+  pub now : Reading
+  pub old : Held
+  pub new : Held
+  pub unread : IsUnread start
+  pub lines : IfSome given (λ text. start.input.reader.remaining ≡ Some text)
+  pub no_answer : old.output.contents ≡ Some []
+  pub no_message : old.messages.contents ≡ Some []
+  pub runs : RunsByFiles o table file start now old new status
