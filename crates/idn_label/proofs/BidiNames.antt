@@ -221,6 +221,37 @@ module _ (properties : Properties) where
       by_test true e i = step e (decoded_name properties (chars bytes)) refl i
       by_test false e i = absurd (let clash : Err NotUtf8 ≡ Ok octets = i in cc)
 
+  -- one A-label stands for a label that has passed the rule by itself
+  one_coded : (label : List ℕ) (labels : List (List ℕ)) → has_ace_prefix (map to_ascii_lowercase label) ≡ true → decoded_labels properties (label ∷ []) ≡ Ok labels → name_fault properties labels ≡ None
+  unfolding decoded_labels
+  one_coded label labels coded is = step (decoded_label properties label) refl is
+    where
+      step : (first : Answer) → decoded_label properties label ≡ first → with_others first (Ok []) ≡ Ok labels → name_fault properties labels ≡ None
+      step (Err refusal) own e = absurd (let clash : Err refusal ≡ Ok labels = e in cc)
+      step (Ok l) own e =
+          let both : Ok (l ∷ []) ≡ Ok labels = e in
+          let same : l ∷ [] ≡ labels = cc in
+          subst (λ (ls : List (List ℕ)). name_fault properties ls ≡ None) same
+          (one_passes properties l (u_label_answer-from properties _ l (sym (decoded_label-coded properties label coded) ∙ own)).0)
+
+  pub decode_utf8_answer-one : (name octets : List ℕ) → has_ace_prefix (map to_ascii_lowercase (chars name)) ≡ true → labels_of (chars name) ≡ chars name ∷ [] → decoded_utf8 properties name ≡ Ok octets → decode_utf8_answer properties name ≡ Ok octets
+  unfolding decoded_utf8
+  decode_utf8_answer-one name octets coded one is =
+      decode_utf8_answer-whole name ∙ ap (λ answer. and_then answer whole_utf8) is ∙ ap (λ fault. unless_fault fault (Ok octets)) (by_test (is_utf8 name) refl is)
+    where
+      step : (utf8 : is_utf8 name ≡ true) (decoded : Answer) → decoded_name properties (chars name) ≡ decoded → in_utf8 decoded ≡ Ok octets → name_fault properties (labels_of (chars octets)) ≡ None
+      step utf8 (Err refusal) own e = absurd (let clash : Err refusal ≡ Ok octets = e in cc)
+      step utf8 (Ok text) own e =
+          let both : Ok (utf8_of text) ≡ Ok octets = e in
+          let same : utf8_of text ≡ octets = cc in
+          let points : chars octets ≡ text = sym (ap chars same) ∙ points_from_utf8 (utf8_of text) text (utf8_points name text utf8 own) in
+          ap (λ (p : List ℕ). name_fault properties (labels_of p)) points
+          ∙ one_coded (chars name) (labels_of text) coded (sym (ap (decoded_labels properties) one) ∙ decoded_name-labels (chars name) text own)
+
+      by_test : (b : Bool) → is_utf8 name ≡ b → cond b (in_utf8 (decoded_name properties (chars name))) (Err NotUtf8) ≡ Ok octets → name_fault properties (labels_of (chars octets)) ≡ None
+      by_test true e i = step e (decoded_name properties (chars name)) refl i
+      by_test false e i = absurd (let clash : Err NotUtf8 ≡ Ok octets = i in cc)
+
 -- ---- the rule, of code points
 
 -- the test of all labels, by the tests of the name and of each label

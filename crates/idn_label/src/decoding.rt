@@ -1,17 +1,19 @@
 //! Decoding of the A-labels of a name (RFC 5891 section 5.3).
-ghost use Rattle.std.specs.Prelude.{◌≡◌, ◌≢◌, ◌<◌, ◌≤◌, ◌*◌, ℕ, List, length, take, IfOk, Ok, Err, All};
+ghost use Rattle.std.specs.Prelude.{◌≡◌, ◌≢◌, ◌<◌, ◌≤◌, ◌*◌, ◌∷◌, [], ℕ, true, List, length, take, IsTrue, IfOk, Ok, Err, All};
 ghost use Rattle.idna.specs.Labels.{labels_of};
+ghost use Rattle.idna.specs.Validity.{is_all_ascii};
 ghost use Rattle.idn_label.specs.ALabel.{a_label_of};
 ghost use Rattle.idn_label.specs.Answers.{Gives};
 ghost use Rattle.idn_label.specs.Decode.{decode_answer, decode_utf8_answer, decoded_name};
 ghost use Rattle.idn_label.specs.FirstFault.{IsRegistrable};
 ghost use Rattle.idn_label.specs.inner.DecodedNames.{decoded_utf8};
 ghost use Rattle.idn_label.specs.Memory.{DecodesWithoutMemory};
+ghost use Rattle.idn_label.specs.Steps.{begins_with_prefix};
 
 use crate::bidi_name::{name_fault, utf8_name_fault};
 use crate::full_stops::label_end;
 use crate::u_label::u_label_in_any_case;
-use crate::unit::{FULL_STOP, has_ace_prefix_in_any_case};
+use crate::unit::{FULL_STOP, has_ace_prefix_in_any_case, is_all_ascii};
 use idn_class::Properties;
 use idn_punycode::DecodedLabel;
 use idn_text::{MAX_LINE_LEN, Refusal, put_points};
@@ -40,10 +42,33 @@ pub fn decode_utf8(
     ensures no_memory { All DecodesWithoutMemory (labels_of name.now) → result ≢ Err Refusal.Memory }
 {
     let len = decode_utf8_labels(alloc, name, u_label, room, properties)?;
+    if is_told_by_its_labels(name, properties) {
+        return Ok(len);
+    }
     match utf8_name_fault(&room[..len], properties) {
         None => Ok(len),
         Some(refusal) => Err(refusal),
     }
+}
+
+/// Whether a name whose labels are decoded has no other fault: by the profile; and if it is one A-label, since what this
+/// stands for has passed the Bidi rule by itself.
+fn is_told_by_its_labels(name: &[u8], properties: Properties) -> bool
+    ensures { IsTrue result → (text : List ℕ) → decoded_utf8 properties name.now ≡ Ok text → decode_utf8_answer properties name.now ≡ Ok text }
+{
+    match properties {
+        Properties::Profile => true,
+        Properties::Unicode => is_one_a_label(name),
+    }
+}
+
+/// Whether a name is one label, of ASCII, that begins with `xn--` in any case.
+fn is_one_a_label(name: &[u8]) -> bool
+    ensures ascii { IsTrue result → is_all_ascii name.now ≡ true }
+    ensures coded { IsTrue result → begins_with_prefix name.now ≡ true }
+    ensures alone { IsTrue result → labels_of name.now ≡ name.now ∷ [] }
+{
+    has_ace_prefix_in_any_case(name) && is_all_ascii(name) && label_end(name, 0) == name.len()
 }
 
 /// The name with each label decoded, as `decode_utf8` leaves it, before the rule of the whole name is asked.
