@@ -20,10 +20,9 @@ use Rattle.valid_labels.specs.Tests.{asks_nothing, is_lost, is_valid}
 use Rattle.valid_labels.proofs.LostLemmas.{lost-invalid}
 use Rattle.valid_labels.proofs.TestLemmas.{tests-agree}
 use Rattle.variant_list.specs.Beginnings.{HasHope, has_hope}
-use Rattle.std.proofs.Math.Seq.{take-append_seam}
-use Rattle.std.proofs.lemmas.List.{length-append}
-use Rattle.variant_list.proofs.BeginningLemmas.{hope-gives, shortest_hopeless-none}
+use Rattle.variant_list.proofs.BeginningLemmas.{shortest_hopeless-none}
 use Rattle.idn2_answers.proofs.HopeLemmas.{clear}
+use Rattle.idn2_answers.proofs.LostBeginnings.{ruled-for_good}
 use Rattle.idn2_answers.specs.Answers.{Filter, filter_if, filter_of, is_registrable, registrable_labels, ruled_labels}
 
 module _ (properties : Properties) where
@@ -56,14 +55,6 @@ both-right : (a b : Bool) → (a && b) ≡ true → b ≡ true
 both-right true b h = h
 both-right false b h = cc
 
-pub not-left : (a b : Bool) → a ≡ false → (a && b) ≡ false
-not-left false b h = refl
-not-left true b h = cc
-
-pub not-right : (a b : Bool) → b ≡ false → (a && b) ≡ false
-not-right true b h = h
-not-right false b h = refl
-
 neither-left : (a b : Bool) → (a || b) ≡ false → a ≡ false
 neither-left false b h = refl
 neither-left true b h = cc
@@ -72,34 +63,7 @@ neither-right : (a b : Bool) → (a || b) ≡ false → b ≡ false
 neither-right false b h = h
 neither-right true b h = cc
 
-one-of : (a b : Bool) → (a || b) ≡ true → (a ≡ true) ⊎ (b ≡ true)
-one-of true b h = inl refl
-one-of false b h = inr h
-
 -- ---- labels that are valid under a table, too
-
-unless-true : (b : Bool) → (b ≡ true → ⊥) → b ≡ false
-unless-true true h = absurd (h refl)
-unless-true false h = refl
-
--- a label that begins with a lost list has such a beginning
-lost_beginning : (lost : List ℕ → Bool) (w z : List ℕ) → lost [] ≡ false → lost w ≡ true → has_hope lost (w ++ z) ≡ false
-lost_beginning lost [] z none is = let clash : false ≡ true = sym none ∙ is in cc
-lost_beginning lost (c ∷ w) z none is = unless-true (has_hope lost ((c ∷ w) ++ z)) clash
-  where
-    at_it : lost (take (length (c ∷ w)) ((c ∷ w) ++ z)) ≡ true
-    at_it = ap lost (take-append_seam (c ∷ w) z) ∙ is
-
-    clash : has_hope lost ((c ∷ w) ++ z) ≡ true → ⊥
-    clash h =
-        let clear : lost (take (length (c ∷ w)) ((c ∷ w) ++ z)) ≡ false = hope-gives lost ((c ∷ w) ++ z) h (length (c ∷ w)) (omega arith) (omega (arith, length-append (c ∷ w) z)) in
-        let bad : false ≡ true = sym clear ∙ at_it in cc
-
-pub ruled-for_good : (properties : Properties) (table : TableValue) (w z : List ℕ) → (ruled_labels properties table).hopeless w ≡ true → (ruled_labels properties table).accepts (w ++ z) ≡ false
-ruled-for_good properties table w z is = elim (one-of (hopeless properties w) (is_lost table w) is) [
-  | inl h ↦ not-left (is_registrable properties (w ++ z)) _ (none_hopeless properties w z h)
-  | inr l ↦ not-right (is_registrable properties (w ++ z)) _ (not-right (is_valid table (w ++ z)) _ (lost_beginning (is_lost table) w z refl l))
-]
 
 module _ (properties : Properties) where
   pub ruled_labels-IsSound : (table : TableValue) → IsSound properties (ruled_labels properties table)

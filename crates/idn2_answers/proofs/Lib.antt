@@ -1,5 +1,7 @@
 -- The shortest hopeless beginning of a label, as a listing asks for it.
 pub mod HopeLemmas
+-- No label that is valid under a table begins with a list that is lost.
+pub mod LostBeginnings
 -- What a listing asks of labels, and what is known of it.
 pub mod FilterLemmas
 -- The stop of a listing: the lesser of two labels, and the labels up to one.

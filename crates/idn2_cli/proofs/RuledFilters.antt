@@ -11,7 +11,8 @@ use Rattle.variant_table.specs.Entries.{TableValue}
 use Rattle.valid_labels.specs.Validity as validity
 use Rattle.valid_labels.specs.Tests.{asks_nothing, is_lost, is_valid}
 use Rattle.variant_list.specs.Beginnings.{shortest_hopeless}
-use Rattle.idn2_answers.proofs.FilterLemmas.{IsSound, not-left, not-right, registrable_labels-IsSound, ruled_labels-IsSound}
+use Rattle.idn2_answers.proofs.FilterLemmas.{IsSound, registrable_labels-IsSound, ruled_labels-IsSound}
+use Rattle.idn2_answers.proofs.LostBeginnings.{not-left, not-right}
 use Rattle.idn2_cli.specs.inner.Ruling.{IsValidityBy, filter_by, lesser_count, lost_in, passes, ruling_of}
 use Rattle.valid_labels.specs.declared.validity.Validity.{Validity}
 use Rattle.valid_labels.specs.declared.validity.Validity.TheVariants.{Lost, Valid, NotValid}

@@ -3,7 +3,7 @@ use Rattle.std.specs.Prelude.{◌≡◌, ◌++◌, ℕ, List, Option, Some, None
 use Rattle.idn_class.specs.declared.properties.Properties.{Properties}
 use Rattle.idn_label.proofs.HopeLemmas.{none_hopeless}
 use Rattle.variant_table.specs.Entries.{TableValue}
-use Rattle.idn2_answers.proofs.FilterLemmas.{ruled-for_good}
+use Rattle.idn2_answers.proofs.LostBeginnings.{ruled-for_good}
 use Rattle.idn2_cli.specs.inner.Ruling.{filter_by}
 
 pub none_accepted : (properties : Properties) (ruling : Option TableValue) (w z : List ℕ) → (filter_by properties ruling).hopeless w ≡ true → (filter_by properties ruling).accepts (w ++ z) ≡ false
