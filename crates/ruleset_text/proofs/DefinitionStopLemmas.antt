@@ -76,10 +76,10 @@ told_after Spells All w ws end (Err place) to from told =
     after_first (Spelled Spells) (Spelled All) w ws end place (λ more is. (is.0, to more is.0 is.1)) (λ more all. (all.0, from more all.0 all.1)) told
 
 pattern_tells : (r : Bool) (names : List (List ℕ)) (end : ℕ) (ws : List Placed) → Tells (SpellUsed r names) ws end (pattern_read r names end ws)
-pattern_tells r names end ws = tells (pattern_step r names) start (ended_in r) (SpellUsed r names) (pattern_reader r names) end ws
+pattern_tells r names end ws = tells (pattern_step r names) start (ended_in r) (λ l. Unit {0}) (SpellUsed r names) (pattern_reader r names) end ws (λ front rest cut. tt)
 
 spans_tell : (end : ℕ) (ws : List Placed) → Tells SpellSet ws end (spans_read end ws)
-spans_tell end ws = tells spans_step (spans.state [] (held.Above 0)) spans_ended SpellSet spans_reader end ws
+spans_tell end ws = tells spans_step (spans.state [] (held.Above 0)) spans_ended (λ l. Unit {0}) SpellSet spans_reader end ws (λ front rest cut. tt)
 
 -- ---- the name
 
@@ -131,7 +131,7 @@ tag_tells names end name (w ∷ ws) is =
 set_named : (names : List (List ℕ)) → IsNamed names keyword.Set
 set_named names =
     let reader = spans_reader in
-    let b = reader.begun [] (spans.state [] (held.Above 0)) refl in record {
+    let b = reader.begun [] (spans.state [] (held.Above 0)) tt refl in record {
       none = λ x e. no_definition x e;
       name = λ w more x bad e. if_name w (option_map (definition.Set w) (spans_in more)) x bad e;
       begun = (codes "a" ∷ b.0, (definition.Set (codes "a") b.1.0, ap (option_map (definition.Set (codes "a"))) (exact.set_read b.0 b.1.0 b.1.1)));
@@ -148,7 +148,7 @@ set_tells names end name ws is =
 rule_named : (names : List (List ℕ)) → IsNamed names keyword.Rule
 rule_named names =
     let reader = pattern_reader true names in
-    let b = reader.begun [] start refl in record {
+    let b = reader.begun [] start tt refl in record {
       none = λ x e. no_definition x e;
       name = λ w more x bad e. if_name w (option_map (definition.Rule w) (contexts_in names more)) x bad e;
       begun = (codes "a" ∷ b.0, (definition.Rule (codes "a") b.1.0, ap (option_map (definition.Rule (codes "a"))) (contexts_are names b.0 b.1.0 b.1.1)));

@@ -1,5 +1,5 @@
 -- The place at which a line stops being an entry or a range is where the grammar says.
-use Rattle.std.proofs.Common.{◌≡◌, ℕ, suc, ◌+◌, ◌/◌, ◌%◌, ◌<◌, ◌≤◌, nat_lt, Bool, true, false, not, ◌&&◌, ◌||◌, cond, if◌then◌else◌, leb, List, [], ◌∷◌, ◌++◌, length, length-append, Option, Some, None, Result, Ok, Err, refl, sym, ap, subst, ◌∙◌, append-nil, arith}
+use Rattle.std.proofs.Common.{◌≡◌, ℕ, suc, ◌+◌, ◌/◌, ◌%◌, ◌<◌, ◌≤◌, nat_lt, Bool, true, false, not, ◌&&◌, ◌||◌, cond, if◌then◌else◌, leb, List, [], ◌∷◌, ◌++◌, length, length-append, Option, Some, None, Result, Ok, Err, refl, sym, ap, subst, ◌∙◌, arith}
 use Rattle.std.specs.Prelude.{◌↔◌, bytes_eq, is_some, slice_index, codes}
 use Rattle.std.proofs.Math.Bool.{and-false}
 use Rattle.std.proofs.lemmas.Bool.{le-leb, not-false}
@@ -14,26 +14,25 @@ use Rattle.ruleset_text.specs.declared.entry_reading.EntryWord.TheVariants as wo
 use Rattle.ruleset_text.specs.declared.entry_reading.Phase.{Phase}
 use Rattle.ruleset_text.specs.declared.entry_reading.Phase.TheVariants as phase
 use Rattle.ruleset_text.specs.declared.fault.FaultPlace.{FaultPlace}
-use Rattle.ruleset_text.specs.declared.fault.FaultPlace.TheVariants.{Lexeme, End}
 use Rattle.ruleset_text.specs.Entries.{EntryForm, Mapped}
 use Rattle.ruleset_text.specs.EntryParts.{has_parts}
 use Rattle.ruleset_text.specs.EntryText.{IsForm}
 use Rattle.ruleset_text.specs.EntryWords.{AreWords, entry_words, point_of}
 use Rattle.ruleset_text.specs.EntrySteps.{State, start, word_of, marked, at_point, at_last, begin_by, is_first, may_be_range, with_done, separated, after_rule, after_tags, after_tag, after_points, after_point, at_tag, at_rule, with_phase, step_by, step, stepped, state_after, is_begin, is_new, is_lacking, step_in, is_complete, ended, entry_at, entry_in, entry_read}
 use Rattle.ruleset_text.specs.EntryStops.{AreEntry, IsEntryOf, IsEntryStop, FitsNames}
-use Rattle.ruleset_text.specs.Lexemes.{is_blank, is_joined, lexemes}
-use Rattle.ruleset_text.specs.LineStops.{place_of, or_end, at_lexeme, read_from}
+use Rattle.ruleset_text.specs.Lexemes.{lexemes}
 use Rattle.ruleset_text.specs.Names.{is_name, is_name_byte, is_one_of}
-use Rattle.ruleset_text.specs.PlacedLexemes.{Placed, onto_placed, placed_from, placed_lexemes, unplaced}
-use Rattle.ruleset_text.specs.Stops.{run, Begins, IsStop}
+use Rattle.ruleset_text.specs.PlacedLexemes.{Placed, placed_lexemes, unplaced}
+use Rattle.ruleset_text.specs.Stops.{run, Begins}
 use Rattle.ruleset_text.specs.Tokens.{without_prefix}
 use Rattle.ruleset_text.proofs.EntryLemmas.{none_after}
 use Rattle.ruleset_text.proofs.EntryPartLemmas.{AllHad, had_by_form, form_by_had}
 use Rattle.ruleset_text.proofs.EntryReadLemmas.{words_read}
 use Rattle.ruleset_text.proofs.EntrySpelledLemmas.{read_words}
 use Rattle.ruleset_text.proofs.HexLemmas.{hex_facts, scalar_below}
-use Rattle.ruleset_text.proofs.PlacedLemmas.{unplaced-from}
-use Rattle.ruleset_text.proofs.StopLemmas.{run_none, run_append, run_one}
+use Rattle.ruleset_text.proofs.LineStopLemmas.{Tells, leads, reads_to, tells, stop_is, renamed, ok_err}
+use Rattle.ruleset_text.proofs.PlacedLemmas.{placed-length, unplaced-from}
+use Rattle.ruleset_text.proofs.StopLemmas.{Spelled, Reads, run_none}
 
 equal : (a b : List ℕ) → bytes_eq a b ≡ true → a ≡ b
 equal a b e = (bytes_eq-Decides a b).0 e
@@ -511,233 +510,75 @@ entry_run parts ws is =
     let t = entry_state ws is.0 (words_read is.0 ws is.1 is.3) in
     (t.0, run_had parts ws start (had_by_form parts is.0 ws is.1 is.2 is.3) ∙ t.1, t.2)
 
-front_run : (parts : EntryParts) (ws vs : List (List ℕ)) (t : State) → run (step_in parts) (Some start) (ws ++ vs) ≡ Some t → (s : State) × (run (step_in parts) (Some start) ws ≡ Some s)
-front_run parts ws vs t e = by (run (step_in parts) (Some start) ws) refl (sym (run_append (step_in parts) ws vs (Some start)) ∙ e)
-  where
-    by : (o : Option State) → run (step_in parts) (Some start) ws ≡ o → run (step_in parts) (run (step_in parts) (Some start) ws) vs ≡ Some t
-        → (s : State) × (run (step_in parts) (Some start) ws ≡ Some s)
-    by None h e = none_some _ t (sym (run_none (step_in parts) vs) ∙ sym (ap (λ o. run (step_in parts) o vs) h) ∙ e)
-    by (Some s) h e = (s, h)
+-- ---- a reader by steps
 
-run_by_begins : (parts : EntryParts) (ws : List (List ℕ)) → Begins (AreEntry parts) ws → (s : State) × (run (step_in parts) (Some start) ws ≡ Some s)
-run_by_begins parts ws b = let all = entry_run parts (ws ++ b.0) b.1 in front_run parts ws b.0 all.0 all.1
+-- so few lexemes that some name is none of them
+abbrev Fits : EntryParts → List (List ℕ) → Type 0
+Fits parts ws = parts.named ≡ true → length ws ≤ 8192
 
--- ---- the place
+abbrev Spells : EntryParts → List (List ℕ) → EntryForm → Type 0
+Spells parts ws form = IsForm form.mapped form.last × (has_parts parts form ≡ true) × AreWords (entry_words form.mapped form.last) ws
 
--- a line has no more lexemes than bytes
-placed_count : (n : ℕ) (line : List ℕ) → length (placed_from n line) ≤ length line
-placed_count n [] = omega arith
-placed_count n (c ∷ cs) = by (is_blank c) (is_joined c cs) (placed_count (n + 1) cs)
-  where
-    onto : (ws : List Placed) → length ws ≤ length cs → length (onto_placed n c ws) ≤ suc (length cs)
-    onto [] few = omega arith
-    onto (w ∷ ws) few = omega arith
-
-    by : (blank joined : Bool) → length (placed_from (n + 1) cs) ≤ length cs
-        → length (cond blank (placed_from (n + 1) cs) (cond joined (onto_placed n c (placed_from (n + 1) cs)) (record { place = n; lexeme = c ∷ [] } ∷ placed_from (n + 1) cs))) ≤ suc (length cs)
-    by true joined few = omega arith
-    by false true few = onto (placed_from (n + 1) cs) few
-    by false false few = omega arith
+reader : (parts : EntryParts) → Reads (step_in parts) start ended (Fits parts) (Spells parts)
+reader parts = record {
+  all = λ ws form is. entry_run parts ws (form, is.0, is.1, is.2);
+  only = λ ws s form e f. let k = ran parts ws start s e in whole parts ws s form k.0 k.1 f;
+  begun = λ ws s few e. let b = begins_by_run parts ws s few e in (b.0, (b.1.0, (b.1.1, b.1.2, b.1.3)));
+}
 
 unplaced_count : (ws : List Placed) → length (unplaced ws) ≡ length ws
 unplaced_count [] = refl
 unplaced_count (w ∷ ws) = ap suc (unplaced_count ws)
 
-lexeme_count : (line : List ℕ) → length (lexemes line) ≤ length line
-lexeme_count line = let few = placed_count 0 line in subst (λ ws. length ws ≤ length line) (unplaced-from 0 line) (omega (arith, unplaced_count (placed_lexemes line)))
-
--- those before a lexeme, and the lexeme
-front_count : (line : List ℕ) (before after : List Placed) (w : Placed) → placed_lexemes line ≡ before ++ w ∷ after → suc (length (unplaced before)) ≤ length line
-front_count line before after w cut =
-    let few = placed_count 0 line in
-    let same = ap length cut ∙ length-append before (w ∷ after) in
-    omega (arith, unplaced_count before)
-
--- ---- what reading finds
-
-abbrev from : EntryParts → ℕ → State → List Placed → Result EntryForm FaultPlace
-from parts len s ws = read_from (step_in parts) ended len s ws
-
--- the lexeme that can't stand after those that lead to the state, or the end, where the state is not complete
-abbrev Halts : EntryParts → State → List Placed → Type 0
-Halts parts s [] = ended s ≡ None
-Halts parts s (w ∷ ws) = step_in parts s w.lexeme ≡ None
-
-record Stopped (parts : EntryParts) (len : ℕ) (s : State) (xs : List Placed) (place : FaultPlace) : Type 0 where
-  before : List Placed
-  after : List Placed
-  at : State
-  cut : xs ≡ before ++ after
-  reached : run (step_in parts) (Some s) (unplaced before) ≡ Some at
-  halts : Halts parts at after
-  told : place ≡ place_of len after
-
-same_err : {X E : Type 0} (a b : E) → (let r : Result X E = Err a in r) ≡ Err b → b ≡ a
-same_err a b e = cc
-
-ok_err : {X E : Type 0} (A : Type 0) (x : X) (e : E) → Ok x ≡ Err e → A
-ok_err A x e h = absurd cc
-
-err_ok : {X E : Type 0} (A : Type 0) (x : X) (e : E) → Err e ≡ Ok x → A
-err_ok A x e h = absurd cc
-
-same_ok : {X E : Type 0} (x y : X) → (let r : Result X E = Ok x in r) ≡ Ok y → x ≡ y
-same_ok x y e = cc
-
-stopped_end : (parts : EntryParts) (len : ℕ) (s : State) (place : FaultPlace) (o : Option EntryForm) → ended s ≡ o → or_end len o ≡ Err place → Stopped parts len s [] place
-stopped_end parts len s place (Some form) e h = ok_err _ form place h
-stopped_end parts len s place None e h = record { before = []; after = []; at = s; cut = refl; reached = refl; halts = e; told = same_err (End len) place h }
-
-stopped_next : (parts : EntryParts) (len : ℕ) (s : State) (w : Placed) (ws : List Placed) (place : FaultPlace) (o : Option State) → step_in parts s w.lexeme ≡ o
-    → ((t : State) → from parts len t ws ≡ Err place → Stopped parts len t ws place)
-    → at_lexeme w (λ t. from parts len t ws) o ≡ Err place → Stopped parts len s (w ∷ ws) place
-stopped_next parts len s w ws place None e rest h = record { before = []; after = w ∷ ws; at = s; cut = refl; reached = refl; halts = e; told = same_err (Lexeme w.place (length w.lexeme)) place h }
-stopped_next parts len s w ws place (Some t) e rest h =
-    let r = rest t h in record {
-      before = w ∷ r.before;
-      after = r.after;
-      at = r.at;
-      cut = ap (λ l. w ∷ l) r.cut;
-      reached = ap (λ o. run (step_in parts) o (unplaced r.before)) e ∙ r.reached;
-      halts = r.halts;
-      told = r.told;
-    }
-
-stopped : (parts : EntryParts) (len : ℕ) (place : FaultPlace) (xs : List Placed) (s : State) → from parts len s xs ≡ Err place → Stopped parts len s xs place
-stopped parts len place [] s e = stopped_end parts len s place (ended s) refl e
-stopped parts len place (w ∷ ws) s e = stopped_next parts len s w ws place (step_in parts s w.lexeme) refl (λ t h. stopped parts len place ws t h) e
-
--- what is read after lexemes that lead to a state
-read_after : (parts : EntryParts) (len : ℕ) (before after : List Placed) (s t : State) → run (step_in parts) (Some s) (unplaced before) ≡ Some t
-    → from parts len s (before ++ after) ≡ from parts len t after
-read_after parts len [] after s t e = ap (λ u. from parts len u after) (same_some s t e)
-read_after parts len (w ∷ before) after s t e = by (step_in parts s w.lexeme) (λ u h. read_after parts len before after u t h) e
-  where
-    by : (o : Option State) → ((u : State) → run (step_in parts) (Some u) (unplaced before) ≡ Some t → from parts len u (before ++ after) ≡ from parts len t after)
-        → run (step_in parts) o (unplaced before) ≡ Some t → at_lexeme w (λ u. from parts len u (before ++ after)) o ≡ from parts len t after
-    by None rest h = none_some _ t (sym (run_none (step_in parts) (unplaced before)) ∙ h)
-    by (Some u) rest h = rest u h
-
-halted : (parts : EntryParts) (len : ℕ) (s : State) (after : List Placed) → Halts parts s after → from parts len s after ≡ Err (place_of len after)
-halted parts len s [] h = ap (or_end len) h
-halted parts len s (w ∷ ws) h = ap (at_lexeme w (λ t. from parts len t ws)) h
+few_front : (parts : EntryParts) (line : List ℕ) → FitsNames parts line → (front rest : List Placed) → placed_lexemes line ≡ front ++ rest → Fits parts (unplaced front)
+few_front parts line fits front rest cut named =
+    let most = fits named in
+    let few = placed-length 0 line in
+    let same = ap length cut ∙ length-append front rest in
+    omega (arith, unplaced_count front)
 
 -- ---- the form
-
-read_ok : (parts : EntryParts) (len : ℕ) (form : EntryForm) (xs : List Placed) (s : State) → from parts len s xs ≡ Ok form
-    → (t : State) × (run (step_in parts) (Some s) (unplaced xs) ≡ Some t) × (ended t ≡ Some form)
-read_ok parts len form [] s e = (s, refl, by (ended s) refl e)
-  where
-    by : (o : Option EntryForm) → ended s ≡ o → or_end len o ≡ Ok form → ended s ≡ Some form
-    by None h e = err_ok _ form (End len) e
-    by (Some other) h e = h ∙ ap (λ f. Some f) (same_ok other form e)
-read_ok parts len form (w ∷ ws) s e = by (step_in parts s w.lexeme) refl (λ t h. read_ok parts len form ws t h) e
-  where
-    by : (o : Option State) → step_in parts s w.lexeme ≡ o
-        → ((t : State) → from parts len t ws ≡ Ok form → (u : State) × (run (step_in parts) (Some t) (unplaced ws) ≡ Some u) × (ended u ≡ Some form))
-        → at_lexeme w (λ t. from parts len t ws) o ≡ Ok form → (u : State) × (run (step_in parts) (Some s) (unplaced (w ∷ ws)) ≡ Some u) × (ended u ≡ Some form)
-    by None h rest e = err_ok _ form (Lexeme w.place (length w.lexeme)) e
-    by (Some t) h rest e = let r = rest t e in (r.0, ap (λ o. run (step_in parts) o (unplaced ws)) h ∙ r.1, r.2)
 
 form_found : (parts : EntryParts) (line : List ℕ) (form : EntryForm) → entry_read parts line ≡ Ok form → IsEntryOf parts line form
 unfolding entry_read
 form_found parts line form e =
-    let r = read_ok parts (length line) form (placed_lexemes line) start e in
-    let run_ = subst (λ ws. run (step_in parts) (Some start) ws ≡ Some r.0) (unplaced-from 0 line) r.1 in
-    let k = ran parts (lexemes line) start r.0 run_ in
-    let w = whole parts (lexemes line) r.0 form k.0 k.1 r.2 in
+    let l = leads (step_in parts) ended (length line) (placed_lexemes line) start form e in
+    let run_to = subst (λ ws. run (step_in parts) (Some start) ws ≡ Some l.last) (unplaced-from 0 line) l.run_to in
+    let k = ran parts (lexemes line) start l.last run_to in
+    let w = whole parts (lexemes line) l.last form k.0 k.1 l.ends_in in
     ((w.0, w.2), w.1)
 
 found_form : (parts : EntryParts) (line : List ℕ) (form : EntryForm) → IsEntryOf parts line form → entry_read parts line ≡ Ok form
 unfolding entry_read
 found_form parts line form is =
-    let xs = placed_lexemes line in
     let t = entry_run parts (lexemes line) (form, is.0.0, is.1, is.0.1) in
-    let r = subst (λ ws. run (step_in parts) (Some start) ws ≡ Some t.0) (sym (unplaced-from 0 line)) t.1 in
-    ap (from parts (length line) start) (sym (append-nil xs)) ∙ read_after parts (length line) xs [] start t.0 r ∙ ap (or_end (length line)) t.2
+    let run_to = subst (λ ws. run (step_in parts) (Some start) ws ≡ Some t.0) (sym (unplaced-from 0 line)) t.1 in
+    reads_to (step_in parts) ended (length line) (placed_lexemes line) start t.0 form run_to t.2
 
 pub the_entry : (parts : EntryParts) (line : List ℕ) (form : EntryForm) → (entry_read parts line ≡ Ok form) ↔ IsEntryOf parts line form
 the_entry parts line form = (form_found parts line form, found_form parts line form)
 
 -- ---- the place
 
--- so few lexemes that some name is none of them
-few_before : (parts : EntryParts) (line : List ℕ) (before after : List Placed) → FitsNames parts line → placed_lexemes line ≡ before ++ after → parts.named ≡ true → length (unplaced before) ≤ 8192
-few_before parts line before after fits cut named =
-    let most = fits named in
-    let few = placed_count 0 line in
-    let same = ap length cut ∙ length-append before after in
-    omega (arith, unplaced_count before)
-
--- one lexeme more leads to a state, or to none
-one_next : (parts : EntryParts) (before : List Placed) (w : Placed) (s : State) → run (step_in parts) (Some start) (unplaced before) ≡ Some s
-    → run (step_in parts) (Some start) (unplaced before ++ w.lexeme ∷ []) ≡ step_in parts s w.lexeme
-one_next parts before w s e = run_one (step_in parts) (unplaced before) w.lexeme start s e
-
-no_entry : (parts : EntryParts) (before after : List Placed) (s : State) → (parts.named ≡ true → length (unplaced before) ≤ 8192)
-    → run (step_in parts) (Some start) (unplaced before) ≡ Some s → Halts parts s after → IsStop (AreEntry parts) (unplaced before) (unplaced after)
-no_entry parts before [] s few e h = (begins_by_run parts (unplaced before) s few e, open_)
-  where
-    open_ : AreEntry parts (unplaced before) → ⊥
-    open_ is =
-        let t = entry_run parts (unplaced before) is in
-        none_some _ is.0 (sym h ∙ ap ended (same_some s t.0 (sym e ∙ t.1)) ∙ t.2)
-no_entry parts before (w ∷ ws) s few e h = (begins_by_run parts (unplaced before) s few e, stuck)
-  where
-    stuck : Begins (AreEntry parts) (unplaced before ++ w.lexeme ∷ []) → ⊥
-    stuck b = let t = run_by_begins parts (unplaced before ++ w.lexeme ∷ []) b in none_some _ t.0 (sym (one_next parts before w s e ∙ h) ∙ t.1)
-
-place_found : (parts : EntryParts) (line : List ℕ) (place : FaultPlace) → FitsNames parts line → entry_read parts line ≡ Err place → IsEntryStop parts line place
+told : (parts : EntryParts) (line : List ℕ) → FitsNames parts line → Tells (Spells parts) (placed_lexemes line) (length line) (entry_read parts line)
 unfolding entry_read
-place_found parts line place fits e =
-    let k = stopped parts (length line) place (placed_lexemes line) start e in record {
-      before = k.before;
-      after = k.after;
-      cut = k.cut;
-      told = k.told;
-      stop = no_entry parts k.before k.after k.at (few_before parts line k.before k.after fits k.cut) k.reached k.halts;
-    }
+told parts line fits = tells (step_in parts) start ended (Fits parts) (Spells parts) (reader parts) (length line) (placed_lexemes line) (few_front parts line fits)
 
--- where no entry goes on, the state doesn't
-halts_there : (parts : EntryParts) (line : List ℕ) (before after : List Placed) (s : State) → FitsNames parts line → placed_lexemes line ≡ before ++ after
-    → run (step_in parts) (Some start) (unplaced before) ≡ Some s → IsStop (AreEntry parts) (unplaced before) (unplaced after) → Halts parts s after
-halts_there parts line before [] s fits cut e stop = by (ended s) refl
-  where
-    by : (o : Option EntryForm) → ended s ≡ o → ended s ≡ None
-    by None h = h
-    by (Some form) h =
-        let k = ran parts (unplaced before) start s e in
-        let w = whole parts (unplaced before) s form k.0 k.1 h in
-        absurd (stop.1 (form, w.0, w.1, w.2))
-halts_there parts line before (w ∷ ws) s fits cut e stop = by (step_in parts s w.lexeme) refl
-  where
-    few : parts.named ≡ true → length (unplaced before ++ w.lexeme ∷ []) ≤ 8192
-    few named =
-        let most = fits named in
-        let count = placed_count 0 line in
-        let same = ap length cut ∙ length-append before (w ∷ ws) in
-        omega (arith, unplaced_count before, length-append (unplaced before) (w.lexeme ∷ []))
-
-    by : (o : Option State) → step_in parts s w.lexeme ≡ o → step_in parts s w.lexeme ≡ None
-    by None h = h
-    by (Some t) h = absurd (stop.1 (begins_by_run parts (unplaced before ++ w.lexeme ∷ []) t few (one_next parts before w s e ∙ h)))
-
-found_place : (parts : EntryParts) (line : List ℕ) (place : FaultPlace) → FitsNames parts line → IsEntryStop parts line place → entry_read parts line ≡ Err place
-unfolding entry_read
-found_place parts line place fits is =
-    let s = run_by_begins parts (unplaced is.before) (begins_of (unplaced is.after) is.stop) in
-    ap (from parts (length line) start) is.cut ∙ read_after parts (length line) is.before is.after start s.0 s.1
-    ∙ halted parts (length line) s.0 is.after (halts_there parts line is.before is.after s.0 fits is.cut s.1 is.stop) ∙ ap (λ p. Err p) (sym is.told)
-  where
-    begins_of : (after : List (List ℕ)) → IsStop (AreEntry parts) (unplaced is.before) after → Begins (AreEntry parts) (unplaced is.before)
-    begins_of [] stop = stop.0
-    begins_of (w ∷ ws) stop = stop.0
+place_found : (parts : EntryParts) (line : List ℕ) (place : FaultPlace) (read : Result EntryForm FaultPlace) → Tells (Spells parts) (placed_lexemes line) (length line) read → read ≡ Err place
+    → IsEntryStop parts line place
+place_found parts line place read is e =
+    let stop : Tells (Spells parts) (placed_lexemes line) (length line) (Err place) = subst (Tells (Spells parts) (placed_lexemes line) (length line)) e is in
+    renamed (Spelled (Spells parts)) (AreEntry parts) (placed_lexemes line) (length line) place (λ more all. (all.0, all.1.0, all.1.1, all.1.2)) (λ more all. (all.0, (all.1, all.2, all.3))) stop
 
 pub the_stop : (parts : EntryParts) (line : List ℕ) (place : FaultPlace) → FitsNames parts line → (entry_read parts line ≡ Err place) ↔ IsEntryStop parts line place
-the_stop parts line place fits = (place_found parts line place fits, found_place parts line place fits)
+the_stop parts line place fits = (
+  place_found parts line place (entry_read parts line) (told parts line fits),
+  λ is. stop_is (Spells parts) (placed_lexemes line) (length line) (entry_read parts line) place (told parts line fits)
+      (renamed (AreEntry parts) (Spelled (Spells parts)) (placed_lexemes line) (length line) place (λ more all. (all.0, (all.1, all.2, all.3))) (λ more all. (all.0, all.1.0, all.1.1, all.1.2)) is),
+)
 
 -- ---- without a place
 
 -- what stops is no entry and no range of these parts, however long it is
 pub no_form : (parts : EntryParts) (line : List ℕ) (place : FaultPlace) → entry_read parts line ≡ Err place → (form : EntryForm) → IsEntryOf parts line form → ⊥
-no_form parts line place e form is = ok_err _ form place (sym (found_form parts line form is) ∙ e)
+no_form parts line place e form is = ok_err form place (sym (found_form parts line form is) ∙ e)

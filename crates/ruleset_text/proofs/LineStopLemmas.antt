@@ -4,7 +4,7 @@ use Rattle.ruleset_text.specs.declared.fault.FaultPlace.{FaultPlace}
 use Rattle.ruleset_text.specs.LineStops.{place_of, IsLineStop, or_end, at_lexeme, read_from}
 use Rattle.ruleset_text.specs.PlacedLexemes.{Placed, unplaced}
 use Rattle.ruleset_text.specs.Stops.{run, Begins, IsStop}
-use Rattle.ruleset_text.proofs.StopLemmas.{Spelled, Reads, run_one, stops, ends, stopped}
+use Rattle.ruleset_text.proofs.StopLemmas.{Spelled, Reads, run_none, run_one, stops, ends, stopped}
 
 pub unplaced_append : (xs ys : List Placed) → unplaced (xs ++ ys) ≡ unplaced xs ++ unplaced ys
 unplaced_append [] ys = refl
@@ -42,17 +42,34 @@ leads {S} {A} step ended end (w ∷ ws) s a e = by (step s w.lexeme) refl e (λ 
         let l = later t f in
         record { last = l.last; run_to = ap (λ o. run step o (unplaced ws)) at ∙ l.run_to; ends_in = l.ends_in }
 
+no_state : {S A : Type 0} (t : S) → (let o : Option S = None in o) ≡ Some t → A
+no_state t e = absurd (cc)
+
+pub reads_to : {S A : Type 0} (step : S → List ℕ → Option S) (ended : S → Option A) (end : ℕ) (ws : List Placed) (s t : S) (a : A)
+    → run step (Some s) (unplaced ws) ≡ Some t → ended t ≡ Some a → read_from step ended end s ws ≡ Ok a
+reads_to step ended end [] s t a e f = let same : s ≡ t = cc in ap (or_end end) (ap ended same ∙ f)
+reads_to {S} {A} step ended end (w ∷ ws) s t a e f = by (step s w.lexeme) refl e (λ u g. reads_to step ended end ws u t a g f)
+  where
+    by : (o : Option S) → step s w.lexeme ≡ o → run step o (unplaced ws) ≡ Some t
+        → ((u : S) → run step (Some u) (unplaced ws) ≡ Some t → read_from step ended end u ws ≡ Ok a)
+        → at_lexeme w (λ u. read_from step ended end u ws) (step s w.lexeme) ≡ Ok a
+    by None at g later = no_state t (sym (run_none step (unplaced ws)) ∙ g)
+    by (Some u) at g later = ap (at_lexeme w (λ v. read_from step ended end v ws)) at ∙ later u g
+
 -- ---- where it stops
 
-stops_in : {S A : Type 0} (step : S → List ℕ → Option S) (start : S) (ended : S → Option A) (Spells : List (List ℕ) → A → Type 0) → Reads step start ended Spells → (end : ℕ)
-    (before ws : List Placed) (s : S) (place : FaultPlace) → run step (Some start) (unplaced before) ≡ Some s → read_from step ended end s ws ≡ Err place
+stops_in : {S A : Type 0} (step : S → List ℕ → Option S) (start : S) (ended : S → Option A) (Fits : List (List ℕ) → Type 0) (Spells : List (List ℕ) → A → Type 0)
+    → Reads step start ended Fits Spells → (end : ℕ) (before ws : List Placed) (s : S) (place : FaultPlace)
+    → ((front rest : List Placed) → before ++ ws ≡ front ++ rest → Fits (unplaced front)) → run step (Some start) (unplaced before) ≡ Some s → read_from step ended end s ws ≡ Err place
     → IsLineStop (Spelled Spells) (before ++ ws) end place
-stops_in {S} {A} step start ended Spells r end before [] s place reached e = by (ended s) refl e
+stops_in {S} {A} step start ended Fits Spells r end before [] s place fits reached e = by (ended s) refl e
   where
     by : (o : Option A) → ended s ≡ o → or_end end o ≡ Err place → IsLineStop (Spelled Spells) (before ++ []) end place
-    by None at f = record { before = before; after = []; cut = refl; told = sym (same_place (place_of end []) place f); stop = ends step start ended Spells r (unplaced before) s reached at }
+    by None at f = record { before = before; after = []; cut = refl; told = sym (same_place (place_of end []) place f); stop = ends step start ended Fits Spells r (unplaced before) s (fits before [] refl) reached at }
     by (Some a) at f = ok_err a place f
-stops_in {S} {A} step start ended Spells r end before (w ∷ ws) s place reached e = by (step s w.lexeme) refl e (λ t next f. stops_in step start ended Spells r end (before ++ w ∷ []) ws t place next f)
+stops_in {S} {A} step start ended Fits Spells r end before (w ∷ ws) s place fits reached e =
+    by (step s w.lexeme) refl e
+    (λ t next f. stops_in step start ended Fits Spells r end (before ++ w ∷ []) ws t place (λ front rest cut. fits front rest (sym (append_assoc before (w ∷ []) ws) ∙ cut)) next f)
   where
     by : (o : Option S) → step s w.lexeme ≡ o → at_lexeme w (λ t. read_from step ended end t ws) o ≡ Err place
         → ((t : S) → run step (Some start) (unplaced (before ++ w ∷ [])) ≡ Some t → read_from step ended end t ws ≡ Err place → IsLineStop (Spelled Spells) ((before ++ w ∷ []) ++ ws) end place)
@@ -62,7 +79,7 @@ stops_in {S} {A} step start ended Spells r end before (w ∷ ws) s place reached
       after = w ∷ ws;
       cut = refl;
       told = sym (same_place (place_of end (w ∷ ws)) place f);
-      stop = stops step start ended Spells r (unplaced before) w.lexeme (unplaced ws) s reached at;
+      stop = stops step start ended Fits Spells r (unplaced before) w.lexeme (unplaced ws) s (fits before (w ∷ ws) refl) reached at;
     }
     by (Some t) at f later =
         let next = ap (run step (Some start)) (unplaced_append before (w ∷ [])) ∙ run_one step (unplaced before) w.lexeme start s reached ∙ at in
@@ -73,13 +90,14 @@ abbrev pub Tells : {A : Type 0} → (List (List ℕ) → A → Type 0) → List 
 Tells Spells ws end (Ok a) = Spells (unplaced ws) a
 Tells Spells ws end (Err place) = IsLineStop (Spelled Spells) ws end place
 
-pub tells : {S A : Type 0} (step : S → List ℕ → Option S) (start : S) (ended : S → Option A) (Spells : List (List ℕ) → A → Type 0) → Reads step start ended Spells → (end : ℕ)
-    (ws : List Placed) → Tells Spells ws end (read_from step ended end start ws)
-tells {S} {A} step start ended Spells r end ws = by (read_from step ended end start ws) refl
+pub tells : {S A : Type 0} (step : S → List ℕ → Option S) (start : S) (ended : S → Option A) (Fits : List (List ℕ) → Type 0) (Spells : List (List ℕ) → A → Type 0)
+    → Reads step start ended Fits Spells → (end : ℕ) (ws : List Placed) → ((front rest : List Placed) → ws ≡ front ++ rest → Fits (unplaced front))
+    → Tells Spells ws end (read_from step ended end start ws)
+tells {S} {A} step start ended Fits Spells r end ws fits = by (read_from step ended end start ws) refl
   where
     by : (read : Result A FaultPlace) → read_from step ended end start ws ≡ read → Tells Spells ws end read
     by (Ok a) e = let l = leads step ended end ws start a e in r.only (unplaced ws) l.last a l.run_to l.ends_in
-    by (Err place) e = stops_in step start ended Spells r end [] ws start place refl e
+    by (Err place) e = stops_in step start ended Fits Spells r end [] ws start place fits refl e
 
 -- ---- there is one such place
 

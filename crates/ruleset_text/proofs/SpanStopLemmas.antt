@@ -136,9 +136,9 @@ can_begin ws s e =
     let all = run_append spans_step ws c.more (Some start) ∙ ap (λ o. run spans_step o c.more) e ∙ c.run_to in
     (c.more, c.spans, set_spelled (ws ++ c.more) c.spans (read_at (ws ++ c.more) ∙ ap spans_at all ∙ c.ends_in))
 
-pub spans_reader : Reads spans_step (state [] (held.Above 0)) spans_ended SpellSet
+pub spans_reader : Reads spans_step (state [] (held.Above 0)) spans_ended (λ ws. Unit {0}) SpellSet
 spans_reader = record {
   all = λ ws spans is. at_state (run spans_step (Some start) ws) spans (sym (read_at ws) ∙ set_read ws spans is);
   only = λ ws s spans e f. set_spelled ws spans (read_at ws ∙ ap spans_at e ∙ f);
-  begun = λ ws s e. let b = can_begin ws s e in (b.0, (b.1, b.2));
+  begun = λ ws s fits e. let b = can_begin ws s e in (b.0, (b.1, b.2));
 }

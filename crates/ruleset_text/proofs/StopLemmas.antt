@@ -18,11 +18,11 @@ run_one step ws w start s e = run_append step ws (w ∷ []) (Some start) ∙ ap 
 abbrev pub Spelled : {L A : Type 0} → (List L → A → Type 0) → List L → Type 0
 Spelled {L} {A} Spells ws = (a : A) × Spells ws a
 
--- what a reader does: it ends in what is spelled, and only in states that go on to something
-pub record Reads {S L A : Type 0} (step : S → L → Option S) (start : S) (end : S → Option A) (Spells : List L → A → Type 0) : Type 0 where
+-- what a reader does: it ends in what is spelled, and only in states that go on to something, after what fits
+pub record Reads {S L A : Type 0} (step : S → L → Option S) (start : S) (end : S → Option A) (Fits : List L → Type 0) (Spells : List L → A → Type 0) : Type 0 where
   pub all : (ws : List L) (a : A) → Spells ws a → (s : S) × (run step (Some start) ws ≡ Some s) × (end s ≡ Some a)
   pub only : (ws : List L) (s : S) (a : A) → run step (Some start) ws ≡ Some s → end s ≡ Some a → Spells ws a
-  pub begun : (ws : List L) (s : S) → run step (Some start) ws ≡ Some s → Begins (Spelled Spells) ws
+  pub begun : (ws : List L) (s : S) → Fits ws → run step (Some start) ws ≡ Some s → Begins (Spelled Spells) ws
 
 two_states : {S : Type 0} (o : Option S) (s t : S) → o ≡ Some s → o ≡ Some t → s ≡ t
 two_states o s t e f = cc
@@ -30,9 +30,9 @@ two_states o s t e f = cc
 no_state : {S : Type 0} (s : S) → None ≡ Some s → ⊥
 no_state s e = cc
 
-pub stops : {S L A : Type 0} (step : S → L → Option S) (start : S) (end : S → Option A) (Spells : List L → A → Type 0) (r : Reads step start end Spells)
-    (before : List L) (w : L) (after : List L) (s : S) → run step (Some start) before ≡ Some s → step s w ≡ None → IsStop (Spelled Spells) before (w ∷ after)
-stops step start end Spells r before w after s e none = (r.begun before s e, stuck)
+pub stops : {S L A : Type 0} (step : S → L → Option S) (start : S) (end : S → Option A) (Fits : List L → Type 0) (Spells : List L → A → Type 0)
+    (r : Reads step start end Fits Spells) (before : List L) (w : L) (after : List L) (s : S) → Fits before → run step (Some start) before ≡ Some s → step s w ≡ None → IsStop (Spelled Spells) before (w ∷ after)
+stops step start end Fits Spells r before w after s fits e none = (r.begun before s fits e, stuck)
   where
     stuck : Begins (Spelled Spells) (before ++ w ∷ []) → ⊥
     stuck b =
@@ -40,9 +40,9 @@ stops step start end Spells r before w after s e none = (r.begun before s e, stu
         let lost = run_append step (before ++ w ∷ []) b.0 (Some start) ∙ ap (λ o. run step o b.0) (run_one step before w start s e ∙ none) ∙ run_none step b.0 in
         no_state read.0 (sym lost ∙ read.1)
 
-pub ends : {S L A : Type 0} (step : S → L → Option S) (start : S) (end : S → Option A) (Spells : List L → A → Type 0) (r : Reads step start end Spells)
-    (before : List L) (s : S) → run step (Some start) before ≡ Some s → end s ≡ None → IsStop (Spelled Spells) before []
-ends step start end Spells r before s e none = (r.begun before s e, open_)
+pub ends : {S L A : Type 0} (step : S → L → Option S) (start : S) (end : S → Option A) (Fits : List L → Type 0) (Spells : List L → A → Type 0)
+    (r : Reads step start end Fits Spells) (before : List L) (s : S) → Fits before → run step (Some start) before ≡ Some s → end s ≡ None → IsStop (Spelled Spells) before []
+ends step start end Fits Spells r before s fits e none = (r.begun before s fits e, open_)
   where
     open_ : Spelled Spells before → ⊥
     open_ is =

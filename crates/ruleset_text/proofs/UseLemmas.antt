@@ -329,11 +329,11 @@ all_read r ts p spells is =
     let g = goes r ts start (pieces_of p []) (ap (signed r 0 false) spells.1 ∙ use_signs r p spells.0 ∙ is) read.0 in
     (g.0, g.1, ap (λ b. cond b (ended g.0.pieces) None) g.3 ∙ ap ended g.2 ∙ read.1)
 
-pub pattern_reader : (r : Bool) (names : List (List ℕ)) → Reads (pattern_step r names) start (ended_in r) (SpellUsed r names)
+pub pattern_reader : (r : Bool) (names : List (List ℕ)) → Reads (pattern_step r names) start (ended_in r) (λ ws. Unit {0}) (SpellUsed r names)
 pattern_reader r names = record {
   all = λ ws p is. let read = all_read r (tokens_in names ws) p is.0 is.1 in (read.0, words_run r names ws (Some start) ∙ read.1, read.2);
   only = λ ws s p e f. read_used r (tokens_in names ws) s p (sym (words_run r names ws (Some start)) ∙ e) f;
-  begun = λ ws s e.
+  begun = λ ws s fits e.
       let b = can_begin r (tokens_in names ws) s (sym (words_run r names ws (Some start)) ∙ e) in
       let is = subst (ArePattern r) (ap (λ l. tokens_in names ws ++ l) (sym (b.2.1 names)) ∙ sym (tokens_append names ws b.2.0)) b.1 in
       (b.2.0, (is.0, (is.1, is.2)));
