@@ -7,7 +7,6 @@ pub mod PatternSigns
 pub mod PatternUses
 pub mod LineStops
 pub mod DefinitionReading
-pub mod Found
 pub mod Limits
 pub mod Signs
 pub mod Rules

@@ -2,7 +2,6 @@
 ghost use Rattle.std.specs.Prelude.{◌≡◌};
 ghost use Rattle.ruleset_text.specs.declared.fault.DefinitionFault.TheVariants.{Memory};
 ghost use Rattle.ruleset_text.specs.declared.fault.ReadError.TheVariants.{Memory as NoMemory, Stop};
-ghost use Rattle.ruleset_text.specs.Found as faults;
 ghost use Rattle.ruleset_text.specs.LineStops.{fault_of};
 
 use std::alloc::{AllocError, AllocFailed};
@@ -106,48 +105,4 @@ pub enum FaultPlace {
     NinthPoint(usize, u32),
     /// The seventeenth variant, and its first code point.
     SeventeenthVariant(usize, u32),
-}
-
-/// A fault that a word of a line has, where the line has its form.
-#[derive(Clone, Copy, Debug, PartialEq, Eq)]
-pub enum WordFault {
-    Limit,
-    NoSuchName,
-    BadClass,
-    SameVariant,
-    SameSource,
-    SameName,
-}
-
-/// The fault of a line that is told, and its place: the first word that has it.
-#[derive(Clone, Copy, Debug, PartialEq, Eq)]
-pub struct Found {
-    pub fault: WordFault,
-    pub place: FaultPlace,
-}
-
-impl WordFault {
-    /// The number of the fault in the order in which faults are told.
-    fn rank(self) -> u8
-        ensures { result ≡ faults.rank self }
-    {
-        match self {
-            WordFault::Limit => 1,
-            WordFault::NoSuchName => 2,
-            WordFault::BadClass => 3,
-            WordFault::SameVariant => 4,
-            WordFault::SameSource => 5,
-            WordFault::SameName => 6,
-        }
-    }
-
-    /// Whether a further word with this fault is told in place of what was found.
-    pub fn is_told_after(self, found: Option<Found>) -> bool
-        ensures { result ≡ faults.is_told_after self found }
-    {
-        match found {
-            Some(found) => self.rank() < found.fault.rank(),
-            None => true,
-        }
-    }
 }

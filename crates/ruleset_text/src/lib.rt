@@ -37,7 +37,7 @@ pub use entry_form::{EntryForm, Mapped, NamedCondition};
 pub use entry_laws::{canonical_entries_are_read_back, reading_an_entry_is_exact};
 pub use entry_parts::EntryParts;
 pub use entry_reading::{EntryWord, read_entry, word_of};
-pub use fault::{DefinitionFault, FaultPlace, Found, ReadError, WordFault};
+pub use fault::{DefinitionFault, FaultPlace, ReadError};
 pub use keyword::{Keyword, keyword_of};
 pub use laws::{
     a_line_stops_where_no_definition_goes_on, canonical_lines_are_read_back,
