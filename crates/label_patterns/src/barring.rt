@@ -18,15 +18,7 @@ fn ends_in_anchor(context: &PatternTree) -> bool
     match context {
         PatternTree::Anchor => true,
         PatternTree::Then(item, rest) => !is_anchor(item) && ends_in_anchor(rest),
-        PatternTree::Point(_) => false,
-        PatternTree::Set(_) => false,
-        PatternTree::Any => false,
-        PatternTree::Start => false,
-        PatternTree::End => false,
-        PatternTree::Group(_) => false,
-        PatternTree::Optional(_) => false,
-        PatternTree::Many(_) => false,
-        PatternTree::Either(_, _) => false,
+        _ => false,
     }
 }
 
@@ -49,16 +41,7 @@ pub fn one_ends_before(rule: &PatternTree, seen: &SeenLabel, start: usize) -> bo
         PatternTree::Either(context, others) => {
             is_before(context, seen, start) || one_ends_before(others, seen, start)
         }
-        PatternTree::Then(_, _) => is_before(rule, seen, start),
-        PatternTree::Anchor => true,
-        PatternTree::Point(_) => false,
-        PatternTree::Set(_) => false,
-        PatternTree::Any => false,
-        PatternTree::Start => false,
-        PatternTree::End => false,
-        PatternTree::Group(_) => false,
-        PatternTree::Optional(_) => false,
-        PatternTree::Many(_) => false,
+        _ => is_before(rule, seen, start),
     }
 }
 
@@ -73,16 +56,7 @@ pub fn one_is_done(rule: &PatternTree, seen: &SeenLabel, start: usize) -> bool
         PatternTree::Either(context, others) => {
             is_done(context, seen, start) || one_is_done(others, seen, start)
         }
-        PatternTree::Then(_, _) => is_done(rule, seen, start),
-        PatternTree::Anchor => true,
-        PatternTree::Point(_) => false,
-        PatternTree::Set(_) => false,
-        PatternTree::Any => false,
-        PatternTree::Start => false,
-        PatternTree::End => false,
-        PatternTree::Group(_) => false,
-        PatternTree::Optional(_) => false,
-        PatternTree::Many(_) => false,
+        _ => is_done(rule, seen, start),
     }
 }
 
@@ -106,10 +80,6 @@ pub fn ignores_end(tree: &PatternTree) -> bool
         PatternTree::Many(part) => ignores_end(part),
         PatternTree::Then(first, rest) => ignores_end(first) && ignores_end(rest),
         PatternTree::Either(left, right) => ignores_end(left) && ignores_end(right),
-        PatternTree::Point(_) => true,
-        PatternTree::Set(_) => true,
-        PatternTree::Any => true,
-        PatternTree::Start => true,
-        PatternTree::Anchor => true,
+        _ => true,
     }
 }
