@@ -21,10 +21,9 @@ use idn_label::{code_point_at, has_ace_prefix};
 use idn_text::{MAX_LINE_LEN, Refusal, decode_points, write_points};
 use idn2_output::append;
 use label_patterns::ConditionKind;
-use ruleset_text::DemandKind;
+use ruleset_text::{DemandKind, FaultPlace};
 use std::alloc::{AllocError, Global};
 use std::str;
-use ruleset_text::FaultPlace;
 use valid_labels::{ValidityCause, furthest, invalid_cause};
 use variant_table::Table;
 

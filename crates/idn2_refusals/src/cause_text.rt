@@ -14,8 +14,7 @@ use idn_text::Refusal;
 use idn2_output::append;
 use itoa::{Buffer, Integer};
 use label_patterns::ConditionKind;
-use ruleset_text::DemandKind;
-use ruleset_text::FaultPlace;
+use ruleset_text::{DemandKind, FaultPlace};
 
 /// A message with a cause: at most 160 bytes.
 pub(crate) type ExplainedMessage = ArrayVec<u8, 160>;

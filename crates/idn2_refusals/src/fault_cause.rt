@@ -9,8 +9,8 @@ ghost use Rattle.idn2_refusals.specs.CauseRoom.{cause_room};
 use crate::cause::{LineCause, Quoted};
 use idn_class::Properties;
 use idn2_output::append;
-use std::alloc::{AllocError, Global};
 use ruleset_text::FaultPlace;
+use std::alloc::{AllocError, Global};
 use table_cause::{fault_place, faulty_line};
 use variant_table::{Notation, TableFault};
 

@@ -1,7 +1,7 @@
 //! Where a line of a table has its first fault: a byte of the line, counted from 0. A row for each kind of place.
 use idn_class::Properties;
-use std::test::Fail;
 use ruleset_text::FaultPlace;
+use std::test::Fail;
 use table_cause::fault_place;
 use variant_table::{Notation, Table};
 

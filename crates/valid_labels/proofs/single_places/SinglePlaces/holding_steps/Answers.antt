@@ -35,7 +35,7 @@ loop-number-preserved c =
           let rule = rule-read c.args.rules.now number w.index-rules-number.result c.loop-number-test.true w.index-rules-number.is in
           let holds : (i : ℕ) → i < length seen.label → Has w.holding_points-holding.result i ↔ Holds seen (rule_at rules number) i (i + 1) =
           subst (λ p. (i : ℕ) → i < length seen.label → Has w.holding_points-holding.result i ↔ Holds seen p i (i + 1)) (sym rule)
-            (λ i l. let e = w.holding_points-holding.ensures i in (λ h. (e.0 h).1, λ h. e.1 (l, h))) in
+          (λ i l. let e = w.holding_points-holding.ensures i in (λ h. (e.0 h).1, λ h. e.1 (l, h))) in
           subst (λ k. P k c.if-asked-ne0.leading) (sym w.known-is) (subst (P w.either-known.result) (sym w.leading-is)
           (more-holding rules seen places number c.loop-number.known c.loop-number.leading c.index-when.result.now c.index-unless.result.now c.either-asked.result w.holding_points-holding.result w.both.result w.without.result w.either.result
           w.either-known.result w.either-leading.result when unless c.requires.within holds c.either-asked.ensures.places w.either-known.ensures.places w.both.ensures w.without.ensures w.either.ensures.places w.either-leading.ensures.places
