@@ -25,16 +25,16 @@ all:
 	cd crates/idn2 && $(RT) run < stdin > /dev/null
 	@mv $(PROVED).begun $(PROVED)
 
-# The main job, the variants of a label under a table: by the program, if nothing has changed since its proof began, else by a
-# build without any proof, which isn't kept.
+# The main job, the variants of a label under a table, in about a minute: by the program, if nothing has changed since its
+# proof began, else by a build without any proof, which isn't kept.
 run:
 	@echo 'idn2 --variants tables/german.txt strasse'
 	@if test -x $(PROGRAM) && changed=$$(find $(SOURCES) -cnewer $(PROVED) 2> /dev/null) && test -z "$$changed"; then \
 	    $(PROGRAM) --variants tables/german.txt strasse && echo proved; \
 	else \
-	    echo 'builds without a proof' >&2; \
+	    echo 'builds without a proof, for about a minute' >&2; \
 	    (cd crates/idn2 && $(RT) try -- --variants '$(CURDIR)/tables/german.txt' strasse) && \
-	        echo 'not proved yet: make proves it'; \
+	        echo 'not proved yet: make proves it, in about half an hour'; \
 	fi
 
 # The gate: proves everything from nothing, tries the mutants, runs the programs and the tests.

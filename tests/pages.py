@@ -590,7 +590,7 @@ def ends_as_the_readme_shows(folder):
     assert done.stdout == re.sub("(?m)^    ", "", shown), (shown, done)
 
 
-NOT_PROVED = "not proved yet: make proves it"
+NOT_PROVED = "not proved yet: make proves it, in about half an hour"
 
 
 def runs_the_main_job_without_a_proof_until_make_has_made_it(folder):
