@@ -1,0 +1,52 @@
+-- What the cells of a board say of the readings of a label: a column for each length of what is spelled, a cell in it for each place of the label.
+use Rattle.std.specs.Prelude.{◌≡◌, ℕ, ◌+◌, ◌*◌, ◌<◌, ◌≤◌, ◌↔◌, List, [], ◌∷◌, ◌++◌, length, take, slice_index, Contains}
+use Rattle.std.specs.Int.{bit_at}
+use Rattle.reading_kinds.specs.Readings.{Use, uses_at, HasKind}
+
+-- the words of each cell, column by column, 64 in each; of each column, which cells are reached
+pub record Cells : Type 0 where
+  pub has : List ℕ
+  pub lacks : List ℕ
+  pub reached : List ℕ
+
+-- what a cell tells: that it is reached, or that this kind is there, or is missing
+pub data Mark : Type 0 where
+  Reached : Mark
+  Has : ℕ → Mark
+  Lacks : ℕ → Mark
+
+abbrev pub InWords : ℕ → ℕ → Mark → Type 0
+InWords has lacks Reached = Unit {0}
+InWords has lacks (Has k) = (k < 64) × (bit_at has k ≡ 1)
+InWords has lacks (Lacks k) = (k < 64) × (bit_at lacks k ≡ 1)
+
+-- the cell of a place in a column tells it; the words count only where the cell is reached
+pub record Tells (cells : Cells) (column place : ℕ) (m : Mark) : Type 0 where
+  pub column_in_range : column < 64
+  pub place_in_range : place < 64
+  pub reached : bit_at (slice_index cells.reached column) place ≡ 1
+  pub words : InWords (slice_index cells.has (column * 64 + place)) (slice_index cells.lacks (column * 64 + place)) m
+
+-- ---- beginnings of readings
+
+-- these uses, the last one first, cut the label up to the place, and put p in the place of what they cover
+abbrev pub LeadsTo : List (List Use) → ℕ → List ℕ → List Use → Type 0
+LeadsTo uses place p [] = (place ≡ 0) × (p ≡ [])
+LeadsTo uses place p (u ∷ before) =
+    (a : ℕ) × (q : List ℕ) × Contains (uses_at uses a) u × (place ≡ a + u.covers) × (p ≡ q ++ u.points) × LeadsTo uses a q before
+
+abbrev pub Shows : List Use → Mark → Type 0
+Shows cut Reached = Unit {0}
+Shows cut (Has k) = (k < 64) × HasKind cut k
+Shows cut (Lacks k) = (k < 64) × ¬ HasKind cut k
+
+abbrev pub SomeLeads : List (List Use) → ℕ → List ℕ → Mark → Type 0
+SomeLeads uses place p m = (cut : List Use) × LeadsTo uses place p cut × Shows cut m
+
+-- a column tells exactly what beginnings show
+abbrev pub IsRightAt : List (List Use) → List ℕ → Cells → ℕ → Type 0
+IsRightAt uses w cells column = (p : ℕ) (m : Mark) → Tells cells column p m ↔ SomeLeads uses p (take column w) m
+
+-- so do the columns up to this one
+abbrev pub IsRight : List (List Use) → List ℕ → Cells → ℕ → Type 0
+IsRight uses w cells column = (c : ℕ) → c ≤ column → IsRightAt uses w cells c

@@ -1,0 +1,7 @@
+//! A law of the definitions that the contracts of this crate use. The function is empty, and its contract is the law.
+ghost use Rattle.reading_kinds.specs.Laws.{LackingSpell};
+
+/// Some reading lacks a kind exactly if the uses that lack it spell the label.
+pub fn lacking_uses_spell()
+    ensures { LackingSpell }
+{}
