@@ -8,8 +8,8 @@ use Rattle.std.proofs.lemmas.Slice.Eq.{bytes_eq-Decides}
 use Rattle.variant_table.specs.Entries.{TableValue}
 use Rattle.variant_table.specs.WellFormed.{IsWellFormed}
 use Rattle.variant_table.specs.Segmentations.{HasSegmentation}
-use Rattle.variant_list.specs.declared.part.Part.{Part}
-use Rattle.variant_list.specs.declared.part.Part.TheVariants.{Whole, Unblocked, Tagged}
+use Rattle.variant_list.specs.Parts.{Part}
+use Rattle.variant_list.specs.Parts.Part.{Whole, Unblocked, Tagged}
 use Rattle.variant_list.specs.Spelled.{part_spelled}
 use Rattle.variant_list.specs.Spelling.{PartSpells}
 use Rattle.variant_list.proofs.SpelledByLemmas.{part_spelled-PartSpells}

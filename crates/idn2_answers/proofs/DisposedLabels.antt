@@ -10,7 +10,7 @@ use Rattle.variant_table.proofs.UnblockedLemmas.{unblocked_none}
 use Rattle.variant_list.proofs.NetLemmas.{Spells-itself}
 use Rattle.idn2_answers.proofs.AllocatableLabels.{allocatable-test, true-or}
 use Rattle.variant_table.specs.Segmentations.{HasSegmentation}
-use Rattle.variant_list.specs.declared.part.Part.TheVariants.{Unblocked}
+use Rattle.variant_list.specs.Parts.Part.{Unblocked}
 use Rattle.variant_list.specs.Laws.{without_blocked}
 use Rattle.variant_list.specs.Spelling.{PartSpells, Spells}
 use Rattle.variant_list.proofs.PartLemmas.{PartSpells-Unblocked, Spells-of_part}

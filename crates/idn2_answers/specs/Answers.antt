@@ -21,8 +21,8 @@ use Rattle.variant_table.specs.Entries.{TableValue}
 use Rattle.valid_labels.specs.Validity.{HasNoLostBeginning, IsAdmitted, IsValid}
 use Rattle.valid_labels.specs.Tests.{asks_nothing, is_admitted, is_lost, is_made_of_sources, is_valid}
 use Rattle.variant_list.specs.Beginnings.{has_hope}
-use Rattle.variant_list.specs.declared.part.Part.{Part}
-use Rattle.variant_list.specs.declared.part.Part.TheVariants.{Whole, Unblocked, Tagged}
+use Rattle.variant_list.specs.Parts.{Part}
+use Rattle.variant_list.specs.Parts.Part.{Whole, Unblocked, Tagged}
 use Rattle.variant_list.specs.Spelled.{part_spelled, spelled}
 use Rattle.idn2_options.specs.Settings.{Settings}
 use Rattle.idn2_options.specs.declared.command_line.mode.Mode.{Mode}

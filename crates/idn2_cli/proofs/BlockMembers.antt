@@ -11,7 +11,7 @@ use Rattle.valid_labels.specs.Validity.{IsSound, IsValid}
 use Rattle.valid_labels.proofs.NothingLemmas.{nothing-is-asked}
 use Rattle.valid_labels.proofs.TestLemmas.{tests-agree}
 use Rattle.variant_list.specs.Laws.{IsTested}
-use Rattle.variant_list.specs.declared.part.Part.TheVariants.{Whole}
+use Rattle.variant_list.specs.Parts.Part.{Whole}
 use Rattle.variant_list.specs.Labels.{IsListOf}
 use Rattle.variant_list.specs.Spelled.{spelled}
 use Rattle.variant_list.specs.Spelling.{Spells}

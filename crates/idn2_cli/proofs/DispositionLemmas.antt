@@ -7,10 +7,9 @@ use Rattle.variant_table.specs.Entries.{TableValue}
 use Rattle.variant_table.specs.WellFormed.{IsWellFormed}
 use Rattle.variant_list.specs.Labels.{label_cmp}
 use Rattle.variant_list.specs.Positions.{Built}
-use Rattle.idn2_cli.specs.inner.Allocations.{Allowed, allows}
 use Rattle.idn2_answers.proofs.AllocatableLabels.{allocatable-test}
 use Rattle.variant_list.specs.Spelled.{spelled}
-use Rattle.variant_list.specs.declared.part.Part.TheVariants.{Unblocked}
+use Rattle.variant_list.specs.Parts.Part.{Unblocked}
 use Rattle.variant_list.proofs.ListedLemmas.{variants-IsListed}
 use Rattle.variant_list.proofs.SpelledByLemmas.{spelled-Spells}
 use Rattle.idn2_options.specs.Settings.{Settings}
@@ -24,28 +23,20 @@ use Rattle.idn2_answers.specs.Answers.{Filter, block, block_to, filter_of, is_am
 use Rattle.answer_json.specs.declared.block.Disposition.{Disposition}
 use Rattle.idn2_answers.specs.Said.{Said, Listed, BlockEnd}
 use Rattle.idn2_answers.proofs.DisposedLabels.{all_unblocked, disposition-full_replacements}
-use Rattle.idn2_cli.specs.inner.Dispositions.{AreOfLabel, block_by, field_by}
+use Rattle.idn2_cli.specs.inner.Dispositions.{AreOfLabel, Asked, block_by, field_by}
 use Rattle.idn2_output.specs.Pieces.{outputs}
 use Rattle.idn2_cli.specs.declared.modes.dispositions.Dispositions.{Dispositions}
-use Rattle.idn2_cli.specs.declared.modes.dispositions.Dispositions.TheVariants.{Unstated, AllAllocatable, BySpelling}
+use Rattle.idn2_cli.specs.declared.modes.dispositions.Dispositions.TheVariants.{Unstated, AllAllocatable, ByTest}
 use Rattle.variant_table.proofs.MemberLists.{all-members}
-
--- two tests of one fact
-same-test : {P : Type 0} (a b : Bool) → (a ≡ true → P) × (P → a ≡ true) → (b ≡ true → P) × (P → b ≡ true) → a ≡ b
-same-test true b h g = sym (g.1 (h.0 refl))
-same-test false true h g = h.1 (g.0 refl)
-same-test false false h g = refl
 
 -- ---- the field that is told is that of the table
 
-field-is : (table : TableValue) (label v : List ℕ) (told : Dispositions Allowed) → IsWellFormed table.entries → AreOfLabel table label told → Contains (spelled table label) v → field_by told v ≡ disposition table label v
+field-is : (table : TableValue) (label v : List ℕ) (told : Dispositions Asked) → IsWellFormed table.entries → AreOfLabel table label told → Contains (spelled table label) v → field_by told v ≡ disposition table label v
 field-is table label v Unstated well is h = ap (λ (n : Version). disposition_in n (is_allocatable table label v)) (sym is)
 field-is table label v AllAllocatable well is h =
     ap (λ (b : Bool). Some (allocation b)) (sym ((allocatable-test table label v well).1 (inr (Unblocked, is.1, all_unblocked table label v is.2 ((spelled-Spells table label v well).0 h)))))
     ∙ sym (disposition-full_replacements table.version (is_allocatable table label v) is.0)
-field-is table label v (BySpelling allowed) well is h =
-    ap (λ (b : Bool). Some (allocation b)) (same-test (allows allowed v) (is_allocatable table label v) (is.1 v) (allocatable-test table label v well))
-    ∙ sym (disposition-full_replacements table.version (is_allocatable table label v) is.0)
+field-is table label v (ByTest asked) well is h = ap (λ (a : Asked). Some (allocation (is_allocatable a.table a.label v))) is.1 ∙ sym (disposition-full_replacements table.version (is_allocatable table label v) is.0)
 
 map-same : (f g : List ℕ → Said) (vs : List (List ℕ)) → AllByRecursion (λ v. f v ≡ g v) vs → map f vs ≡ map g vs
 map-same f g [] same = refl
@@ -69,7 +60,7 @@ kept-listed None vs v at = at
 kept-listed (Some registered) vs v at = ((Contains-filter (is_among registered) vs v).0 at).1
 
 -- the block by the fields that are told is the block
-told-block : (o : Settings) (table : TableValue) (label : List ℕ) (told : Dispositions Allowed) → IsWellFormed table.entries → AreOfLabel table label told
+told-block : (o : Settings) (table : TableValue) (label : List ℕ) (told : Dispositions Asked) → IsWellFormed table.entries → AreOfLabel table label told
     → block_by (filter_of o.properties table) (field_by told) o (spelled table label) ≡ block_by (filter_of o.properties table) (disposition table label) o (spelled table label)
 told-block o table label told well is =
     let f : Filter = filter_of o.properties table in
@@ -94,7 +85,7 @@ block-same f field o labels others same =
         block_to field (lesser_label (nth_if_given kept o.limit) (lesser_label (nth (unless_kept o.registered ts) o.tries) (nth_if_given (visited f.hopeless None (unless_kept o.registered cs)) o.steps))) kept
 
 -- what is written of a net is the block
-pub written_block : (text : Said → List ℕ) (o : Settings) (table : TableValue) (label : List ℕ) (net : Built) (told : Dispositions Allowed) → IsWellFormed table.entries → in_order net.spelled ≡ in_order (spelled table label) → AreOfLabel table label told
+pub written_block : (text : Said → List ℕ) (o : Settings) (table : TableValue) (label : List ℕ) (net : Built) (told : Dispositions Asked) → IsWellFormed table.entries → in_order net.spelled ≡ in_order (spelled table label) → AreOfLabel table label told
     → outputs text (block_by (filter_of o.properties table) (field_by told) o net.spelled) ≡ outputs text (block o table label)
 written_block text o table label net told well same is =
     ap (outputs text) (block-same (filter_of o.properties table) (field_by told) o net.spelled (spelled table label) same ∙ told-block o table label told well is)

@@ -8,7 +8,6 @@ use Rattle.idn_class.specs.declared.properties.Properties.{Properties}
 use Rattle.idn_class.specs.Hopeless.{hopeless}
 use Rattle.idn_label.specs.FirstFault.{IsRegistrable}
 use Rattle.variant_table.specs.Entries.{TableValue}
-use Rattle.valid_labels.specs.Validity as validity
 use Rattle.valid_labels.specs.Tests.{asks_nothing, is_lost, is_valid}
 use Rattle.variant_list.specs.Beginnings.{shortest_hopeless}
 use Rattle.idn2_answers.proofs.FilterLemmas.{IsSound, registrable_labels-IsSound, ruled_labels-IsSound}

@@ -2,7 +2,7 @@
 use Rattle.std.proofs.Common.{ℕ, List}
 use Rattle.variant_table.specs.Entries.{TableValue}
 use Rattle.variant_table.specs.Segmentations.{IsMadeOfReplacements}
-use Rattle.variant_list.specs.declared.part.Part.{Part}
+use Rattle.variant_list.specs.Parts.{Part}
 use Rattle.variant_list.specs.Spelling.{PartSpells}
 use Rattle.variant_list.proofs.SpellingLemmas.{joins_made}
 

@@ -6,7 +6,6 @@ use Rattle.idn2_output.specs.Pieces.{Piece}
 use Rattle.idn2_answers.specs.Transcript.{lines_pieces, has_refused, status_if, transcript, status_of, TableGiven}
 use Rattle.registered_labels.specs.declared.labels.RegisteredFileFault.{RegisteredFileFault}
 use Rattle.registered_labels.specs.declared.labels.RegisteredFileFault.TheVariants as registers
-use Rattle.idn_text.specs.declared.refusal.Refusal.TheVariants.{Memory}
 use Rattle.idn2_output.specs.declared.status.Status.{Status}
 use Rattle.idn2_output.specs.declared.stop.Stop.{Stop}
 use Rattle.idn_text.specs.Lines.{Numbered}

@@ -1,6 +1,5 @@
 -- Words of inner functions and of private fields. No public contract cites them.
 pub mod LineAnswers
-pub mod Allocations
 pub mod Dispositions
 pub mod GapSequences
 pub mod KeptLines

@@ -1,7 +1,7 @@
 //! What each mode does with a line, or with the table.
 
 mod admission;
-mod allocations;
+mod allocation_test;
 pub(crate) mod answering;
 pub(crate) mod asked;
 mod block;

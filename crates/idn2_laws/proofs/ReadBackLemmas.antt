@@ -45,7 +45,7 @@ use Rattle.variant_list.specs.Spelled.{spelled}
 use Rattle.variant_list.specs.Tested.{tested_among}
 use Rattle.variant_list.specs.Variants.{candidates_among, fits_label, variants_among}
 use Rattle.variant_list.specs.Visited.{visited}
-use Rattle.variant_list.specs.declared.part.Part.TheVariants.{Whole}
+use Rattle.variant_list.specs.Parts.Part.{Whole}
 use Rattle.variant_list.proofs.FromLemmas.{candidates_from-IsListOf}
 use Rattle.variant_list.proofs.ListedLemmas.{variants-IsListed}
 use Rattle.variant_list.proofs.SpelledByLemmas.{spelled-Spells}

@@ -19,8 +19,8 @@ use Rattle.valid_labels.specs.Furthest.{furthest}
 use Rattle.variant_table.specs.Segmentations.{IsMadeOfSources}
 use Rattle.valid_labels.specs.Validity.{IsAdmitted}
 use Rattle.valid_labels.proofs.NothingLemmas.{older-asks_nothing}
-use Rattle.variant_list.specs.declared.part.Part.{Part}
-use Rattle.variant_list.specs.declared.part.Part.TheVariants.{Whole, Unblocked, Tagged}
+use Rattle.variant_list.specs.Parts.{Part}
+use Rattle.variant_list.specs.Parts.Part.{Whole, Unblocked, Tagged}
 use Rattle.variant_list.specs.RulesetLaws.{as_ruleset}
 use Rattle.variant_list.proofs.RulesetLemmas.{PartSpells-as_ruleset}
 use Rattle.idn2_options.specs.Settings.{Settings, tells_causes}

@@ -10,7 +10,7 @@ use Rattle.variant_table.specs.Entries.{TableValue, has_blocked}
 use Rattle.variant_table.specs.WellFormed.{IsWellFormed}
 use Rattle.valid_labels.specs.Furthest.{IsFurthest}
 use Rattle.variant_table.specs.Segmentations.{HasSegmentation}
-use Rattle.variant_list.specs.declared.part.Part.TheVariants.{Unblocked}
+use Rattle.variant_list.specs.Parts.Part.{Unblocked}
 use Rattle.variant_list.specs.Spelling.{PartSpells, Spells}
 use Rattle.answer_json.specs.declared.block.Disposition.TheVariants.{Allocatable}
 use Rattle.idn_text.specs.Lines.{Numbered}

@@ -15,7 +15,7 @@ mod fault_texts;
 #[cfg(test)]
 mod nets;
 #[cfg(test)]
-mod parts;
+mod readings;
 #[cfg(test)]
 mod spelled;
 #[cfg(test)]

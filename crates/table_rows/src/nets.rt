@@ -3,9 +3,8 @@ ghost use Rattle.std.specs.Prelude.{All, IfOk};
 ghost use Rattle.idn_text.specs.Points.{AreScalarValues};
 
 use std::alloc::{AllocError, Global};
-use std::process::Abort;
 use std::test::Fail;
-use variant_list::{Net, NetFault, SpellingTest};
+use variant_list::{Net, NetFault};
 use variant_table::{Notation, Table};
 
 /// a and aa for each other.
@@ -64,82 +63,6 @@ fn edges_and_shortest_labels(rt: HostRuntime) -> Result<(), Fail> {
         let net = net(rt.alloc(), table, label)?;
         assert_eq!(&rt; net.edges(), edges, "edges of {label}");
         assert_eq!(&rt; net.shortest(), shortest, "shortest of {label}");
-    }
-    Ok(())
-}
-
-/// Two segmentations of aa: one entry for both letters, or one for each.
-const PAIRED: &[u8] = b"0061-0061|0062-0062\n0061|0062\n";
-
-/// A letter, and three letters for two of it.
-const PADDED: &[u8] = b"0061-0061|0062-0063-0062\n0061\n";
-
-/// Labels, others, and whether they spell them.
-const SPELLED: [(&[u8], &str, &str, bool); 24] = [
-    (PAIRED, "aa", "aa", true),
-    (PAIRED, "aa", "ab", true),
-    (PAIRED, "aa", "ba", true),
-    (PAIRED, "aa", "bb", true),
-    (PAIRED, "aa", "", false),
-    (PAIRED, "aa", "b", false),
-    (PAIRED, "aa", "ac", false),
-    (PAIRED, "aa", "aab", false),
-    (PADDED, "aaa", "aaa", true),
-    (PADDED, "aaa", "abcb", true),
-    (PADDED, "aaa", "bcba", true),
-    (PADDED, "aaa", "bcb", false),
-    (PADDED, "aaa", "aa", false),
-    (PADDED, "aaa", "bcab", false),
-    (PADDED, "aaa", "bcbbcb", false),
-    (BLIND, "ab", "c", true),
-    (BLIND, "ab", "ab", true),
-    (BLIND, "ab", "b", false),
-    (SHARP_S, "strasse", "strasse", true),
-    (SHARP_S, "strasse", "straße", true),
-    (SHARP_S, "strasse", "strase", false),
-    (SHARP_S, "straße", "strasse", true),
-    (SHARP_S, "sss", "sß", true),
-    (SHARP_S, "sss", "ßß", false),
-];
-
-/// Whether a label spells another one by the table of a text.
-fn spells(alloc: Global, table: &[u8], label: &str, other: &str) -> Result<bool, Fail> {
-    let net = net(alloc, table, label)?;
-    let other = points(alloc, other)?;
-    Ok(net.spells(alloc, &other)?)
-}
-
-#[test]
-fn labels_that_are_spelled(rt: HostRuntime) -> Result<(), Fail> {
-    for (table, label, other, want) in SPELLED.iter() {
-        let is_spelled = spells(rt.alloc(), table, label, other)?;
-        assert_eq!(&rt; is_spelled, *want, "{label} spells {other}");
-    }
-    Ok(())
-}
-
-/// A test answers each label as if it were the first that it is asked.
-fn assert_each_time(
-    rt: &impl Abort,
-    mut test: SpellingTest,
-    label: &[u32],
-    (other, want): (&[u32], bool),
-) {
-    for time in 1..4 {
-        let is_spelled = test.spells(other);
-        assert_eq!(rt; is_spelled, want, "{label:?} spells {other:?}, time {time}");
-        let itself = test.spells(label);
-        assert!(rt; itself, "{label:?} spells itself, time {time}");
-    }
-}
-
-#[test]
-fn labels_that_are_spelled_one_after_the_other(rt: HostRuntime) -> Result<(), Fail> {
-    for (table, label, other, want) in SPELLED.iter() {
-        let test = SpellingTest::new(rt.alloc(), net(rt.alloc(), table, label)?)?;
-        let label = points(rt.alloc(), label)?;
-        let other = points(rt.alloc(), other)?;
-        assert_each_time(&rt, test, &label, (&other, *want));
     }
     Ok(())
 }

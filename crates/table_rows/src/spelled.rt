@@ -1,12 +1,14 @@
 //! What a net lists is what the plain lister holds: over random tables, labels and texts, always the same ones.
 ghost use Rattle.std.specs.Prelude.{◌≤◌, length};
 
+use crate::readings::spells;
+use reading_kinds::Readings;
 use std::alloc::Global;
 use std::collections::BTreeSet;
 use std::process::Abort;
 use std::test::Fail;
 use variant_list::plain::all_labels;
-use variant_list::{Cursor, Net, NetFault};
+use variant_list::{Cursor, Net, NetFault, uses_of};
 use variant_table::{Notation, Table};
 
 /// How many cases there are.
@@ -133,26 +135,24 @@ fn assert_listed(
     listed
 }
 
-/// A net spells the labels of the plain lister, and the text only where it is one of them.
+/// The readings of a label spell the labels of the plain lister, and the text only where it is one of them.
 fn assert_spelled(
     rt: &impl Abort,
-    alloc: Global,
-    net: &Net,
+    mut readings: Readings,
     labels: &BTreeSet<Vec<u32>>,
     after: &[u32],
-) -> Result<(), Fail> {
+) {
     let mut among = false;
     for label in labels {
-        let is_spelled = net.spells(alloc, label)?;
+        let is_spelled = spells(&mut readings, label);
         assert!(rt; is_spelled, "{label:?}");
         among = among || label.as_slice() == after;
     }
-    let is_spelled = net.spells(alloc, after)?;
+    let is_spelled = spells(&mut readings, after);
     assert_eq!(rt; is_spelled, among, "{after:?}");
-    Ok(())
 }
 
-/// The net of a label under a table spells the labels of the plain lister, and a listing lists them. There is no net
+/// The readings of a label under a table spell the labels of the plain lister, and a listing lists them. There is no net
 /// exactly where the plain lister has no label.
 fn assert_case(
     rt: &impl Abort,
@@ -174,7 +174,8 @@ fn assert_case(
         }
     };
     assert!(rt; !labels.is_empty(), "{label:?}");
-    assert_spelled(rt, alloc, &net, &labels, after)?;
+    let readings = Readings::new(alloc, uses_of(alloc, table, label)?)?;
+    assert_spelled(rt, readings, &labels, after);
     let mut cursor = Cursor::new(alloc, &net, after)?;
     Ok(assert_listed(rt, &net, &labels, &mut cursor, after))
 }

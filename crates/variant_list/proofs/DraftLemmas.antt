@@ -9,7 +9,9 @@ use Rattle.std.proofs.lemmas.List.Elements.{Contains-append_left, Contains-appen
 use Rattle.variant_list.specs.declared.edges.Edge.{Edge}
 use Rattle.variant_list.specs.inner.Plans.{Plan, Reads, first_place}
 use Rattle.variant_list.specs.inner.Layouts.{ReadsBy, HasPlace, HasChain, Draft, IsSound, UseSpells, IsOpen, IsLaid, HasTaken, HasEnded}
-use Rattle.variant_list.specs.Uses.{Use, UsesSpell, points_in}
+use Rattle.reading_kinds.specs.Readings.{Use, UsesSpell}
+use Rattle.variant_list.specs.Uses.{points_in}
+use Rattle.variant_list.specs.inner.NetPlans.{IsNetOf}
 use Rattle.variant_list.proofs.UsesLemmas.{nothing_spelled, UsesSpell-here}
 use Rattle.variant_list.proofs.PlanLemmas.{Reads-kept, Reads-was, more_places, IsPlan-only_end, only_end, Reads-only_end}
 use Rattle.variant_list.proofs.ChainLemmas.{ReadsBy-kept, ReadsBy-was}
@@ -44,15 +46,15 @@ IsLaid-nothing = record {
     endings_read (suc n) l v = absurd (omega (arith, l))
 
 -- one use more
-pub HasTaken-chain : (old : Draft) (covers : ℕ) (points : List ℕ) (plan : Plan) (edge : Edge) → IsSound old → 1 ≤ covers → covers ≤ length old.places
+pub HasTaken-chain : (old : Draft) (covers kinds : ℕ) (points : List ℕ) (plan : Plan) (edge : Edge) → IsSound old → 1 ≤ covers → covers ≤ length old.places
     → HasChain old.plan points (slice_index old.places (length old.places - covers)) plan edge
-    → HasTaken old (record { covers = covers; points = points } ∷ []) (record { plan = plan; places = old.places; begun = old.begun ++ edge ∷ [] })
-HasTaken-chain old covers points plan edge sound some within chain =
+    → HasTaken old (record { covers = covers; kinds = kinds; points = points } ∷ []) (record { plan = plan; places = old.places; begun = old.begun ++ edge ∷ [] })
+HasTaken-chain old covers kinds points plan edge sound some within chain =
     let was = sound.plan.laid_out in
     let up = more_places old.plan plan was chain.keeps in
     let n : ℕ = length old.places - covers in
     let to : ℕ = slice_index old.places n in
-    let u : Use = record { covers = covers; points = points } in
+    let u : Use = record { covers = covers; kinds = kinds; points = points } in
     let now : Draft = record { plan = plan; places = old.places; begun = old.begun ++ edge ∷ [] } in
     let sound_now : IsSound now = record {
       plan = chain.plan;
@@ -188,3 +190,11 @@ IsLaid-reads uses draft laid v =
     whole_list : (us : List (List Use)) → drop 0 us ≡ us
     whole_list [] = refl
     whole_list (u ∷ us) = refl
+
+-- the net of uses
+pub IsNetOf-laid : (uses : List (List Use)) (draft : Draft) → IsLaid uses draft → IsNetOf uses draft.plan
+IsNetOf-laid uses draft laid = record {
+  reads = λ v. IsLaid-reads uses draft laid v;
+  edges = omega (arith, laid.open_place.edges, laid.open_place.starts);
+  places = omega (arith, laid.open_place.room);
+}

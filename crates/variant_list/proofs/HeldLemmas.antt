@@ -1,22 +1,17 @@
 -- Where conditions hold, as tests tell it.
-use Rattle.std.proofs.Common.{◌≡◌, ℕ, zero, suc, ◌+◌, ◌<◌, ◌≤◌, Bool, true, false, ◌&&◌, List, [], ◌∷◌, length, get_or, map, Option, None, Some, slice_get, refl, sym, ap, ◌∙◌, inl, inr, ◌↔◌, arith}
-use Rattle.std.specs.Prelude.{not, filter, if◌then◌else◌}
-use Rattle.std.specs.List.{Contains, All}
+use Rattle.std.proofs.Common.{◌≡◌, ℕ, zero, suc, ◌+◌, ◌<◌, ◌≤◌, Bool, true, false, ◌&&◌, List, length, get_or, map, Option, None, Some, slice_get, refl, sym, ap, ◌∙◌, ◌↔◌, arith}
+use Rattle.std.specs.List.{All}
 use Rattle.std.specs.Option.{option_map}
 use Rattle.std.proofs.lemmas.List.{length-map}
-use Rattle.std.proofs.lemmas.List.Elements.{All-contains}
 use Rattle.std.proofs.lemmas.Option.{slice_get-map, slice_get-get_or}
 use Rattle.label_patterns.specs.declared.condition.Condition.{Condition}
 use Rattle.label_patterns.specs.Conditions.{ConditionHolds}
 use Rattle.label_patterns.proofs.TestLemmas.{condition-agrees}
-use Rattle.variant_table.specs.Entries.{Entry, TableValue, Variant, itself, source_of, whole, replacements, sequences_in}
+use Rattle.variant_table.specs.Entries.{Entry, TableValue, Variant, itself, source_of, whole, replacements}
 use Rattle.variant_table.specs.Segmentations.{seen_under}
-use Rattle.variant_list.specs.declared.part.Part.{Part}
-use Rattle.variant_list.specs.declared.part.Part.TheVariants.{Whole}
-use Rattle.variant_list.specs.Parts.{full_replacements, part_has}
-use Rattle.variant_list.specs.Uses.{use_of, holds_for, may_stand, may_replace, uses_of_entry}
+use Rattle.variant_list.specs.Parts.{Part, full_replacements, part_has}
+use Rattle.variant_list.specs.Uses.{holds_for, may_replace}
 use Rattle.variant_list.proofs.PartLemmas.{mapped-at, mapped-same}
-use Rattle.variant_table.proofs.MemberLemmas.{Contains-head, Contains-later, Contains-cases}
 
 pub held_by : (table : TableValue) (label : List ℕ) (place : ℕ) (e : Entry) (condition : Option Condition) → place + length e.source ≤ length label
     → (holds_for table label place e condition ≡ true) ↔ ConditionHolds table.definitions.rules (seen_under table label) condition place (place + length e.source)
@@ -68,39 +63,3 @@ replace-first part table label place e zero at first = at-first (part_has part (
     at-first true same = refl
     at-first false same = same
 replace-first part table label place e (suc i) at first = absurd (omega (arith, first))
-
--- what the part lacks is not asked about
-pub replace-lacking : (part : Part) (table : TableValue) (label : List ℕ) (place : ℕ) (e : Entry) (i : ℕ) → slice_get (map (part_has part) (full_replacements e)) i ≡ Some false
-    → slice_get (map (may_replace part table label place e) (full_replacements e)) i ≡ Some false
-replace-lacking part table label place e i at =
-    let m = mapped-at (part_has part) (full_replacements e) i false at in
-    slice_get-map (may_replace part table label place e) (full_replacements e) i ∙ ap (option_map (may_replace part table label place e)) m.1
-    ∙ ap (λ t. Some (t && holds_for table label place e (m.0).condition)) m.2
-
--- in a whole table without conditions each replacement is taken
-all_pass : (p : Variant → Bool) (vs : List Variant) → ((v : Variant) → Contains vs v → p v ≡ true) → filter p vs ≡ vs
-all_pass p [] pass = refl
-all_pass p (v ∷ vs) pass = filter-first p v vs (pass v (Contains-head v vs)) ∙ ap (λ ws. v ∷ ws) (all_pass p vs (λ w m. pass w (Contains-later v vs w m)))
-  where
-    filter-first : (q : Variant → Bool) (w : Variant) (ws : List Variant) → q w ≡ true → filter q (w ∷ ws) ≡ w ∷ filter q ws
-    filter-first q w ws e = ap (λ (t : Bool). if t then w ∷ filter q ws else filter q ws) e
-
-pub uses-free : (table : TableValue) (label : List ℕ) (place : ℕ) (e : Entry) → All (λ (r : Variant). r.condition ≡ None) (whole e) → uses_of_entry Whole table label place e ≡ map (use_of e) (replacements e)
-uses-free table label place e free =
-    ap (λ vs. map (use_of e) (sequences_in vs)) (all_pass (may_replace Whole table label place e) (full_replacements e) pass)
-  where
-    pass : (v : Variant) → Contains (full_replacements e) v → may_replace Whole table label place e v ≡ true
-    pass v m = elim (Contains-cases (itself e) e.variants v m) [
-      | inl same ↦ ap (λ (w : Variant). holds_for table label place e w.condition) (sym same)
-      | inr later ↦ ap (holds_for table label place e) (All-contains (λ (r : Variant). r.condition ≡ None) (whole e) v free (Contains-later (source_of e) e.variants v later))
-    ]
-
--- an entry without conditions may stand anywhere, unless it is outside
-pub stands-free : (table : TableValue) (label : List ℕ) (place : ℕ) (e : Entry) → All (λ (r : Variant). r.condition ≡ None) (whole e) → may_stand table label place e ≡ not e.outside
-stands-free table label place e free =
-    let none : e.condition ≡ None = All-contains (λ (r : Variant). r.condition ≡ None) (whole e) (source_of e) free (Contains-head (source_of e) e.variants) in
-    ap (λ c. not e.outside && holds_for table label place e c) none ∙ and-true (not e.outside)
-  where
-    and-true : (b : Bool) → (b && true) ≡ b
-    and-true true = refl
-    and-true false = refl

@@ -10,7 +10,8 @@ use Rattle.std.proofs.lemmas.List.Sums.{sum_by-le, sum_by-cons}
 use Rattle.std.proofs.lemmas.List.Elements.{All-contains, Contains-get_or, Contains-append_left, Contains-append_right, Contains-append_cases}
 use Rattle.variant_list.specs.Labels.{label_cmp}
 use Rattle.variant_list.specs.Nets.{IsLeastLength}
-use Rattle.variant_list.specs.Uses.{Use, IsUse, AreUses, IsCut, points_of, UsesSpell, points_in, use_edges}
+use Rattle.reading_kinds.specs.Readings.{Use, IsUse, AreUses, IsCut, points_of, UsesSpell}
+use Rattle.variant_list.specs.Uses.{points_in, use_edges}
 use Rattle.variant_list.specs.Variants.{in_order, variants_among}
 use Rattle.variant_list.specs.declared.edges.Edge.{Edge}
 use Rattle.variant_list.specs.inner.Plans.{Plan, Step, Reads, first_place}

@@ -9,13 +9,12 @@ use Rattle.std.proofs.lemmas.Option.{slice_get-map, same_Some}
 use Rattle.label_patterns.specs.Patterns.{Pattern}
 use Rattle.label_patterns.specs.Matches.{Seen}
 use Rattle.label_patterns.specs.Conditions.{ConditionHolds}
-use Rattle.variant_table.specs.Entries.{Entry, TableValue, Variant, replacements, marks, whole, itself, unblocked, unblocked_entry}
+use Rattle.variant_table.specs.Entries.{Entry, TableValue, Variant, replacements, itself, unblocked, unblocked_entry}
 use Rattle.variant_table.specs.Segmentations.{AllHold, seen_under}
-use Rattle.variant_list.specs.declared.part.Part.{Part}
-use Rattle.variant_list.specs.declared.part.Part.TheVariants.{Whole, Unblocked, Tagged}
+use Rattle.variant_list.specs.Parts.{Part, full_replacements, are_of, part_has, HasNoTags}
+use Rattle.variant_list.specs.Parts.Part.{Whole, Unblocked, Tagged}
 use Rattle.variant_list.specs.Laws.{without_blocked}
 use Rattle.variant_list.specs.Spelling.{Replaces, JoinsReplacements, PartSpells, Spells}
-use Rattle.variant_list.specs.Parts.{full_replacements, are_of, part_has, HasNoTags}
 use Rattle.variant_list.proofs.ListMembers.{Contains-filter}
 use Rattle.variant_table.proofs.MemberLemmas.{Contains-head, Contains-later, Contains-cases}
 use Rattle.variant_table.proofs.MemberLists.{Contains-map}
@@ -164,27 +163,9 @@ whole-list (v ∷ vs) (suc i) l = whole-list vs i (omega (arith, l))
 pub has-Whole : (e : Entry) (i : ℕ) → i < length (replacements e) → slice_get (map (part_has Whole) (full_replacements e)) i ≡ Some true
 has-Whole e i l = whole-list (full_replacements e) i (omega (arith, l, length-map (full_replacements e) (λ (v : Variant). v.sequence)))
 
-pub has-Unblocked : (e : Entry) (i : ℕ) (blocked : Bool) → slice_get (marks e) i ≡ Some blocked → slice_get (map (part_has Unblocked) (full_replacements e)) i ≡ Some (not blocked)
-has-Unblocked e i blocked at =
-    let m = mapped-at (λ (v : Variant). v.marked) (full_replacements e) i blocked at in
-    slice_get-map (part_has Unblocked) (full_replacements e) i ∙ ap (option_map (part_has Unblocked)) m.1 ∙ ap (λ t. Some (not t)) m.2
-
 and-left : (x y : Bool) → (x && y) ≡ true → x ≡ true
 and-left true y e = refl
 and-left false y e = e
-
-pub has-Tagged : (tag : ℕ) (e : Entry) (i : ℕ) (blocked : Bool) (tags : List ℕ) → slice_get (marks e) i ≡ Some blocked → slice_get (map (λ (v : Variant). v.tags) (whole e)) i ≡ Some tags
-    → slice_get (map (part_has (Tagged tag)) (full_replacements e)) i ≡ Some (not blocked && are_of tag tags)
-has-Tagged tag e i blocked tags at tagged =
-    let m = mapped-at (λ (v : Variant). v.marked) (full_replacements e) i blocked at in
-    let same : (m.0).tags ≡ tags = mapped-same (λ (v : Variant). v.tags) (full_replacements e) i m.0 tags m.1 tagged in
-    slice_get-map (part_has (Tagged tag)) (full_replacements e) i ∙ ap (option_map (part_has (Tagged tag))) m.1 ∙ ap (λ t. Some (not t && are_of tag (m.0).tags)) m.2 ∙ ap (λ ts. Some (not blocked && are_of tag ts)) same
-
--- what is blocked is in no sub-table
-pub lacks-Tagged : (tag : ℕ) (e : Entry) (i : ℕ) → slice_get (marks e) i ≡ Some true → slice_get (map (part_has (Tagged tag)) (full_replacements e)) i ≡ Some false
-lacks-Tagged tag e i at =
-    let m = mapped-at (λ (v : Variant). v.marked) (full_replacements e) i true at in
-    slice_get-map (part_has (Tagged tag)) (full_replacements e) i ∙ ap (option_map (part_has (Tagged tag))) m.1 ∙ ap (λ t. Some (not t && are_of tag (m.0).tags)) m.2
 
 -- ---- the sub-table of a tag
 

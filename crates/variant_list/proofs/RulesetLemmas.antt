@@ -4,7 +4,7 @@ use Rattle.ruleset_text.specs.Definitions.{Definitions}
 use Rattle.variant_table.specs.declared.version.Version.{Version}
 use Rattle.variant_table.specs.Entries.{Entry, TableValue, table_of}
 use Rattle.variant_table.specs.Segmentations.{IsSegmentation}
-use Rattle.variant_list.specs.declared.part.Part.{Part}
+use Rattle.variant_list.specs.Parts.{Part}
 use Rattle.variant_list.specs.Spelling.{JoinsReplacements, PartSpells, Replaces}
 use Rattle.variant_list.specs.RulesetLaws.{RulesetsListTheSame, as_ruleset}
 

@@ -5,18 +5,18 @@ use Rattle.std.specs.List.{Contains, flat_map, sum_by}
 use Rattle.std.proofs.lemmas.List.{length-drop, length-map}
 use Rattle.std.proofs.lemmas.List.Sums.{sum_by-le, sum_by-cons}
 use Rattle.std.proofs.lemmas.List.Elements.{All-contains, Contains-get_or}
-use Rattle.variant_table.specs.Entries.{Entry, TableValue, Variant, replacements, sequences_in}
+use Rattle.variant_table.specs.Entries.{Entry, TableValue, Variant, replacements}
 use Rattle.variant_table.specs.Places.{AreEntriesAt, entries_at}
 use Rattle.variant_table.specs.WellFormed.{IsSequence, IsEntry, IsWellFormed}
 use Rattle.variant_table.proofs.BeginningLemmas.{entries_are_at}
-use Rattle.variant_list.specs.declared.part.Part.{Part}
-use Rattle.variant_list.specs.declared.part.Part.TheVariants.{Whole}
-use Rattle.variant_list.specs.Parts.{full_replacements}
+use Rattle.variant_list.specs.Parts.{Part, full_replacements}
+use Rattle.variant_list.specs.Parts.Part.{Whole}
 use Rattle.variant_list.specs.Spelled.{part_spelled, spelled}
 use Rattle.variant_list.specs.Spelling.{PartSpells, Spells}
 use Rattle.variant_list.specs.inner.LabelSets.{SomeGives}
 use Rattle.variant_list.specs.inner.Layouts.{UseSpells}
-use Rattle.variant_list.specs.Uses.{Use, IsUse, AreUses, UsesSpell, spelled_from_each, spelled_by, use_of, may_stand, may_replace, uses_of_entry, uses_at, uses_from, uses_of}
+use Rattle.reading_kinds.specs.Readings.{Use, IsUse, AreUses, UsesSpell}
+use Rattle.variant_list.specs.Uses.{spelled_from_each, spelled_by, use_of, may_stand, may_replace, uses_of_entry, uses_at, uses_from, uses_of}
 use Rattle.variant_list.proofs.ListMembers.{Contains-filter, filter-few}
 use Rattle.variant_list.proofs.UsesLemmas.{nothing_spelled, UsesSpell-here, UsesSpell-label, IsUseOf-fits, uses_at-IsUseOf, length-uses_from}
 use Rattle.variant_list.proofs.PartLemmas.{Replaces-of_entry}
@@ -91,7 +91,7 @@ module _ (part : Part) (table : TableValue) (label : List ℕ) (formed : IsWellF
       let at : AreEntriesAt table.entries label place all = entries_are_at table.entries label place formed in
       let of_entry : (e : Entry) → IsEntry e → length (uses_of_entry part table label place e) ≤ 17 = λ (e : Entry) is.
       (let kept : List Variant = filter (may_replace part table label place e) (full_replacements e) in
-      omega (arith, length-map (sequences_in kept) (use_of e), length-map kept (λ (v : Variant). v.sequence), filter-few (may_replace part table label place e) (full_replacements e), is.few)) in
+      omega (arith, length-map kept (use_of e), filter-few (may_replace part table label place e) (full_replacements e), is.few)) in
       let each : (k : ℕ) (d : Entry) → k < length here → length (uses_of_entry part table label place (get_or here k d)) ≤ 17 = λ (k : ℕ) (d : Entry) l.
       (let e : Entry = get_or here k d in
       of_entry e (All-contains IsEntry table.entries e formed.entries ((at.members e).0 ((Contains-filter (may_stand table label place) all e).0 (Contains-get_or here k d l)).0).0)) in

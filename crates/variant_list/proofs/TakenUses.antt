@@ -1,41 +1,54 @@
--- The uses of a part of a table, taken one after the other.
-use Rattle.std.proofs.Common.{◌≡◌, ℕ, ◌+◌, Bool, true, false, map, List, [], ◌∷◌, ◌++◌, take, refl, sym, ap, ◌∙◌, subst, arith, append-nil, append_assoc}
+-- The uses of a label, taken one after the other.
+use Rattle.std.proofs.Common.{◌≡◌, ℕ, zero, suc, ◌+◌, Bool, true, false, map, List, [], ◌∷◌, ◌++◌, length, take, refl, sym, ap, ◌∙◌, subst, arith, append-nil, append_assoc}
 use Rattle.std.specs.Prelude.{slice_get, Some, filter, if◌then◌else◌}
 use Rattle.std.specs.List.{Contains, flat_map}
 use Rattle.std.proofs.lemmas.Grind.{flat_map-append}
 use Rattle.std.proofs.lemmas.List.{map-append}
 use Rattle.std.proofs.lemmas.List.Elements.{Contains-append_right, filter-append}
-use Rattle.variant_table.specs.Entries.{Entry, Variant, replacements, sequences_in}
-use Rattle.variant_list.specs.inner.Layouts.{Draft, IsLaid, HasTaken}
-use Rattle.variant_list.specs.inner.NetPlans.{IsNetOf}
-use Rattle.variant_list.specs.Parts.{full_replacements}
-use Rattle.variant_list.specs.Uses.{Use, use_of}
+use Rattle.variant_table.specs.Entries.{Entry, TableValue, Variant, replacements}
+use Rattle.reading_kinds.specs.Drafts.{Draft, with_uses}
+use Rattle.reading_kinds.specs.Readings.{Use}
+use Rattle.variant_list.specs.Parts.{Part, full_replacements, kinds_of}
+use Rattle.variant_list.specs.Uses.{use_of, uses_at, uses_from}
 use Rattle.variant_list.proofs.ListMembers.{filter-one}
 use Rattle.variant_list.proofs.PartLemmas.{mapped-at, mapped-same}
-use Rattle.variant_list.proofs.DraftLemmas.{HasTaken-more, IsLaid-reads}
 use Rattle.variant_table.proofs.MemberLemmas.{Contains-head}
 use Rattle.variant_table.proofs.ListLemmas.{take_next}
+
+pub with_uses-nothing : (draft : Draft) → draft ≡ with_uses draft []
+with_uses-nothing draft = ap (λ us. draft_of us) (sym (append-nil draft.begun))
+  where
+    draft_of : List Use → Draft
+    draft_of us = record { done = draft.done; begun = us }
+
+pub with_uses-twice : (draft : Draft) (us vs : List Use) → with_uses (with_uses draft us) vs ≡ with_uses draft (us ++ vs)
+with_uses-twice draft us vs = ap (λ xs. draft_of xs) (append_assoc draft.begun us vs)
+  where
+    draft_of : List Use → Draft
+    draft_of xs = record { done = draft.done; begun = xs }
 
 -- the entries that aren't left were taken, as far as they may stand where they do
 pub record HasEntries (stands : Entry → Bool) (gives : Entry → List Use) (all left : List Entry) (old new : Draft) : Type 0 where
   pub done : List Entry
   pub split : all ≡ done ++ left
-  pub taken : HasTaken old (flat_map gives (filter stands done)) new
+  pub taken : new ≡ with_uses old (flat_map gives (filter stands done))
 
 module _ (stands : Entry → Bool) (gives : Entry → List Use) where
   -- the entries that were taken, and one more
   more_taken : (done : List Entry) (e : Entry) → flat_map gives (filter stands (done ++ e ∷ [])) ≡ flat_map gives (filter stands done) ++ flat_map gives (filter stands (e ∷ []))
   more_taken done e = ap (flat_map gives) (filter-append stands done (e ∷ [])) ∙ flat_map-append gives (filter stands done) (filter stands (e ∷ []))
 
-  pub HasEntries-more : (all left : List Entry) (e : Entry) (rest : List Entry) (old mid new : Draft) → HasEntries stands gives all left old mid → left ≡ e ∷ rest → stands e ≡ true → HasTaken mid (gives e) new
+  pub HasEntries-none : (all : List Entry) (old : Draft) → HasEntries stands gives all all old old
+  HasEntries-none all old = record { done = []; split = refl; taken = with_uses-nothing old }
+
+  pub HasEntries-more : (all left : List Entry) (e : Entry) (rest : List Entry) (old mid new : Draft) → HasEntries stands gives all left old mid → left ≡ e ∷ rest → stands e ≡ true → new ≡ with_uses mid (gives e)
       → HasEntries stands gives all rest old new
   HasEntries-more all left e rest old mid new h next stand taken = record {
     done = h.done ++ e ∷ [];
     split = h.split ∙ ap (λ xs. h.done ++ xs) next ∙ sym (append_assoc h.done (e ∷ []) rest);
-    taken = subst (λ us. HasTaken old us new)
-        (sym (more_taken h.done e ∙ ap (λ es. flat_map gives (filter stands h.done) ++ flat_map gives es) (filter-one stands e true stand)
-        ∙ ap (λ us. flat_map gives (filter stands h.done) ++ us) (append-nil (gives e))))
-        (HasTaken-more old mid new (flat_map gives (filter stands h.done)) (gives e) h.taken taken);
+    taken = taken ∙ ap (λ d. with_uses d (gives e)) h.taken ∙ with_uses-twice old (flat_map gives (filter stands h.done)) (gives e)
+        ∙ ap (with_uses old) (sym (more_taken h.done e ∙ ap (λ es. flat_map gives (filter stands h.done) ++ flat_map gives es) (filter-one stands e true stand)
+        ∙ ap (λ us. flat_map gives (filter stands h.done) ++ us) (append-nil (gives e))));
   }
 
   -- an entry that may not stand there is left out
@@ -43,55 +56,77 @@ module _ (stands : Entry → Bool) (gives : Entry → List Use) where
   HasEntries-skip all left e rest old new h next stand = record {
     done = h.done ++ e ∷ [];
     split = h.split ∙ ap (λ xs. h.done ++ xs) next ∙ sym (append_assoc h.done (e ∷ []) rest);
-    taken = subst (λ us. HasTaken old us new)
+    taken = h.taken ∙ ap (with_uses old)
         (sym (more_taken h.done e ∙ ap (λ es. flat_map gives (filter stands h.done) ++ flat_map gives es) (filter-one stands e false stand)
-        ∙ append-nil (flat_map gives (filter stands h.done))))
-        h.taken;
+        ∙ append-nil (flat_map gives (filter stands h.done))));
   }
 
   pub HasEntries-next : (all left : List Entry) (e : Entry) (rest : List Entry) (old new : Draft) → HasEntries stands gives all left old new → left ≡ e ∷ rest → Contains all e
   HasEntries-next all left e rest old new h next = subst (λ xs. Contains xs e) (sym (h.split ∙ ap (λ xs. h.done ++ xs) next)) (Contains-append_right h.done (e ∷ rest) e (Contains-head e rest))
 
-  pub HasEntries-all : (all left : List Entry) (old new : Draft) → HasEntries stands gives all left old new → left ≡ [] → HasTaken old (flat_map gives (filter stands all)) new
-  HasEntries-all all left old new h over = subst (λ es. HasTaken old (flat_map gives (filter stands es)) new) (sym (h.split ∙ ap (λ xs. h.done ++ xs) over ∙ append-nil h.done)) h.taken
+  pub HasEntries-all : (all left : List Entry) (old new : Draft) → HasEntries stands gives all left old new → left ≡ [] → new ≡ with_uses old (flat_map gives (filter stands all))
+  HasEntries-all all left old new h over = h.taken ∙ ap (λ es. with_uses old (flat_map gives (filter stands es))) (sym (h.split ∙ ap (λ xs. h.done ++ xs) over ∙ append-nil h.done))
 
 -- the uses of the first replacements of an entry that pass a test
 abbrev pub uses_upto : (Variant → Bool) → Entry → ℕ → List Use
-uses_upto has e i = map (use_of e) (sequences_in (filter has (take i (full_replacements e))))
+uses_upto has e i = map (use_of e) (filter has (take i (full_replacements e)))
 
 -- a use, where it is taken
 abbrev pub chosen : Bool → Use → List Use
 chosen true u = u ∷ []
 chosen false u = []
 
-upto-next : (has : Variant → Bool) (e : Entry) (i : ℕ) (v : Variant) → slice_get (full_replacements e) i ≡ Some v → uses_upto has e (i + 1) ≡ uses_upto has e i ++ chosen (has v) (use_of e v.sequence)
-upto-next has e i v at =
+upto-next : (has : Variant → Bool) (e : Entry) (i : ℕ) (v : Variant) (b : Bool) → slice_get (full_replacements e) i ≡ Some v → has v ≡ b → uses_upto has e (i + 1) ≡ uses_upto has e i ++ chosen b (use_of e v)
+upto-next has e i v b at is =
     let first = take i (full_replacements e) in
-    ap (λ vs. map (use_of e) (sequences_in (filter has vs))) (take_next (full_replacements e) i v at)
-    ∙ ap (λ vs. map (use_of e) (sequences_in vs)) (filter-append has first (v ∷ []))
-    ∙ ap (map (use_of e)) (map-append (λ (x : Variant). x.sequence) (filter has first) (filter has (v ∷ [])))
-    ∙ map-append (use_of e) (sequences_in (filter has first)) (sequences_in (filter has (v ∷ [])))
-    ∙ ap (λ us. uses_upto has e i ++ us) (one (has v))
+    ap (λ vs. map (use_of e) (filter has vs)) (take_next (full_replacements e) i v at)
+    ∙ ap (map (use_of e)) (filter-append has first (v ∷ []))
+    ∙ map-append (use_of e) (filter has first) (filter has (v ∷ []))
+    ∙ ap (λ us. uses_upto has e i ++ us) (one (has v) ∙ ap (λ t. chosen t (use_of e v)) is)
   where
-    one : (t : Bool) → map (use_of e) (sequences_in (if t then v ∷ [] else [])) ≡ chosen t (use_of e v.sequence)
+    one : (t : Bool) → map (use_of e) (if t then v ∷ [] else []) ≡ chosen t (use_of e v)
     one true = refl
     one false = refl
 
--- one replacement more
-pub HasTaken-next : (has : Variant → Bool) (e : Entry) (i : ℕ) (r : List ℕ) (b : Bool) (old mid new : Draft) → slice_get (replacements e) i ≡ Some r → slice_get (map has (full_replacements e)) i ≡ Some b
-    → HasTaken old (uses_upto has e i) mid → HasTaken mid (chosen b (use_of e r)) new → HasTaken old (uses_upto has e (i + 1)) new
-HasTaken-next has e i r b old mid new at test before one =
+-- one replacement more, with its kinds
+pub taken-next : (has : Variant → Bool) (e : Entry) (i : ℕ) (covers kinds : ℕ) (r : List ℕ) (old mid : Draft) → slice_get (replacements e) i ≡ Some r → ((v : Variant) → slice_get (full_replacements e) i ≡ Some v → kinds ≡ kinds_of v) → covers ≡ length e.source
+    → slice_get (map has (full_replacements e)) i ≡ Some true → mid ≡ with_uses old (uses_upto has e i) → with_uses mid (record { covers = covers; kinds = kinds; points = r } ∷ []) ≡ with_uses old (uses_upto has e (i + 1))
+taken-next has e i covers kinds r old mid at kind cover test before =
     let m = mapped-at (λ (v : Variant). v.sequence) (full_replacements e) i r at in
     let v : Variant = m.0 in
-    let same : has v ≡ b = mapped-same has (full_replacements e) i v b m.1 test in
-    let more : uses_upto has e (i + 1) ≡ uses_upto has e i ++ chosen b (use_of e r) =
-    upto-next has e i v m.1 ∙ ap (λ t. uses_upto has e i ++ chosen t (use_of e v.sequence)) same ∙ ap (λ s. uses_upto has e i ++ chosen b (use_of e s)) m.2 in
-    subst (λ us. HasTaken old us new) (sym more) (HasTaken-more old mid new (uses_upto has e i) (chosen b (use_of e r)) before one)
+    let same : use_with covers kinds r ≡ use_of e v = ap (λ n. use_with n kinds r) cover ∙ ap (λ n. use_with (length e.source) n r) (kind v m.1) ∙ ap (use_with (length e.source) (kinds_of v)) (sym m.2) in
+    ap (λ d. with_uses d (use_with covers kinds r ∷ [])) before ∙ with_uses-twice old (uses_upto has e i) (use_with covers kinds r ∷ []) ∙ ap (λ u. with_uses old (uses_upto has e i ++ u ∷ [])) same
+    ∙ ap (with_uses old) (sym (upto-next has e i v true m.1 (mapped-same has (full_replacements e) i v true m.1 test)))
+  where
+    use_with : ℕ → ℕ → List ℕ → Use
+    use_with n k s = record { covers = n; kinds = k; points = s }
 
--- the net of uses
-pub IsNetOf-laid : (uses : List (List Use)) (draft : Draft) → IsLaid uses draft → IsNetOf uses draft.plan
-IsNetOf-laid uses draft laid = record {
-  reads = λ v. IsLaid-reads uses draft laid v;
-  edges = omega (arith, laid.open_place.edges, laid.open_place.starts);
-  places = omega (arith, laid.open_place.room);
-}
+-- a replacement that isn't taken
+pub taken-skip : (has : Variant → Bool) (e : Entry) (i : ℕ) (old mid : Draft) → slice_get (map has (full_replacements e)) i ≡ Some false → mid ≡ with_uses old (uses_upto has e i) → mid ≡ with_uses old (uses_upto has e (i + 1))
+taken-skip has e i old mid test before =
+    let m = mapped-at has (full_replacements e) i false test in
+    before ∙ ap (with_uses old) (sym (append-nil (uses_upto has e i)) ∙ sym (upto-next has e i m.0 false m.1 m.2))
+
+-- the uses of one place more
+pub uses_from-more : (part : Part) (table : TableValue) (label : List ℕ) (place n : ℕ) → uses_from part table label place n ++ uses_at part table label (place + n) ∷ [] ≡ uses_from part table label place (n + 1)
+uses_from-more part table label place zero = let here : place + 0 ≡ place = omega arith in ap (λ p. uses_at part table label p ∷ []) here
+uses_from-more part table label place (suc n) =
+    let later : place + suc n ≡ suc place + n = omega arith in
+    let more : suc n + 1 ≡ suc (n + 1) = omega arith in
+    ap (λ p. uses_at part table label place ∷ (uses_from part table label (suc place) n ++ uses_at part table label p ∷ [])) later
+    ∙ ap (λ us. uses_at part table label place ∷ us) (uses_from-more part table label (suc place) n)
+    ∙ ap (uses_from part table label place) (sym more)
+
+-- a place is done
+pub place-done : (part : Part) (table : TableValue) (label : List ℕ) (n : ℕ) (draft mid new : Draft) → draft ≡ record { done = uses_from part table label 0 n; begun = [] } → mid ≡ with_uses draft (uses_at part table label n)
+    → new ≡ record { done = mid.done ++ mid.begun ∷ []; begun = [] } → new ≡ record { done = uses_from part table label 0 (n + 1); begun = [] }
+place-done part table label n draft mid new at taken ended =
+    let here : n ≡ 0 + n = omega arith in
+    ended ∙ ap ended_of (taken ∙ ap (λ d. with_uses d (uses_at part table label n)) at) ∙ ap (λ p. done_of (uses_from part table label 0 n ++ uses_at part table label p ∷ [])) here
+    ∙ ap done_of (uses_from-more part table label 0 n)
+  where
+    ended_of : Draft → Draft
+    ended_of d = record { done = d.done ++ d.begun ∷ []; begun = [] }
+
+    done_of : List (List Use) → Draft
+    done_of us = record { done = us; begun = [] }

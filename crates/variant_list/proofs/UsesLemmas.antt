@@ -5,18 +5,18 @@ use Rattle.std.specs.List.{Contains}
 use Rattle.std.proofs.lemmas.List.{length-drop}
 use Rattle.std.proofs.lemmas.Bool.{and_parts, and_from, not-true}
 use Rattle.label_patterns.specs.Conditions.{ConditionHolds}
-use Rattle.variant_table.specs.Entries.{Entry, TableValue, Variant, sequences_in}
+use Rattle.variant_table.specs.Entries.{Entry, TableValue, Variant}
 use Rattle.variant_table.specs.Places.{entries_at}
 use Rattle.variant_table.specs.WellFormed.{IsWellFormed}
 use Rattle.variant_table.proofs.BeginningLemmas.{entries_are_at}
 use Rattle.variant_table.specs.Segmentations.{seen_under}
-use Rattle.variant_list.specs.declared.part.Part.{Part}
-use Rattle.variant_list.specs.Parts.{full_replacements, part_has}
+use Rattle.variant_list.specs.Parts.{Part, full_replacements, kinds_of, part_has}
 use Rattle.variant_list.specs.Spelling.{Replaces, PartSpells}
 use Rattle.variant_list.specs.inner.LabelSets.{SomeGives}
 use Rattle.variant_list.specs.inner.Layouts.{UseSpells}
 use Rattle.variant_list.specs.inner.Places.{SpellsFrom}
-use Rattle.variant_list.specs.Uses.{Use, IsCut, points_of, UsesSpell, use_of, holds_for, may_stand, may_replace, uses_of_entry, uses_at, uses_from, uses_of}
+use Rattle.reading_kinds.specs.Readings.{Use, IsCut, points_of, UsesSpell}
+use Rattle.variant_list.specs.Uses.{use_of, holds_for, may_stand, may_replace, uses_of_entry, uses_at, uses_from, uses_of}
 use Rattle.variant_list.proofs.ListMembers.{Contains-filter}
 use Rattle.variant_list.proofs.HeldLemmas.{held_by}
 use Rattle.variant_list.proofs.SpellingLemmas.{FirstPiece, PartSpells-first, SpellsFrom-end, SpellsFrom-piece, SpellsFrom-cases, SpellsFrom-nothing, source_is_sequence}
@@ -60,6 +60,7 @@ pub record IsUseOf (part : Part) (table : TableValue) (label : List ℕ) (place 
   pub held : ConditionHolds table.definitions.rules (seen_under table label) entry.condition place (place + length entry.source)
   pub replaces : Replaces part table label place entry u.points
   pub covers : u.covers ≡ length entry.source
+  pub kinds : u.kinds ≡ kinds_of replaces.replacement
 
 -- the uses from a later place on
 pub drop-uses_from : (part : Part) (table : TableValue) (label : List ℕ) (k n place : ℕ) → k ≤ n → drop k (uses_from part table label place n) ≡ uses_from part table label (place + k) (n - k)
@@ -91,29 +92,28 @@ IsWithin-at table label place e formed at =
 module _ (part : Part) (table : TableValue) (label : List ℕ) (formed : IsWellFormed table.entries) where
   -- what may replace the source of an entry at a place
   Contains-of_entry : (place : ℕ) (e : Entry) (u : Use) → place + length e.source ≤ length label
-      → Contains (uses_of_entry part table label place e) u ↔ (Replaces part table label place e u.points × (u.covers ≡ length e.source))
+      → Contains (uses_of_entry part table label place e) u ↔ ((r : Replaces part table label place e u.points) × (u.covers ≡ length e.source) × (u.kinds ≡ kinds_of r.replacement))
   Contains-of_entry place e u within = (
-    λ c. (let g = (Contains-map (use_of e) (sequences_in kept) u).0 c in
-        let h = (Contains-map (λ (v : Variant). v.sequence) kept g.0).0 g.1 in
-        let v : Variant = h.0 in
-        let m = (Contains-filter (may_replace part table label place e) (full_replacements e) v).0 h.1 in
+    λ c. (let g = (Contains-map (use_of e) kept u).0 c in
+        let v : Variant = g.0 in
+        let m = (Contains-filter (may_replace part table label place e) (full_replacements e) v).0 g.1 in
         let t = and_parts (part_has part v) (holds_for table label place e v.condition) m.1 in (
-          record { replacement = v; of_entry = m.0; of_part = t.0; held = (held_by table label place e v.condition within).0 t.1; is = ap (λ (x : Use). x.points) g.2 ∙ h.2 },
+          record { replacement = v; of_entry = m.0; of_part = t.0; held = (held_by table label place e v.condition within).0 t.1; is = ap (λ (x : Use). x.points) g.2 },
           ap (λ (x : Use). x.covers) g.2,
+          ap (λ (x : Use). x.kinds) g.2,
         )),
     λ g. (let r = g.0 in
         let v : Variant = r.replacement in
         let has : may_replace part table label place e v ≡ true = and_from (part_has part v) (holds_for table label place e v.condition) r.of_part ((held_by table label place e v.condition within).1 r.held) in
         let m : Contains kept v = (Contains-filter (may_replace part table label place e) (full_replacements e) v).1 (r.of_entry, has) in
-        let n : Contains (sequences_in kept) u.points = (Contains-map (λ (x : Variant). x.sequence) kept u.points).1 (v, m, r.is) in
-        (Contains-map (use_of e) (sequences_in kept) u).1 (u.points, n, ap (λ k. use_with k u.points) g.1)),
+        (Contains-map (use_of e) kept u).1 (v, m, ap (λ n. use_with n u.kinds u.points) g.1 ∙ ap (λ n. use_with (length e.source) n u.points) g.2 ∙ ap (use_with (length e.source) (kinds_of v)) r.is)),
   )
     where
       kept : List Variant
       kept = filter (may_replace part table label place e) (full_replacements e)
 
-      use_with : ℕ → List ℕ → Use
-      use_with n r = record { covers = n; points = r }
+      use_with : ℕ → ℕ → List ℕ → Use
+      use_with n k r = record { covers = n; kinds = k; points = r }
 
   pub uses_at-IsUseOf : (place : ℕ) (u : Use) → Contains (uses_at part table label place) u ↔ IsUseOf part table label place u
   uses_at-IsUseOf place u =
@@ -125,12 +125,12 @@ module _ (part : Part) (table : TableValue) (label : List ℕ) (formed : IsWellF
             let within = IsWithin-at table label place e formed m.0 in
             let t = and_parts (not e.outside) (holds_for table label place e e.condition) m.1 in
             let h = (Contains-of_entry place e u within.1).0 g.2 in
-            record { entry = e; at = m.0; inside = not-true e.outside t.0; held = (held_by table label place e e.condition within.1).0 t.1; replaces = h.0; covers = h.1 }),
+            record { entry = e; at = m.0; inside = not-true e.outside t.0; held = (held_by table label place e e.condition within.1).0 t.1; replaces = h.0; covers = h.1; kinds = h.2 }),
         λ i. (let e : Entry = i.entry in
             let within = IsWithin-at table label place e formed i.at in
             let stands : may_stand table label place e ≡ true = and_from (not e.outside) (holds_for table label place e e.condition) (ap not i.inside) ((held_by table label place e e.condition within.1).1 i.held) in
             (Contains-flat_map (uses_of_entry part table label place) standing u).1
-            (e, (Contains-filter (may_stand table label place) here e).1 (i.at, stands), (Contains-of_entry place e u within.1).1 (i.replaces, i.covers))),
+            (e, (Contains-filter (may_stand table label place) here e).1 (i.at, stands), (Contains-of_entry place e u within.1).1 (i.replaces, i.covers, i.kinds))),
       )
 
   -- a use of the table ends within the label
@@ -170,18 +170,20 @@ module _ (part : Part) (table : TableValue) (label : List ℕ) (formed : IsWellF
             subst (SpellsFrom part table label place) (sym g.2.1) (SpellsFrom-piece part table label place is.entry u.points w stands.0 is.inside is.held stands.1 is.replaces goes_on)),
         λ s. elim (SpellsFrom-cases part table label place v s) [
           | inl none ↦ absurd (omega (arith, whole, ap length none.0, length-drop place label))
-          | inr p ↦ first.0 (taken_up p (rest (use_of p.entry p.replacement) p.rest))
+          | inr p ↦ first.0 (taken_up p (rest (use_of p.entry p.replaces.replacement) p.rest))
         ],
       )
     where
-      taken_up : (p : FirstPiece part table label place v) → (Contains (uses_at part table label place) (use_of p.entry p.replacement)
+      taken_up : (p : FirstPiece part table label place v) → (Contains (uses_at part table label place) (use_of p.entry p.replaces.replacement)
           → UsesSpell (drop (length p.entry.source - 1) (uses_from part table label (suc place) n)) p.rest ↔ SpellsFrom part table label (place + length p.entry.source) p.rest)
           → SomeGives (UseSpells (uses_from part table label (suc place) n)) (uses_at part table label place) v
       taken_up p rest =
-          let u : Use = use_of p.entry p.replacement in
+          let r = p.replaces in
+          let u : Use = use_of p.entry r.replacement in
+          let same : Replaces part table label place p.entry u.points = record { replacement = r.replacement; of_entry = r.of_entry; of_part = r.of_part; held = r.held; is = refl } in
           let there : Contains (entries_at table.entries label place) p.entry = ((entries_are_at table.entries label place formed).members p.entry).1 (p.in_table, p.begins) in
-          let m : Contains (uses_at part table label place) u = (uses_at-IsUseOf place u).1 (record { entry = p.entry; at = there; inside = p.inside; held = p.held; replaces = p.replaces; covers = refl }) in
-          (u, m, (p.rest, p.joined, (rest m).1 p.goes_on))
+          let m : Contains (uses_at part table label place) u = (uses_at-IsUseOf place u).1 (record { entry = p.entry; at = there; inside = p.inside; held = p.held; replaces = same; covers = refl; kinds = refl }) in
+          (u, m, (p.rest, p.joined ∙ ap (λ s. s ++ p.rest) r.is, (rest m).1 p.goes_on))
 
   -- from each place on, the uses spell what the label spells
   pub UsesSpell-from : (place n : ℕ) (v : List ℕ) → place + n ≡ length label → UsesSpell (uses_from part table label place n) v ↔ SpellsFrom part table label place v

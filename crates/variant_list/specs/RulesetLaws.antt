@@ -2,7 +2,7 @@
 use Rattle.std.specs.Prelude.{◌≡◌, ◌↔◌, ℕ, Bool, List}
 use Rattle.variant_table.specs.declared.version.Version.TheVariants.{Three}
 use Rattle.variant_table.specs.Entries.{TableValue}
-use Rattle.variant_list.specs.declared.part.Part.{Part}
+use Rattle.variant_list.specs.Parts.{Part}
 use Rattle.variant_list.specs.Spelling.{PartSpells}
 use Rattle.variant_list.specs.Spelled.{part_spelled}
 use Rattle.variant_list.specs.Tested.{tested}

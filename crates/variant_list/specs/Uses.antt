@@ -1,37 +1,15 @@
--- The uses of a label: what may stand in the place of which of its code points. The net of a label is laid out from them.
-use Rattle.std.specs.Prelude.{◌≡◌, ℕ, zero, suc, ◌+◌, ◌-◌, ◌≤◌, Bool, not, ◌&&◌, Option, List, [], ◌∷◌, ◌++◌, length, drop, map, filter, sum_by, slice_index_or, Contains, All}
+-- The uses of a label under a table: what may stand in the place of which of its code points. The net of a label is laid out from them.
+use Rattle.std.specs.Prelude.{ℕ, zero, suc, ◌+◌, ◌-◌, Bool, not, ◌&&◌, Option, List, [], ◌∷◌, ◌++◌, length, map, filter, sum_by, slice_index_or}
 use Rattle.std.specs.List.{flat_map}
 use Rattle.label_patterns.specs.declared.condition.Condition.{Condition}
 use Rattle.label_patterns.specs.Tests.{condition_holds}
-use Rattle.variant_table.specs.Entries.{Entry, TableValue, Variant, sequences_in}
+use Rattle.variant_table.specs.Entries.{Entry, TableValue, Variant}
 use Rattle.variant_table.specs.Places.{entries_at}
 use Rattle.variant_table.specs.Segmentations.{seen_under}
-use Rattle.variant_list.specs.declared.part.Part.{Part}
-use Rattle.variant_list.specs.Parts.{full_replacements, part_has}
+use Rattle.reading_kinds.specs.Readings.{Use}
+use Rattle.variant_list.specs.Parts.{Part, full_replacements, kinds_of, part_has}
 
--- these code points may stand in the place of so many code points of a label
-pub record Use : Type 0 where
-  pub covers : ℕ
-  pub points : List ℕ
-
--- The uses of a label are a list for each of its places, in order, with those that begin there.
-
--- the label is cut into what these uses cover, each at the place at which the one before ends
-abbrev pub IsCut : List (List Use) → List Use → Type 0
-IsCut [] [] = Unit {0}
-IsCut [] (u ∷ cut) = ⊥
-IsCut (here ∷ later) [] = ⊥
-IsCut (here ∷ later) (u ∷ cut) = Contains here u × (u.covers ≤ length later + 1) × IsCut (drop u.covers (here ∷ later)) cut
-
--- what they put in the place of the label
-abbrev pub points_of : List Use → List ℕ
-points_of cut = flat_map (λ u. u.points) cut
-
--- the uses spell v: by some of them the label is cut, and they put v in its place
-abbrev pub UsesSpell : List (List Use) → List ℕ → Type 0
-UsesSpell uses v = (cut : List Use) × IsCut uses cut × (points_of cut ≡ v)
-
--- the same as a list that computes: from each place on what the uses spell, and at the end the empty label
+-- what uses spell, as a list that computes: from each place on what they spell, and at the end the empty label
 abbrev pub spelled_from_each : List (List Use) → List (List (List ℕ))
 spelled_from_each [] = ([] ∷ []) ∷ []
 spelled_from_each (here ∷ later) =
@@ -39,18 +17,6 @@ spelled_from_each (here ∷ later) =
 
 abbrev pub spelled_by : List (List Use) → List (List ℕ)
 spelled_by uses = slice_index_or (spelled_from_each uses) 0 []
-
--- a use that covers 1 to so many code points by 1 to 8
-pub record IsUse (room : ℕ) (u : Use) : Type 0 where
-  pub some : 1 ≤ u.covers
-  pub within : u.covers ≤ room
-  pub filled : 1 ≤ length u.points
-  pub short : length u.points ≤ 8
-
--- uses that end within the label, at most 136 at each place
-abbrev pub AreUses : List (List Use) → Type 0
-AreUses [] = Unit {0}
-AreUses (here ∷ later) = All (IsUse (length later + 1)) here × (length here ≤ 136) × AreUses later
 
 -- how many uses there are, and how many code points they have: each is an edge of the net
 abbrev pub use_count : List (List Use) → ℕ
@@ -69,8 +35,8 @@ use_places uses = length uses + 1 + use_edges uses - use_count uses
 -- ---- the uses of a label under a part of a table
 
 -- a replacement of the entry may stand in the place of its source
-abbrev pub use_of : Entry → List ℕ → Use
-use_of e r = record { covers = length e.source; points = r }
+abbrev pub use_of : Entry → Variant → Use
+use_of e r = record { covers = length e.source; kinds = kinds_of r; points = r.sequence }
 
 -- whether a condition holds in the label for the source of the entry, from the place on
 abbrev pub holds_for : TableValue → List ℕ → ℕ → Entry → Option Condition → Bool
@@ -86,7 +52,7 @@ abbrev pub may_replace : Part → TableValue → List ℕ → ℕ → Entry → 
 may_replace part table label place e r = part_has part r && holds_for table label place e r.condition
 
 abbrev pub uses_of_entry : Part → TableValue → List ℕ → ℕ → Entry → List Use
-uses_of_entry part table label place e = map (use_of e) (sequences_in (filter (may_replace part table label place e) (full_replacements e)))
+uses_of_entry part table label place e = map (use_of e) (filter (may_replace part table label place e) (full_replacements e))
 
 -- those at a place of the label
 abbrev pub uses_at : Part → TableValue → List ℕ → ℕ → List Use

@@ -1,18 +1,21 @@
 //! Laying out a net from the uses of a label: what may stand in the place of which of its code points. The last place of
-//! the label comes first. Where the uses come from is for the caller to know.
-ghost use Rattle.std.specs.Prelude.{◌≡◌, ◌≤◌, [], ◌∷◌, length, IfOk, OnOk};
+//! the label comes first.
+ghost use Rattle.std.specs.Prelude.{◌≡◌, ◌+◌, ◌<◌, ◌≤◌, [], ◌∷◌, length, IfOk, OnOk};
+ghost use Rattle.reading_kinds.specs.Readings.{AreUses, uses_at};
 ghost use Rattle.variant_list.specs.inner.Plans.{IsPlan};
 ghost use Rattle.variant_list.specs.inner.Layouts.{Draft, IsSound, IsLaid, HasTaken, HasEnded};
+ghost use Rattle.variant_list.specs.inner.NetPlans.{IsNetOf};
 
 use crate::edges::Edge;
 use crate::graph::Graph;
 use crate::layout::Layout;
+use reading_kinds::{KeptUses, UseView};
 use std::alloc::{AllocError, Global};
 use std::marker::Model;
 
 /// A net, as far as it has been laid out. After an error it is half done, and good for nothing but to be let go.
 #[derive(Drop)]
-pub(crate) struct NetDraft {
+struct NetDraft {
     layout: Layout,
     /// The places before the last code points of the label: before none of them, one, two, and so on.
     places: Vec<usize>,
@@ -28,10 +31,23 @@ impl Model for NetDraft {
     ghost invariant = { λ draft. Unit {0} };
 }
 
+/// The net of the uses of a label: a place for each of its beginnings, and a chain of edges for each use.
+pub(crate) fn lay_out(alloc: Global, uses: &KeptUses) -> Result<Graph, AllocError>
+    requires { AreUses uses.now }
+    ensures { IfOk result (IsNetOf uses.now) }
+{
+    let mut draft = NetDraft::new(alloc, uses.len())?;
+    for place in (0..uses.len()).rev() {
+        draft.add_uses(uses, place)?;
+        draft.end_place()?;
+    }
+    Ok(draft.finished())
+}
+
 impl NetDraft {
     /// A net with only the end of a label of so many code points. Memory for its places is taken at once, which is much
     /// faster than little by little.
-    pub(crate) fn new(alloc: Global, count: usize) -> Result<NetDraft, AllocError>
+    fn new(alloc: Global, count: usize) -> Result<NetDraft, AllocError>
         ensures { IfOk result (IsLaid []) }
     {
         let layout = Layout::new(alloc, count)?;
@@ -44,24 +60,37 @@ impl NetDraft {
         })
     }
 
-    /// Adds a use of the place that is being laid out: these points may stand in the place of so many code points of
-    /// the label, from there on.
-    #[inline]
-    pub(crate) fn add_use(&mut self, covers: usize, points: &[u32]) -> Result<(), AllocError>
+    /// Adds the uses of the place that is being laid out.
+    fn add_uses(&mut self, uses: &KeptUses, place: usize) -> Result<(), AllocError>
         requires sound { IsSound self.old }
-        requires some { 1 ≤ covers }
-        requires within { covers ≤ length self.old.places }
-        requires filled { 1 ≤ length points.now }
-        ensures { OnOk result (HasTaken self.old (record { covers = covers; points = points.now } ∷ []) self.new) }
+        requires uses { AreUses uses.now }
+        requires place { place < length uses.now }
+        requires count { place + length self.old.places ≡ length uses.now }
+        ensures { OnOk result (HasTaken self.old (uses_at uses.now place) self.new) }
     {
-        let to = self.places[self.places.len() - covers];
-        let edge = self.layout.add_chain(points, to)?;
+        for number in 0..uses.count_at(place) {
+            self.add_use(uses.get(place, number))?;
+        }
+        Ok(())
+    }
+
+    /// Adds a use of the place that is being laid out.
+    #[inline]
+    fn add_use(&mut self, found: UseView<'_>) -> Result<(), AllocError>
+        requires sound { IsSound self.old }
+        requires some { 1 ≤ found.covers }
+        requires within { found.covers ≤ length self.old.places }
+        requires filled { 1 ≤ length found.points.now }
+        ensures { OnOk result (HasTaken self.old (record { covers = found.entry.covers; kinds = found.entry.kinds; points = found.entry.points.now } ∷ []) self.new) }
+    {
+        let to = self.places[self.places.len() - found.covers];
+        let edge = self.layout.add_chain(found.points, to)?;
         self.begun.push(edge)?;
         Ok(())
     }
 
     /// Ends the place, which has no more uses, and goes on to the one before it.
-    pub(crate) fn end_place(&mut self) -> Result<(), AllocError>
+    fn end_place(&mut self) -> Result<(), AllocError>
         requires sound { IsSound self.old }
         ensures { OnOk result (HasEnded self.old self.new) }
     {
@@ -73,7 +102,7 @@ impl NetDraft {
     }
 
     /// The net of the places that are done, from the last one on.
-    pub(crate) fn finished(self) -> Graph
+    fn finished(self) -> Graph
         requires { IsPlan self.plan }
         ensures { result ≡ self.plan }
     {

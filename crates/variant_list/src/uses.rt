@@ -1,99 +1,80 @@
-//! The uses of a label under a part of a table, and the net that is laid out from them.
-ghost use Rattle.std.specs.Prelude.{◌≡◌, ◌+◌, ◌<◌, ◌≤◌, map, length, slice_get, None, Some, All, Contains, IfOk, OnOk};
-ghost use Rattle.variant_table.specs.Entries.{replacements, whole};
-ghost use Rattle.variant_table.specs.WellFormed.{IsSequence, IsWellFormed};
-ghost use Rattle.variant_list.specs.declared.part.Part.TheVariants.{Whole};
-ghost use Rattle.variant_list.specs.Parts.{are_of, full_replacements, part_has};
-ghost use Rattle.variant_list.specs.Uses.{holds_for, may_stand, may_replace, use_of, uses_of_entry, uses_at, uses_of};
+//! The uses of a label under a table: what may stand in the place of which of its code points.
+ghost use Rattle.std.specs.Prelude.{◌≡◌, ◌+◌, ◌<◌, ◌≤◌, not, ◌&&◌, map, length, slice_get, Some, Contains, IfOk, OnOk};
+ghost use Rattle.variant_table.specs.Entries.{Variant, replacements, whole};
+ghost use Rattle.variant_table.specs.WellFormed.{IsWellFormed};
+ghost use Rattle.reading_kinds.specs.Drafts.{with_uses};
+ghost use Rattle.reading_kinds.specs.Readings.{AreUses};
+ghost use Rattle.variant_list.specs.Parts.{are_of, full_replacements, kinds_of};
+ghost use Rattle.variant_list.specs.Parts.Part.{Whole};
+ghost use Rattle.variant_list.specs.Uses.{holds_for, may_stand, may_replace, uses_of_entry, uses_at, uses_of};
 ghost use Rattle.variant_list.specs.inner.Asking.{CanAsk};
-ghost use Rattle.variant_list.specs.inner.NetPlans.{IsNetOf};
-ghost use Rattle.variant_list.specs.inner.Layouts.{IsSound, HasTaken};
 
-use crate::draft::NetDraft;
-use crate::graph::Graph;
-use crate::part::Part;
 use label_patterns::{SeenLabel, condition_holds};
+use reading_kinds::{KeptUses, UsesDraft};
 use std::alloc::{AllocError, Global};
 use variant_table::{Entry, Table};
 
-/// The net of a label of at most 63 code points: a place for each of its beginnings, and a chain of edges for each
-/// replacement that the part has of each entry at a place, as far as their conditions hold in the label.
-pub(crate) fn lay_out<'a>(
+/// The kind of what is blocked. The kinds after it are those of what isn't in the sub-tables of the tags, in their order.
+pub const BLOCKED: u32 = 0;
+
+/// How many kinds there are: a table has at most 8 tags.
+const KINDS: u8 = 9;
+
+/// The uses of a label: those of each of its places are the replacements of each entry there, as far as their conditions
+/// hold in the label.
+pub fn uses_of<'a>(
     alloc: Global,
     table: &'a Table,
-    part: Part,
     label: &'a [u32],
-) -> Result<Graph, AllocError>
-    requires short { length label.now ≤ 63 }
-    ensures net { IfOk result (IsNetOf (uses_of part table.now label.now)) }
+) -> Result<KeptUses, AllocError>
+    requires { length label.now ≤ 63 }
+    ensures uses { IfOk result (λ uses. uses ≡ uses_of Whole table.now label.now) }
+    ensures fit { IfOk result (λ uses. AreUses uses) }
+    ensures places { IfOk result (λ uses. length uses ≡ length label.now) }
     ensures well_formed { IsWellFormed table.now.entries }
 {
     // Only for the proof: the contract of `len` says that a table is well-formed, so no source is empty.
     let _entries = table.len();
     if !table.has_conditions() {
         let seen = None;
-        return lay_out_uses(
-            alloc,
-            &Uses {
-                table,
-                part,
-                label,
-                seen,
-            },
-        );
+        return Uses { table, label, seen }.found(alloc);
     }
     // The sets of the table are looked up in the label once, for all its conditions.
     let sets = table.definitions().sets();
     let mut masks = vec![in alloc; 0; sets.len()]?;
     let seen = Some(SeenLabel::new(sets, label, &mut masks));
-    lay_out_uses(
-        alloc,
-        &Uses {
-            table,
-            part,
-            label,
-            seen,
-        },
-    )
+    Uses { table, label, seen }.found(alloc)
 }
 
-/// The net of these uses.
-fn lay_out_uses(alloc: Global, uses: &Uses<'_>) -> Result<Graph, AllocError>
-    requires asked { CanAsk uses.now.table.now uses.now.label.now uses.now.seen }
-    ensures { IfOk result (IsNetOf (uses_of uses.now.part uses.now.table.now uses.now.label.now)) }
-{
-    let len = uses.label.len();
-    let mut draft = NetDraft::new(alloc, len)?;
-    for count in 0..len {
-        uses.add_at(&mut draft, len - count - 1)?;
-        draft.end_place()?;
-    }
-    Ok(draft.finished())
-}
-
-/// What tells the uses of a label under a part of a table.
+/// What tells the uses of a label under a table.
 #[derive(Drop)]
 struct Uses<'a> {
     table: &'a Table,
-    part: Part,
     label: &'a [u32],
     /// The label as conditions are asked of it. Without it the table has no conditions.
     seen: Option<SeenLabel<'a>>,
 }
 
 impl<'a> Uses<'a> {
-    /// Adds the uses that begin at a place of the label.
-    fn add_at(&self, draft: &mut NetDraft, place: usize) -> Result<(), AllocError>
+    /// The uses, place by place.
+    fn found(&self, alloc: Global) -> Result<KeptUses, AllocError>
         requires asked { CanAsk self.now.table.now self.now.label.now self.now.seen }
-        requires sound { IsSound draft.old }
-        requires place { place < length self.now.label.now }
-        requires count { place + length draft.old.places ≡ length self.now.label.now }
-        ensures { OnOk result (HasTaken draft.old (uses_at self.now.part self.now.table.now self.now.label.now place) draft.new) }
+        ensures { IfOk result (λ uses. uses ≡ uses_of Whole self.now.table.now self.now.label.now) }
     {
-        // Of a whole table without conditions nothing is asked.
-        if self.seen.is_none() && matches!(self.part, Part::Whole) {
-            return add_all_at(draft, self.table, self.label, place);
+        let mut draft = UsesDraft::new(alloc);
+        for place in 0..self.label.len() {
+            self.add_at(&mut draft, place)?;
+            draft.end_place()?;
         }
+        Ok(draft.finished())
+    }
+
+    /// Adds the uses that begin at a place of the label.
+    fn add_at(&self, draft: &mut UsesDraft, place: usize) -> Result<(), AllocError>
+        requires asked { CanAsk self.now.table.now self.now.label.now self.now.seen }
+        requires place { place < length self.now.label.now }
+        ensures { OnOk result (draft.new ≡ with_uses draft.old (uses_at Whole self.now.table.now self.now.label.now place)) }
+    {
         for entry in self.table.entries_at(self.label, place) {
             if self.may_stand(&entry, place) {
                 self.add_entry(draft, &entry, place)?;
@@ -113,26 +94,23 @@ impl<'a> Uses<'a> {
         !entry.is_outside() && self.holds_for(entry, 0, place)
     }
 
-    /// Adds the uses of an entry: each of its replacements that the part has, and whose condition holds, may stand in
-    /// the place of its source.
+    /// Adds the uses of an entry: each of its replacements whose condition holds may stand in the place of its source.
     fn add_entry(
         &self,
-        draft: &mut NetDraft,
+        draft: &mut UsesDraft,
         entry: &Entry<'_>,
         place: usize,
     ) -> Result<(), AllocError>
         requires asked { CanAsk self.now.table.now self.now.label.now self.now.seen }
         requires in_table { Contains self.now.table.now.entries entry.now }
         requires within { place + length entry.now.source ≤ length self.now.label.now }
-        requires sound { IsSound draft.old }
-        requires sequences { All IsSequence (replacements entry.now) }
-        requires room { length entry.now.source ≤ length draft.old.places }
-        ensures { OnOk result (HasTaken draft.old (uses_of_entry self.now.part self.now.table.now self.now.label.now place entry.now) draft.new) }
+        ensures { OnOk result (draft.new ≡ with_uses draft.old (uses_of_entry Whole self.now.table.now self.now.label.now place entry.now)) }
     {
         let covers = entry.source().len();
         for number in 0..entry.replacements() {
             if self.may_replace(entry, number, place) {
-                draft.add_use(covers, entry.replacement(number))?;
+                let kinds = kinds_of(entry.blocked(number), entry.tags(number));
+                draft.add(covers, kinds, entry.replacement(number))?;
             }
         }
         Ok(())
@@ -144,11 +122,10 @@ impl<'a> Uses<'a> {
         requires number { number < length (replacements entry.now) }
         requires in_table { Contains self.now.table.now.entries entry.now }
         requires within { place + length entry.now.source ≤ length self.now.label.now }
-        ensures { slice_get (map (may_replace self.now.part self.now.table.now self.now.label.now place entry.now) (full_replacements entry.now)) number ≡ Some result }
+        ensures { slice_get (map (may_replace Whole self.now.table.now self.now.label.now place entry.now) (full_replacements entry.now)) number ≡ Some result }
     {
         // The source has its condition as a source, and none as a replacement of itself.
-        has_replacement(self.part, entry, number)
-            && (number == 0 || self.holds_for(entry, number, place))
+        number == 0 || self.holds_for(entry, number, place)
     }
 
     /// Whether the condition of the source or variant of this number holds for the source, which begins at this place.
@@ -168,56 +145,25 @@ impl<'a> Uses<'a> {
     }
 }
 
-/// Adds the uses of a table without conditions that begin at a place of the label.
-fn add_all_at(
-    draft: &mut NetDraft,
-    table: &Table,
-    label: &[u32],
-    place: usize,
-) -> Result<(), AllocError>
-    requires free { CanAsk table.now label.now None }
-    requires sound { IsSound draft.old }
-    requires place { place < length label.now }
-    requires count { place + length draft.old.places ≡ length label.now }
-    ensures { OnOk result (HasTaken draft.old (uses_at Whole table.now label.now place) draft.new) }
+/// The kinds of a replacement that is blocked or not, and has these tags, each a bit.
+fn kinds_of(is_blocked: bool, tags: &[u8]) -> u64
+    ensures { (r : Variant) → r.marked ≡ is_blocked → r.tags ≡ tags.now → result ≡ kinds_of r }
 {
-    for entry in table.entries_at(label, place) {
-        if !entry.is_outside() {
-            add_all(draft, &entry)?;
+    if !is_blocked && tags.is_empty() {
+        return 0;
+    }
+    let mut kinds = u64::from(is_blocked);
+    for kind in BLOCKED as u8 + 1..KINDS {
+        if !is_in_sub_table(is_blocked, tags, kind - 1) {
+            kinds |= 1 << kind;
         }
     }
-    Ok(())
+    kinds
 }
 
-/// Adds a use for each replacement of an entry.
-fn add_all(draft: &mut NetDraft, entry: &Entry<'_>) -> Result<(), AllocError>
-    requires sound { IsSound draft.old }
-    requires sequences { All IsSequence (replacements entry.now) }
-    requires room { length entry.now.source ≤ length draft.old.places }
-    ensures { OnOk result (HasTaken draft.old (map (use_of entry.now) (replacements entry.now)) draft.new) }
+/// Whether such a replacement is in the sub-table of the tag of this number. One without tags is in each.
+fn is_in_sub_table(is_blocked: bool, tags: &[u8], tag: u8) -> bool
+    ensures { result ≡ (not is_blocked && are_of tag tags.now) }
 {
-    let covers = entry.source().len();
-    for number in 0..entry.replacements() {
-        draft.add_use(covers, entry.replacement(number))?;
-    }
-    Ok(())
-}
-
-/// Whether the part has the replacement of this number.
-fn has_replacement(part: Part, entry: &Entry<'_>, number: usize) -> bool
-    requires { number < length (replacements entry.now) }
-    ensures { slice_get (map (part_has part) (full_replacements entry.now)) number ≡ Some result }
-{
-    match part {
-        Part::Whole => true,
-        Part::Unblocked => !entry.blocked(number),
-        Part::Tagged(tag) => !entry.blocked(number) && are_of_tag(entry.tags(number), tag),
-    }
-}
-
-/// Whether a sequence with these tags is in the sub-table of the tag of this number: one without tags is in each.
-fn are_of_tag(tags: &[u8], tag: u8) -> bool
-    ensures { result ≡ are_of tag tags.now }
-{
-    tags.is_empty() || tags.contains(&tag)
+    !is_blocked && (tags.is_empty() || tags.contains(&tag))
 }

@@ -25,7 +25,7 @@ ghost use Rattle.idn2_output.specs.Writing.{Emits, StopsForMemory};
 ghost use Rattle.idn2_output.specs.declared.stop.Stop.TheVariants as stop;
 
 use crate::modes::admission::{lesser, lost_by, validity_by};
-use crate::modes::allocations::Allocations;
+use crate::modes::allocation_test::AllocationTest;
 use crate::modes::asked::Asked;
 use crate::modes::dispositions::Dispositions;
 use crate::modes::kept_line::KeptLine;
@@ -49,7 +49,7 @@ pub(crate) fn write_block<W: Sink, E: Sink>(
     options: &Options,
     net: &Net,
     validity: Option<ValidityTest<'_>>,
-    dispositions: &mut Dispositions<Allocations>,
+    dispositions: &mut Dispositions<AllocationTest<'_>>,
     console: &mut Console<'_, '_, W, E>,
 ) -> Result<(), Stop>
     requires few { length asked.now.text.now ≤ MAX_LINE_LEN }

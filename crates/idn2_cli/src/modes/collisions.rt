@@ -13,7 +13,7 @@ ghost use Rattle.idn2_output.specs.Writing.{Emits};
 ghost use Rattle.idn2_output.specs.declared.stop.Stop.TheVariants as stop;
 
 use crate::modes::admission::is_valid_by;
-use crate::modes::allocations::Allocations;
+use crate::modes::allocation_test::AllocationTest;
 use crate::modes::asked::Asked;
 use crate::modes::block::{is_reached, write_end, write_stop, write_variant};
 use crate::modes::dispositions::Dispositions;
@@ -36,7 +36,7 @@ pub(crate) fn write_collisions<W: Sink, E: Sink>(
     net: &Net,
     registered: &RegisteredLabels<'_>,
     validity: &mut Option<ValidityTest<'_>>,
-    dispositions: &mut Dispositions<Allocations>,
+    dispositions: &mut Dispositions<AllocationTest<'_>>,
     console: &mut Console<'_, '_, W, E>,
 ) -> Result<(), Stop>
     requires few { length asked.now.text.now ≤ MAX_LINE_LEN }

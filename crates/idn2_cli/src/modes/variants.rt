@@ -21,7 +21,7 @@ ghost use Rattle.idn2_cli.specs.inner.Ruling.{KeepsOf, filter_by, ruling_in, rul
 ghost use Rattle.idn2_cli.specs.inner.ServedLines.{result_of};
 
 use crate::modes::admission::{admitted_net, validity_test_by};
-use crate::modes::allocations::{Allocations, SubTables};
+use crate::modes::allocation_test::AllocationTest;
 use crate::modes::answering::{Served, answered, refused};
 use crate::modes::asked::Asked;
 use crate::modes::block::write_block;
@@ -44,7 +44,7 @@ use variant_table::Table;
 pub(crate) struct Variants<'t, 'p, 'r, 'b> {
     pub table: &'t Table,
     pub ruling: &'p Option<Pieces<'t>>,
-    pub dispositions: &'t Dispositions<SubTables>,
+    pub dispositions: &'t Dispositions<()>,
     pub options: &'t Options,
     pub registered: Option<&'r RegisteredLabels<'b>>,
 }
@@ -84,7 +84,7 @@ fn write_block_or_collisions<W: Sink, E: Sink>(
     asked: &Asked<'_>,
     net: &Net,
     mut validity: Option<ValidityTest<'_>>,
-    dispositions: &mut Dispositions<Allocations>,
+    dispositions: &mut Dispositions<AllocationTest<'_>>,
     console: &mut Console<'_, '_, W, E>,
 ) -> Result<(), Stop>
     requires few { length asked.now.text.now ≤ MAX_LINE_LEN }

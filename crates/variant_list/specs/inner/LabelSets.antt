@@ -7,7 +7,7 @@ use Rattle.label_patterns.specs.Conditions.{ConditionHolds}
 use Rattle.variant_table.specs.Entries.{Entry, TableValue, Variant}
 use Rattle.variant_table.specs.Segmentations.{seen_under}
 use Rattle.variant_list.specs.Labels.{IsRising}
-use Rattle.variant_list.specs.declared.part.Part.TheVariants.{Whole}
+use Rattle.variant_list.specs.Parts.Part.{Whole}
 use Rattle.variant_list.specs.Parts.{full_replacements}
 use Rattle.variant_list.specs.inner.Places.{SpellsFrom}
 use Rattle.variant_list.specs.LabelSet.{labels_of}

@@ -1,7 +1,8 @@
 -- The net of a label as places and edges, and the labels that it spells as a list.
 use Rattle.std.specs.Prelude.{◌≡◌, ℕ, zero, suc, ◌+◌, ◌-◌, ◌≤◌, ◌↔◌, List, [], ◌∷◌, ◌++◌, length, take, drop, map, slice_index}
 use Rattle.std.specs.List.{flat_map}
-use Rattle.variant_list.specs.Uses.{Use, UsesSpell, use_edges, use_count}
+use Rattle.reading_kinds.specs.Readings.{Use, UsesSpell}
+use Rattle.variant_list.specs.Uses.{use_edges, use_count}
 use Rattle.variant_list.specs.Positions.{Built}
 use Rattle.variant_list.specs.declared.edges.Edge.{Edge}
 use Rattle.variant_list.specs.inner.Plans.{Plan, Reads, first_place}

@@ -3,7 +3,7 @@ use Rattle.std.specs.Prelude.{◌≡◌, ℕ, false, List, drop, Contains}
 use Rattle.std.specs.List.{flat_map, AllByRecursion}
 use Rattle.variant_table.specs.Entries.{Entry, TableValue}
 use Rattle.variant_table.specs.Segmentations.{AllHold, seen_under}
-use Rattle.variant_list.specs.declared.part.Part.{Part}
+use Rattle.variant_list.specs.Parts.{Part}
 use Rattle.variant_list.specs.Spelling.{JoinsReplacements}
 
 -- a segmentation of the label from the place on: entries whose sources, joined, are the rest of the label, and which may stand there

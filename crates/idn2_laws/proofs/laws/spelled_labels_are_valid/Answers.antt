@@ -1,5 +1,5 @@
 use Rattle.valid_labels.proofs.NothingLemmas.{nothing-is-asked}
-use Rattle.variant_list.specs.declared.part.Part.TheVariants.{Whole}
+use Rattle.variant_list.specs.Parts.Part.{Whole}
 use Rattle.variant_list.proofs.SpellingLemmas.{PartSpells-made}
 use Rattle.idn2_laws.proofs.laws.spelled_labels_are_valid.Goals as goal
 

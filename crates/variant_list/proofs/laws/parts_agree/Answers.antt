@@ -1,5 +1,5 @@
 use Rattle.std.proofs.Common.{refl}
-use Rattle.variant_list.specs.declared.part.Part.TheVariants.{Unblocked}
+use Rattle.variant_list.specs.Parts.Part.{Unblocked}
 use Rattle.variant_list.proofs.PartLemmas.{PartSpells-Unblocked, PartSpells-Tagged, PartSpells-untagged, Spells-of_part}
 use Rattle.variant_list.proofs.SpellingLemmas.{PartSpells-itself}
 use Rattle.variant_list.proofs.laws.parts_agree.Goals as goal

@@ -4,6 +4,7 @@ use Rattle.idn_class.specs.declared.properties.Properties.{Properties}
 use Rattle.idn_class.specs.Known.{AreKnown}
 use Rattle.idn_class.proofs.KnownLemmas.{AreKnown-nil}
 use Rattle.idn_label.specs.FirstFault.{IsRegistrable}
+use Rattle.idn_label.proofs.RequirementLemmas.{MeetsRequirements-registrable}
 use Rattle.variant_list.specs.Steps.{IfDecided, Decides, SeeksOver, moved_over}
 use Rattle.variant_list.specs.declared.cursor.Outcome.{Outcome}
 use Rattle.variant_list.specs.declared.cursor.Outcome.TheVariants as outcome
@@ -20,8 +21,7 @@ use Rattle.idn2_answers.specs.Answers.{Filter}
 use Rattle.idn2_cli.specs.inner.Ruling.{filter_by, ruling_in}
 use Rattle.idn2_answers.specs.Said.{Said, Listed, said_text}
 use Rattle.idn2_cli.specs.inner.Asked.{asked_line}
-use Rattle.idn2_cli.specs.inner.Allocations.{Allowed}
-use Rattle.idn2_cli.specs.inner.Dispositions.{field_by}
+use Rattle.idn2_cli.specs.inner.Dispositions.{Asked, field_by}
 use Rattle.idn2_cli.specs.inner.LineAnswers.{reaches}
 use Rattle.idn2_output.specs.Pieces.{Output}
 use Rattle.idn2_cli.proofs.RuledFilters.{filter_by-IsSound}
@@ -52,8 +52,8 @@ same_filters j f same_labels same_beginnings =
     ∙ ap (λ (h : List ℕ → Bool). let made : Filter = record { accepts = f.accepts; hopeless = h } in made) same_beginnings
 
 -- the disposition is told by what does not change
-told : {field : Option Disposition} {now first : Dispositions Allowed} (v : List ℕ) → field ≡ field_by now v → now ≡ first → field ≡ field_by first v
-told v is same = is ∙ ap (λ (d : Dispositions Allowed). field_by d v) same
+told : {field : Option Disposition} {now first : Dispositions Asked} (v : List ℕ) → field ≡ field_by now v → now ≡ first → field ≡ field_by first v
+told v is same = is ∙ ap (λ (d : Dispositions Asked). field_by d v) same
 
 -- what is said with the same disposition
 line_is : (text : Said → List ℕ) (v : List ℕ) {f g : Option Disposition} → f ≡ g → text (Listed f v) ≡ text (Listed g v)
@@ -150,6 +150,13 @@ pub returns-in_err-seek-clause-begun : goal.returns-in_err-seek-clause-begun
 returns-in_err-seek-clause-begun g c = λ _. inr (λ none. not_ok c.in_err-seek.was (c.seek.ensures.no_memory (subst (λ (f : Filter). All NeedsNoMemory (tested_ahead f.hopeless c.variants.cursor)) (sym c.variants.invariant.same_filter) (c.variants.invariant.listing.no_memory none))))
 
 -- the variant that is found may be registered
+pub of_variant-disposition-requires : goal.of_variant-disposition-requires
+of_variant-disposition-requires g c =
+    let found = found-from (filter_by c.args.options.now.properties (ruling_in c.args.validity)) c.variants.cursor c.seek.new.self c.variants.tries c.seek.new.tries c.variants.steps c.seek.new.steps c.seek.result c.in_ok-seek.field-0 c.in_ok-seek.was (decided_by (filter_by c.variants.judge.properties (ruling_in c.variants.judge.validity)) (filter_by c.args.options.now.properties (ruling_in c.args.validity)) c.variants.cursor c.variants.tries c.seek.new.tries c.seek.result c.variants.invariant.same_filter c.seek.ensures.decided) (moves_by (filter_by c.variants.judge.properties (ruling_in c.variants.judge.validity)) (filter_by c.args.options.now.properties (ruling_in c.args.validity)) (c.variants.tries - c.seek.new.tries) c.seek.result c.variants.cursor c.seek.new.self c.variants.invariant.same_filter c.seek.ensures.moves) (steps_by (filter_by c.variants.judge.properties (ruling_in c.variants.judge.validity)) (filter_by c.args.options.now.properties (ruling_in c.args.validity)) c.variants.cursor c.seek.new.self c.variants.steps c.seek.new.steps c.seek.result c.variants.invariant.same_filter c.seek.ensures.steps) c.in-Found.is in
+    let registrable = (filter_by-IsSound c.args.options.now.properties (ruling_in c.args.validity)).registrable _ found.found.accepted in
+    (MeetsRequirements-registrable c.args.options.now.properties c.last-variant.result.now
+    (subst (IsRegistrable c.args.options.now.properties) (sym (c.last-variant.ensures.value ∙ found.last)) registrable)).points
+
 pub write_variant-requires-clause-registrable : goal.write_variant-requires-clause-registrable
 write_variant-requires-clause-registrable g c =
     let found = found-from (filter_by c.args.options.now.properties (ruling_in c.args.validity)) c.variants.cursor c.seek.new.self c.variants.tries c.seek.new.tries c.variants.steps c.seek.new.steps c.seek.result c.in_ok-seek.field-0 c.in_ok-seek.was (decided_by (filter_by c.variants.judge.properties (ruling_in c.variants.judge.validity)) (filter_by c.args.options.now.properties (ruling_in c.args.validity)) c.variants.cursor c.variants.tries c.seek.new.tries c.seek.result c.variants.invariant.same_filter c.seek.ensures.decided) (moves_by (filter_by c.variants.judge.properties (ruling_in c.variants.judge.validity)) (filter_by c.args.options.now.properties (ruling_in c.args.validity)) (c.variants.tries - c.seek.new.tries) c.seek.result c.variants.cursor c.seek.new.self c.variants.invariant.same_filter c.seek.ensures.moves) (steps_by (filter_by c.variants.judge.properties (ruling_in c.variants.judge.validity)) (filter_by c.args.options.now.properties (ruling_in c.args.validity)) c.variants.cursor c.seek.new.self c.variants.steps c.seek.new.steps c.seek.result c.variants.invariant.same_filter c.seek.ensures.steps) c.in-Found.is in (

@@ -13,8 +13,7 @@ use Rattle.idn2_cli.proofs.RuledFilters.{accepts-failed, accepts-passed}
 use Rattle.idn2_cli.proofs.RulingLemmas.{kept-shared}
 use Rattle.idn2_answers.specs.Said.{Said, Listed, said_text}
 use Rattle.idn2_cli.specs.inner.Asked.{asked_line}
-use Rattle.idn2_cli.specs.inner.Allocations.{Allowed}
-use Rattle.idn2_cli.specs.inner.Dispositions.{field_by}
+use Rattle.idn2_cli.specs.inner.Dispositions.{Asked, field_by}
 use Rattle.idn2_cli.specs.inner.KeptLines.{IsBegun}
 use Rattle.idn2_cli.specs.declared.modes.dispositions.Dispositions.{Dispositions}
 use Rattle.idn2_cli.specs.inner.LineAnswers.{reaches}
@@ -24,8 +23,8 @@ use Rattle.idn2_cli.proofs.CollisionSteps.{under_way-passed, under_way-start, un
 use Rattle.idn2_cli.proofs.modes.collisions.write_collisions.Goals as goal
 
 -- the disposition is told by what does not change
-told : {field : Option Disposition} {now first : Dispositions Allowed} (v : List ℕ) → field ≡ field_by now v → now ≡ first → field ≡ field_by first v
-told v is same = is ∙ ap (λ (d : Dispositions Allowed). field_by d v) same
+told : {field : Option Disposition} {now first : Dispositions Asked} (v : List ℕ) → field ≡ field_by now v → now ≡ first → field ≡ field_by first v
+told v is same = is ∙ ap (λ (d : Dispositions Asked). field_by d v) same
 
 -- what is said with the same disposition
 line_is : (text : Said → List ℕ) (v : List ℕ) {f g : Option Disposition} → f ≡ g → text (Listed f v) ≡ text (Listed g v)
@@ -115,6 +114,11 @@ collisions-preserved-then-not-is_valid_by g c =
       begun = subst (λ (v : List ℕ). IsBegun v c.keep.new.self) at
           (c.keep.ensures.begun c.collisions.search.label c.label-label.result.now c.collisions.invariant.begun (c.in-Some.ensures.shared ∙ ap (take c.in-Some.shared) (sym at)));
     }
+
+pub of_variant-disposition-requires : goal.of_variant-disposition-requires
+of_variant-disposition-requires g c =
+    (MeetsRequirements-registrable c.args.options.now.properties c.label-label.result.now
+    (under_way-registrable c.args.options.now.properties (filter_by c.args.options.now.properties (ruling_in c.args.validity.now)) (said_text c.args.asked.now.form (asked_line c.args.asked.now)) (field_by c.args.dispositions.now) c.collisions.search c.advance.new.self c.label-label.result.now c.collisions.invariant.under_way c.in-Some.ensures.goes_on.found c.label-label.ensures)).points
 
 pub is_valid_by-requires-clause-short : goal.is_valid_by-requires-clause-short
 is_valid_by-requires-clause-short g c =

@@ -1,19 +1,15 @@
-use Rattle.std.proofs.Common.{◌≡◌, ℕ, ◌+◌, ◌≤◌, Bool, true, false, List, ◌∷◌, length, refl, sym, ap, subst, ◌∙◌, arith}
-use Rattle.std.specs.Prelude.{Option, None, Some, not, OnOk}
-use Rattle.std.specs.Option.{is_some}
+use Rattle.std.proofs.Common.{◌≡◌, ℕ, ◌+◌, ◌≤◌, Bool, true, false, List, ◌∷◌, length, sym, subst, ◌∙◌}
 use Rattle.std.specs.List.{Contains, filter, flat_map}
-use Rattle.std.proofs.lemmas.List.Elements.{All-contains}
 use Rattle.variant_table.specs.Entries.{Entry, TableValue}
 use Rattle.variant_table.specs.Places.{entries_at}
-use Rattle.variant_table.specs.WellFormed.{IsEntry, IsWellFormed}
+use Rattle.variant_table.specs.WellFormed.{IsWellFormed}
 use Rattle.variant_table.proofs.BeginningLemmas.{entries_are_at}
-use Rattle.variant_list.specs.declared.part.Part.{Part}
-use Rattle.variant_list.specs.inner.Asking.{CanAsk}
-use Rattle.variant_list.specs.inner.Layouts.{Draft, HasTaken}
-use Rattle.variant_list.specs.Uses.{Use, may_stand, uses_of_entry, uses_at}
-use Rattle.variant_list.proofs.TakenUses.{HasEntries, HasEntries-more, HasEntries-skip, HasEntries-next, HasEntries-all}
+use Rattle.variant_list.specs.Parts.Part.{Whole}
+use Rattle.reading_kinds.specs.Drafts.{Draft, with_uses}
+use Rattle.reading_kinds.specs.Readings.{Use}
+use Rattle.variant_list.specs.Uses.{may_stand, uses_of_entry}
+use Rattle.variant_list.proofs.TakenUses.{HasEntries, HasEntries-none, HasEntries-more, HasEntries-skip, HasEntries-next, HasEntries-all}
 use Rattle.variant_list.proofs.UsesLemmas.{IsWithin-at}
-use Rattle.variant_list.proofs.uses.Uses.add_at.Goals.{in-Whole, in_default}
 use Rattle.variant_list.proofs.uses.Uses.add_at.Goals as goal
 
 -- an entry at the place
@@ -22,77 +18,53 @@ record Here (table : TableValue) (label : List ℕ) (place : ℕ) (e : Entry) : 
   within : place + length e.source ≤ length label
 
 -- the next entry of a look over those at the place
-next : (part : Part) (table : TableValue) (label : List ℕ) (place : ℕ) (all given left : List Entry) (e : Entry) (rest : List Entry) (old new : Draft) → IsWellFormed table.entries → all ≡ given → given ≡ entries_at table.entries label place
-    → HasEntries (may_stand table label place) (uses_of_entry part table label place) all left old new → left ≡ e ∷ rest → Here table label place e
-next part table label place all given left e rest old new formed same listed h steps =
-    let m = HasEntries-next (may_stand table label place) (uses_of_entry part table label place) all left e rest old new h steps in
+next : (table : TableValue) (label : List ℕ) (place : ℕ) (all given left : List Entry) (e : Entry) (rest : List Entry) (old new : Draft) → IsWellFormed table.entries → all ≡ given → given ≡ entries_at table.entries label place
+    → HasEntries (may_stand table label place) (uses_of_entry Whole table label place) all left old new → left ≡ e ∷ rest → Here table label place e
+next table label place all given left e rest old new formed same listed h steps =
+    let m = HasEntries-next (may_stand table label place) (uses_of_entry Whole table label place) all left e rest old new h steps in
     let at : Contains (entries_at table.entries label place) e = subst (λ es. Contains es e) (same ∙ listed) m in
     record { in_table = (((entries_are_at table.entries label place formed).members e).0 at).0; within = (IsWithin-at table label place e formed at).1 }
 
-none_of : {X : Type 0} (o : Option X) → is_some o ≡ false → o ≡ None
-none_of None is = refl
-none_of (Some x) is = absurd (let clash : true ≡ false = is in cc)
-
-pub add_all_at-requires-clause-free : goal.add_all_at-requires-clause-free
-add_all_at-requires-clause-free c =
-    subst (CanAsk c.args.self.now.table.now c.args.self.now.label.now) (none_of c.args.self.now.seen (c.is_none.ensures ∙ ap not c.if-is_none.true)) c.requires.asked
-
-pub returns-then-matches : goal.returns-then-matches
-returns-then-matches c =
-    let table : TableValue = c.args.self.now.table.now in
-    let label : List ℕ = c.args.self.now.label.now in
-    elim c.match-matches.branch [
-      | in-Whole w ↦ subst (λ (part : Part). OnOk c.add_all_at.result (HasTaken c.args.draft.now (uses_at part table label c.args.place) c.add_all_at.new.draft)) (sym w.in-Whole.is) c.add_all_at.ensures
-      | in_default w ↦ absurd (let clash : false ≡ true = sym w.matches-is ∙ c.if-matches.true in cc)
-    ]
-
 pub may_stand-requires-clause-in_table : goal.may_stand-requires-clause-in_table
 may_stand-requires-clause-in_table c =
-    (next c.args.self.now.part c.args.self.now.table.now c.args.self.now.label.now c.args.place c.into_iter-entry-iterator.result c.entries_at-entry-items.result c.loop-entry.entry-iterator c.in-Some.entry c.next.new.self c.args.draft.now c.loop-entry.draft
+    (next c.args.self.now.table.now c.args.self.now.label.now c.args.place c.into_iter-entry-iterator.result c.entries_at-entry-items.result c.loop-entry.entry-iterator c.in-Some.entry c.next.new.self c.args.draft.now c.loop-entry.draft
     c.entries_at-entry-items.ensures.well_formed c.into_iter-entry-iterator.ensures.into_iter_gives c.entries_at-entry-items.ensures.list c.loop-entry.invariant c.in-Some.ensures.steps).in_table
 
 pub may_stand-requires-clause-within : goal.may_stand-requires-clause-within
 may_stand-requires-clause-within c =
-    (next c.args.self.now.part c.args.self.now.table.now c.args.self.now.label.now c.args.place c.into_iter-entry-iterator.result c.entries_at-entry-items.result c.loop-entry.entry-iterator c.in-Some.entry c.next.new.self c.args.draft.now c.loop-entry.draft
+    (next c.args.self.now.table.now c.args.self.now.label.now c.args.place c.into_iter-entry-iterator.result c.entries_at-entry-items.result c.loop-entry.entry-iterator c.in-Some.entry c.next.new.self c.args.draft.now c.loop-entry.draft
     c.entries_at-entry-items.ensures.well_formed c.into_iter-entry-iterator.ensures.into_iter_gives c.entries_at-entry-items.ensures.list c.loop-entry.invariant c.in-Some.ensures.steps).within
 
 pub add_entry-requires-clause-in_table : goal.add_entry-requires-clause-in_table
 add_entry-requires-clause-in_table c =
-    (next c.args.self.now.part c.args.self.now.table.now c.args.self.now.label.now c.args.place c.into_iter-entry-iterator.result c.entries_at-entry-items.result c.loop-entry.entry-iterator c.in-Some.entry c.next.new.self c.args.draft.now c.loop-entry.draft
+    (next c.args.self.now.table.now c.args.self.now.label.now c.args.place c.into_iter-entry-iterator.result c.entries_at-entry-items.result c.loop-entry.entry-iterator c.in-Some.entry c.next.new.self c.args.draft.now c.loop-entry.draft
     c.entries_at-entry-items.ensures.well_formed c.into_iter-entry-iterator.ensures.into_iter_gives c.entries_at-entry-items.ensures.list c.loop-entry.invariant c.in-Some.ensures.steps).in_table
 
 pub add_entry-requires-clause-within : goal.add_entry-requires-clause-within
 add_entry-requires-clause-within c =
-    (next c.args.self.now.part c.args.self.now.table.now c.args.self.now.label.now c.args.place c.into_iter-entry-iterator.result c.entries_at-entry-items.result c.loop-entry.entry-iterator c.in-Some.entry c.next.new.self c.args.draft.now c.loop-entry.draft
+    (next c.args.self.now.table.now c.args.self.now.label.now c.args.place c.into_iter-entry-iterator.result c.entries_at-entry-items.result c.loop-entry.entry-iterator c.in-Some.entry c.next.new.self c.args.draft.now c.loop-entry.draft
     c.entries_at-entry-items.ensures.well_formed c.into_iter-entry-iterator.ensures.into_iter_gives c.entries_at-entry-items.ensures.list c.loop-entry.invariant c.in-Some.ensures.steps).within
-
-pub add_entry-requires-clause-sequences : goal.add_entry-requires-clause-sequences
-add_entry-requires-clause-sequences c =
-    let one : IsEntry c.in-Some.entry = All-contains IsEntry c.args.self.now.table.now.entries c.in-Some.entry c.entries_at-entry-items.ensures.well_formed.entries (add_entry-requires-clause-in_table c) in
-    one.sequences
-
-pub add_entry-requires-clause-room : goal.add_entry-requires-clause-room
-add_entry-requires-clause-room c =
-    let within : c.args.place + length c.in-Some.entry.source ≤ length c.args.self.now.label.now = add_entry-requires-clause-within c in
-    omega (arith, within, c.requires.count, ap length c.loop-entry.invariant.taken.places)
 
 pub loop-entry-preserved-in-Continue-1 : goal.loop-entry-preserved-in-Continue-1
 loop-entry-preserved-in-Continue-1 c =
     let told : c.may_stand.result ≡ true = search in
-    HasEntries-more (may_stand c.args.self.now.table.now c.args.self.now.label.now c.args.place) (uses_of_entry c.args.self.now.part c.args.self.now.table.now c.args.self.now.label.now c.args.place)
+    HasEntries-more (may_stand c.args.self.now.table.now c.args.self.now.label.now c.args.place) (uses_of_entry Whole c.args.self.now.table.now c.args.self.now.label.now c.args.place)
     c.into_iter-entry-iterator.result c.loop-entry.entry-iterator c.in-Some.entry c.next.new.self c.args.draft.now c.loop-entry.draft c.add_entry.new.draft
     c.loop-entry.invariant c.in-Some.ensures.steps (sym c.may_stand.ensures ∙ told) c.in_ok-add_entry.ensures
 
 pub loop-entry-preserved : goal.loop-entry-preserved
 loop-entry-preserved c =
     let told : c.may_stand.result ≡ false = search in
-    HasEntries-skip (may_stand c.args.self.now.table.now c.args.self.now.label.now c.args.place) (uses_of_entry c.args.self.now.part c.args.self.now.table.now c.args.self.now.label.now c.args.place)
+    HasEntries-skip (may_stand c.args.self.now.table.now c.args.self.now.label.now c.args.place) (uses_of_entry Whole c.args.self.now.table.now c.args.self.now.label.now c.args.place)
     c.into_iter-entry-iterator.result c.loop-entry.entry-iterator c.in-Some.entry c.next.new.self c.args.draft.now c.loop-entry.draft
     c.loop-entry.invariant c.in-Some.ensures.steps (sym c.may_stand.ensures ∙ told)
 
 pub returns : goal.returns
 returns c =
     let stands : Entry → Bool = may_stand c.args.self.now.table.now c.args.self.now.label.now c.args.place in
-    let gives : Entry → List Use = uses_of_entry c.args.self.now.part c.args.self.now.table.now c.args.self.now.label.now c.args.place in
-    subst (λ es. HasTaken c.args.draft.now (flat_map gives (filter stands es)) c.loop-entry.draft) (c.into_iter-entry-iterator.ensures.into_iter_gives ∙ c.entries_at-entry-items.ensures.list)
+    let gives : Entry → List Use = uses_of_entry Whole c.args.self.now.table.now c.args.self.now.label.now c.args.place in
+    subst (λ es. c.loop-entry.draft ≡ with_uses c.args.draft.now (flat_map gives (filter stands es))) (c.into_iter-entry-iterator.ensures.into_iter_gives ∙ c.entries_at-entry-items.ensures.list)
     (HasEntries-all stands gives c.into_iter-entry-iterator.result c.loop-entry.entry-iterator c.args.draft.now c.loop-entry.draft c.loop-entry.invariant c.in-None.ensures.steps.0)
+
+pub loop-entry-init : goal.loop-entry-init
+loop-entry-init c = HasEntries-none (may_stand c.args.self.now.table.now c.args.self.now.label.now c.args.place) (uses_of_entry Whole c.args.self.now.table.now c.args.self.now.label.now c.args.place) c.into_iter-entry-iterator.result c.args.draft.now

@@ -1,0 +1,123 @@
+//! The readings of a label under a table: which labels they give, and which kinds they have and lack.
+use crate::nets::{BLIND, SHARP_S, points};
+use reading_kinds::Readings;
+use std::alloc::Global;
+use std::test::Fail;
+use variant_list::uses_of;
+use variant_table::{Notation, Table};
+
+/// The readings of a label of at most 63 code points under the table or ruleset of a text.
+fn readings_of(
+    alloc: Global,
+    notation: Notation,
+    text: &[u8],
+    label: &str,
+) -> Result<Readings, Fail> {
+    let table = Table::read(alloc, notation, text)?;
+    let label = points(alloc, label)?;
+    if label.len() > 63 {
+        return Err("a label of more than 63 code points".into());
+    }
+    Ok(Readings::new(alloc, uses_of(alloc, &table, &label)?)?)
+}
+
+/// Whether readings spell a label. None of more than 63 code points is asked about.
+pub fn spells(readings: &mut Readings, label: &[u32]) -> bool {
+    label.len() <= 63 && readings.words_of(label).is_some()
+}
+
+/// Two segmentations of aa: one entry for both letters, or one for each.
+const PAIRED: &[u8] = b"0061-0061|0062-0062\n0061|0062\n";
+
+/// A letter, and three letters for two of it.
+const PADDED: &[u8] = b"0061-0061|0062-0063-0062\n0061\n";
+
+/// Labels, others, and whether they spell them.
+const SPELLED: [(&[u8], &str, &str, bool); 24] = [
+    (PAIRED, "aa", "aa", true),
+    (PAIRED, "aa", "ab", true),
+    (PAIRED, "aa", "ba", true),
+    (PAIRED, "aa", "bb", true),
+    (PAIRED, "aa", "", false),
+    (PAIRED, "aa", "b", false),
+    (PAIRED, "aa", "ac", false),
+    (PAIRED, "aa", "aab", false),
+    (PADDED, "aaa", "aaa", true),
+    (PADDED, "aaa", "abcb", true),
+    (PADDED, "aaa", "bcba", true),
+    (PADDED, "aaa", "bcb", false),
+    (PADDED, "aaa", "aa", false),
+    (PADDED, "aaa", "bcab", false),
+    (PADDED, "aaa", "bcbbcb", false),
+    (BLIND, "ab", "c", true),
+    (BLIND, "ab", "ab", true),
+    (BLIND, "ab", "b", false),
+    (SHARP_S, "strasse", "strasse", true),
+    (SHARP_S, "strasse", "straße", true),
+    (SHARP_S, "strasse", "strase", false),
+    (SHARP_S, "straße", "strasse", true),
+    (SHARP_S, "sss", "sß", true),
+    (SHARP_S, "sss", "ßß", false),
+];
+
+/// Each label is answered as if it were the first that is asked about.
+#[test]
+fn labels_that_are_spelled(rt: HostRuntime) -> Result<(), Fail> {
+    let alloc = rt.alloc();
+    for (table, label, other, want) in SPELLED.iter() {
+        let mut readings = readings_of(alloc, Notation::Table, table, label)?;
+        let label = points(alloc, label)?;
+        let other = points(alloc, other)?;
+        for time in 1..4 {
+            let is_spelled = spells(&mut readings, &other);
+            assert_eq!(&rt;
+                is_spelled,
+                *want,
+                "{label:?} spells {other:?}, time {time}"
+            );
+            let itself = spells(&mut readings, &label);
+            assert!(&rt; itself, "{label:?} spells itself, time {time}");
+        }
+    }
+    Ok(())
+}
+
+/// a may become c, and b is blocked in its place; aa may become d.
+const MARKED: &[u8] = b"%version 2\n0061|!0062:0063\n0061-0061|0064\n";
+
+/// b is blocked in place of a, and bb is not in place of aa.
+const ONE_WAY: &[u8] = b"%version 2\n0061|!0062\n0061-0061|0062-0062\n";
+
+/// b has the first tag, and c the second one.
+const TAGGED: &[u8] = b"%version 3\n%tag simp\n%tag trad\n0061|0062 as simp:0063 as trad\n";
+
+/// Labels that aa gives, and which of the first three kinds its readings have, and which they lack: a bit for what is blocked,
+/// and one for what isn't of each of two tags.
+const KINDS: [(Notation, &[u8], &str, (u64, u64)); 10] = [
+    (Notation::Table, MARKED, "aa", (0, 0b111)),
+    (Notation::Table, MARKED, "cc", (0, 0b111)),
+    (Notation::Table, MARKED, "bc", (0b111, 0)),
+    (Notation::Table, MARKED, "d", (0, 0b111)),
+    (Notation::Table, ONE_WAY, "bb", (0b111, 0b111)),
+    (Notation::Table, ONE_WAY, "ab", (0b111, 0)),
+    (Notation::Ruleset, TAGGED, "aa", (0, 0b111)),
+    (Notation::Ruleset, TAGGED, "ab", (0b100, 0b011)),
+    (Notation::Ruleset, TAGGED, "cc", (0b010, 0b101)),
+    (Notation::Ruleset, TAGGED, "bc", (0b110, 0b001)),
+];
+
+#[test]
+fn kinds_of_readings(rt: HostRuntime) -> Result<(), Fail> {
+    let alloc = rt.alloc();
+    for (notation, text, other, want) in KINDS {
+        let mut readings = readings_of(alloc, notation, text, "aa")?;
+        let other = points(alloc, other)?;
+        if other.len() > 63 {
+            return Err("a label of more than 63 code points".into());
+        }
+        let words = readings.words_of(&other).ok_or("not spelled")?;
+        let kinds = (words.has & 0b111, words.lacks & 0b111);
+        assert_eq!(&rt; kinds, want, "{other:?} under {text:?}");
+    }
+    Ok(())
+}
