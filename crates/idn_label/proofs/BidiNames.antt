@@ -1,15 +1,20 @@
 -- The Bidi rule of a whole name: of its labels as they are decoded, and of its code points, octets and numbers.
-use Rattle.std.proofs.Common.{◌≡◌, ◌≢◌, ℕ, Bool, true, false, not, ◌&&◌, ◌||◌, cond, List, [], ◌∷◌, map, chars, All, Option, Some, None, Result, Ok, Err, refl, sym, ap, ap₂, subst, ◌∙◌, inl, inr, eqb-true, arith}
+use Rattle.std.proofs.Common.{◌≡◌, ◌≢◌, ℕ, Bool, true, false, not, ◌&&◌, ◌||◌, ◌<◌, cond, List, [], ◌∷◌, map, chars, All, Option, Some, None, Result, Ok, Err, refl, sym, ap, ap₂, subst, ◌∙◌, inl, inr, eqb-true, arith}
 use Rattle.std.specs.Char.{to_ascii_lowercase}
 use Rattle.std.specs.List.{AllByRecursion, list_any, list_all, onto_first}
-use Rattle.std.specs.Str.{IsUtf8, is_utf8}
-use Rattle.std.proofs.lemmas.Bool.{cases_Bool, cases_lt, cond-true, cond-false}
+use Rattle.std.specs.Str.{IsAscii, IsUtf8, is_utf8}
+use Rattle.std.proofs.lemmas.Bool.{cases_Bool, cases_lt, cond-true, cond-false, not-true, or_parts}
 use Rattle.std.proofs.lemmas.Bool.Decides.{nat_tests}
+use Rattle.std.proofs.lemmas.List.Folds.{list_any_none}
 use Rattle.std.proofs.lemmas.List.Elements.{All-weaker, All-from_recursion, recursion_from_All}
 use Rattle.ucd_bidi.specs.declared.BidiClass.TheVariants.{LeftToRight}
 use Rattle.ucd_bidi.specs.BidiClass.{bidi_class}
 use Rattle.ucd_bidi.specs.BidiClassRows.{bidi_class_rows}
+use Rattle.ucd_bidi.proofs.BidiClassLemmas.{bidi_class_stepped}
 use Rattle.ucd_table.proofs.Computing.{tables}
+use Rattle.ucd_table.proofs.Facts.{Stepped-below}
+use Rattle.std.proofs.lemmas.Str.{IsUtf8-from_is_utf8}
+use Rattle.std.proofs.lemmas.Str.Ascii.{All-from_ascii}
 use Rattle.idna.specs.BidiRule.{is_rtl, is_bidi_domain, passes_by_first, passes_bidi_rule}
 use Rattle.idna.specs.Labels.{is_full_stop, labels_of, join_labels}
 use Rattle.idna.specs.Validity.{has_ace_prefix, passes_bidi}
@@ -17,10 +22,14 @@ use Rattle.idna.proofs.LabelsLemmas.{HasNoFullStop, HasNoFullStop-labels_of, All
 use Rattle.idn_text.specs.Points.{is_scalar_value, IsScalarValue, AreScalarValues, IsUtf8Of, utf8_of}
 use Rattle.idn_text.specs.declared.refusal.Refusal.{Refusal}
 use Rattle.idn_text.specs.declared.refusal.Refusal.TheVariants.{NotUtf8}
-use Rattle.idn_text.proofs.Utf8Lemmas.{IsUtf8-from_points, points_from_utf8}
+use Rattle.idn_text.proofs.Utf8Lemmas.{IsUtf8-from_points, ascii_points, points_from_utf8}
 use Rattle.idn_class.specs.declared.properties.Properties.{Properties}
 use Rattle.idn_class.specs.declared.properties.Properties.TheVariants.{Profile, Unicode}
 use Rattle.idn_class.specs.BidiClass.{standard_bidi_class}
+use Rattle.idn_class.specs.Facts.{AreFactsOf, contains, has_fact}
+use Rattle.idn_class.specs.declared.facts.Fact.TheVariants.{RightToLeft}
+use Rattle.idn_class.specs.declared.facts.Facts.{Facts}
+use Rattle.idn_class.proofs.FactLabels.{Lacks, rtl_without}
 use Rattle.idn_class.specs.BidiRule.{MeetsSixConditions}
 use Rattle.idn_class.specs.Class.{class_of}
 use Rattle.idn_class.specs.Tests.{meets_six_conditions}
@@ -30,17 +39,42 @@ use Rattle.idn_label.specs.ALabel.{a_label_of}
 use Rattle.idn_label.specs.Answers.{Answer, and_then, unless_fault}
 use Rattle.idn_label.specs.Decode.{decoded_label, decoded_labels, decoded_name, decode_answer, decode_utf8_answer, name_fault, with_others}
 use Rattle.idn_label.specs.FirstFault.{IsRegistrable, fault_of_class}
-use Rattle.idn_label.specs.Steps.{in_utf8}
+use Rattle.idn_label.specs.Register.{u_label_answer}
+use Rattle.idn_label.specs.Steps.{begins_with_prefix, in_utf8}
 use Rattle.idn_label.specs.inner.BidiNames.{shown}
-use Rattle.idn_label.specs.inner.DecodedNames.{decoded_utf8}
+use Rattle.idn_label.specs.inner.DecodedNames.{KeepsLeftToRight, decoded_utf8}
 use Rattle.idn_label.proofs.ALabels.{registrable_scalars, decoded_name-a_label}
 use Rattle.idn_label.proofs.AnswerLemmas.{u_label_answer-from, spelled_by}
 use Rattle.idn_label.proofs.DecodeLemmas.{decoded_label-coded, decoded_label-other}
 use Rattle.idn_label.proofs.FaultParts.{faultless}
-use Rattle.idn_label.proofs.KitBidiRule.{map_named, one_label, six_same}
+use Rattle.idn_label.proofs.KitBidiRule.{map_named, one_label, rtl_named, six_same}
 use Rattle.idn_label.proofs.LdhLemmas.{is_ldh_point-permitted}
 use Rattle.idn_label.proofs.RequirementLemmas.{MeetsRequirements-registrable}
 use Rattle.idn_label.proofs.SimpleNames.{left_to_right-full_stop}
+use Rattle.idn_label.proofs.Utf8Names.{begins_with_prefix-chars, decoded_label-chars}
+
+-- ---- R, AL and AN
+
+abbrev pub right : ℕ → Bool
+right c = is_rtl (bidi_class c)
+
+pub right-before_hebrew : (c : ℕ) → c < 0x590 → right c ≡ false
+unfolding tables bidi_class_stepped
+right-before_hebrew c before = not-true _ (Stepped-below bidi_class bidi_class_stepped (λ x v. not (is_rtl v)) 0x590 refl c before)
+
+-- nor is an octet of a name in ASCII
+pub right-ascii : (name : List ℕ) → IsAscii name → list_any right (chars name) ≡ false
+right-ascii name ascii =
+    ap (list_any right) (points_from_utf8 name name (ascii_points name ascii))
+    ∙ list_any_none right name (All-weaker (λ c. c < 128) (λ c. right c ≡ false) (λ c few. right-before_hebrew c (omega arith)) name (All-from_ascii name ascii))
+
+-- no code point that lacks the fact is R, AL or AN
+right-lacks : (label : List ℕ) → Lacks RightToLeft label → list_any right label ≡ false
+unfolding standard_bidi_class
+right-lacks [] none = refl
+right-lacks (c ∷ label) none =
+    let parts = or_parts (has_fact RightToLeft c) (list_any (has_fact RightToLeft) label) none in
+    ap₂ (λ a b. a || b) (sym (rtl_named (bidi_class c)) ∙ rtl_without Unicode c parts.0) (right-lacks label parts.1)
 
 -- ---- what each decoded label has
 
@@ -207,6 +241,13 @@ module _ (properties : Properties) where
       by_test true e = ap in_utf8 (decode_answer-whole (chars bytes)) ∙ step e (decoded_name properties (chars bytes)) refl
       by_test false e = refl
 
+  pub decode_utf8_answer-other : (bytes : List ℕ) → ¬ (IsUtf8 bytes) → decode_utf8_answer properties bytes ≡ Err NotUtf8
+  unfolding decode_utf8_answer
+  decode_utf8_answer-other bytes none = elim (cases_Bool (is_utf8 bytes)) [
+    | inl utf8 ↦ absurd (none (IsUtf8-from_is_utf8 bytes utf8))
+    | inr other ↦ cond-false _ _ _ other
+  ]
+
   pub decoded_utf8-is_utf8 : (bytes octets : List ℕ) → decoded_utf8 properties bytes ≡ Ok octets → IsUtf8 octets
   unfolding decoded_utf8
   decoded_utf8-is_utf8 bytes octets is = by_test (is_utf8 bytes) refl is
@@ -247,6 +288,69 @@ module _ (properties : Properties) where
           let points : chars octets ≡ text = sym (ap chars same) ∙ points_from_utf8 (utf8_of text) text (utf8_points name text utf8 own) in
           ap (λ (p : List ℕ). name_fault properties (labels_of p)) points
           ∙ one_coded (chars name) (labels_of text) coded (sym (ap (decoded_labels properties) one) ∙ decoded_name-labels (chars name) text own)
+
+      by_test : (b : Bool) → is_utf8 name ≡ b → cond b (in_utf8 (decoded_name properties (chars name))) (Err NotUtf8) ≡ Ok octets → name_fault properties (labels_of (chars octets)) ≡ None
+      by_test true e i = step e (decoded_name properties (chars name)) refl i
+      by_test false e i = absurd (let clash : Err NotUtf8 ≡ Ok octets = i in cc)
+
+  -- ---- names without R, AL and AN
+
+  pub keeps-none : KeepsLeftToRight properties []
+  unfolding decoded_labels is_bidi_domain
+  keeps-none none decoded is = let same : [] ≡ decoded = (let both : Ok [] ≡ Ok decoded = is in cc) in subst (λ (labels : List (List ℕ)). is_bidi_domain labels ≡ false) same refl
+
+  -- one label gets none
+  abbrev pub LabelKeeps : List ℕ → Type 0
+  LabelKeeps label = list_any right label ≡ false → (decoded : List ℕ) → decoded_label properties label ≡ Ok decoded → list_any right decoded ≡ false
+
+  pub keeps-more : (label : List ℕ) (labels : List (List ℕ)) → LabelKeeps label → KeepsLeftToRight properties labels → KeepsLeftToRight properties (label ∷ labels)
+  unfolding decoded_labels is_bidi_domain
+  keeps-more label labels first others none decoded is = step (decoded_label properties label) (decoded_labels properties labels) refl refl is
+    where
+      step : (one : Answer) (more : Result (List (List ℕ)) Refusal) → decoded_label properties label ≡ one → decoded_labels properties labels ≡ more → with_others one more ≡ Ok decoded → is_bidi_domain decoded ≡ false
+      step (Err refusal) more own rest e = absurd (let clash : Err refusal ≡ Ok decoded = e in cc)
+      step (Ok l) (Err refusal) own rest e = absurd (let clash : Err refusal ≡ Ok decoded = e in cc)
+      step (Ok l) (Ok ls) own rest e =
+          let same : l ∷ ls ≡ decoded = cc in
+          let parts = or_parts (list_any right label) (list_any (list_any right) labels) none in
+          subst (λ (all : List (List ℕ)). is_bidi_domain all ≡ false) same
+          (ap₂ (λ a b. a || b) (first parts.0 l own) (others parts.1 ls rest))
+
+  -- what an A-label stands for has none by its facts
+  pub keeps-coded : (label decoded : List ℕ) (facts : Facts) → IsUtf8 label → begins_with_prefix label ≡ true → u_label_answer properties (map to_ascii_lowercase label) ≡ Ok decoded → AreFactsOf facts decoded → contains facts RightToLeft ≡ false → LabelKeeps (chars label)
+  keeps-coded label decoded facts utf8 coded is are lacks none text own =
+      let both : Ok decoded ≡ Ok text = sym is ∙ sym (decoded_label-chars properties label utf8 coded) ∙ own in
+      let same : decoded ≡ text = cc in
+      subst (λ (l : List ℕ). list_any right l ≡ false) same (right-lacks decoded (sym (are RightToLeft) ∙ lacks))
+
+  pub keeps-other : (label : List ℕ) → IsUtf8 label → begins_with_prefix label ≡ false → LabelKeeps (chars label)
+  keeps-other label utf8 other none text own =
+      let both : Ok (chars label) ≡ Ok text = sym (decoded_label-other properties (chars label) (begins_with_prefix-chars label utf8 ∙ other)) ∙ own in
+      let same : chars label ≡ text = cc in
+      subst (λ (l : List ℕ). list_any right l ≡ false) same none
+
+  -- and passes the rule
+  left_to_right-passes : (labels : List (List ℕ)) → is_bidi_domain labels ≡ false → name_fault properties labels ≡ None
+  left_to_right-passes labels none = by_properties properties
+    where
+      by_properties : (p : Properties) → name_fault p labels ≡ None
+      by_properties Profile = refl
+      by_properties Unicode = cond-true _ _ _ (ap (λ b. not b || list_all passes_bidi_rule labels) none)
+
+  pub decode_utf8_answer-ltr : (name octets : List ℕ) → KeepsLeftToRight properties (labels_of (chars name)) → list_any right (chars name) ≡ false → decoded_utf8 properties name ≡ Ok octets → decode_utf8_answer properties name ≡ Ok octets
+  unfolding decoded_utf8 is_bidi_domain
+  decode_utf8_answer-ltr name octets keeps none is =
+      decode_utf8_answer-whole name ∙ ap (λ answer. and_then answer whole_utf8) is ∙ ap (λ fault. unless_fault fault (Ok octets)) (by_test (is_utf8 name) refl is)
+    where
+      step : (utf8 : is_utf8 name ≡ true) (decoded : Answer) → decoded_name properties (chars name) ≡ decoded → in_utf8 decoded ≡ Ok octets → name_fault properties (labels_of (chars octets)) ≡ None
+      step utf8 (Err refusal) own e = absurd (let clash : Err refusal ≡ Ok octets = e in cc)
+      step utf8 (Ok text) own e =
+          let both : Ok (utf8_of text) ≡ Ok octets = e in
+          let same : utf8_of text ≡ octets = cc in
+          let points : chars octets ≡ text = sym (ap chars same) ∙ points_from_utf8 (utf8_of text) text (utf8_points name text utf8 own) in
+          ap (λ (p : List ℕ). name_fault properties (labels_of p)) points
+          ∙ left_to_right-passes (labels_of text)
+          (keeps (list_any-labels_of right (chars name) left_to_right-full_stop ∙ none) (labels_of text) (decoded_name-labels (chars name) text own))
 
       by_test : (b : Bool) → is_utf8 name ≡ b → cond b (in_utf8 (decoded_name properties (chars name))) (Err NotUtf8) ≡ Ok octets → name_fault properties (labels_of (chars octets)) ≡ None
       by_test true e i = step e (decoded_name properties (chars name)) refl i

@@ -2,20 +2,19 @@
 use Rattle.std.proofs.Common.{◌≡◌, ℕ, ◌+◌, ◌/◌, ◌%◌, ◌<◌, ◌≤◌, ◌==◌, ◌&&◌, Bool, true, false, List, [], ◌∷◌, ◌++◌, map, length, drop, slice_range, get_or, chars, codes, All, nat_eq, Ok, Err, if◌then◌else◌, refl, sym, ap, subst, ◌∙◌, inl, inr, lit<, length-append, eqb-true, eq-eqb, arith}
 use Rattle.std.specs.Char.{encode_utf8, to_ascii_lowercase}
 use Rattle.std.specs.List.{AllByRecursion, starts_with}
-use Rattle.std.specs.Str.{IsAscii, IsUtf8, is_utf8}
+use Rattle.std.specs.Str.{IsAscii, IsUtf8}
 use Rattle.std.proofs.Math.Seq.{take-append_seam, drop-append-add, get_or-append_seam}
 use Rattle.std.proofs.lemmas.Bool.{both_ways, cases_Bool, cases_lt, cond-true, cond-false}
 use Rattle.std.proofs.lemmas.Bool.Decides.{nat_tests}
 use Rattle.std.proofs.lemmas.List.Elements.{All-head, All-from_recursion, recursion_from_All}
 use Rattle.std.proofs.lemmas.List.Splits.{slice_split_at, slice_split_none}
-use Rattle.std.proofs.lemmas.Str.{IsCharBoundary-before_ascii, IsCharBoundary-after_ascii, IsUtf8-take, IsUtf8-drop, IsUtf8-from_ascii, chars-append, chars-IsAscii, encode_ascii, encodes-IsAscii, encodes-chars, IsUtf8-from_is_utf8, is_utf8-from_IsUtf8}
+use Rattle.std.proofs.lemmas.Str.{IsCharBoundary-before_ascii, IsCharBoundary-after_ascii, IsUtf8-take, IsUtf8-drop, IsUtf8-from_ascii, chars-append, chars-IsAscii, encode_ascii, encodes-IsAscii, encodes-chars, is_utf8-from_IsUtf8}
 use Rattle.std.proofs.lemmas.Str.Ascii.{IsAscii-nil, IsAscii-cons}
 use Rattle.idna.specs.Labels.{is_full_stop, labels_of, join_labels}
 use Rattle.idna.specs.Validity.{has_ace_prefix, is_all_ascii}
 use Rattle.idna.proofs.LabelsLemmas.{HasNoFullStop, HasNoFullStop-labels_of, labels_of_cons, join_labels-labels_of}
 use Rattle.idn_text.specs.Points.{utf8_of}
 use Rattle.idn_text.specs.declared.refusal.Refusal.{Refusal}
-use Rattle.idn_text.specs.declared.refusal.Refusal.TheVariants.{NotUtf8}
 use Rattle.idn_text.proofs.Utf8Lemmas.{encode_utf8-two, encode_utf8-three, encode_utf8-four}
 use Rattle.idn_label.specs.Answers.{Answer}
 use Rattle.idn_label.specs.Decode.{decoded_label, decoded_name}
@@ -172,11 +171,13 @@ module _ (properties : Properties) where
         ∙ sym (refused-past_ascii properties _ coded (is_all_ascii-lower label ∙ other))
   ]
 
+  pub decoded_label-chars : (label : List ℕ) → IsUtf8 label → begins_with_prefix label ≡ true → decoded_label properties (chars label) ≡ u_label_answer properties (map to_ascii_lowercase label)
+  decoded_label-chars label utf8 coded = decoded_label-coded properties (chars label) (begins_with_prefix-chars label utf8 ∙ coded) ∙ u_label_answer-chars label utf8 coded
+
   pub decoded_label-octets : (label : List ℕ) → IsUtf8 label → in_utf8 (decoded_label properties (chars label)) ≡ decoded_octets properties label
   decoded_label-octets label utf8 = elim (cases_Bool (begins_with_prefix label)) [
     | inl coded ↦
-        ap in_utf8 (decoded_label-coded properties (chars label) (begins_with_prefix-chars label utf8 ∙ coded) ∙ u_label_answer-chars label utf8 coded)
-        ∙ sym (cond-true _ _ _ coded)
+        ap in_utf8 (decoded_label-chars label utf8 coded) ∙ sym (cond-true _ _ _ coded)
     | inr other ↦
         ap in_utf8 (decoded_label-other properties (chars label) (begins_with_prefix-chars label utf8 ∙ other))
         ∙ ap Ok (encodes-chars label utf8) ∙ sym (cond-false _ _ _ other)
@@ -207,10 +208,3 @@ module _ (properties : Properties) where
   pub decoded_utf8-utf8 : (bytes : List ℕ) → IsUtf8 bytes → decoded_utf8 properties bytes ≡ in_utf8 (decoded_name properties (chars bytes))
   unfolding decoded_utf8
   decoded_utf8-utf8 bytes utf8 = cond-true _ _ _ (is_utf8-from_IsUtf8 bytes utf8)
-
-  pub decoded_utf8-other : (bytes : List ℕ) → ¬ (IsUtf8 bytes) → decoded_utf8 properties bytes ≡ Err NotUtf8
-  unfolding decoded_utf8
-  decoded_utf8-other bytes none = elim (cases_Bool (is_utf8 bytes)) [
-    | inl utf8 ↦ absurd (none (IsUtf8-from_is_utf8 bytes utf8))
-    | inr other ↦ cond-false _ _ _ other
-  ]

@@ -59,7 +59,7 @@ fn passes_in_utf8(name: &[u8]) -> bool
 }
 
 /// Whether a character of a name in UTF-8 is R, AL or AN.
-fn holds_rtl_in_utf8(name: &[u8]) -> bool
+pub(crate) fn holds_rtl_in_utf8(name: &[u8]) -> bool
     requires { IsUtf8 name.now }
     ensures { result ≡ list_any (λ c. is_rtl (bidi_class c)) (chars name.now) }
 {

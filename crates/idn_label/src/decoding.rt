@@ -1,20 +1,22 @@
 //! Decoding of the A-labels of a name (RFC 5891 section 5.3).
-ghost use Rattle.std.specs.Prelude.{◌≡◌, ◌≢◌, ◌<◌, ◌≤◌, ◌*◌, ◌∷◌, [], ℕ, true, List, length, take, IsTrue, IfOk, Ok, Err, All};
+ghost use Rattle.std.specs.Prelude.{◌≡◌, ◌≢◌, ◌<◌, ◌≤◌, ◌*◌, ◌∷◌, [], ℕ, true, false, List, chars, length, take, IsTrue, IsUtf8, IfOk, Ok, Err, All};
+ghost use Rattle.std.specs.Str.{IsAscii};
 ghost use Rattle.idna.specs.Labels.{labels_of};
 ghost use Rattle.idna.specs.Validity.{is_all_ascii};
+ghost use Rattle.idn_class.specs.Facts.{contains};
 ghost use Rattle.idn_label.specs.ALabel.{a_label_of};
 ghost use Rattle.idn_label.specs.Answers.{Gives};
 ghost use Rattle.idn_label.specs.Decode.{decode_answer, decode_utf8_answer, decoded_name};
 ghost use Rattle.idn_label.specs.FirstFault.{IsRegistrable};
-ghost use Rattle.idn_label.specs.inner.DecodedNames.{decoded_utf8};
+ghost use Rattle.idn_label.specs.inner.DecodedNames.{KeepsLeftToRight, decoded_utf8};
 ghost use Rattle.idn_label.specs.Memory.{DecodesWithoutMemory};
 ghost use Rattle.idn_label.specs.Steps.{begins_with_prefix};
 
-use crate::bidi_name::{name_fault, utf8_name_fault};
+use crate::bidi_name::{holds_rtl_in_utf8, name_fault, utf8_name_fault};
 use crate::full_stops::label_end;
 use crate::u_label::u_label_in_any_case;
 use crate::unit::{FULL_STOP, has_ace_prefix_in_any_case, is_all_ascii};
-use idn_class::Properties;
+use idn_class::{Fact, Facts, Properties};
 use idn_punycode::DecodedLabel;
 use idn_text::{MAX_LINE_LEN, Refusal, put_points};
 use std::alloc::Global;
@@ -41,8 +43,13 @@ pub fn decode_utf8(
     ensures length { length room.new ≡ length room.old }
     ensures no_memory { All DecodesWithoutMemory (labels_of name.now) → result ≢ Err Refusal.Memory }
 {
-    let len = decode_utf8_labels(alloc, name, u_label, room, properties)?;
-    if is_told_by_its_labels(name, properties) {
+    // Most names are in ASCII, which is told sooner.
+    let is_ascii = name.is_ascii();
+    if !is_ascii && str::from_utf8(name).is_err() {
+        return Err(Refusal::NotUtf8);
+    }
+    let (len, facts) = decode_utf8_labels(alloc, name, u_label, room, properties)?;
+    if is_told_by_its_labels(name, is_ascii, facts, properties) {
         return Ok(len);
     }
     match utf8_name_fault(&room[..len], properties) {
@@ -51,14 +58,24 @@ pub fn decode_utf8(
     }
 }
 
-/// Whether a name whose labels are decoded has no other fault: by the profile; and if it is one A-label, since what this
-/// stands for has passed the Bidi rule by itself.
-fn is_told_by_its_labels(name: &[u8], properties: Properties) -> bool
+/// Whether a name whose labels are decoded has no other fault: by the profile; if nothing in it is right-to-left, as
+/// the facts of its A-labels and its other labels tell; and if it is one A-label, since what this stands for has passed
+/// the Bidi rule by itself.
+fn is_told_by_its_labels(name: &[u8], is_ascii: bool, facts: Facts, properties: Properties) -> bool
+    requires utf8 { IsUtf8 name.now }
+    requires ascii { is_ascii ≡ true → IsAscii name.now }
+    requires facts { contains facts Fact.RightToLeft ≡ false → KeepsLeftToRight properties (labels_of (chars name.now)) }
     ensures { IsTrue result → (text : List ℕ) → decoded_utf8 properties name.now ≡ Ok text → decode_utf8_answer properties name.now ≡ Ok text }
 {
     match properties {
         Properties::Profile => true,
-        Properties::Unicode => is_one_a_label(name),
+        Properties::Unicode => {
+            if facts.contains(Fact::RightToLeft) {
+                is_one_a_label(name)
+            } else {
+                is_ascii || !holds_rtl_in_utf8(name)
+            }
+        }
     }
 }
 
@@ -71,7 +88,8 @@ fn is_one_a_label(name: &[u8]) -> bool
     has_ace_prefix_in_any_case(name) && is_all_ascii(name) && label_end(name, 0) == name.len()
 }
 
-/// The name with each label decoded, as `decode_utf8` leaves it, before the rule of the whole name is asked.
+/// The name with each label decoded, as `decode_utf8` leaves it, before the rule of the whole name is asked, and the
+/// facts of what its A-labels stand for.
 #[tactic(auto, using(crate::proofs::ALabels::scalars))]
 fn decode_utf8_labels(
     alloc: Global,
@@ -79,32 +97,31 @@ fn decode_utf8_labels(
     u_label: &mut DecodedLabel,
     room: &mut [u8],
     properties: Properties,
-) -> Result<usize, Refusal>
+) -> Result<(usize, Facts), Refusal>
+    requires utf8 { IsUtf8 name.now }
     requires short { length name.now ≤ MAX_LINE_LEN }
     requires room { 4 * length name.now ≤ length room.old }
-    ensures answer { Gives (λ len. take len room.new) result (decoded_utf8 properties name.now) }
-    ensures short { IfOk result (λ len. len ≤ 4 * length name.now) }
+    ensures answer { Gives (λ (len, _). take len room.new) result (decoded_utf8 properties name.now) }
+    ensures left_to_right { IfOk result (λ (_, facts). contains facts Fact.RightToLeft ≡ false → KeepsLeftToRight properties (labels_of (chars name.now))) }
+    ensures short { IfOk result (λ (len, _). len ≤ 4 * length name.now) }
     ensures length { length room.new ≡ length room.old }
     ensures no_memory { All DecodesWithoutMemory (labels_of name.now) → result ≢ Err Refusal.Memory }
 {
-    // Most names are in ASCII, which is told sooner.
-    if !name.is_ascii() && str::from_utf8(name).is_err() {
-        return Err(Refusal::NotUtf8);
-    }
     let mut len = 0;
+    let mut facts = Facts::none();
     let mut start = 0;
     'labels: loop {
         let end = label_end(name, start);
         let label = &name[start..end];
         if has_ace_prefix_in_any_case(label) {
-            u_label_in_any_case(alloc, label, u_label, properties)?;
+            facts = facts.joined(u_label_in_any_case(alloc, label, u_label, properties)?);
             len = put_points(u_label.as_slice(), room, len);
         } else {
             room[len..len + label.len()].copy_from_slice(label);
             len += label.len();
         }
         if end == name.len() {
-            return Ok(len);
+            return Ok((len, facts));
         }
         room[len] = b'.';
         len += 1;

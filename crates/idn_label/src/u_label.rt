@@ -5,6 +5,7 @@ ghost use Rattle.std.specs.List.{list_all};
 ghost use Rattle.std.specs.Result.{IsErr, IsErrAnd};
 ghost use Rattle.idna.specs.Validity.{is_all_ascii, has_ace_prefix};
 ghost use Rattle.idn_text.specs.Points.{AreScalarValues};
+ghost use Rattle.idn_class.specs.Facts.{AreFactsOf};
 ghost use Rattle.idn_label.specs.Answers.{Gives};
 ghost use Rattle.idn_label.specs.Memory.{NeedsNoMemoryDecoded};
 ghost use Rattle.idn_label.specs.Register.{decoded_code, u_label_answer};
@@ -14,29 +15,30 @@ use crate::code_points::points_of;
 use crate::first_fault::{check_label, test_label_by};
 use crate::unit::{Unit, is_all_ascii, to_lowercase};
 use arrayvec::{ArrayString, ArrayVec};
-use idn_class::{MAX_LABEL_LEN, Properties};
+use idn_class::{Facts, MAX_LABEL_LEN, Properties};
 use idn_punycode::DecodedLabel;
 use idn_text::{MAX_LINE_LEN, Refusal};
 use idna::{Errors, punycode};
 use std::alloc::{AllocError, Global};
 
-/// Leaves in `label` what an A-label in any ASCII case stands for, in place of what stood there. A label that passes
-/// the test has no capital, so its code need not be put into lower case first.
+/// Leaves in `label` what an A-label in any ASCII case stands for, in place of what stood there, and tells its facts. A
+/// label that passes the test has no capital, so its code need not be put into lower case first.
 #[tactic(auto, using(crate::proofs::ALabels::in_any_case))]
 pub(crate) fn u_label_in_any_case<U: Unit>(
     alloc: Global,
     given: &[U],
     label: &mut DecodedLabel,
     properties: Properties,
-) -> Result<(), Refusal>
+) -> Result<Facts, Refusal>
     requires prefix { has_ace_prefix (map to_ascii_lowercase (U.codes given.now)) ≡ true }
     requires short { length given.now ≤ MAX_LINE_LEN }
     ensures answer { Gives (λ _. label.new) result (u_label_answer properties (map to_ascii_lowercase (U.codes given.now))) }
+    ensures facts { IfOk result (λ facts. AreFactsOf facts label.new) }
     ensures shorter { OnOk result (length label.new < length given.now) }
     ensures no_memory { NeedsNoMemoryDecoded (map to_ascii_lowercase (U.codes given.now)) → result ≢ Err Refusal.Memory }
 {
     match tested_u_label(alloc, given, label, properties) {
-        Ok(()) => Ok(()),
+        Ok(facts) => Ok(facts),
         Err(refusal) if has_no_capital(given) => Err(refusal),
         Err(_) if !is_all_ascii(given) => Err(Refusal::BadALabel),
         // A label put into lower case has no capital.
@@ -68,19 +70,20 @@ pub fn lowercase_of<U: Unit>(label: &[U]) -> ArrayVec<u8, MAX_LINE_LEN>
     lower
 }
 
-/// Leaves in `label` what an A-label put into lower case stands for, in place of what stood there; if it is refused,
-/// this is why where it has no capital. One that is short need not be encoded again to be compared: Punycode in lower
-/// case is the only one of what it stands for (RFC 3492 sections 1.1 and 5).
+/// Leaves in `label` what an A-label put into lower case stands for, in place of what stood there, and tells its facts;
+/// if it is refused, this is why where it has no capital. One that is short need not be encoded again to be compared:
+/// Punycode in lower case is the only one of what it stands for (RFC 3492 sections 1.1 and 5).
 #[tactic(auto, using(crate::proofs::ALabels::refused))]
 pub(crate) fn tested_u_label<U: Unit>(
     alloc: Global,
     given: &[U],
     label: &mut DecodedLabel,
     properties: Properties,
-) -> Result<(), Refusal>
+) -> Result<Facts, Refusal>
     requires prefix { has_ace_prefix (map to_ascii_lowercase (U.codes given.now)) ≡ true }
     requires short { length given.now ≤ MAX_LINE_LEN }
     ensures passes { OnOk result (u_label_answer properties (map to_ascii_lowercase (U.codes given.now)) ≡ Ok label.new) }
+    ensures facts { IfOk result (λ facts. AreFactsOf facts label.new) }
     ensures fault { IfErr result (λ refusal. list_all (λ c. not (is_ascii_uppercase c)) (U.codes given.now) ≡ true
         → refusal ≢ Refusal.Memory → u_label_answer properties (U.codes given.now) ≡ Err refusal) }
     ensures shorter { OnOk result (length label.new < length given.now) }
@@ -96,7 +99,8 @@ pub(crate) fn tested_u_label<U: Unit>(
     if is_all_ascii(label.as_slice()) {
         return refuse(alloc, given, properties);
     }
-    check_label(alloc, label.as_slice(), facts, properties)
+    check_label(alloc, label.as_slice(), facts, properties)?;
+    Ok(facts)
 }
 
 /// What stands after the prefix of an A-label.

@@ -1,18 +1,14 @@
-use Rattle.std.proofs.Common.{◌≡◌, ℕ, ◌<◌, ◌≤◌, Bool, true, false, not, ◌&&◌, List, [], ◌∷◌, refl, sym, le-leb, arith}
-use Rattle.std.proofs.lemmas.Bool.{not-true}
+use Rattle.std.proofs.Common.{◌≡◌, ℕ, ◌≤◌, Bool, true, false, not, ◌&&◌, List, [], ◌∷◌, refl, sym, le-leb, arith}
 use Rattle.ucd_bidi.specs.BidiClass.{bidi_class}
 use Rattle.ucd_bidi.specs.declared.BidiClass.{BidiClass}
 use Rattle.ucd_bidi.proofs.BidiClassLemmas.{bidi_class_stepped}
 use Rattle.ucd_table.specs.Rows.{Range, in_ranges}
 use Rattle.ucd_table.proofs.Computing.{tables}
-use Rattle.ucd_table.proofs.Facts.{Stepped-always, Stepped-below}
+use Rattle.ucd_table.proofs.Facts.{Stepped-always}
 use Rattle.ucd_table.proofs.Stepped.{of_ranges, zip_stepped}
 use Rattle.idna.specs.BidiRule.{is_rtl}
+use Rattle.idn_label.proofs.BidiNames.{right-before_hebrew}
 use Rattle.idn_label.proofs.bidi_name.is_rtl.Goals as goal
-
-before_hebrew : (c : ℕ) → c < 0x590 → is_rtl (bidi_class c) ≡ false
-unfolding tables bidi_class_stepped
-before_hebrew c before = not-true _ (Stepped-below bidi_class bidi_class_stepped (λ x v. not (is_rtl v)) 0x590 refl c before)
 
 abbrev ranges : List Range
 ranges = (0x2010, 0xFB1C) ∷ []
@@ -30,7 +26,7 @@ after_dashes c low high =
     let apart = rw (le-leb 0x2010 c low, le-leb c 0xFB1C high) at (rtl_outside c (omega arith)) in grind arith
 
 pub returns-then-c-lt1424 : goal.returns-then-c-lt1424
-returns-then-c-lt1424 c = sym (before_hebrew c.args.c c.if-c-lt1424.true)
+returns-then-c-lt1424 c = sym (right-before_hebrew c.args.c c.if-c-lt1424.true)
 
 pub returns-then-c-le64284 : goal.returns-then-c-le64284
 returns-then-c-le64284 c = sym (after_dashes c.args.c c.if-c-ge8208.true c.if-c-le64284.true)

@@ -1,8 +1,26 @@
-use Rattle.std.proofs.Common.{take, Ok, ap, sym, ◌∙◌}
+use Rattle.std.proofs.Common.{take, Ok, ap, sym, ◌∙◌, rules}
 use Rattle.std.proofs.lemmas.Result.{err_from_is_err_and}
+use Rattle.std.proofs.lemmas.Str.{IsUtf8-from_ascii}
+use Rattle.std.specs.Str.{IsAscii}
 use Rattle.idn_label.specs.Answers.{and_then, unless_fault}
-use Rattle.idn_label.proofs.BidiNames.{whole_utf8, decode_utf8_answer-whole, decoded_utf8-is_utf8}
+use Rattle.idn_label.proofs.BidiNames.{whole_utf8, decode_utf8_answer-other, decode_utf8_answer-whole, decoded_utf8-is_utf8}
 use Rattle.idn_label.proofs.decoding.decode_utf8.Goals as goal
+use Rattle.idn_label.proofs.decoding.decode_utf8.Goals.{else-not-is_ascii-via-then-not-is_ascii+else-is_err, else-not-is_ascii-via-else-not-is_ascii}
+
+pub returns-then-is_err-clause-answer : goal.returns-then-is_err-clause-answer
+returns-then-is_err-clause-answer c = λ other. decode_utf8_answer-other c.args.properties c.args.name.now (search rules)
+
+pub decode_utf8_labels-requires-clause-utf8 : goal.decode_utf8_labels-requires-clause-utf8
+decode_utf8_labels-requires-clause-utf8 c = elim c.else-not-is_ascii.branch [
+  | else-not-is_ascii-via-then-not-is_ascii+else-is_err w ↦ search rules
+  | else-not-is_ascii-via-else-not-is_ascii w ↦ let ascii : IsAscii c.args.name.now = search rules in IsUtf8-from_ascii c.args.name.now ascii
+]
+
+pub is_told_by_its_labels-requires-clause-utf8 : goal.is_told_by_its_labels-requires-clause-utf8
+is_told_by_its_labels-requires-clause-utf8 c = elim c.else-not-is_ascii.branch [
+  | else-not-is_ascii-via-then-not-is_ascii+else-is_err w ↦ search rules
+  | else-not-is_ascii-via-else-not-is_ascii w ↦ let ascii : IsAscii c.args.name.now = search rules in IsUtf8-from_ascii c.args.name.now ascii
+]
 
 pub returns-in_err-len-clause-answer : goal.returns-in_err-len-clause-answer
 returns-in_err-len-clause-answer c =

@@ -1,12 +1,11 @@
-use Rattle.std.proofs.Common.{◌≡◌, ℕ, List, [], ◌∷◌, true, false, map, ◌≤◌, ◌++◌, ◌+◌, ◌-◌, ◌*◌, length, drop, take, slice_range, chars, Result, Ok, Err, sym, ap, ◌∙◌, arith, length-set, length-take, refl, rules}
+use Rattle.std.proofs.Common.{◌≡◌, ℕ, List, [], ◌∷◌, true, false, map, ◌≤◌, ◌++◌, ◌+◌, ◌-◌, ◌*◌, ◌||◌, subst, length, drop, take, slice_range, chars, Result, Ok, Err, sym, ap, ◌∙◌, arith, length-set, length-take, refl}
 use Rattle.std.specs.Char.{to_ascii_lowercase}
-use Rattle.std.specs.Str.{IsAscii, IsUtf8}
+use Rattle.std.specs.Str.{IsUtf8}
 use Rattle.std.proofs.Math.ListN.{set}
 use Rattle.std.proofs.lemmas.Bool.{cond-true, cond-false}
 use Rattle.std.proofs.lemmas.Grind.{take-set_at}
 use Rattle.std.proofs.lemmas.Result.{err_from_is_err_and}
 use Rattle.std.proofs.lemmas.Slice.{take-put_mid}
-use Rattle.std.proofs.lemmas.Str.{IsUtf8-from_ascii}
 use Rattle.idn_text.specs.declared.refusal.Refusal.{Refusal}
 use Rattle.idn_text.specs.declared.refusal.Refusal.TheVariants.{Memory}
 use Rattle.idn_text.specs.Points.{utf8_of}
@@ -19,31 +18,30 @@ use Rattle.idn_label.specs.Steps.{begins_with_prefix, in_utf8}
 use Rattle.idn_label.proofs.LabelsByPlace.{label_last, label_before}
 use Rattle.idn_label.proofs.LdhNames.{all_labels}
 use Rattle.idn_label.proofs.DecodeLemmas.{appended, appended-nil, followed, turn_more}
-use Rattle.idn_label.proofs.Utf8Names.{decoded_octets, decoded_last, decoded_more, decoded_refused, labels_of-more, decoded_utf8-utf8, decoded_utf8-other}
+use Rattle.idn_label.proofs.Utf8Names.{decoded_octets, decoded_last, decoded_more, decoded_refused, labels_of-last, labels_of-more, decoded_utf8-utf8}
 use Rattle.idn_label.proofs.ALabels.{registrable_scalars}
+use Rattle.idn_label.proofs.BidiNames.{LabelKeeps, keeps-coded, keeps-more, keeps-none, keeps-other}
 use Rattle.idn_label.proofs.AnswerLemmas.{u_label_answer-from}
 use Rattle.idn_label.proofs.decoding.decode_utf8_labels.Goals as goal
-use Rattle.idn_label.proofs.decoding.decode_utf8_labels.Goals.{else-not-is_ascii-via-then-not-is_ascii+else-is_err, else-not-is_ascii-via-else-not-is_ascii, then-has_ace_prefix_in_any_case+in_ok-u_label_in_any_case, else-has_ace_prefix_in_any_case}
+use Rattle.idn_label.proofs.decoding.decode_utf8_labels.Goals.{then-has_ace_prefix_in_any_case+in_ok-u_label_in_any_case, else-has_ace_prefix_in_any_case}
 use Rattle.idn_class.specs.declared.properties.Properties.{Properties}
-
-pub returns-then-is_err-clause-answer : goal.returns-then-is_err-clause-answer
-returns-then-is_err-clause-answer c = λ other. decoded_utf8-other c.args.properties c.args.name.now (search rules)
+use Rattle.idn_class.specs.declared.facts.Fact.{Fact}
+use Rattle.idn_class.specs.declared.facts.Fact.TheVariants.{RightToLeft}
+use Rattle.idn_class.specs.declared.facts.Facts.{Facts}
+use Rattle.idn_class.specs.Facts.{AreFactsOf, contains}
+use Rattle.idn_label.specs.inner.DecodedNames.{KeepsLeftToRight}
+use Rattle.std.proofs.lemmas.Bool.{or_parts}
 
 pub labels-init : goal.labels-init
-labels-init c =
-    let utf8 : IsUtf8 c.args.name.now =
-    elim c.else-not-is_ascii.branch [
-      | else-not-is_ascii-via-then-not-is_ascii+else-is_err w ↦ search rules
-      | else-not-is_ascii-via-else-not-is_ascii w ↦ let ascii : IsAscii c.args.name.now = search rules in IsUtf8-from_ascii c.args.name.now ascii
-    ] in
-    record {
-      text = decoded_utf8-utf8 c.args.properties c.args.name.now utf8 ∙ sym (appended-nil _);
-      utf8 = utf8;
-      begun = omega arith;
-      short = omega arith;
-      room = refl;
-      no_memory = λ all. all;
-    }
+labels-init c = record {
+  text = decoded_utf8-utf8 c.args.properties c.args.name.now c.requires.utf8 ∙ sym (appended-nil _);
+  keeps = λ none keeps. keeps;
+  utf8 = c.requires.utf8;
+  begun = omega arith;
+  short = omega arith;
+  room = refl;
+  no_memory = λ all. all;
+}
 
 module _ (properties : Properties) where
   -- a label that is decoded
@@ -109,6 +107,36 @@ returns-then-end-name-clause-answer c =
     ] in
     i.text ∙ ap (appended front) (decoded_last c.args.properties (drop start name) label i.utf8 (label_last name start _ ends c.if-end-name.true)) ∙ written
 
+-- what a label that is copied, or decoded to a label without the fact, says of the name
+abbrev Carried : Properties → List ℕ → Facts → Facts → Type 0
+Carried properties label before after = contains after RightToLeft ≡ false → (contains before RightToLeft ≡ false) × LabelKeeps properties (chars label)
+
+carried_coded : (properties : Properties) (label decoded : List ℕ) (before own after : Facts) → IsUtf8 label → true ≡ begins_with_prefix label → u_label_answer properties (map to_ascii_lowercase label) ≡ Ok decoded → AreFactsOf own decoded
+    → ((fact : Fact) → contains after fact ≡ (contains before fact || contains own fact)) → Carried properties label before after
+carried_coded properties label decoded before own after utf8 coded is are joined none =
+    let parts = or_parts (contains before RightToLeft) (contains own RightToLeft) (sym (joined RightToLeft) ∙ none) in
+    (parts.0, keeps-coded properties label decoded own utf8 (sym coded) is are parts.1)
+
+pub returns-then-end-name-clause-left_to_right : goal.returns-then-end-name-clause-left_to_right
+returns-then-end-name-clause-left_to_right c =
+    let name = c.args.name.now in
+    let start = c.labels.start in
+    let end = c.label_end-end.result in
+    let ends = c.label_end-end.ensures in
+    let i = c.labels.invariant in
+    let label = slice_range name start end in
+    let last = labels_of-last (drop start name) label i.utf8 (label_last name start end ends c.if-end-name.true) in
+    let carried : Carried c.args.properties label c.labels.facts c.if-has_ace_prefix_in_any_case.facts =
+    elim c.if-has_ace_prefix_in_any_case.branch [
+      | then-has_ace_prefix_in_any_case+in_ok-u_label_in_any_case w ↦
+          rw w.facts-is
+          (carried_coded c.args.properties label _ c.labels.facts _ _ last.0 w.if-has_ace_prefix_in_any_case.ensures w.in_ok-u_label_in_any_case.ensures.answer w.in_ok-u_label_in_any_case.ensures.facts w.joined-facts.ensures)
+      | else-has_ace_prefix_in_any_case w ↦ rw w.facts-is (λ none. (none, keeps-other c.args.properties label last.0 (sym w.if-has_ace_prefix_in_any_case.ensures)))
+    ] in
+    λ none.
+    let own = carried none in
+    i.keeps own.0 (subst (KeepsLeftToRight c.args.properties) (sym last.1) (keeps-more c.args.properties (chars label) [] own.1 (keeps-none c.args.properties)))
+
 pub labels-preserved : goal.labels-preserved
 labels-preserved c =
     let name = c.args.name.now in
@@ -138,6 +166,14 @@ labels-preserved c =
           rw w.len-is (omega (arith, w.put_points-len.ensures.end, w.in_ok-u_label_in_any_case.ensures.shorter, ap length w.as_slice.ensures.value))
       | else-has_ace_prefix_in_any_case w ↦ rw w.len-is (omega arith)
     ] in
+    let more = labels_of-more (drop start name) label others i.utf8 parts in
+    let carried : Carried c.args.properties label c.labels.facts c.if-has_ace_prefix_in_any_case.facts =
+    elim c.if-has_ace_prefix_in_any_case.branch [
+      | then-has_ace_prefix_in_any_case+in_ok-u_label_in_any_case w ↦
+          rw w.facts-is
+          (carried_coded c.args.properties label _ c.labels.facts _ _ more.0 w.if-has_ace_prefix_in_any_case.ensures w.in_ok-u_label_in_any_case.ensures.answer w.in_ok-u_label_in_any_case.ensures.facts w.joined-facts.ensures)
+      | else-has_ace_prefix_in_any_case w ↦ rw w.facts-is (λ none. (none, keeps-other c.args.properties label more.0 (sym w.if-has_ace_prefix_in_any_case.ensures)))
+    ] in
     let kept = c.if-has_ace_prefix_in_any_case.auto.room in
     let len = c.if-has_ace_prefix_in_any_case.len in
     let room = c.if-has_ace_prefix_in_any_case.room in
@@ -145,7 +181,10 @@ labels-preserved c =
       text =
           stop_written _ (decoded_octets c.args.properties label) (in_utf8 (decoded_name c.args.properties (chars others))) front (take len room) (take (len + 1) (set room len 0x2E)) (i.text ∙ ap (appended front) (decoded_more c.args.properties (drop start name) label others i.utf8 parts)) written
           (take-set_at room len (len + 1) 0x2E refl (omega (arith, long, ends.order, ends.within, c.if-end-name.false, after, kept, i.short, i.room, c.requires.room)));
-      utf8 = (labels_of-more (drop start name) label others i.utf8 parts).1;
+      keeps = λ none rest.
+          let own = carried none in
+          i.keeps own.0 (subst (KeepsLeftToRight c.args.properties) (sym more.2) (keeps-more c.args.properties (chars label) (labels_of (chars others)) own.1 rest));
+      utf8 = more.1;
       begun = omega (arith, ends.within, c.if-end-name.false);
       short = omega (arith, long, ends.order, after, i.short);
       room = length-set _ _ _ ∙ kept ∙ i.room;
