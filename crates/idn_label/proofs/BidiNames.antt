@@ -6,7 +6,7 @@ use Rattle.std.specs.Str.{IsAscii, IsUtf8, is_utf8}
 use Rattle.std.proofs.lemmas.Bool.{cases_Bool, cases_lt, cond-true, cond-false, not-true, or_parts}
 use Rattle.std.proofs.lemmas.Bool.Decides.{nat_tests}
 use Rattle.std.proofs.lemmas.List.Folds.{list_any_none}
-use Rattle.std.proofs.lemmas.List.Elements.{All-weaker, All-from_recursion, recursion_from_All}
+use Rattle.std.proofs.lemmas.List.Elements.{All-head, All-weaker, All-from_recursion, recursion_from_All}
 use Rattle.ucd_bidi.specs.declared.BidiClass.TheVariants.{LeftToRight}
 use Rattle.ucd_bidi.specs.BidiClass.{bidi_class}
 use Rattle.ucd_bidi.specs.BidiClassRows.{bidi_class_rows}
@@ -41,7 +41,7 @@ use Rattle.idn_label.specs.Decode.{decoded_label, decoded_labels, decoded_name, 
 use Rattle.idn_label.specs.FirstFault.{IsRegistrable, fault_of_class}
 use Rattle.idn_label.specs.Register.{u_label_answer}
 use Rattle.idn_label.specs.Steps.{begins_with_prefix, in_utf8}
-use Rattle.idn_label.specs.inner.BidiNames.{shown}
+use Rattle.idn_label.specs.inner.BidiNames.{PassesIfRtl, shown}
 use Rattle.idn_label.specs.inner.DecodedNames.{KeepsLeftToRight, decoded_utf8}
 use Rattle.idn_label.proofs.ALabels.{registrable_scalars, decoded_name-a_label}
 use Rattle.idn_label.proofs.AnswerLemmas.{u_label_answer-from, spelled_by}
@@ -262,37 +262,6 @@ module _ (properties : Properties) where
       by_test true e i = step e (decoded_name properties (chars bytes)) refl i
       by_test false e i = absurd (let clash : Err NotUtf8 ≡ Ok octets = i in cc)
 
-  -- one A-label stands for a label that has passed the rule by itself
-  one_coded : (label : List ℕ) (labels : List (List ℕ)) → has_ace_prefix (map to_ascii_lowercase label) ≡ true → decoded_labels properties (label ∷ []) ≡ Ok labels → name_fault properties labels ≡ None
-  unfolding decoded_labels
-  one_coded label labels coded is = step (decoded_label properties label) refl is
-    where
-      step : (first : Answer) → decoded_label properties label ≡ first → with_others first (Ok []) ≡ Ok labels → name_fault properties labels ≡ None
-      step (Err refusal) own e = absurd (let clash : Err refusal ≡ Ok labels = e in cc)
-      step (Ok l) own e =
-          let both : Ok (l ∷ []) ≡ Ok labels = e in
-          let same : l ∷ [] ≡ labels = cc in
-          subst (λ (ls : List (List ℕ)). name_fault properties ls ≡ None) same
-          (one_passes properties l (u_label_answer-from properties _ l (sym (decoded_label-coded properties label coded) ∙ own)).0)
-
-  pub decode_utf8_answer-one : (name octets : List ℕ) → has_ace_prefix (map to_ascii_lowercase (chars name)) ≡ true → labels_of (chars name) ≡ chars name ∷ [] → decoded_utf8 properties name ≡ Ok octets → decode_utf8_answer properties name ≡ Ok octets
-  unfolding decoded_utf8
-  decode_utf8_answer-one name octets coded one is =
-      decode_utf8_answer-whole name ∙ ap (λ answer. and_then answer whole_utf8) is ∙ ap (λ fault. unless_fault fault (Ok octets)) (by_test (is_utf8 name) refl is)
-    where
-      step : (utf8 : is_utf8 name ≡ true) (decoded : Answer) → decoded_name properties (chars name) ≡ decoded → in_utf8 decoded ≡ Ok octets → name_fault properties (labels_of (chars octets)) ≡ None
-      step utf8 (Err refusal) own e = absurd (let clash : Err refusal ≡ Ok octets = e in cc)
-      step utf8 (Ok text) own e =
-          let both : Ok (utf8_of text) ≡ Ok octets = e in
-          let same : utf8_of text ≡ octets = cc in
-          let points : chars octets ≡ text = sym (ap chars same) ∙ points_from_utf8 (utf8_of text) text (utf8_points name text utf8 own) in
-          ap (λ (p : List ℕ). name_fault properties (labels_of p)) points
-          ∙ one_coded (chars name) (labels_of text) coded (sym (ap (decoded_labels properties) one) ∙ decoded_name-labels (chars name) text own)
-
-      by_test : (b : Bool) → is_utf8 name ≡ b → cond b (in_utf8 (decoded_name properties (chars name))) (Err NotUtf8) ≡ Ok octets → name_fault properties (labels_of (chars octets)) ≡ None
-      by_test true e i = step e (decoded_name properties (chars name)) refl i
-      by_test false e i = absurd (let clash : Err NotUtf8 ≡ Ok octets = i in cc)
-
   -- ---- names without R, AL and AN
 
   pub keeps-none : KeepsLeftToRight properties []
@@ -355,6 +324,53 @@ module _ (properties : Properties) where
       by_test : (b : Bool) → is_utf8 name ≡ b → cond b (in_utf8 (decoded_name properties (chars name))) (Err NotUtf8) ≡ Ok octets → name_fault properties (labels_of (chars octets)) ≡ None
       by_test true e i = step e (decoded_name properties (chars name)) refl i
       by_test false e i = absurd (let clash : Err NotUtf8 ≡ Ok octets = i in cc)
+
+-- ---- labels that begin right-to-left
+
+-- a label that may be registered has passed the rule by itself
+registered_rtl : (label : List ℕ) → IsRegistrable Unicode label → PassesIfRtl label
+unfolding is_bidi_domain
+registered_rtl [] registrable begins = absurd (let clash : false ≡ true = begins in cc)
+registered_rtl (c ∷ label) registrable begins =
+    decided (right c) (list_any right label) (passes_bidi_rule (c ∷ label)) begins (sym (one_label (c ∷ label)) ∙ (faultless Unicode (c ∷ label) registrable).bidi)
+  where
+    decided : (first others passes : Bool) → first ≡ true → (not ((first || others) || false) || (passes && true)) ≡ true → passes ≡ true
+    decided true others true is both = refl
+    decided true others false is both = both
+    decided false others passes is both = let clash : false ≡ true = is in cc
+
+ascii_rtl : (label : List ℕ) → All (λ c. c < 128) label → PassesIfRtl label
+ascii_rtl [] ascii begins = absurd (let clash : false ≡ true = begins in cc)
+ascii_rtl (c ∷ label) ascii begins =
+    let few : c < 128 = All-head (λ c. c < 128) c label ascii in
+    let clash : false ≡ true = sym (right-before_hebrew c (omega arith)) ∙ begins in cc
+
+-- those of a name in ASCII were A-labels
+pub rtl-tested : (name octets : List ℕ) → IsAscii name → decoded_utf8 Unicode name ≡ Ok octets → AllByRecursion PassesIfRtl (labels_of (chars octets))
+unfolding decoded_utf8
+rtl-tested name octets ascii is = by_test (is_utf8 name) refl is
+  where
+    points : chars name ≡ name
+    points = points_from_utf8 name name (ascii_points name ascii)
+
+    few : All (All (λ c. c < 128)) (labels_of (chars name))
+    few = subst (λ (n : List ℕ). All (All (λ c. c < 128)) (labels_of n)) (sym points) (All-labels_of (λ c. c < 128) name (All-weaker (λ c. c < 128) (λ c. is_full_stop c ≡ false → c < 128) (λ c lt _. lt) name (All-from_ascii name ascii)))
+
+    own : AllByRecursion PassesIfRtl (labels_of (chars name))
+    own = recursion_from_All PassesIfRtl (labels_of (chars name)) (All-weaker (All (λ c. c < 128)) PassesIfRtl ascii_rtl (labels_of (chars name)) few)
+
+    step : (utf8 : is_utf8 name ≡ true) (decoded : Answer) → decoded_name Unicode (chars name) ≡ decoded → in_utf8 decoded ≡ Ok octets → AllByRecursion PassesIfRtl (labels_of (chars octets))
+    step utf8 (Err refusal) told e = absurd (let clash : Err refusal ≡ Ok octets = e in cc)
+    step utf8 (Ok text) told e =
+        let both : Ok (utf8_of text) ≡ Ok octets = e in
+        let same : utf8_of text ≡ octets = cc in
+        let read : chars octets ≡ text = sym (ap chars same) ∙ points_from_utf8 (utf8_of text) text (utf8_points Unicode name text utf8 told) in
+        subst (λ (p : List ℕ). AllByRecursion PassesIfRtl (labels_of p)) (sym read)
+        (decoded_all Unicode PassesIfRtl registered_rtl (labels_of (chars name)) (labels_of text) own (decoded_name-labels Unicode (chars name) text told))
+
+    by_test : (b : Bool) → is_utf8 name ≡ b → cond b (in_utf8 (decoded_name Unicode (chars name))) (Err NotUtf8) ≡ Ok octets → AllByRecursion PassesIfRtl (labels_of (chars octets))
+    by_test true e i = step e (decoded_name Unicode (chars name)) refl i
+    by_test false e i = absurd (let clash : Err NotUtf8 ≡ Ok octets = i in cc)
 
 -- ---- the rule, of code points
 

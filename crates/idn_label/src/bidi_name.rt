@@ -1,12 +1,12 @@
 //! The Bidi rule of a whole name (RFC 5893, section 2): if one of its labels holds R, AL or AN, all of them meet it.
-ghost use Rattle.std.specs.Prelude.{◌≡◌, ◌≤◌, ◌*◌, chars, false, length, map, IsTrue, IsUtf8};
-ghost use Rattle.std.specs.List.{list_all, list_any};
+ghost use Rattle.std.specs.Prelude.{◌≡◌, ◌≤◌, ◌*◌, chars, true, false, length, map, IsTrue, IsUtf8};
+ghost use Rattle.std.specs.List.{AllByRecursion, list_all, list_any};
 ghost use Rattle.ucd_bidi.specs.BidiClass.{bidi_class};
 ghost use Rattle.idna.specs.BidiRule.{is_rtl, passes_bidi_rule};
 ghost use Rattle.idna.specs.Labels.{labels_of};
 ghost use Rattle.idna.specs.Validity.{passes_bidi};
 ghost use Rattle.idn_label.specs.Decode.{name_fault};
-ghost use Rattle.idn_label.specs.inner.BidiNames.{shown};
+ghost use Rattle.idn_label.specs.inner.BidiNames.{PassesIfRtl, begins_rtl, is_lowercase, is_lowercase_or_digit, shown};
 
 use crate::bidi::passes_bidi_rule;
 use crate::full_stops::label_end;
@@ -22,16 +22,22 @@ pub(crate) const MAX_DECODED_LEN: usize = 4096;
 /// no more.
 const SHORT_LEN: usize = 64;
 
-/// The fault of a name in UTF-8 of which each label is decoded.
+/// The fault of a name in UTF-8 of which each label is decoded. It may be known that each label that begins
+/// right-to-left has met the rule by itself.
 #[inline]
-pub(crate) fn utf8_name_fault(name: &[u8], properties: Properties) -> Option<Refusal>
+pub(crate) fn utf8_name_fault(
+    name: &[u8],
+    are_rtl_tested: bool,
+    properties: Properties,
+) -> Option<Refusal>
     requires utf8 { IsUtf8 name.now }
     requires short { length name.now ≤ MAX_DECODED_LEN }
+    requires tested { properties ≡ Properties.Unicode → are_rtl_tested ≡ true → AllByRecursion PassesIfRtl (labels_of (chars name.now)) }
     ensures { result ≡ name_fault properties (labels_of (chars name.now)) }
 {
     match properties {
         Properties::Profile => None,
-        Properties::Unicode if passes_in_utf8(name) => None,
+        Properties::Unicode if passes_in_utf8(name, are_rtl_tested) => None,
         Properties::Unicode => Some(Refusal::Bidi),
     }
 }
@@ -48,14 +54,16 @@ pub fn name_fault(name: &[u32], properties: Properties) -> Option<Refusal>
     }
 }
 
-/// Whether the labels of a name in UTF-8 pass together.
+/// Whether the labels of a name in UTF-8 pass together. Most names of which this is asked hold R, AL or AN, so that each
+/// label is asked first.
 #[inline(never)]
-fn passes_in_utf8(name: &[u8]) -> bool
+fn passes_in_utf8(name: &[u8], are_rtl_tested: bool) -> bool
     requires utf8 { IsUtf8 name.now }
     requires short { length name.now ≤ MAX_DECODED_LEN }
+    requires tested { are_rtl_tested ≡ true → AllByRecursion PassesIfRtl (labels_of (chars name.now)) }
     ensures { result ≡ passes_bidi (labels_of (chars name.now)) }
 {
-    !holds_rtl_in_utf8(name) || each_utf8_label_passes(name)
+    each_utf8_label_passes(name, are_rtl_tested) || !holds_rtl_in_utf8(name)
 }
 
 /// Whether a character of a name in UTF-8 is R, AL or AN.
@@ -77,18 +85,16 @@ pub(crate) fn holds_rtl_in_utf8(name: &[u8]) -> bool
 }
 
 /// Whether each label of a name in UTF-8 meets the rule.
-// Not inlined: most names do not come here, and to look through them needs not its room.
-#[inline(never)]
-fn each_utf8_label_passes(name: &[u8]) -> bool
+fn each_utf8_label_passes(name: &[u8], are_rtl_tested: bool) -> bool
     requires utf8 { IsUtf8 name.now }
     requires short { length name.now ≤ MAX_DECODED_LEN }
+    requires tested { are_rtl_tested ≡ true → AllByRecursion PassesIfRtl (labels_of (chars name.now)) }
     ensures { result ≡ list_all passes_bidi_rule (labels_of (chars name.now)) }
 {
-    let mut room = ArrayVec::new();
     let mut start = 0;
     'labels: loop {
         let end = label_end(name, start);
-        if !utf8_label_passes(&name[start..end], &mut room) {
+        if !utf8_label_passes(&name[start..end], are_rtl_tested) {
             return false;
         }
         if end == name.len() {
@@ -98,14 +104,79 @@ fn each_utf8_label_passes(name: &[u8]) -> bool
     }
 }
 
-/// Whether a label in UTF-8 meets the rule. `room` is for its characters: what stood there says nothing.
-fn utf8_label_passes(label: &[u8], room: &mut ArrayVec<char, SHORT_LEN>) -> bool
+/// Whether a label in UTF-8 meets the rule.
+#[inline]
+fn utf8_label_passes(label: &[u8], are_rtl_tested: bool) -> bool
+    requires utf8 { IsUtf8 label.now }
+    requires short { length label.now ≤ MAX_DECODED_LEN }
+    requires tested { are_rtl_tested ≡ true → PassesIfRtl (chars label.now) }
+    ensures { result ≡ passes_bidi_rule (chars label.now) }
+{
+    if is_plain(label) {
+        return true;
+    }
+    if are_rtl_tested && begins_rtl(label) {
+        return true;
+    }
+    read_label_passes(label)
+}
+
+/// Whether a label has only lower-case letters and digits of ASCII, a letter first, and so meets the rule. It looks at
+/// each octet, which is faster than to stop at the first other one.
+#[inline]
+fn is_plain(label: &[u8]) -> bool
+    ensures { IsTrue result → passes_bidi_rule (chars label.now) ≡ true }
+{
+    if label.is_empty() || !is_lowercase(label[0]) {
+        return false;
+    }
+    let mut is_plain = true;
+    for octet in label {
+        is_plain &= is_lowercase_or_digit(*octet);
+    }
+    is_plain
+}
+
+#[inline]
+fn is_lowercase(octet: u8) -> bool
+    ensures { result ≡ is_lowercase octet }
+{
+    matches!(octet, 0x61..=0x7A)
+}
+
+#[inline]
+fn is_lowercase_or_digit(octet: u8) -> bool
+    ensures { result ≡ is_lowercase_or_digit octet }
+{
+    matches!(octet, 0x61..=0x7A | 0x30..=0x39)
+}
+
+/// Whether a label in UTF-8 begins with R, AL or AN.
+#[inline]
+fn begins_rtl(label: &[u8]) -> bool
+    requires { IsUtf8 label.now }
+    ensures { result ≡ begins_rtl (chars label.now) }
+{
+    if label.is_empty() {
+        return false;
+    }
+    let Some((first, _)) = character_at(label, 0) else {
+        unreachable!()
+    };
+    is_rtl(first)
+}
+
+/// Whether a label in UTF-8 meets the rule, character by character.
+// Not inlined: most labels do not come here, and need not its room.
+#[inline(never)]
+fn read_label_passes(label: &[u8]) -> bool
     requires utf8 { IsUtf8 label.now }
     requires short { length label.now ≤ MAX_DECODED_LEN }
     ensures { result ≡ passes_bidi_rule (chars label.now) }
 {
-    if read_characters(label, room) {
-        passes_bidi_rule(room)
+    let mut room: ArrayVec<char, SHORT_LEN> = ArrayVec::new();
+    if read_characters(label, &mut room) {
+        passes_bidi_rule(&room)
     } else {
         long_label_passes(label)
     }

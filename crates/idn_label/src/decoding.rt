@@ -2,7 +2,6 @@
 ghost use Rattle.std.specs.Prelude.{◌≡◌, ◌≢◌, ◌<◌, ◌≤◌, ◌*◌, ◌∷◌, [], ℕ, true, false, List, chars, length, take, IsTrue, IsUtf8, IfOk, Ok, Err, All};
 ghost use Rattle.std.specs.Str.{IsAscii};
 ghost use Rattle.idna.specs.Labels.{labels_of};
-ghost use Rattle.idna.specs.Validity.{is_all_ascii};
 ghost use Rattle.idn_class.specs.Facts.{contains};
 ghost use Rattle.idn_label.specs.ALabel.{a_label_of};
 ghost use Rattle.idn_label.specs.Answers.{Gives};
@@ -10,12 +9,11 @@ ghost use Rattle.idn_label.specs.Decode.{decode_answer, decode_utf8_answer, deco
 ghost use Rattle.idn_label.specs.FirstFault.{IsRegistrable};
 ghost use Rattle.idn_label.specs.inner.DecodedNames.{KeepsLeftToRight, decoded_utf8};
 ghost use Rattle.idn_label.specs.Memory.{DecodesWithoutMemory};
-ghost use Rattle.idn_label.specs.Steps.{begins_with_prefix};
 
 use crate::bidi_name::{holds_rtl_in_utf8, name_fault, utf8_name_fault};
 use crate::full_stops::label_end;
 use crate::u_label::u_label_in_any_case;
-use crate::unit::{FULL_STOP, has_ace_prefix_in_any_case, is_all_ascii};
+use crate::unit::{FULL_STOP, has_ace_prefix_in_any_case};
 use idn_class::{Fact, Facts, Properties};
 use idn_punycode::DecodedLabel;
 use idn_text::{MAX_LINE_LEN, Refusal, put_points};
@@ -52,15 +50,15 @@ pub fn decode_utf8(
     if is_told_by_its_labels(name, is_ascii, facts, properties) {
         return Ok(len);
     }
-    match utf8_name_fault(&room[..len], properties) {
+    // What begins right-to-left in a decoded name of ASCII was an A-label.
+    match utf8_name_fault(&room[..len], is_ascii, properties) {
         None => Ok(len),
         Some(refusal) => Err(refusal),
     }
 }
 
-/// Whether a name whose labels are decoded has no other fault: by the profile; if nothing in it is right-to-left, as
-/// the facts of its A-labels and its other labels tell; and if it is one A-label, since what this stands for has passed
-/// the Bidi rule by itself.
+/// Whether a name whose labels are decoded has no other fault: by the profile; and if nothing in it is right-to-left, as
+/// the facts of its A-labels and its other labels tell.
 fn is_told_by_its_labels(name: &[u8], is_ascii: bool, facts: Facts, properties: Properties) -> bool
     requires utf8 { IsUtf8 name.now }
     requires ascii { is_ascii ≡ true → IsAscii name.now }
@@ -69,23 +67,9 @@ fn is_told_by_its_labels(name: &[u8], is_ascii: bool, facts: Facts, properties: 
 {
     match properties {
         Properties::Profile => true,
-        Properties::Unicode => {
-            if facts.contains(Fact::RightToLeft) {
-                is_one_a_label(name)
-            } else {
-                is_ascii || !holds_rtl_in_utf8(name)
-            }
-        }
+        Properties::Unicode if facts.contains(Fact::RightToLeft) => false,
+        Properties::Unicode => is_ascii || !holds_rtl_in_utf8(name),
     }
-}
-
-/// Whether a name is one label, of ASCII, that begins with `xn--` in any case.
-fn is_one_a_label(name: &[u8]) -> bool
-    ensures ascii { IsTrue result → is_all_ascii name.now ≡ true }
-    ensures coded { IsTrue result → begins_with_prefix name.now ≡ true }
-    ensures alone { IsTrue result → labels_of name.now ≡ name.now ∷ [] }
-{
-    has_ace_prefix_in_any_case(name) && is_all_ascii(name) && label_end(name, 0) == name.len()
 }
 
 /// The name with each label decoded, as `decode_utf8` leaves it, before the rule of the whole name is asked, and the

@@ -1,13 +1,19 @@
-use Rattle.std.proofs.Common.{◌+◌, ◌&&◌, chars, true, drop, sym, ap, ◌∙◌, arith}
-use Rattle.std.specs.List.{list_all}
+use Rattle.std.proofs.Common.{◌+◌, ◌&&◌, chars, true, drop, sym, ap, subst, ◌∙◌, arith}
+use Rattle.std.specs.List.{AllByRecursion, list_all}
 use Rattle.idna.specs.BidiRule.{passes_bidi_rule}
 use Rattle.idna.specs.Labels.{labels_of}
+use Rattle.idn_label.specs.inner.BidiNames.{PassesIfRtl}
 use Rattle.idn_label.proofs.LabelsByPlace.{label_last, label_before}
 use Rattle.idn_label.proofs.Utf8Names.{labels_of-first, labels_of-last, labels_of-more}
 use Rattle.idn_label.proofs.bidi_name.each_utf8_label_passes.Goals as goal
 
 pub utf8_label_passes-requires-clause-utf8 : goal.utf8_label_passes-requires-clause-utf8
 utf8_label_passes-requires-clause-utf8 c = (labels_of-first c.args.name.now c.labels.start c.label_end-end.result c.labels.invariant.utf8 c.label_end-end.ensures).0
+
+pub utf8_label_passes-requires-clause-tested : goal.utf8_label_passes-requires-clause-tested
+utf8_label_passes-requires-clause-tested c = λ known.
+    let first = labels_of-first c.args.name.now c.labels.start c.label_end-end.result c.labels.invariant.utf8 c.label_end-end.ensures in
+    (subst (AllByRecursion PassesIfRtl) first.2 (c.labels.invariant.tested known)).0
 
 pub returns-then-not-utf8_label_passes : goal.returns-then-not-utf8_label_passes
 returns-then-not-utf8_label_passes c =
@@ -35,5 +41,6 @@ labels-preserved c =
     record {
       within = omega (arith, ends.within, c.if-end-name.false);
       utf8 = more.1;
+      tested = λ known. (subst (AllByRecursion PassesIfRtl) more.2 (c.labels.invariant.tested known)).1;
       passed = c.labels.invariant.passed ∙ ap (list_all passes_bidi_rule) more.2 ∙ ap (λ b. b && list_all passes_bidi_rule (labels_of (chars others))) passes;
     }

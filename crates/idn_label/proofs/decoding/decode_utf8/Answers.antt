@@ -1,9 +1,11 @@
-use Rattle.std.proofs.Common.{take, Ok, ap, sym, ◌∙◌, rules}
+use Rattle.std.proofs.Common.{◌≡◌, take, Ok, ap, sym, subst, ◌∙◌, rules}
 use Rattle.std.proofs.lemmas.Result.{err_from_is_err_and}
 use Rattle.std.proofs.lemmas.Str.{IsUtf8-from_ascii}
 use Rattle.std.specs.Str.{IsAscii}
+use Rattle.idn_class.specs.declared.properties.Properties.{Properties}
+use Rattle.idn_label.specs.inner.DecodedNames.{decoded_utf8}
 use Rattle.idn_label.specs.Answers.{and_then, unless_fault}
-use Rattle.idn_label.proofs.BidiNames.{whole_utf8, decode_utf8_answer-other, decode_utf8_answer-whole, decoded_utf8-is_utf8}
+use Rattle.idn_label.proofs.BidiNames.{whole_utf8, decode_utf8_answer-other, decode_utf8_answer-whole, decoded_utf8-is_utf8, rtl-tested}
 use Rattle.idn_label.proofs.decoding.decode_utf8.Goals as goal
 use Rattle.idn_label.proofs.decoding.decode_utf8.Goals.{else-not-is_ascii-via-then-not-is_ascii+else-is_err, else-not-is_ascii-via-else-not-is_ascii}
 
@@ -47,3 +49,10 @@ returns-in-Some-clause-answer c =
     decode_utf8_answer-whole c.args.properties c.args.name.now
     ∙ ap (λ answer. and_then answer (whole_utf8 c.args.properties)) c.in_ok-len.ensures.answer
     ∙ ap (λ fault. unless_fault fault (Ok text)) (sym c.utf8_name_fault.ensures ∙ c.in-Some.is)
+
+pub utf8_name_fault-requires-clause-tested : goal.utf8_name_fault-requires-clause-tested
+utf8_name_fault-requires-clause-tested c = λ is told.
+    let name = c.args.name.now in
+    let text = take c.in_ok-len.len c.decode_utf8_labels.new.room in
+    let ascii : IsAscii name = search rules in
+    rtl-tested name text ascii (subst (λ (p : Properties). decoded_utf8 p name ≡ Ok text) is c.in_ok-len.ensures.answer)

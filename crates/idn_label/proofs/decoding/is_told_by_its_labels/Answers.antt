@@ -1,16 +1,11 @@
-use Rattle.std.proofs.Common.{◌≡◌, ℕ, List, [], ◌∷◌, true, Ok, chars, sym, ap, subst, ◌∙◌}
+use Rattle.std.proofs.Common.{◌≡◌, ℕ, List, Ok, sym, ap, ◌∙◌}
 use Rattle.std.proofs.lemmas.Bool.{not-true}
-use Rattle.std.specs.Str.{IsAscii}
-use Rattle.idna.specs.Labels.{labels_of}
-use Rattle.idn_text.proofs.Utf8Lemmas.{points_from_utf8, ascii_points}
 use Rattle.idn_class.specs.declared.properties.Properties.{Properties}
 use Rattle.idn_class.specs.declared.properties.Properties.TheVariants.{Profile, Unicode}
 use Rattle.idn_label.specs.Answers.{and_then}
 use Rattle.idn_label.specs.Decode.{decode_utf8_answer}
-use Rattle.idn_label.specs.Steps.{begins_with_prefix}
 use Rattle.idn_label.specs.inner.DecodedNames.{decoded_utf8}
-use Rattle.idn_label.proofs.BidiNames.{whole_utf8, decode_utf8_answer-whole, decode_utf8_answer-one, decode_utf8_answer-ltr, right-ascii}
-use Rattle.idn_label.proofs.LdhLemmas.{is_all_ascii-octets}
+use Rattle.idn_label.proofs.BidiNames.{whole_utf8, decode_utf8_answer-whole, decode_utf8_answer-ltr, right-ascii}
 use Rattle.idn_label.proofs.decoding.is_told_by_its_labels.Goals as goal
 
 by_profile : (properties : Properties) → properties ≡ Profile → (name text : List ℕ) → decoded_utf8 properties name ≡ Ok text → decode_utf8_answer properties name ≡ Ok text
@@ -19,15 +14,6 @@ by_profile Unicode e name text is = absurd (let clash : Unicode ≡ Profile = e 
 
 pub returns-in-Profile : goal.returns-in-Profile
 returns-in-Profile c told text is = by_profile c.args.properties c.in-Profile.is c.args.name.now text is
-
-pub returns-then-contains : goal.returns-then-contains
-returns-then-contains c told text is =
-    let name = c.args.name.now in
-    let ascii : IsAscii name = is_all_ascii-octets name (c.is_one_a_label.ensures.ascii told) in
-    let octets : chars name ≡ name = points_from_utf8 _ _ (ascii_points name ascii) in
-    decode_utf8_answer-one c.args.properties name text
-    (subst (λ (n : List ℕ). begins_with_prefix n ≡ true) (sym octets) (c.is_one_a_label.ensures.coded told))
-    (subst (λ (n : List ℕ). labels_of n ≡ n ∷ []) (sym octets) (c.is_one_a_label.ensures.alone told)) is
 
 pub returns-then-is_ascii : goal.returns-then-is_ascii
 returns-then-is_ascii c told text is =
