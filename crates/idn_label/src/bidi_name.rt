@@ -54,8 +54,8 @@ pub fn name_fault(name: &[u32], properties: Properties) -> Option<Refusal>
     }
 }
 
-/// Whether the labels of a name in UTF-8 pass together. Most names of which this is asked hold R, AL or AN, so that each
-/// label is asked first.
+/// Whether the labels of a name in UTF-8 pass together. Most names of which this is asked hold R, AL or AN, so each label
+/// is asked first.
 #[inline(never)]
 fn passes_in_utf8(name: &[u8], are_rtl_tested: bool) -> bool
     requires utf8 { IsUtf8 name.now }

@@ -57,8 +57,8 @@ pub fn decode_utf8(
     }
 }
 
-/// Whether a name whose labels are decoded has no other fault: by the profile; and if nothing in it is right-to-left, as
-/// the facts of its A-labels and its other labels tell.
+/// Whether a name whose labels are decoded has no other fault: by the profile; and if nothing in it is right-to-left,
+/// as the facts of its A-labels and its other labels tell.
 fn is_told_by_its_labels(name: &[u8], is_ascii: bool, facts: Facts, properties: Properties) -> bool
     requires utf8 { IsUtf8 name.now }
     requires ascii { is_ascii ≡ true → IsAscii name.now }
