@@ -154,7 +154,7 @@ class Causes:
         """Of what begins with `xn--`, in lower case."""
         code = label[4:]
         if refusal == BAD_A_LABEL and not code:
-            return "nothing behind xn--"
+            return "nothing after xn--"
         if refusal == BAD_A_LABEL and not code.isascii():
             place = first(range(len(label)), lambda place: not label[place].isascii())
             return f"{at(place, ord(label[place]))}: not ASCII"

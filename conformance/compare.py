@@ -26,7 +26,7 @@ import kinds
 import names
 from libidn2 import LibIdn2
 from rules import UnicodeProperties
-from second_run import SecondWriting
+from reference_run import Reference
 from unicode_data import Classes, version
 
 PROGRAM = HERE.parent / "crates/idn2/out/idn2"
@@ -112,7 +112,7 @@ def main():
     every = names.every_code_point() if options.every_code_point else []
     print(f"libidn2 {library.version()}, Unicode data {version()}, seed {names.SEED}")
     labels, coded_names = names.labels(points, options.names) + every, names.coded_names(points, options.names)
-    second, failures = SecondWriting.of(classes), 0
+    second, failures = Reference.of(classes), 0
     profile, standard = second.by_profile.registration, second.by_standard.registration
     for words, lines, ask, known_kinds, registration in (
         (["-r"], labels, library.register, kinds.REGISTER, profile),

@@ -2,7 +2,7 @@
 """Compares the built program with a reference implementation of its rules on random input: python3 conformance/fuzz.py
 
 It draws words, tables, labels, registered labels, names and bytes from a seed, which it prints, until the given number
-of seconds is over. Each run's output, messages and status must be those of second_run.py, byte for byte, in half of the
+of seconds is over. Each run's output, messages and status must be those of reference_run.py, byte for byte, in half of the
 runs with `--standard`, and in half with the causes that causes.py tells. Those are run once more with `--json`: each
 line must be what Python's json prints of the object that it reads there, and the objects must say the same
 (objects.py). Names for lookup are compared with libidn2's answers, whose known kinds of difference are in kinds.py, and
@@ -33,7 +33,7 @@ from libidn2 import LibIdn2
 from registration import EMPTY, LABEL_TOO_LONG, a_label
 from rules import UnicodeProperties
 from objects import Wrong, as_explained, without_what_objects_leave_out
-from second_run import LINE_LIMIT, TEXTS, Bad, Options, SecondWriting, Show, Unknown, bodies
+from reference_run import LINE_LIMIT, TEXTS, Bad, Options, Reference, Show, Unknown, bodies
 from unicode_data import Classes, version
 
 SHOWN = 400
@@ -82,7 +82,7 @@ class Fuzz:
         self.points = names.Points(self.classes, known)
         self.library = LibIdn2()
         self.facts = kinds.Facts(self.classes, known, self.library)
-        self.second = SecondWriting.of(self.classes)
+        self.second = Reference.of(self.classes)
         self.choose_properties()
         self.counts = collections.Counter()
 

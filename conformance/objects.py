@@ -62,7 +62,7 @@ def cause_of(refusal):
         return f"{refusal['octets']} octets" if "label" in refusal else f"name of {refusal['octets']} octets"
     if "alabel" in refusal:
         return f"the A-label is {refusal['alabel']}"
-    return f"not {refusal['rule']} Punycode" if "rule" in refusal else "nothing behind xn--"
+    return f"not {refusal['rule']} Punycode" if "rule" in refusal else "nothing after xn--"
 
 
 def place_of_table(refusal):

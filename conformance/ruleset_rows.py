@@ -4,7 +4,7 @@ The version line is left out of the rulesets here, except where a text is given 
 """
 
 from notation.faults import TEXTS
-from second_run import TEXTS as REFUSALS
+from reference_run import TEXTS as REFUSALS
 
 VERSION_LINE = "%version 3\n"
 

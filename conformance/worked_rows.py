@@ -1,7 +1,7 @@
 #!/usr/bin/env python3
 """Worked rows of the notation, of listings and of jumps: python3 conformance/worked_rows.py
 
-Each row is what a run is given with what must be printed for it, worked out by hand. The reference implementation (second_run.py and
+Each row is what a run is given with what must be printed for it, worked out by hand. The reference implementation (reference_run.py and
 tables/check.py) must answer so, and so must the program, where it is built.
 """
 
@@ -21,7 +21,7 @@ import run_rows
 from notation import canonical, reading
 from notation.faults import TEXTS as FAULT_TEXTS
 from run_rows import ADLAM, DOUBLED, SHARP_S
-from second_run import TEXTS, SecondWriting, Unknown
+from reference_run import TEXTS, Reference, Unknown
 from unicode_data import Classes
 
 # The words before the table's file, the table, the label, and what is printed.
@@ -289,7 +289,7 @@ def main():
     words = argparse.ArgumentParser(description="Asks the reference implementation, and the program, for worked rows.")
     words.add_argument("--program", default=PROGRAM, type=pathlib.Path, help="our program")
     program, classes = words.parse_args().program, Classes()
-    second, wrong, asked = SecondWriting.of(classes), 0, collections.Counter()
+    second, wrong, asked = Reference.of(classes), 0, collections.Counter()
     for words, given, files, wanted in rows():
         given, files = in_bytes(given), {name: in_bytes(text) for name, text in files.items()}
         asked["worked rows"] += 1

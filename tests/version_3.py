@@ -22,7 +22,7 @@ import unicode_data
 from notation import canonical, reading
 from notation.gaps import gaps
 from ruleset_labels import RulesetLabels
-from second_run import Run, SecondWriting, Unknown
+from reference_run import Run, Reference, Unknown
 
 DISALLOWED, UNASSIGNED = 10, 11
 
@@ -65,7 +65,7 @@ def told(answer):
 
 def reference_implementation_answers(folder):
     """All but one row, whose label spells a million labels."""
-    second, unknown = SecondWriting(Run(BY_PROGRAM, BY_PROGRAM)), []
+    second, unknown = Reference(Run(BY_PROGRAM, BY_PROGRAM)), []
     for words, given, files, wanted in ruleset_rows.rows():
         try:
             output, messages, status = second.answer(words, given.encode(), {"table": files["table"].encode()})

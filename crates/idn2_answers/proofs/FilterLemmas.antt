@@ -6,27 +6,27 @@ use Rattle.std.proofs.lemmas.Bool.Decides.{nat_tests}
 use Rattle.std.proofs.lemmas.List.{take-append-drop, take_all}
 use Rattle.std.proofs.lemmas.Bool.{and_from, or_from, false_from_ne_true}
 use Rattle.idn_class.specs.declared.properties.Properties.{Properties}
-use Rattle.idn_class.specs.Hopeless as class
-use Rattle.idn_class.specs.Hopeless.{hopeless, IsHopeless}
-use Rattle.idn_class.proofs.HopelessSteps.{hopeless-nil}
-use Rattle.idn_class.proofs.HopelessTests.{hopeless-from}
+use Rattle.idn_class.specs.DeadPrefixes as class
+use Rattle.idn_class.specs.DeadPrefixes.{hopeless, IsDeadPrefix}
+use Rattle.idn_class.proofs.DeadPrefixSteps.{hopeless-nil}
+use Rattle.idn_class.proofs.DeadPrefixTests.{hopeless-from}
 use Rattle.idn_label.specs.FirstFault.{first_fault, IsRegistrable}
-use Rattle.idn_label.proofs.HopeLemmas.{none_hopeless}
+use Rattle.idn_label.proofs.DeadPrefixLemmas.{none_hopeless}
 use Rattle.idn_label.proofs.RequirementLemmas.{MeetsRequirements-registrable}
 use Rattle.variant_table.specs.Entries.{TableValue}
 use Rattle.valid_labels.specs.Validity as validity
-use Rattle.valid_labels.specs.Validity.{IsLost, IsValid, HasNoLostBeginning}
-use Rattle.valid_labels.specs.Tests.{asks_nothing, is_lost, is_valid}
-use Rattle.valid_labels.proofs.LostLemmas.{lost-invalid}
+use Rattle.valid_labels.specs.Validity.{IsDeadUnder, IsValid, HasNoDeadPrefixUnder}
+use Rattle.valid_labels.specs.Tests.{asks_nothing, is_dead_under, is_valid}
+use Rattle.valid_labels.proofs.DeadPrefixLemmas.{dead-invalid}
 use Rattle.valid_labels.proofs.TestLemmas.{tests-agree}
-use Rattle.variant_list.specs.Beginnings.{HasHope, has_hope}
+use Rattle.variant_list.specs.Beginnings.{HasNoDeadPrefix, has_no_dead_prefix}
 use Rattle.variant_list.proofs.BeginningLemmas.{shortest_hopeless-none}
-use Rattle.idn2_answers.proofs.HopeLemmas.{clear}
+use Rattle.idn2_answers.proofs.DeadPrefixLemmas.{clear}
 use Rattle.idn2_answers.proofs.LostBeginnings.{ruled-for_good}
 use Rattle.idn2_answers.specs.Answers.{Filter, filter_if, filter_of, is_registrable, registrable_labels, ruled_labels}
 
 module _ (properties : Properties) where
-  -- each label that is accepted may be registered, and none of them begins with a hopeless list
+  -- each label that is accepted may be registered, and none of them begins with a dead prefix
   pub record IsSound (f : Filter) : Type 0 where
     pub registrable : (v : List ℕ) → f.accepts v ≡ true → IsRegistrable properties v
     pub for_good : (w z : List ℕ) → f.hopeless w ≡ true → f.accepts (w ++ z) ≡ false
@@ -68,7 +68,7 @@ neither-right true b h = cc
 module _ (properties : Properties) where
   pub ruled_labels-IsSound : (table : TableValue) → IsSound properties (ruled_labels properties table)
   ruled_labels-IsSound table = record {
-    registrable = λ v h. is_registrable-from properties v (both-left (is_registrable properties v) (is_valid table v && has_hope (is_lost table) v) h);
+    registrable = λ v h. is_registrable-from properties v (both-left (is_registrable properties v) (is_valid table v && has_no_dead_prefix (is_dead_under table) v) h);
     for_good = ruled-for_good properties table;
   }
 
@@ -79,21 +79,21 @@ module _ (properties : Properties) where
       by_test true = registrable_labels-IsSound properties
       by_test false = ruled_labels-IsSound table
 
--- ---- no beginning of a valid label is lost, and none of a label with hope is hopeless
+-- ---- a valid label has no dead prefix under the table
 
-not_lost : (table : TableValue) (v : List ℕ) → validity.IsSound table → IsValid table v → (k : ℕ) → IsLost table (take k v) → ⊥
-not_lost table v sound valid k is = lost-invalid table (take k v) (drop k v) sound is (subst (IsValid table) (sym (take-append-drop k v)) valid)
+not_dead : (table : TableValue) (v : List ℕ) → validity.IsSound table → IsValid table v → (k : ℕ) → IsDeadUnder table (take k v) → ⊥
+not_dead table v sound valid k is = dead-invalid table (take k v) (drop k v) sound is (subst (IsValid table) (sym (take-append-drop k v)) valid)
 
 module _ (properties : Properties) where
-  empty_has_hope : IsHopeless properties [] → ⊥
-  empty_has_hope h = let clash : false ≡ true = sym (hopeless-nil properties) ∙ hopeless-from properties [] h in cc
+  empty_is_alive : IsDeadPrefix properties [] → ⊥
+  empty_is_alive h = let clash : false ≡ true = sym (hopeless-nil properties) ∙ hopeless-from properties [] h in cc
 
-  hope-rule : (v : List ℕ) → HasHope (hopeless properties) v → class.HasHope properties v
-  hope-rule v h zero bad = empty_has_hope bad
-  hope-rule [] h (suc k) bad = empty_has_hope bad
-  hope-rule (c ∷ v) h (suc k) bad = by_length (nat_le (suc k) (length (c ∷ v))) refl
+  alive-rule : (v : List ℕ) → HasNoDeadPrefix (hopeless properties) v → class.HasNoDeadPrefix properties v
+  alive-rule v h zero bad = empty_is_alive bad
+  alive-rule [] h (suc k) bad = empty_is_alive bad
+  alive-rule (c ∷ v) h (suc k) bad = by_length (nat_le (suc k) (length (c ∷ v))) refl
     where
-      clash : (n : ℕ) → 1 ≤ n → n ≤ length (c ∷ v) → IsHopeless properties (take n (c ∷ v)) → ⊥
+      clash : (n : ℕ) → 1 ≤ n → n ≤ length (c ∷ v) → IsDeadPrefix properties (take n (c ∷ v)) → ⊥
       clash n low high at = let both : false ≡ true = sym (h n low high) ∙ hopeless-from properties (take n (c ∷ v)) at in cc
 
       all : (n : ℕ) → length (c ∷ v) ≤ n → take n (c ∷ v) ≡ take (length (c ∷ v)) (c ∷ v)
@@ -103,7 +103,7 @@ module _ (properties : Properties) where
       by_length true is = clash (suc k) (omega arith) (grind (arith, nat_tests)) bad
       by_length false is =
           let long : length (c ∷ v) ≤ suc k = grind (arith, nat_tests) in
-          clash (length (c ∷ v)) (omega arith) (omega arith) (subst (IsHopeless properties) (all (suc k) long) bad)
+          clash (length (c ∷ v)) (omega arith) (omega arith) (subst (IsDeadPrefix properties) (all (suc k) long) bad)
 
 -- ---- what the filter of a table asks of a label that is valid where the table asks nothing
 
@@ -116,36 +116,36 @@ module _ (properties : Properties) where
       valid_test : IsTrue (is_valid table v) ↔ IsValid table v
       valid_test = tests-agree.valid table v sound
 
-      no_lost : IsValid table v → has_hope (is_lost table) v ≡ true
-      no_lost valid = ap is_none (shortest_hopeless-none (is_lost table) v (λ k low high. false_from_ne_true (is_lost table (take k v)) (λ is. not_lost table v sound valid k ((tests-agree.lost table (take k v) sound).0 is))))
+      no_dead : IsValid table v → has_no_dead_prefix (is_dead_under table) v ≡ true
+      no_dead valid = ap is_none (shortest_hopeless-none (is_dead_under table) v (λ k low high. false_from_ne_true (is_dead_under table (take k v)) (λ is. not_dead table v sound valid k ((tests-agree.dead table (take k v) sound).0 is))))
 
       by_test : (b : Bool) → (b ≡ true → IsValid table v) → ((filter_if properties b table).accepts v ≡ true) ↔ (IsRegistrable properties v × IsValid table v)
       by_test true valid = (λ h. (is_registrable-from properties v h, valid refl), λ both. ap is_none both.0)
       by_test false valid = (
         λ h. (
-          is_registrable-from properties v (both-left (is_registrable properties v) (is_valid table v && has_hope (is_lost table) v) h),
-          valid_test.0 (both-left (is_valid table v) (has_hope (is_lost table) v) (both-right (is_registrable properties v) (is_valid table v && has_hope (is_lost table) v) h)),
+          is_registrable-from properties v (both-left (is_registrable properties v) (is_valid table v && has_no_dead_prefix (is_dead_under table) v) h),
+          valid_test.0 (both-left (is_valid table v) (has_no_dead_prefix (is_dead_under table) v) (both-right (is_registrable properties v) (is_valid table v && has_no_dead_prefix (is_dead_under table) v) h)),
         ),
-        λ both. and_from (is_registrable properties v) _ (ap is_none both.0) (and_from (is_valid table v) _ (valid_test.1 both.1) (no_lost both.1)),
+        λ both. and_from (is_registrable properties v) _ (ap is_none both.0) (and_from (is_valid table v) _ (valid_test.1 both.1) (no_dead both.1)),
       )
 
-  -- no beginning is hopeless to it exactly where none is hopeless and none is lost
-  pub hope-is : (table : TableValue) (v : List ℕ) → validity.IsSound table → (asks_nothing table ≡ true → IsValid table v)
-      → HasHope (filter_of properties table).hopeless v ↔ (class.HasHope properties v × HasNoLostBeginning table v)
-  hope-is table v sound free = by_test (asks_nothing table) free
+  -- a label has no dead prefix to it exactly where it has none by registration and none under the table
+  pub alive-is : (table : TableValue) (v : List ℕ) → validity.IsSound table → (asks_nothing table ≡ true → IsValid table v)
+      → HasNoDeadPrefix (filter_of properties table).hopeless v ↔ (class.HasNoDeadPrefix properties v × HasNoDeadPrefixUnder table v)
+  alive-is table v sound free = by_test (asks_nothing table) free
     where
-      none_lost : HasHope (is_lost table) v → HasNoLostBeginning table v
-      none_lost h zero high is = absurd (let bad : 0 < 0 = is.some in omega (arith, bad))
-      none_lost h (suc k) high is =
-          let clash : false ≡ true = sym (h (suc k) (omega arith) high) ∙ (tests-agree.lost table (take (suc k) v) sound).1 is in cc
+      none_dead : HasNoDeadPrefix (is_dead_under table) v → HasNoDeadPrefixUnder table v
+      none_dead h zero high is = absurd (let bad : 0 < 0 = is.some in omega (arith, bad))
+      none_dead h (suc k) high is =
+          let clash : false ≡ true = sym (h (suc k) (omega arith) high) ∙ (tests-agree.dead table (take (suc k) v) sound).1 is in cc
 
-      by_test : (b : Bool) → (b ≡ true → IsValid table v) → HasHope (filter_if properties b table).hopeless v ↔ (class.HasHope properties v × HasNoLostBeginning table v)
-      by_test true valid = (λ h. (hope-rule properties v h, λ k high. not_lost table v sound (valid refl) k), λ both k low high. clear properties (take k v) (both.0 k))
+      by_test : (b : Bool) → (b ≡ true → IsValid table v) → HasNoDeadPrefix (filter_if properties b table).hopeless v ↔ (class.HasNoDeadPrefix properties v × HasNoDeadPrefixUnder table v)
+      by_test true valid = (λ h. (alive-rule properties v h, λ k high. not_dead table v sound (valid refl) k), λ both k low high. clear properties (take k v) (both.0 k))
       by_test false valid = (
         λ h. (
-          hope-rule properties v (λ k low high. neither-left (hopeless properties (take k v)) (is_lost table (take k v)) (h k low high)),
-          none_lost (λ k low high. neither-right (hopeless properties (take k v)) (is_lost table (take k v)) (h k low high)),
+          alive-rule properties v (λ k low high. neither-left (hopeless properties (take k v)) (is_dead_under table (take k v)) (h k low high)),
+          none_dead (λ k low high. neither-right (hopeless properties (take k v)) (is_dead_under table (take k v)) (h k low high)),
         ),
-        λ both k low high. or_from (hopeless properties (take k v)) (is_lost table (take k v)) (clear properties (take k v) (both.0 k))
-            (false_from_ne_true (is_lost table (take k v)) (λ is. both.1 k high ((tests-agree.lost table (take k v) sound).0 is))),
+        λ both k low high. or_from (hopeless properties (take k v)) (is_dead_under table (take k v)) (clear properties (take k v) (both.0 k))
+            (false_from_ne_true (is_dead_under table (take k v)) (λ is. both.1 k high ((tests-agree.dead table (take k v) sound).0 is))),
       )

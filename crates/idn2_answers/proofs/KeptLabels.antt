@@ -1,4 +1,4 @@
--- A listing that is kept to registered labels has the collisions that its filter accepts.
+-- A listing that is cached to registered labels has the collisions that its filter accepts.
 use Rattle.std.proofs.Common.{◌≡◌, ◌-◌, ℕ, List, Some}
 use Rattle.std.specs.List.{filter}
 use Rattle.idn_class.specs.declared.properties.Properties.{Properties}

@@ -1,6 +1,6 @@
--- The shortest hopeless beginning of a label, as a listing asks for it.
-pub mod HopeLemmas
--- No label that is valid under a table begins with a list that is lost.
+-- The shortest dead prefix of a label, as a listing asks for it.
+pub mod DeadPrefixLemmas
+-- No label that is valid under a table begins with a list that is dead.
 pub mod LostBeginnings
 -- What a listing asks of labels, and what is known of it.
 pub mod FilterLemmas

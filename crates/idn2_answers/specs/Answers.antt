@@ -8,7 +8,7 @@ use Rattle.idn_class.specs.declared.properties.Properties.{Properties}
 use Rattle.idna.specs.Validity.{has_ace_prefix}
 use Rattle.idn_text.specs.declared.refusal.Refusal.{Refusal}
 use Rattle.idn_text.specs.declared.refusal.Refusal.TheVariants.{LineTooLong, NotUtf8, Empty, NotInTable, NotValid}
-use Rattle.idn_class.specs.Hopeless.{hopeless, HasHope}
+use Rattle.idn_class.specs.DeadPrefixes.{hopeless, HasNoDeadPrefix}
 use Rattle.idn_label.specs.FirstFault.{first_fault, IsRegistrable}
 use Rattle.idn_label.specs.Answers.{Answer, unless_fault}
 use Rattle.idn_label.specs.Steps.{in_utf8}
@@ -18,9 +18,9 @@ use Rattle.idn_label.specs.Lookup.{lookup_answer}
 use Rattle.variant_table.specs.declared.version.Version.{Version}
 use Rattle.variant_table.specs.declared.version.Version.TheVariants.{One, Two, Three}
 use Rattle.variant_table.specs.Entries.{TableValue}
-use Rattle.valid_labels.specs.Validity.{HasNoLostBeginning, IsAdmitted, IsValid}
-use Rattle.valid_labels.specs.Tests.{asks_nothing, is_admitted, is_lost, is_made_of_sources, is_valid}
-use Rattle.variant_list.specs.Beginnings.{has_hope}
+use Rattle.valid_labels.specs.Validity.{HasNoDeadPrefixUnder, IsAdmitted, IsValid}
+use Rattle.valid_labels.specs.Tests.{asks_nothing, is_admitted, is_dead_under, is_made_of_sources, is_valid}
+use Rattle.variant_list.specs.Beginnings.{has_no_dead_prefix}
 use Rattle.variant_list.specs.Parts.{Part}
 use Rattle.variant_list.specs.Parts.Part.{Whole, Unblocked, Tagged}
 use Rattle.variant_list.specs.Spelled.{part_spelled, spelled}
@@ -45,7 +45,8 @@ use Rattle.variant_list.specs.Jumps.{IsCandidate, IsLeastFrom, HasNoneFrom, cand
 abbrev pub is_registrable : Properties → List ℕ → Bool
 is_registrable properties label = is_none (first_fault properties label)
 
--- what a listing asks of labels: which it accepts, and which lists are hopeless, so that no label that it accepts begins with one
+-- what a listing asks of labels: which it accepts, and which prefixes are dead, so that no label that it accepts begins
+-- with one
 pub record Filter : Type 0 where
   pub accepts : List ℕ → Bool
   pub hopeless : List ℕ → Bool
@@ -54,12 +55,12 @@ pub record Filter : Type 0 where
 abbrev pub registrable_labels : Properties → Filter
 registrable_labels properties = record { accepts = is_registrable properties; hopeless = hopeless properties }
 
--- that they are valid under the table, too, and no beginning of them is lost: none of a valid label is
+-- that they are valid under the table, too, and no beginning of them is dead: none of a valid label is
 abbrev pub ruled_labels : Properties → TableValue → Filter
 ruled_labels properties table =
     record {
-      accepts = λ v. is_registrable properties v && (is_valid table v && has_hope (is_lost table) v);
-      hopeless = λ w. hopeless properties w || is_lost table w;
+      accepts = λ v. is_registrable properties v && (is_valid table v && has_no_dead_prefix (is_dead_under table) v);
+      hopeless = λ w. hopeless properties w || is_dead_under table w;
     }
 
 -- what is asked under a table, by whether it asks nothing of its labels: then each label that is spelled is valid
@@ -104,12 +105,12 @@ abbrev pub unless_kept : Option (List (List ℕ)) → List (List ℕ) → List (
 unless_kept None labels = labels
 unless_kept (Some registered) labels = []
 
--- those of at most 63 code points, after the text of the settings, no beginning of which is hopeless
+-- those of at most 63 code points, after the text of the settings, without a dead prefix
 abbrev pub tested_after : Filter → Settings → List (List ℕ) → List (List ℕ)
 tested_after filter o labels = unless_kept o.registered (tested_among filter.hopeless labels o.after)
 
--- the labels that the steps of a listing come to: of the same labels, hopeless or not, those that are tested, and the first of those
--- that share a hopeless beginning
+-- the labels that the steps of a listing come to: of the same labels, with a dead prefix or without, those that are
+-- tested, and the first of those that share a dead prefix
 abbrev pub visited_in : Filter → Settings → List (List ℕ) → List (List ℕ)
 visited_in filter o labels = visited filter.hopeless None (unless_kept o.registered (candidates_among labels o.after))
 
@@ -243,17 +244,18 @@ pub record IsListed (o : Settings) (table : TableValue) (label v : List ℕ) : T
   pub spelled : Spells table label v
   pub kept : IsKept o.registered v
 
--- a label of at most 63 code points that arises so, greater than the text, with no beginning that is hopeless or lost, where the
+-- a label of at most 63 code points that arises so, greater than the text, without a dead prefix, where the
 -- listing is whole: one that is kept to registered labels tries none
 pub record IsTried (o : Settings) (table : TableValue) (label v : List ℕ) : Type 0 where
   pub short : length v ≤ 63
-  pub hope : HasHope o.properties v
-  pub found : HasNoLostBeginning table v
+  pub alive : HasNoDeadPrefix o.properties v
+  pub found : HasNoDeadPrefixUnder table v
   pub greater : IsBelow o.after v
   pub spelled : Spells table label v
   pub whole : o.registered ≡ None
 
--- a label of at most 63 code points that arises so, greater than the text, hopeless or not, where the listing is whole
+-- a label of at most 63 code points that arises so, greater than the text, with a dead prefix or without, where the
+-- listing is whole
 pub record IsAhead (o : Settings) (table : TableValue) (label v : List ℕ) : Type 0 where
   pub short : length v ≤ 63
   pub greater : IsBelow o.after v

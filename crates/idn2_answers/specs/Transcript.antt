@@ -1,4 +1,4 @@
--- The transcript of a run: all that it writes where nothing fails, piece by piece.
+-- The transcript of a run: all that it writes where nothing fails, line by line.
 use Rattle.std.specs.Prelude.{ℕ, List, [], ◌∷◌, ◌++◌, ◌≡◌, Option, Result, Ok, Err, ◌==◌, Bool, not, length, map, if◌then◌else◌}
 use Rattle.std.specs.List.{flat_map, list_any}
 use Rattle.std.specs.Result.{is_err}
@@ -19,7 +19,7 @@ use Rattle.idn2_answers.specs.Answers.{LineAnswer, mode_answer, line_answer}
 use Rattle.idn2_refusals.specs.Explained.{Unexplained, ByLabel, ByName, ByQuery, ByTable, ByRequest, if_wanted, Explained, body_cause}
 use Rattle.idn2_refusals.specs.TableCauses.{fault_cause, told_if}
 use Rattle.idn2_refusals.specs.Messages.{refusal_piece, fault_piece}
-use Rattle.idn2_output.specs.Pieces.{Piece, Output, outputs}
+use Rattle.idn2_output.specs.OutputLines.{OutputLine, Output, outputs}
 use Rattle.idn2_answers.specs.Said.{Said, Finding, Gap, Counted, said_text, finding_text}
 use Rattle.idn2_refusals.specs.declared.cause.LineCause.{LineCause}
 use Rattle.answer_json.specs.Objects.{refused}
@@ -79,11 +79,11 @@ pub data Statement : Type 0 where
 
 -- a statement as it is written: answers and what is found go to the output in either form; a refusal is a message, or an object of
 -- the output
-abbrev pub piece_in : Form → Statement → Piece
-piece_in form (Says line said) = Output (said_text form line said)
-piece_in form (Finds finding) = Output (finding_text form finding)
-piece_in form (Refuses line refusal cause) = refusal_piece form line refusal cause
-piece_in form (Faults line refusal cause) = fault_piece form line refusal cause
+abbrev pub output_line_in : Form → Statement → OutputLine
+output_line_in form (Says line said) = Output (said_text form line said)
+output_line_in form (Finds finding) = Output (finding_text form finding)
+output_line_in form (Refuses line refusal cause) = refusal_piece form line refusal cause
+output_line_in form (Faults line refusal cause) = fault_piece form line refusal cause
 
 -- ---- the lines of the input
 
@@ -109,18 +109,18 @@ answer_statements how line (Err refusal) = Refuses line refusal (body_cause how 
 abbrev pub lines_statements : Explained → (List ℕ → LineAnswer) → List Numbered → List Statement
 lines_statements how answer lines = flat_map (λ line. answer_statements how line (line_answer answer line.body)) lines
 
--- the pieces of an answer, or of a refusal, as they are written
-abbrev pub pieces_for : Form → Explained → Numbered → LineAnswer → List Piece
-pieces_for form how line (Ok said) = outputs (said_text form line) said
-pieces_for form how line (Err refusal) = piece_in form (Refuses line refusal (body_cause how line.body refusal)) ∷ []
+-- the output lines of an answer, or of a refusal, as they are written
+abbrev pub output_for : Form → Explained → Numbered → LineAnswer → List OutputLine
+output_for form how line (Ok said) = outputs (said_text form line) said
+output_for form how line (Err refusal) = output_line_in form (Refuses line refusal (body_cause how line.body refusal)) ∷ []
 
--- the pieces of a line
-abbrev pub line_pieces : Form → Explained → (List ℕ → LineAnswer) → Numbered → List Piece
-line_pieces form how answer line = pieces_for form how line (line_answer answer line.body)
+-- the output lines of a line
+abbrev pub line_output : Form → Explained → (List ℕ → LineAnswer) → Numbered → List OutputLine
+line_output form how answer line = output_for form how line (line_answer answer line.body)
 
--- the pieces of lines, in order
-abbrev pub lines_pieces : Form → Explained → (List ℕ → LineAnswer) → List Numbered → List Piece
-lines_pieces form how answer lines = flat_map (line_pieces form how answer) lines
+-- the output lines of lines, in order
+abbrev pub lines_output : Form → Explained → (List ℕ → LineAnswer) → List Numbered → List OutputLine
+lines_output form how answer lines = flat_map (line_output form how answer) lines
 
 -- whether some line is refused
 abbrev pub has_refused : (List ℕ → LineAnswer) → List Numbered → Bool
@@ -149,9 +149,9 @@ check_statements wanted (Err fault) = Faults fault.0 fault.1 (told_if wanted fau
 check_statements wanted (Ok table) = map Finds (check_findings table.entries)
 
 -- what is said of a table, as it is written
-abbrev pub check_pieces : Form → Bool → TableGiven → List Piece
-check_pieces form wanted (Err fault) = piece_in form (Faults fault.0 fault.1 (told_if wanted fault.2)) ∷ []
-check_pieces form wanted (Ok table) = outputs (finding_text form) (check_findings table.entries)
+abbrev pub check_output : Form → Bool → TableGiven → List OutputLine
+check_output form wanted (Err fault) = output_line_in form (Faults fault.0 fault.1 (told_if wanted fault.2)) ∷ []
+check_output form wanted (Ok table) = outputs (finding_text form) (check_findings table.entries)
 
 -- 2 for a faulty table, 1 for one with a gap, else 0
 abbrev pub check_status : TableGiven → Status
@@ -165,10 +165,10 @@ abbrev pub mode_statements : Mode → Settings → TableValue → List Numbered 
 mode_statements CheckTable o table lines = check_statements (tells_causes o) (Ok table)
 mode_statements mode o table lines = lines_statements (explained_in mode o table) (mode_answer mode o table) lines
 
--- its pieces
-abbrev pub mode_pieces : Mode → Settings → TableValue → List Numbered → List Piece
-mode_pieces CheckTable o table lines = check_pieces o.form (tells_causes o) (Ok table)
-mode_pieces mode o table lines = lines_pieces o.form (explained_in mode o table) (mode_answer mode o table) lines
+-- its output lines
+abbrev pub mode_output : Mode → Settings → TableValue → List Numbered → List OutputLine
+mode_output CheckTable o table lines = check_output o.form (tells_causes o) (Ok table)
+mode_output mode o table lines = lines_output o.form (explained_in mode o table) (mode_answer mode o table) lines
 
 -- 1 where a line is refused, else 0
 abbrev pub mode_status : Mode → Settings → TableValue → List Numbered → Status
@@ -180,10 +180,10 @@ abbrev pub statements : Settings → TableGiven → List Numbered → List State
 statements o (Err fault) lines = check_statements (tells_causes o) (Err fault)
 statements o (Ok table) lines = mode_statements o.mode o table lines
 
--- the pieces of a run, in order: those of its mode, or the one of a faulty table
-abbrev pub transcript : Settings → TableGiven → List Numbered → List Piece
-transcript o (Err fault) lines = check_pieces o.form (tells_causes o) (Err fault)
-transcript o (Ok table) lines = mode_pieces o.mode o table lines
+-- the output lines of a run, in order: those of its mode, or the one of a faulty table
+abbrev pub transcript : Settings → TableGiven → List Numbered → List OutputLine
+transcript o (Err fault) lines = check_output o.form (tells_causes o) (Err fault)
+transcript o (Ok table) lines = mode_output o.mode o table lines
 
 -- the status of a run
 abbrev pub status_of : Settings → TableGiven → List Numbered → Status

@@ -9,7 +9,7 @@ use Rattle.reading_kinds.specs.Readings.{Use, SomeLacks, UsesSpell}
 use Rattle.variant_list.specs.Parts.{Part, part_of}
 use Rattle.variant_list.specs.Parts.Part.{Whole, Unblocked, Tagged}
 use Rattle.variant_list.specs.Spelling.{PartSpells}
-use Rattle.variant_list.specs.Uses.{uses_of}
+use Rattle.variant_list.specs.Uses.{substitutions_of}
 use Rattle.variant_list.proofs.HeldLemmas.{same_by}
 use Rattle.variant_list.proofs.KindLemmas.{kinds-tell_parts}
 use Rattle.variant_list.proofs.PartLemmas.{Spells-of_part}
@@ -30,7 +30,7 @@ kind_of table (suc tag) (inl h) = absurd (omega (arith, h.1))
 kind_of table (suc tag) (inr h) = omega (arith, h.1)
 
 pub kinds-allocatable : (table : TableValue) (label v : List ℕ) → IsWellFormed table.entries → length table.definitions.tags ≤ 8
-    → ((kind : ℕ) × IsOfSubTable (length table.definitions.tags) kind × SomeLacks (uses_of Whole table label) v kind) ↔ ((part : Part) × IsSubTable table part × PartSpells part table label v)
+    → ((kind : ℕ) × IsOfSubTable (length table.definitions.tags) kind × SomeLacks (substitutions_of Whole table label) v kind) ↔ ((part : Part) × IsSubTable table part × PartSpells part table label v)
 kinds-allocatable table label v formed few = (
   λ h. (part_of h.0, kind_of table h.0 h.1, (kinds-tell_parts h.0 table label v (below h.0 h.1) formed).0 h.2),
   λ h. by_part h.0 h.1 h.2,
@@ -40,7 +40,7 @@ kinds-allocatable table label v formed few = (
     below kind (inl h) = omega (arith, h.1)
     below kind (inr h) = omega (arith, h.1, few)
 
-    by_part : (part : Part) → IsSubTable table part → PartSpells part table label v → (kind : ℕ) × IsOfSubTable (length table.definitions.tags) kind × SomeLacks (uses_of Whole table label) v kind
+    by_part : (part : Part) → IsSubTable table part → PartSpells part table label v → (kind : ℕ) × IsOfSubTable (length table.definitions.tags) kind × SomeLacks (substitutions_of Whole table label) v kind
     by_part Whole is s = absurd is
     by_part Unblocked is s = (0, inl (ap length is, refl), (kinds-tell_parts 0 table label v (omega arith) formed).1 s)
     by_part (Tagged tag) is s = (suc tag, inr (omega arith, omega (arith, is)), (kinds-tell_parts (suc tag) table label v (omega (arith, is, few)) formed).1 s)
@@ -52,10 +52,10 @@ small tags kind few (inl h) = omega (arith, h.1)
 small tags kind few (inr h) = omega (arith, h.1, few)
 
 -- a word that says which kinds some reading lacks, where v is spelled
-pub told-one : (table : TableValue) (label v : List ℕ) → IsWellFormed table.entries → (tags : ℕ) → tags ≤ 8 → tags ≡ length table.definitions.tags → (uses : List (List Use)) → uses ≡ uses_of Whole table label
-    → (lacks : ℕ) → ((k : ℕ) → k < 64 → (bit_at lacks k ≡ 1) ↔ SomeLacks uses v k) → (told : Bool) → (told ≡ true) ↔ ((kind : ℕ) × IsOfSubTable tags kind × (bit_at lacks kind ≡ 1))
+pub told-one : (table : TableValue) (label v : List ℕ) → IsWellFormed table.entries → (tags : ℕ) → tags ≤ 8 → tags ≡ length table.definitions.tags → (substitutions : List (List Use)) → substitutions ≡ substitutions_of Whole table label
+    → (lacks : ℕ) → ((k : ℕ) → k < 64 → (bit_at lacks k ≡ 1) ↔ SomeLacks substitutions v k) → (told : Bool) → (told ≡ true) ↔ ((kind : ℕ) × IsOfSubTable tags kind × (bit_at lacks kind ≡ 1))
     → (told ≡ true) ↔ ((part : Part) × IsSubTable table part × PartSpells part table label v)
-told-one table label v formed tags few count uses same lacks bits told is =
+told-one table label v formed tags few count substitutions same lacks bits told is =
     let all = kinds-allocatable table label v formed (subst (λ n. n ≤ 8) count few) in (
       λ e. (let h = is.0 e in all.0 (h.0, subst (λ n. IsOfSubTable n h.0) count h.1, subst (λ us. SomeLacks us v h.0) same ((bits h.0 (small tags h.0 few h.1)).0 h.2))),
       λ g. (let h = all.1 g in
@@ -64,8 +64,8 @@ told-one table label v formed tags few count uses same lacks bits told is =
     )
 
 -- what isn't spelled is spelled under no part
-pub told-none : (table : TableValue) (label v : List ℕ) → IsWellFormed table.entries → (uses : List (List Use)) → uses ≡ uses_of Whole table label → ¬ UsesSpell uses v → ¬ ((part : Part) × IsSubTable table part × PartSpells part table label v)
-told-none table label v formed uses same none h = none (subst (λ us. UsesSpell us v) (sym same) ((UsesSpell-label Whole table label formed v).1 (Spells-of_part h.0 table label v h.2)))
+pub told-none : (table : TableValue) (label v : List ℕ) → IsWellFormed table.entries → (substitutions : List (List Use)) → substitutions ≡ substitutions_of Whole table label → ¬ UsesSpell substitutions v → ¬ ((part : Part) × IsSubTable table part × PartSpells part table label v)
+told-none table label v formed substitutions same none h = none (subst (λ us. UsesSpell us v) (sym same) ((UsesSpell-label Whole table label formed v).1 (Spells-of_part h.0 table label v h.2)))
 
 -- of another label than the one asked about
 pub told-other : (table : TableValue) (label v : List ℕ) → IsWellFormed table.entries → bytes_eq v label ≡ false → (told : Bool) → (told ≡ true) ↔ ((part : Part) × IsSubTable table part × PartSpells part table label v) → told ≡ is_allocatable table label v

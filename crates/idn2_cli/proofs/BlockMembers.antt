@@ -28,7 +28,7 @@ use Rattle.idn_label.specs.Answers.{unless_fault}
 use Rattle.idn2_answers.specs.Answers.{Filter, filter_of, is_among, kept_to, unless_kept, variants_after, tested_after, stop_of, disposition, block, listing_answer, variants_answer, IsAhead, IsKept, IsListed, IsTried, IsBlock, IsListing}
 use Rattle.idn2_answers.specs.Transcript.{IsCheck, check_findings}
 use Rattle.idn2_answers.proofs.DisposedLabels.{disposition-IsDisposition}
-use Rattle.idn2_answers.proofs.FilterLemmas.{accepted-is, hope-is}
+use Rattle.idn2_answers.proofs.FilterLemmas.{accepted-is, alive-is}
 use Rattle.idn2_cli.proofs.SpelledLemmas.{spelled-replacements}
 use Rattle.idn2_answers.proofs.AdmittedLabels.{admitted-made, admitted_answer, admitted_or_refused, refused_answer}
 use Rattle.variant_table.proofs.MemberLemmas.{Contains-none}
@@ -62,9 +62,9 @@ same_tried : (o : Settings) (table : TableValue) (label v : List ℕ) → IsSoun
     → (IsTested (filter_of o.properties table).hopeless table label o.after v × (o.registered ≡ None)) ↔ IsTried o table label v
 same_tried o table label v sound = (
   λ t.
-      let both = (hope-is o.properties table v sound (spelled-valid table label v sound t.0.spelled)).0 t.0.hope in
-      record { short = t.0.short; hope = both.0; found = both.1; greater = t.0.greater; spelled = t.0.spelled; whole = t.1 },
-  λ t. (record { spelled = t.spelled; short = t.short; greater = t.greater; hope = (hope-is o.properties table v sound (spelled-valid table label v sound t.spelled)).1 (t.hope, t.found) }, t.whole),
+      let both = (alive-is o.properties table v sound (spelled-valid table label v sound t.0.spelled)).0 t.0.alive in
+      record { short = t.0.short; alive = both.0; found = both.1; greater = t.0.greater; spelled = t.0.spelled; whole = t.1 },
+  λ t. (record { spelled = t.spelled; short = t.short; greater = t.greater; alive = (alive-is o.properties table v sound (spelled-valid table label v sound t.spelled)).1 (t.alive, t.found) }, t.whole),
 )
 
 same_ahead : (o : Settings) (table : TableValue) (label v : List ℕ) → (IsVariant fits_label table label o.after v × (o.registered ≡ None) → IsAhead o table label v) × (IsAhead o table label v → IsVariant fits_label table label o.after v × (o.registered ≡ None))

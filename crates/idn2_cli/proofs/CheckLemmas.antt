@@ -7,7 +7,7 @@ use Rattle.std.proofs.lemmas.List.{get_or-map, length-map}
 use Rattle.variant_table.specs.Gaps.{IsGap, IsPair, AreGapsOf, gaps_of, pair_of, pairs_of}
 use Rattle.idn2_options.specs.declared.command_line.form.Form.{Form}
 use Rattle.idn2_answers.specs.Said.{Gap, Counted, finding_text}
-use Rattle.idn2_output.specs.Pieces.{Piece, Output, outputs}
+use Rattle.idn2_output.specs.OutputLines.{OutputLine, Output, outputs}
 use Rattle.idn2_answers.specs.Transcript.{check_findings}
 use Rattle.variant_table.proofs.MemberLemmas.{Contains-head, Contains-later}
 
@@ -40,7 +40,7 @@ gap_at table gaps i gap formed are lt is =
 
 outputs-append : {X : Type 0} (text : X → List ℕ) (xs ys : List X) → outputs text (xs ++ ys) ≡ outputs text xs ++ outputs text ys
 outputs-append text [] ys = refl
-outputs-append text (x ∷ xs) ys = ap (λ (ps : List Piece). Output (text x) ∷ ps) (outputs-append text xs ys)
+outputs-append text (x ∷ xs) ys = ap (λ (ps : List OutputLine). Output (text x) ∷ ps) (outputs-append text xs ys)
 
 -- the gaps, then their number
 pub check-split : (form : Form) (table : List Entry) (pairs : List (List ℕ × List ℕ)) → pairs ≡ gaps_of table

@@ -12,7 +12,7 @@ use Rattle.registered_labels.specs.Registered.{AreRegistered}
 use Rattle.registered_labels.specs.Collisions.{Matching, SearchesAfter, collisions, collisions_ahead, is_spelled}
 use Rattle.registered_labels.proofs.ListedCollisions.{collisions-exactly}
 use Rattle.idn2_options.specs.Settings.{Settings, IsCount, IsWithinLimits, keeping}
-use Rattle.idn2_output.specs.Pieces.{Piece, Output, outputs}
+use Rattle.idn2_output.specs.OutputLines.{OutputLine, Output, outputs}
 use Rattle.answer_json.specs.declared.block.Disposition.{Disposition}
 use Rattle.idn2_answers.specs.Said.{Said, Listed, BlockEnd}
 use Rattle.idn2_answers.specs.Answers.{Filter, lesser_label, nth, nth_if_given, block_to}
@@ -25,7 +25,7 @@ use Rattle.idn2_cli.proofs.BlockSteps.{lines_to, get_if_given, limit_from, stops
 use Rattle.idn2_answers.proofs.LabelStops.{get-above}
 use Rattle.idn2_cli.proofs.ListingLemmas.{lines_to-none}
 use Rattle.idn2_cli.proofs.ListingProgress.{emits_after}
-use Rattle.idn2_output.proofs.WrittenPieces.{writes_nothing, writes_join, stops_between}
+use Rattle.idn2_output.proofs.WrittenOutputLines.{writes_nothing, writes_join, stops_between}
 
 -- ---- the lines to come
 
@@ -98,9 +98,9 @@ module _ (properties : Properties) where
 
     -- `so_far` is written; what is to come follows from the collisions ahead that are accepted, and from the count
     pub record IsUnderWay (o : Settings) (net : Built) (labels : List (List ℕ)) (old now : Held) (s : Matching) (count total : ℕ) : Type 0 where
-      pub so_far : List Piece
+      pub so_far : List OutputLine
       pub split : outputs text (block_by f field (keeping (Some labels) o) net.spelled) ≡ so_far ++ outputs text (lines_from (line_of field) o.limit count (kept_ahead f s))
-      pub pieces : Writes old now so_far
+      pub output_lines : Writes old now so_far
       pub few : count + length (collisions_ahead s) ≤ total
       pub registrable : All (IsRegistrable properties) (collisions_ahead s)
 
@@ -119,7 +119,7 @@ module _ (properties : Properties) where
         let count : length (collisions_ahead s) ≤ length labels = subst (λ (l : List (List ℕ)). length l ≤ length labels) (sym ahead) (filter-few _ labels) in record {
           so_far = [];
           split = ap (outputs text) (block-from o net labels all limits.limit) ∙ ap (λ (l : List (List ℕ)). outputs text (lines_from (line_of field) o.limit 0 (filter f.accepts l))) (sym ahead);
-          pieces = writes_nothing old;
+          output_lines = writes_nothing old;
           few = omega (arith, count, same_total);
           registrable = subst (λ (ls : List (List ℕ)). All (IsRegistrable properties) (filter (is_spelled s.net.spelled) (drop s.passed ls))) (sym begun.registered)
               (All-filter (is_spelled s.net.spelled) (IsRegistrable properties) (drop s.passed labels) (All-drop (IsRegistrable properties) s.passed labels all.registrable));
@@ -130,7 +130,7 @@ module _ (properties : Properties) where
         → collisions_ahead s ≡ [] → Emits now new (Output (text (BlockEnd count None)) ∷ []) r → Emits old new (outputs text (block_by f field (keeping (Some labels) o) net.spelled)) r
     under_way-ended o net labels old now new s count total r h none emits =
         emits_after old now new _ h.so_far (outputs text (BlockEnd count None ∷ [])) r
-        (h.split ∙ ap (λ (l : List (List ℕ)). h.so_far ++ outputs text (lines_from (line_of field) o.limit count (filter f.accepts l))) none) h.pieces emits
+        (h.split ∙ ap (λ (l : List (List ℕ)). h.so_far ++ outputs text (lines_from (line_of field) o.limit count (filter f.accepts l))) none) h.output_lines emits
 
     -- the label found is the next one that is accepted
     next-kept : (s next : Matching) → collisions_ahead s ≡ next.label ∷ collisions_ahead next → f.accepts next.label ≡ true → kept_ahead f s ≡ next.label ∷ kept_ahead f next
@@ -158,7 +158,7 @@ module _ (properties : Properties) where
         let kept : kept_ahead f s ≡ kept_ahead f next = ap (filter f.accepts) found ∙ ap (λ (b : Bool). if b then next.label ∷ kept_ahead f next else kept_ahead f next) passed in record {
           so_far = h.so_far;
           split = h.split ∙ ap (λ (l : List (List ℕ)). h.so_far ++ outputs text (lines_from (line_of field) o.limit count l)) kept;
-          pieces = h.pieces;
+          output_lines = h.output_lines;
           few = omega (arith, h.few, fewer);
           registrable = All-tail (IsRegistrable properties) next.label (collisions_ahead next) (subst (All (IsRegistrable properties)) found h.registrable);
         }
@@ -168,7 +168,7 @@ module _ (properties : Properties) where
         → collisions_ahead s ≡ next.label ∷ collisions_ahead next → f.accepts next.label ≡ true → v ≡ next.label → Emits now new (Output (text (line_of field v)) ∷ []) r → r ≡ Err why
         → StopsWithin why old new (outputs text (block_by f field (keeping (Some labels) o) net.spelled))
     under_way-broken o net labels old now new s next count total v r why h found accepted is emits stopped =
-        stops_between old now new _ h.so_far (Output (text (line_of field next.label)) ∷ []) _ r why (next-split o net labels old now s next count total h found accepted) h.pieces
+        stops_between old now new _ h.so_far (Output (text (line_of field next.label)) ∷ []) _ r why (next-split o net labels old now s next count total h found accepted) h.output_lines
         (subst (λ (u : List ℕ). Emits now new (Output (text (line_of field u)) ∷ []) r) is emits) stopped
 
     -- its line is written, and is not the last
@@ -176,13 +176,13 @@ module _ (properties : Properties) where
         → collisions_ahead s ≡ next.label ∷ collisions_ahead next → f.accepts next.label ≡ true → v ≡ next.label → Writes now new (Output (text (line_of field v)) ∷ []) → reaches o.limit (count + 1) ≡ false
         → IsUnderWay o net labels old new next (count + 1) total
     under_way-found o net labels old now new s next count total v h found accepted is written going =
-        let line : List Piece = Output (text (line_of field next.label)) ∷ [] in
+        let line : List OutputLine = Output (text (line_of field next.label)) ∷ [] in
         let fewer : length (collisions_ahead s) ≡ suc (length (collisions_ahead next)) = ap (λ (l : List (List ℕ)). length l) found in record {
           so_far = h.so_far ++ line;
           split = next-split o net labels old now s next count total h found accepted
               ∙ ap (λ (b : Bool). h.so_far ++ (Output (text (line_of field next.label)) ∷ outputs text (if b then BlockEnd (count + 1) (Some next.label) ∷ [] else lines_from (line_of field) o.limit (count + 1) (kept_ahead f next)))) going
               ∙ sym (append_assoc h.so_far line (outputs text (lines_from (line_of field) o.limit (count + 1) (kept_ahead f next))));
-          pieces = writes_join old now new h.so_far line h.pieces (subst (λ (u : List ℕ). Writes now new (Output (text (line_of field u)) ∷ [])) is written);
+          output_lines = writes_join old now new h.so_far line h.output_lines (subst (λ (u : List ℕ). Writes now new (Output (text (line_of field u)) ∷ [])) is written);
           few = omega (arith, h.few, fewer);
           registrable = All-tail (IsRegistrable properties) next.label (collisions_ahead next) (subst (All (IsRegistrable properties)) found h.registrable);
         }
@@ -192,11 +192,11 @@ module _ (properties : Properties) where
         → collisions_ahead s ≡ next.label ∷ collisions_ahead next → f.accepts next.label ≡ true → v ≡ next.label → Writes now new (Output (text (line_of field v)) ∷ []) → reaches o.limit (count + 1) ≡ true
         → stop_at ≡ next.label → Emits new last (Output (text (BlockEnd (count + 1) (Some stop_at))) ∷ []) r → Emits old last (outputs text (block_by f field (keeping (Some labels) o) net.spelled)) r
     under_way-reached o net labels old now new last s next count total v stop_at r h found accepted is written reached at emits =
-        let line : List Piece = Output (text (line_of field next.label)) ∷ [] in
-        let end : List Piece = Output (text (BlockEnd (count + 1) (Some next.label))) ∷ [] in
+        let line : List OutputLine = Output (text (line_of field next.label)) ∷ [] in
+        let end : List OutputLine = Output (text (BlockEnd (count + 1) (Some next.label))) ∷ [] in
         emits_after old new last _ (h.so_far ++ line) end r
         (next-split o net labels old now s next count total h found accepted
         ∙ ap (λ (b : Bool). h.so_far ++ (Output (text (line_of field next.label)) ∷ outputs text (if b then BlockEnd (count + 1) (Some next.label) ∷ [] else lines_from (line_of field) o.limit (count + 1) (kept_ahead f next)))) reached
         ∙ sym (append_assoc h.so_far line end))
-        (writes_join old now new h.so_far line h.pieces (subst (λ (u : List ℕ). Writes now new (Output (text (line_of field u)) ∷ [])) is written))
+        (writes_join old now new h.so_far line h.output_lines (subst (λ (u : List ℕ). Writes now new (Output (text (line_of field u)) ∷ [])) is written))
         (subst (λ (u : List ℕ). Emits new last (Output (text (BlockEnd (count + 1) (Some u))) ∷ []) r) at emits)

@@ -13,7 +13,7 @@ use Rattle.variant_list.specs.Parts.Part.{Unblocked}
 use Rattle.variant_list.proofs.ListedLemmas.{variants-IsListed}
 use Rattle.variant_list.proofs.SpelledByLemmas.{spelled-Spells}
 use Rattle.idn2_options.specs.Settings.{Settings}
-use Rattle.variant_list.specs.Beginnings.{has_hope}
+use Rattle.variant_list.specs.Beginnings.{has_no_dead_prefix}
 use Rattle.variant_list.specs.Tested.{tested_among}
 use Rattle.variant_list.specs.Variants.{candidates_among, fits_label, in_order, variants_among}
 use Rattle.variant_list.specs.Visited.{visited}
@@ -24,7 +24,7 @@ use Rattle.answer_json.specs.declared.block.Disposition.{Disposition}
 use Rattle.idn2_answers.specs.Said.{Said, Listed, BlockEnd}
 use Rattle.idn2_answers.proofs.DisposedLabels.{all_unblocked, disposition-full_replacements}
 use Rattle.idn2_cli.specs.inner.Dispositions.{AreOfLabel, Asked, block_by, field_by}
-use Rattle.idn2_output.specs.Pieces.{outputs}
+use Rattle.idn2_output.specs.OutputLines.{outputs}
 use Rattle.idn2_cli.specs.declared.modes.dispositions.Dispositions.{Dispositions}
 use Rattle.idn2_cli.specs.declared.modes.dispositions.Dispositions.TheVariants.{Unstated, AllAllocatable, ByTest}
 use Rattle.variant_table.proofs.MemberLists.{all-members}
@@ -76,7 +76,7 @@ told-block o table label told well is =
 block-same : (f : Filter) (field : List ℕ → Option Disposition) (o : Settings) (labels others : List (List ℕ)) → in_order labels ≡ in_order others → block_by f field o labels ≡ block_by f field o others
 block-same f field o labels others same =
     ap (λ (vs : List (List ℕ)). of_lists vs (tested_among f.hopeless labels o.after) (candidates_among labels o.after)) (among-in_order f.accepts labels others o.after same)
-    ∙ ap (λ (ts : List (List ℕ)). of_lists (variants_among f.accepts others o.after) ts (candidates_among labels o.after)) (among-in_order (λ v. fits_label v && has_hope f.hopeless v) labels others o.after same)
+    ∙ ap (λ (ts : List (List ℕ)). of_lists (variants_among f.accepts others o.after) ts (candidates_among labels o.after)) (among-in_order (λ v. fits_label v && has_no_dead_prefix f.hopeless v) labels others o.after same)
     ∙ ap (of_lists (variants_among f.accepts others o.after) (tested_among f.hopeless others o.after)) (among-in_order fits_label labels others o.after same)
   where
     of_lists : List (List ℕ) → List (List ℕ) → List (List ℕ) → List Said
@@ -84,7 +84,7 @@ block-same f field o labels others same =
         let kept = kept_to o.registered vs in
         block_to field (lesser_label (nth_if_given kept o.limit) (lesser_label (nth (unless_kept o.registered ts) o.tries) (nth_if_given (visited f.hopeless None (unless_kept o.registered cs)) o.steps))) kept
 
--- what is written of a net is the block
+-- what is written of a variant graph is the block
 pub written_block : (text : Said → List ℕ) (o : Settings) (table : TableValue) (label : List ℕ) (net : Built) (told : Dispositions Asked) → IsWellFormed table.entries → in_order net.spelled ≡ in_order (spelled table label) → AreOfLabel table label told
     → outputs text (block_by (filter_of o.properties table) (field_by told) o net.spelled) ≡ outputs text (block o table label)
 written_block text o table label net told well same is =

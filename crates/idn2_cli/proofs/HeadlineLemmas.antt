@@ -29,8 +29,8 @@ use Rattle.idn2_answers.specs.Answers.{LineAnswer, IsListing, line_answer, listi
 use Rattle.idn2_options.specs.declared.command_line.form.Form.{Form}
 use Rattle.idn2_options.specs.declared.command_line.form.Form.TheVariants.{Plain, Json}
 use Rattle.idn2_answers.specs.Said.{Said, said_text}
-use Rattle.idn2_output.specs.Pieces.{Piece, Output, Message, outputs, output_of}
-use Rattle.idn2_answers.specs.Transcript.{Refuses, TableGiven, IsReadAs, IsTableOf, mode_pieces, line_pieces, lines_pieces, piece_in, pieces_for, explained_in}
+use Rattle.idn2_output.specs.OutputLines.{OutputLine, Output, Message, outputs, output_of}
+use Rattle.idn2_answers.specs.Transcript.{Refuses, TableGiven, IsReadAs, IsTableOf, mode_output, line_output, lines_output, output_line_in, output_for, explained_in}
 use Rattle.idn2_refusals.specs.Messages.{refused_object}
 use Rattle.idn2_refusals.specs.declared.cause.LineCause.{LineCause}
 use Rattle.idn2_refusals.specs.Explained.{Explained, body_cause}
@@ -46,7 +46,7 @@ use Rattle.idn2_answers.proofs.AdmittedLabels.{sound_table}
 use Rattle.idn2_cli.proofs.BlockMembers.{variants_answer-IsListing}
 use Rattle.idn2_cli.proofs.TextAnswers.{text_answer-none, text_answer-points}
 use Rattle.idn2_refusals.proofs.Utf8Bytes.{chars-encoded, utf8-of_chars}
-use Rattle.idn2_output.proofs.WrittenPieces.{output_of-append}
+use Rattle.idn2_output.proofs.WrittenOutputLines.{output_of-append}
 
 -- ---- what is printed for a line
 
@@ -54,13 +54,13 @@ outputs-printed : (form : Form) (line : Numbered) (said : List Said) → output_
 outputs-printed form line [] = refl
 outputs-printed form line (first ∷ said) = ap (λ (rest : List ℕ). said_text form line first ++ rest) (outputs-printed form line said)
 
-refusal-printed : (form : Form) (line : Numbered) (refusal : Refusal) (cause : Option LineCause) → output_of (piece_in form (Refuses line refusal cause) ∷ []) ≡ printed_refusal form line refusal cause
+refusal-printed : (form : Form) (line : Numbered) (refusal : Refusal) (cause : Option LineCause) → output_of (output_line_in form (Refuses line refusal cause) ∷ []) ≡ printed_refusal form line refusal cause
 refusal-printed Plain line refusal cause = refl
 refusal-printed Json line refusal cause = append-nil (refused_object line refusal cause)
 
-pieces_for-printed : (form : Form) (how : Explained) (line : Numbered) (answer : LineAnswer) → output_of (pieces_for form how line answer) ≡ printed_of form how line answer
-pieces_for-printed form how line (Ok said) = outputs-printed form line said
-pieces_for-printed form how line (Err refusal) = refusal-printed form line refusal (body_cause how line.body refusal)
+output_for-printed : (form : Form) (how : Explained) (line : Numbered) (answer : LineAnswer) → output_of (output_for form how line answer) ≡ printed_of form how line answer
+output_for-printed form how line (Ok said) = outputs-printed form line said
+output_for-printed form how line (Err refusal) = refusal-printed form line refusal (body_cause how line.body refusal)
 
 module _ (properties : Properties) where
   empty_is_faulty : IsRegistrable properties [] → ⊥
@@ -82,9 +82,9 @@ module _ (properties : Properties) where
       by (byte ∷ bytes) some = grind (arith, nat_tests)
 
 module _ (o : Settings) (table : TableValue) where
-  -- what is printed for a line, by the pieces that a run writes for it
+  -- what is printed for a line, by the output lines that a run writes for it
   abbrev printed_line : Numbered → List ℕ
-  printed_line line = output_of (line_pieces o.form (explained_in Variants o table) (variants_answer o table) line)
+  printed_line line = output_of (line_output o.form (explained_in Variants o table) (variants_answer o table) line)
 
   listing-printed : IsSound table → (line : Numbered) (label : List ℕ) → IsLineOf o.properties label line
       → (answer : LineAnswer) × IsListing o table label answer × (printed_line line ≡ printed_of o.form (explained_in Variants o table) line answer)
@@ -94,13 +94,13 @@ module _ (o : Settings) (table : TableValue) where
       ∙ text_answer-points (variants_answer o table) (utf8_of label) label (utf8-given o.properties label is.registrable) (utf8-some o.properties label is.registrable) in (
         variants_answer o table label,
         variants_answer-IsListing o table label formed is.registrable,
-        pieces_for-printed o.form (explained_in Variants o table) line (line_answer (variants_answer o table) line.body) ∙ ap (printed_of o.form (explained_in Variants o table) line) answers,
+        output_for-printed o.form (explained_in Variants o table) line (line_answer (variants_answer o table) line.body) ∙ ap (printed_of o.form (explained_in Variants o table) line) answers,
       )
 
   -- a line that is no label that may be registered is refused
   refused-printed : (line : Numbered) (fault : Refusal) → line_answer (variants_answer o table) line.body ≡ Err fault → printed_line line ≡ printed_of o.form (explained_in Variants o table) line (Err fault)
   refused-printed line fault refused =
-      pieces_for-printed o.form (explained_in Variants o table) line (line_answer (variants_answer o table) line.body) ∙ ap (printed_of o.form (explained_in Variants o table) line) refused
+      output_for-printed o.form (explained_in Variants o table) line (line_answer (variants_answer o table) line.body) ∙ ap (printed_of o.form (explained_in Variants o table) line) refused
 
   other-refused : (body : Option (List ℕ)) → ((label : List ℕ) → IsRegistrable o.properties label → body ≡ Some (utf8_of label) → ⊥)
       → (fault : Refusal) × (line_answer (variants_answer o table) body ≡ Err fault)
@@ -140,31 +140,31 @@ module _ (o : Settings) (table : TableValue) where
   lines-printed formed [] = tt
   lines-printed formed (line ∷ lines) = (line-printed formed line, lines-printed formed lines)
 
-  -- joined, it is what the pieces of these lines put on the output
-  lines-joined : (lines : List Numbered) → concat (map printed_line lines) ≡ output_of (lines_pieces o.form (explained_in Variants o table) (variants_answer o table) lines)
+  -- joined, it is what the output lines of these lines put on the output
+  lines-joined : (lines : List Numbered) → concat (map printed_line lines) ≡ output_of (lines_output o.form (explained_in Variants o table) (variants_answer o table) lines)
   lines-joined [] = refl
   lines-joined (line ∷ lines) =
       ap (λ (rest : List ℕ). printed_line line ++ rest) (lines-joined lines)
-      ∙ sym (output_of-append (line_pieces o.form (explained_in Variants o table) (variants_answer o table) line) (lines_pieces o.form (explained_in Variants o table) (variants_answer o table) lines))
+      ∙ sym (output_of-append (line_output o.form (explained_in Variants o table) (variants_answer o table) line) (lines_output o.form (explained_in Variants o table) (variants_answer o table) lines))
 
 -- ---- what a stop leaves
 
--- of what pieces put on the output a beginning is there
-abbrev IsBeginningOf : List Piece → List Piece → Type 0
-IsBeginningOf pieces written = (missing : List ℕ) × (output_of pieces ≡ output_of written ++ missing)
+-- of what output lines put on the output a beginning is there
+abbrev IsBeginningOf : List OutputLine → List OutputLine → Type 0
+IsBeginningOf output_lines written = (missing : List ℕ) × (output_of output_lines ≡ output_of written ++ missing)
 
-begun-all : (pieces : List Piece) → IsBeginningOf pieces pieces
-begun-all pieces = ([], sym (append-nil (output_of pieces)))
+begun-all : (output_lines : List OutputLine) → IsBeginningOf output_lines output_lines
+begun-all output_lines = ([], sym (append-nil (output_of output_lines)))
 
-begun-before : (before pieces written : List Piece) → IsBeginningOf pieces written → IsBeginningOf (before ++ pieces) (before ++ written)
-begun-before before pieces written begun = (
+begun-before : (before output_lines written : List OutputLine) → IsBeginningOf output_lines written → IsBeginningOf (before ++ output_lines) (before ++ written)
+begun-before before output_lines written begun = (
   begun.0,
-  output_of-append before pieces ∙ ap (λ (rest : List ℕ). output_of before ++ rest) begun.1
+  output_of-append before output_lines ∙ ap (λ (rest : List ℕ). output_of before ++ rest) begun.1
       ∙ sym (append_assoc (output_of before) (output_of written) begun.0)
       ∙ ap (λ (start : List ℕ). start ++ begun.0) (sym (output_of-append before written)),
 )
 
-begun-output : (text : List ℕ) (taken : ℕ) (after : List Piece) → IsBeginningOf (Output text ∷ after) (Output (take taken text) ∷ [])
+begun-output : (text : List ℕ) (taken : ℕ) (after : List OutputLine) → IsBeginningOf (Output text ∷ after) (Output (take taken text) ∷ [])
 begun-output text taken after = (
   drop taken text ++ output_of after,
   ap (λ (whole : List ℕ). whole ++ output_of after) (sym (take-append-drop taken text))
@@ -172,48 +172,48 @@ begun-output text taken after = (
       ∙ ap (λ (start : List ℕ). start ++ (drop taken text ++ output_of after)) (sym (append-nil (take taken text))),
 )
 
-begun-cut : (why : Stop) (pieces written : List Piece) → IsCutBy why pieces written → IsBeginningOf pieces written
-begun-cut stop.Reading pieces written cut = absurd cut
-begun-cut stop.Output pieces written cut =
+begun-cut : (why : Stop) (output_lines written : List OutputLine) → IsCutBy why output_lines written → IsBeginningOf output_lines written
+begun-cut stop.Reading output_lines written cut = absurd cut
+begun-cut stop.Output output_lines written cut =
     rw (cut.split, cut.cut) (begun-before cut.before (Output cut.text ∷ cut.after) (Output (take cut.taken cut.text) ∷ []) (begun-output cut.text cut.taken cut.after))
-begun-cut stop.Messages pieces written cut =
+begun-cut stop.Messages output_lines written cut =
     rw (cut.split, cut.cut) (begun-before cut.before (Message cut.text ∷ cut.after) (Message (take cut.taken cut.text) ∷ []) (output_of cut.after, refl))
-begun-cut stop.Memory pieces written cut = (output_of cut.0, ap output_of cut.1 ∙ output_of-append written cut.0)
+begun-cut stop.Memory output_lines written cut = (output_of cut.0, ap output_of cut.1 ∙ output_of-append written cut.0)
 
 module _ (o : Settings) (table : TableValue) (formed : IsSound table) (is : o.mode ≡ Variants) where
   abbrev job : Job
   job = mode_job o (Ok table)
 
-  pieces-lines : (lines : List Numbered) → job.pieces lines ≡ lines_pieces o.form (explained_in Variants o table) (variants_answer o table) lines
-  pieces-lines lines = ap (λ (m : Mode). mode_pieces m o table lines) is
+  output_lines-lines : (lines : List Numbered) → job.output_lines lines ≡ lines_output o.form (explained_in Variants o table) (variants_answer o table) lines
+  output_lines-lines lines = ap (λ (m : Mode). mode_output m o table lines) is
 
-  pieces-one : (before : List Numbered) (line : Numbered)
-      → lines_pieces o.form (explained_in Variants o table) (variants_answer o table) (before ++ line ∷ []) ≡ lines_pieces o.form (explained_in Variants o table) (variants_answer o table) before ++ lines_pieces o.form (explained_in Variants o table) (variants_answer o table) (line ∷ [])
-  pieces-one before line = flat_map-append (line_pieces o.form (explained_in Variants o table) (variants_answer o table)) before (line ∷ [])
+  output_lines-one : (before : List Numbered) (line : Numbered)
+      → lines_output o.form (explained_in Variants o table) (variants_answer o table) (before ++ line ∷ []) ≡ lines_output o.form (explained_in Variants o table) (variants_answer o table) before ++ lines_output o.form (explained_in Variants o table) (variants_answer o table) (line ∷ [])
+  output_lines-one before line = flat_map-append (line_output o.form (explained_in Variants o table) (variants_answer o table)) before (line ∷ [])
 
-  begun-line : (why : Stop) (lines : List Numbered) (now : Reading) (written : List Piece) → StopsAtLine job why lines now written
-      → IsBeginningOf (lines_pieces o.form (explained_in Variants o table) (variants_answer o table) lines) written
+  begun-line : (why : Stop) (lines : List Numbered) (now : Reading) (written : List OutputLine) → StopsAtLine job why lines now written
+      → IsBeginningOf (lines_output o.form (explained_in Variants o table) (variants_answer o table) lines) written
   begun-line why lines now written stops =
-      let part : IsBeginningOf (lines_pieces o.form (explained_in Variants o table) (variants_answer o table) (stops.line ∷ [])) stops.part =
-      begun-cut why _ stops.part (subst (λ (pieces : List Piece). IsCutBy why pieces stops.part) (pieces-lines (stops.line ∷ [])) stops.cut) in
-      let all = begun-before (lines_pieces o.form (explained_in Variants o table) (variants_answer o table) stops.before) (lines_pieces o.form (explained_in Variants o table) (variants_answer o table) (stops.line ∷ [])) stops.part part in
-      rw (stops.last, pieces-one stops.before stops.line, stops.stand, pieces-lines stops.before) all
+      let part : IsBeginningOf (lines_output o.form (explained_in Variants o table) (variants_answer o table) (stops.line ∷ [])) stops.part =
+      begun-cut why _ stops.part (subst (λ (output_lines : List OutputLine). IsCutBy why output_lines stops.part) (output_lines-lines (stops.line ∷ [])) stops.cut) in
+      let all = begun-before (lines_output o.form (explained_in Variants o table) (variants_answer o table) stops.before) (lines_output o.form (explained_in Variants o table) (variants_answer o table) (stops.line ∷ [])) stops.part part in
+      rw (stops.last, output_lines-one stops.before stops.line, stops.stand, output_lines-lines stops.before) all
 
-  begun-unread : (why : Stop) (lines : List Numbered) (start now : Reading) (written : List Piece) → StopsUnread job why lines start now written
-      → IsBeginningOf (lines_pieces o.form (explained_in Variants o table) (variants_answer o table) lines) written
+  begun-unread : (why : Stop) (lines : List Numbered) (start now : Reading) (written : List OutputLine) → StopsUnread job why lines start now written
+      → IsBeginningOf (lines_output o.form (explained_in Variants o table) (variants_answer o table) lines) written
   begun-unread why lines start now written stops =
-      rw stops.no_line (begun-cut why [] written (subst (λ (pieces : List Piece). IsCutBy why pieces written) (pieces-lines []) stops.cut))
+      rw stops.no_line (begun-cut why [] written (subst (λ (output_lines : List OutputLine). IsCutBy why output_lines written) (output_lines-lines []) stops.cut))
 
-  begun-either : (why : Stop) (lines : List Numbered) (start now : Reading) (written : List Piece)
+  begun-either : (why : Stop) (lines : List Numbered) (start now : Reading) (written : List OutputLine)
       → StopsAtLine job why lines now written ⊎ StopsUnread job why lines start now written
-      → IsBeginningOf (lines_pieces o.form (explained_in Variants o table) (variants_answer o table) lines) written
+      → IsBeginningOf (lines_output o.form (explained_in Variants o table) (variants_answer o table) lines) written
   begun-either why lines start now written stands =
       elim stands [ inl at ↦ begun-line why lines now written at | inr unread ↦ begun-unread why lines start now written unread ]
 
-  begun-stop : (why : Stop) (lines : List Numbered) (start now : Reading) (written : List Piece) → Stands job why lines start now written
-      → IsBeginningOf (lines_pieces o.form (explained_in Variants o table) (variants_answer o table) lines) written
+  begun-stop : (why : Stop) (lines : List Numbered) (start now : Reading) (written : List OutputLine) → Stands job why lines start now written
+      → IsBeginningOf (lines_output o.form (explained_in Variants o table) (variants_answer o table) lines) written
   begun-stop stop.Reading lines start now written stands =
-      subst (IsBeginningOf (lines_pieces o.form (explained_in Variants o table) (variants_answer o table) lines)) (sym (stands.2 ∙ pieces-lines lines)) (begun-all (lines_pieces o.form (explained_in Variants o table) (variants_answer o table) lines))
+      subst (IsBeginningOf (lines_output o.form (explained_in Variants o table) (variants_answer o table) lines)) (sym (stands.2 ∙ output_lines-lines lines)) (begun-all (lines_output o.form (explained_in Variants o table) (variants_answer o table) lines))
   begun-stop stop.Output lines start now written stands = begun-either stop.Output lines start now written stands
   begun-stop stop.Messages lines start now written stands = begun-either stop.Messages lines start now written stands
   begun-stop stop.Memory lines start now written stands = begun-either stop.Memory lines start now written stands
@@ -243,10 +243,10 @@ module _ (o : Settings) (table : TableValue) (formed : IsSound table) (is : o.mo
     read = does.read;
     printed = map (printed_line o table) does.lines;
     each = lines-printed o table formed does.lines;
-    taken = output_of (job.pieces does.lines);
+    taken = output_of (job.output_lines does.lines);
     missing = [];
-    joined = lines-joined o table does.lines ∙ sym (ap output_of (pieces-lines does.lines)) ∙ sym (append-nil (output_of (job.pieces does.lines)));
-    output = does.ending.pieces.takes.output;
+    joined = lines-joined o table does.lines ∙ sym (ap output_of (output_lines-lines does.lines)) ∙ sym (append-nil (output_of (job.output_lines does.lines)));
+    output = does.ending.output_lines.takes.output;
     whole = λ _. (does.ending.ended reads-lines, refl);
   }
 
@@ -265,7 +265,7 @@ module _ (o : Settings) (table : TableValue) (formed : IsSound table) (is : o.mo
         missing = begun.0;
         joined = lines-joined o table does.lines ∙ begun.1;
         output = subst (λ (w : Writer). Appends old.output.contents w.contents (output_of does.ending.written))
-            (sym (output-stays stops.why stops.middle new stops.closes)) does.ending.pieces.takes.output;
+            (sym (output-stays stops.why stops.middle new stops.closes)) does.ending.output_lines.takes.output;
         whole = λ which. absurd (stopped-status stops.why (subst (λ (s : Status). (s ≡ Clean) ⊎ (s ≡ Refused)) stops.answered which));
       }
 

@@ -61,7 +61,7 @@ module _ (properties : Properties) where
   pub jump-refused : (table : TableValue) (request : List ℕ) (refusal : Refusal) → first_fault properties (requested_label request) ≡ Some refusal → jump_answer properties table request ≡ Err refusal
   jump-refused table request refusal fault = ap (λ (f : Option Refusal). unless_fault f (least_answer table (requested_label request) (requested_text request))) fault
 
--- the label to which a new cursor of a net jumped
+-- the label to which a new cursor of a variant graph jumped
 pub jumped_to : (net : Built) (after : List ℕ) (old new : Position) (text last : List ℕ) → old ≡ record { net = net; last = after; edge_tests = 0 }
     → IsLeastFrom (IsCandidate (Contains old.net.spelled)) text new.last → last ≡ new.last → IsLeastFrom (IsCandidate (Contains net.spelled)) text last
 jumped_to net after old new text last begun found at =

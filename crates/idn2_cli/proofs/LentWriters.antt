@@ -2,8 +2,8 @@
 use Rattle.std.proofs.Common.{◌≡◌, List, Result, Ok, Err, inl, inr, refl, ap, subst, sym, ◌∙◌}
 use Rattle.idn_text.specs.Reading.{Reading}
 use Rattle.idn_text.specs.Writers.{Writer}
-use Rattle.idn2_output.specs.Pieces.{Piece}
-use Rattle.idn2_output.specs.Writing.{Held, TakesPieces, Writes, held, WritesUntil}
+use Rattle.idn2_output.specs.OutputLines.{OutputLine}
+use Rattle.idn2_output.specs.Writing.{Held, TakesOutputLines, Writes, held, WritesUntil}
 use Rattle.idn2_cli.specs.Ends.{Job, Does, Closes, Ends}
 use Rattle.idn2_output.specs.declared.status.Status.{Status}
 use Rattle.idn2_output.specs.declared.stop.Stop.{Stop}
@@ -13,16 +13,16 @@ use Rattle.idn2_output.specs.declared.stop.Stop.TheVariants as stop
 abbrev without_loans : Held → Held
 without_loans h = held h.output h.messages
 
-takes_without_loans : (old new : Held) (pieces : List Piece) → TakesPieces old new pieces → TakesPieces (without_loans old) (without_loans new) pieces
-takes_without_loans old new pieces t = record { output = t.output; messages = t.messages; output_loan = refl; messages_loan = refl }
+takes_without_loans : (old new : Held) (output_lines : List OutputLine) → TakesOutputLines old new output_lines → TakesOutputLines (without_loans old) (without_loans new) output_lines
+takes_without_loans old new output_lines t = record { output = t.output; messages = t.messages; output_loan = refl; messages_loan = refl }
 
-writes_without_loans : (old new : Held) (pieces : List Piece) → Writes old new pieces → Writes (without_loans old) (without_loans new) pieces
-writes_without_loans old new pieces w =
-    record { takes = takes_without_loans old new pieces w.takes; output_faults = w.output_faults; messages_faults = w.messages_faults }
+writes_without_loans : (old new : Held) (output_lines : List OutputLine) → Writes old new output_lines → Writes (without_loans old) (without_loans new) output_lines
+writes_without_loans old new output_lines w =
+    record { takes = takes_without_loans old new output_lines w.takes; output_faults = w.output_faults; messages_faults = w.messages_faults }
 
-until_without_loans : (why : Stop) (old new : Held) (pieces : List Piece) → WritesUntil why old new pieces → WritesUntil why (without_loans old) (without_loans new) pieces
-until_without_loans why old new pieces w = record {
-  takes = takes_without_loans old new pieces w.takes;
+until_without_loans : (why : Stop) (old new : Held) (output_lines : List OutputLine) → WritesUntil why old new output_lines → WritesUntil why (without_loans old) (without_loans new) output_lines
+until_without_loans why old new output_lines w = record {
+  takes = takes_without_loans old new output_lines w.takes;
   output_failed = w.output_failed;
   output_faults = w.output_faults;
   messages_failed = w.messages_failed;
@@ -41,7 +41,7 @@ does_without_loans job start now old new (Ok status) done = record {
   lines = done.lines;
   read = done.read;
   unread = done.unread;
-  ending = record { ended = done.ending.ended; pieces = writes_without_loans old new (job.pieces done.lines) done.ending.pieces; answered = done.ending.answered };
+  ending = record { ended = done.ending.ended; output_lines = writes_without_loans old new (job.output_lines done.lines) done.ending.output_lines; answered = done.ending.answered };
 }
 does_without_loans job start now old new (Err why) done = record {
   given = done.given;
@@ -50,7 +50,7 @@ does_without_loans job start now old new (Err why) done = record {
   unread = done.unread;
   ending = record {
     written = done.ending.written;
-    pieces = until_without_loans why old new done.ending.written done.ending.pieces;
+    output_lines = until_without_loans why old new done.ending.written done.ending.output_lines;
     stands = done.ending.stands;
   };
 }
@@ -74,10 +74,10 @@ closes_loans stop.Memory old new c = (ap (λ (h : Held). h.output_loan) c.0, ap 
 -- at the end the writers are those that were lent
 pub same_loans : (job : Job) (start now : Reading) (old new : Held) (status : Status) → Ends job start now old new status
     → (new.output_loan ≡ old.output_loan) × (new.messages_loan ≡ old.messages_loan)
-same_loans job start now old new status (inl done) = (done.ending.pieces.takes.output_loan, done.ending.pieces.takes.messages_loan)
+same_loans job start now old new status (inl done) = (done.ending.output_lines.takes.output_loan, done.ending.output_lines.takes.messages_loan)
 same_loans job start now old new status (inr s) =
     let kept = closes_loans s.why s.middle new s.closes in
-    let takes = s.stopped.ending.pieces.takes in
+    let takes = s.stopped.ending.output_lines.takes in
     (kept.0 ∙ takes.output_loan, kept.1 ∙ takes.messages_loan)
 
 -- what they then hold is what they hold when they are given back

@@ -33,7 +33,7 @@ pub mod RefusedLines
 -- A listing under way: what it has written, and what is still to come.
 pub mod ListingProgress
 -- A line that begins with a label's UTF-8, cut or lengthened.
-pub mod KeptLineLemmas
+pub mod CachedLineLemmas
 -- A listing that is kept to registered labels, step by step.
 pub mod CollisionSteps
 -- The answer to a request is the least label from its text on.

@@ -5,7 +5,7 @@ use Rattle.std.proofs.lemmas.List.Elements.{All-contains, All-from_recursion, re
 use Rattle.idn_class.specs.declared.properties.Properties.{Properties}
 use Rattle.idn_text.specs.Points.{IsScalarValue, AreScalarValues}
 use Rattle.variant_list.specs.Labels.{IsBelow}
-use Rattle.variant_list.specs.Beginnings.{has_hope, is_new, shortest_hopeless}
+use Rattle.variant_list.specs.Beginnings.{has_no_dead_prefix, is_new, shortest_hopeless}
 use Rattle.variant_list.specs.Tested.{tested_among}
 use Rattle.variant_list.specs.Variants.{candidates_among, fits_label, variants_among}
 use Rattle.variant_list.specs.Visited.{visited, visited_ahead}
@@ -85,8 +85,8 @@ block-start properties f sound field o net limits =
     }
 
 -- the test of the labels that a listing tests
-abbrev fits_with_hope : Filter → List ℕ → Bool
-fits_with_hope f v = fits_label v && has_hope f.hopeless v
+abbrev fits_alive : Filter → List ℕ → Bool
+fits_alive f v = fits_label v && has_no_dead_prefix f.hopeless v
 
 -- ---- labels that a listing comes to can be written, and are above the last one
 
@@ -116,7 +116,7 @@ take_all_of P (suc n) (x ∷ xs) all = (all.0, take_all_of P n xs all.1)
 -- what holds of all labels holds of those that are visited
 visited-all : (f : Filter) (P : List ℕ → Type 0) (before : Option (List ℕ)) (vs : List (List ℕ)) → AllByRecursion P vs → AllByRecursion P (visited f.hopeless before vs)
 visited-all f P before [] all = tt
-visited-all f P before (v ∷ vs) all = by_test (has_hope f.hopeless v || is_new before v (shortest_hopeless f.hopeless v)) (visited-all f P (Some v) vs all.1)
+visited-all f P before (v ∷ vs) all = by_test (has_no_dead_prefix f.hopeless v || is_new before v (shortest_hopeless f.hopeless v)) (visited-all f P (Some v) vs all.1)
   where
     by_test : (b : Bool) → AllByRecursion P (visited f.hopeless (Some v) vs) → AllByRecursion P (cond b (v ∷ visited f.hopeless (Some v) vs) (visited f.hopeless (Some v) vs))
     by_test true h = (all.0, h)
@@ -130,7 +130,7 @@ visited-writable f count p scalar writable =
 
 pub ahead-above : (f : Filter) (p : Position) → IsAbove f p
 ahead-above f p = record {
-  tested = all-members (IsBelow p.last) (tested_ahead f.hopeless p) (λ v c. (((variants-IsListed (fits_with_hope f) p.net.spelled p.last).members v).0 c).greater);
+  tested = all-members (IsBelow p.last) (tested_ahead f.hopeless p) (λ v c. (((variants-IsListed (fits_alive f) p.net.spelled p.last).members v).0 c).greater);
   visited = visited-all f (IsBelow p.last) None (candidates_ahead p) (all-members (IsBelow p.last) (candidates_ahead p) (λ v c. (((variants-IsListed fits_label p.net.spelled p.last).members v).0 c).greater));
 }
 
@@ -138,7 +138,7 @@ ahead-above f p = record {
 pub moved-ahead : (f : Filter) (count : ℕ) (p : Position) → tested_ahead f.hopeless (moved_over f.hopeless count p) ≡ drop count (tested_ahead f.hopeless p)
 moved-ahead f count p =
     let cs = tested_ahead f.hopeless p in
-    variants-after (fits_with_hope f) p.net.spelled p.last (take count cs) (drop count cs) (sym (take-append-drop count cs))
+    variants-after (fits_alive f) p.net.spelled p.last (take count cs) (drop count cs) (sym (take-append-drop count cs))
 
 take_scalar : (n : ℕ) (points : List ℕ) → AreScalarValues points → AreScalarValues (take n points)
 take_scalar n points h = All-from_recursion IsScalarValue (take n points) (take_all_of IsScalarValue n points (recursion_from_All IsScalarValue points h))

@@ -4,19 +4,19 @@ use Rattle.idn_text.specs.declared.refusal.Refusal.{Refusal}
 use Rattle.idn_text.specs.declared.refusal.Refusal.TheVariants.{Memory}
 use Rattle.idn_text.specs.Lines.{Numbered}
 use Rattle.idn2_options.specs.declared.command_line.form.Form.{Form}
-use Rattle.idn2_output.specs.Pieces.{Piece}
-use Rattle.idn2_answers.specs.Transcript.{pieces_for}
+use Rattle.idn2_output.specs.OutputLines.{OutputLine}
+use Rattle.idn2_answers.specs.Transcript.{output_for}
 use Rattle.idn2_output.specs.Writing.{Held, Emits, StopsWithin}
 use Rattle.idn2_answers.specs.Answers.{LineAnswer, line_answer, text_answer}
 use Rattle.idn2_refusals.specs.Explained.{BodyCauseNeedsNone, Explained, TextCauseNeedsNone}
 use Rattle.idn2_cli.specs.Memory.{TellsWithoutMemory, BodyNeedsNone, NeedsNone}
-use Rattle.idn2_cli.specs.inner.LineAnswers.{KeepsIfRefused, refusal_in, reply_pieces}
+use Rattle.idn2_cli.specs.inner.LineAnswers.{KeepsIfRefused, refusal_in, reply_output}
 use Rattle.idn2_cli.specs.inner.ServedLines.{answered_as, result_of}
 use Rattle.idn2_cli.specs.declared.modes.answering.Served.{Served}
 use Rattle.idn2_cli.specs.declared.modes.answering.Served.TheVariants as served
 use Rattle.idn2_output.specs.declared.stop.Stop.{Stop}
 use Rattle.idn2_output.specs.declared.stop.Stop.TheVariants as stop
-use Rattle.idn2_output.proofs.WrittenPieces.{cut_before, stops_first, writes_nothing}
+use Rattle.idn2_output.proofs.WrittenOutputLines.{cut_before, stops_first, writes_nothing}
 
 is_memory : (refusal : Refusal) → (refusal ≡ Memory) ⊎ (refusal ≢ Memory)
 is_memory Memory = inl refl
@@ -26,11 +26,11 @@ is_memory other = inr (λ e. cc)
 
 -- the answer is this refusal, unless memory was refused, and nothing is written
 pub replies_refusal : (old : Held) (form : Form) (line : Numbered) (refusal : Refusal) (answer : LineAnswer) (o : Served) → (refusal ≢ Memory → answer ≡ Err refusal)
-    → (refusal ≢ Memory → o ≡ served.Refused refusal) → (refusal ≡ Memory → o ≡ served.Stopped stop.Memory) → Emits old old (reply_pieces form line answer) (result_of o)
+    → (refusal ≢ Memory → o ≡ served.Refused refusal) → (refusal ≡ Memory → o ≡ served.Stopped stop.Memory) → Emits old old (reply_output form line answer) (result_of o)
 replies_refusal old form line refusal answer o is refused memory = elim (is_memory refusal) [
-  | inl e ↦ subst (λ (p : Served). Emits old old (reply_pieces form line answer) (result_of p)) (sym (memory e)) (stops_first old (reply_pieces form line answer))
+  | inl e ↦ subst (λ (p : Served). Emits old old (reply_output form line answer) (result_of p)) (sym (memory e)) (stops_first old (reply_output form line answer))
   | inr other ↦
-      subst (λ (a : LineAnswer). Emits old old (reply_pieces form line a) (result_of o)) (sym (is other))
+      subst (λ (a : LineAnswer). Emits old old (reply_output form line a) (result_of o)) (sym (is other))
       (subst (λ (p : Served). Emits old old [] (result_of p)) (sym (refused other)) (writes_nothing old))
 ]
 
@@ -52,9 +52,9 @@ kept_as_it_was old (served.Stopped why) = tt
 
 -- ---- or it writes an answer
 
-pub emits_answered : (old new : Held) (pieces : List Piece) (r : Result (Unit {0}) Stop) (o : Served) → result_of o ≡ answered_as r → Emits old new pieces r → Emits old new pieces (result_of o)
-emits_answered old new pieces (Ok done) o e emits = subst (λ (s : Result (Option Refusal) Stop). Emits old new pieces s) (sym e) emits
-emits_answered old new pieces (Err why) o e emits = subst (λ (s : Result (Option Refusal) Stop). Emits old new pieces s) (sym e) emits
+pub emits_answered : (old new : Held) (output_lines : List OutputLine) (r : Result (Unit {0}) Stop) (o : Served) → result_of o ≡ answered_as r → Emits old new output_lines r → Emits old new output_lines (result_of o)
+emits_answered old new output_lines (Ok done) o e emits = subst (λ (s : Result (Option Refusal) Stop). Emits old new output_lines s) (sym e) emits
+emits_answered old new output_lines (Err why) o e emits = subst (λ (s : Result (Option Refusal) Stop). Emits old new output_lines s) (sym e) emits
 
 pub answered_none : (r : Result (Unit {0}) Stop) (o : Served) → result_of o ≡ answered_as r → IfOk (result_of o) (λ given. given ≡ None)
 answered_none (Ok done) o e = subst (λ (s : Result (Option Refusal) Stop). IfOk s (λ given. given ≡ None)) (sym e) refl
@@ -74,10 +74,10 @@ answered_memory (Err why) o e memory =
 -- ---- and its line is told
 
 -- a stop before a refusal was given back
-pub stopped_pieces : (why : Stop) (old new : Held) (form : Form) (how : Explained) (line : Numbered) (answer : LineAnswer) → StopsWithin why old new (reply_pieces form line answer)
-    → StopsWithin why old new (pieces_for form how line answer)
-stopped_pieces why old new form how line (Ok said) at = at
-stopped_pieces why old new form how line (Err refusal) at = (at.0, at.1, cut_before why [] (pieces_for form how line (Err refusal)) at.0 at.2)
+pub stopped_output : (why : Stop) (old new : Held) (form : Form) (how : Explained) (line : Numbered) (answer : LineAnswer) → StopsWithin why old new (reply_output form line answer)
+    → StopsWithin why old new (output_for form how line answer)
+stopped_output why old new form how line (Ok said) at = at
+stopped_output why old new form how line (Err refusal) at = (at.0, at.1, cut_before why [] (output_for form how line (Err refusal)) at.0 at.2)
 
 -- ---- what a line needs that is refused
 

@@ -5,16 +5,16 @@ use Rattle.std.specs.Option.{is_none, option_map}
 use Rattle.std.proofs.lemmas.Bool.Decides.{nat_tests}
 use Rattle.std.proofs.lemmas.Bool.{and_from}
 use Rattle.idn_class.specs.declared.properties.Properties.{Properties}
-use Rattle.idn_class.specs.Hopeless.{hopeless}
+use Rattle.idn_class.specs.DeadPrefixes.{hopeless}
 use Rattle.idn_label.specs.FirstFault.{IsRegistrable}
 use Rattle.variant_table.specs.Entries.{TableValue}
-use Rattle.valid_labels.specs.Tests.{asks_nothing, is_lost, is_valid}
+use Rattle.valid_labels.specs.Tests.{asks_nothing, is_dead_under, is_valid}
 use Rattle.variant_list.specs.Beginnings.{shortest_hopeless}
 use Rattle.idn2_answers.proofs.FilterLemmas.{IsSound, registrable_labels-IsSound, ruled_labels-IsSound}
 use Rattle.idn2_answers.proofs.LostBeginnings.{not-left, not-right}
-use Rattle.idn2_cli.specs.inner.Ruling.{IsValidityBy, filter_by, lesser_count, lost_in, passes, ruling_of}
+use Rattle.idn2_cli.specs.inner.Ruling.{IsValidityBy, filter_by, lesser_count, dead_prefix_in, passes, ruling_of}
 use Rattle.valid_labels.specs.declared.validity.Validity.{Validity}
-use Rattle.valid_labels.specs.declared.validity.Validity.TheVariants.{Lost, Valid, NotValid}
+use Rattle.valid_labels.specs.declared.validity.Validity.TheVariants.{DeadPrefix, Valid, NotValid}
 use Rattle.idn2_answers.specs.Answers.{filter_if, filter_of, is_registrable}
 
 -- ---- the filter by the table that labels are tested by
@@ -90,10 +90,10 @@ lesser-none (Some n) = refl
 
 module _ (properties : Properties) where
   pub verdict-count : (ruling : Option TableValue) (v : List ℕ) (validity : Validity) → IsValidityBy ruling v validity
-      → lesser_count (shortest_hopeless (hopeless properties) v) (lost_in validity) ≡ shortest_hopeless (filter_by properties ruling).hopeless v
-  verdict-count None v validity is = ap (λ (x : Validity). lesser_count (shortest_hopeless (hopeless properties) v) (lost_in x)) is ∙ lesser-none (shortest_hopeless (hopeless properties) v)
+      → lesser_count (shortest_hopeless (hopeless properties) v) (dead_prefix_in validity) ≡ shortest_hopeless (filter_by properties ruling).hopeless v
+  verdict-count None v validity is = ap (λ (x : Validity). lesser_count (shortest_hopeless (hopeless properties) v) (dead_prefix_in x)) is ∙ lesser-none (shortest_hopeless (hopeless properties) v)
   verdict-count (Some table) v validity is =
-      ap (lesser_count (shortest_hopeless (hopeless properties) v)) (sym is.0) ∙ sym (shortest-of_two (hopeless properties) (is_lost table) v)
+      ap (lesser_count (shortest_hopeless (hopeless properties) v)) (sym is.0) ∙ sym (shortest-of_two (hopeless properties) (is_dead_under table) v)
 
 pub passes-valid : (ruling : Option TableValue) (v : List ℕ) → IsValidityBy ruling v Valid → passes ruling v ≡ true
 passes-valid None v is = refl
@@ -103,6 +103,6 @@ pub passes-not_valid : (ruling : Option TableValue) (v : List ℕ) → IsValidit
 passes-not_valid None v is = cc
 passes-not_valid (Some table) v is = not-left (is_valid table v) _ is.1
 
-pub passes-lost : (ruling : Option TableValue) (v : List ℕ) (count : ℕ) → IsValidityBy ruling v (Lost count) → passes ruling v ≡ false
-passes-lost None v count is = cc
-passes-lost (Some table) v count is = not-right (is_valid table v) _ (ap is_none is.0)
+pub passes-dead : (ruling : Option TableValue) (v : List ℕ) (count : ℕ) → IsValidityBy ruling v (DeadPrefix count) → passes ruling v ≡ false
+passes-dead None v count is = cc
+passes-dead (Some table) v count is = not-right (is_valid table v) _ (ap is_none is.0)

@@ -7,8 +7,8 @@ use Rattle.idn_text.proofs.ReadingLemmas.{has_read_nothing}
 use Rattle.std.proofs.lemmas.Bool.{false≢true}
 use Rattle.idn2_options.specs.Settings.{Settings, keeping, tells_causes}
 use Rattle.idn2_cli.specs.Memory.{reads_table}
-use Rattle.idn2_answers.specs.Transcript.{TableGiven, IsReadAs, IsTableOf, check_pieces, check_status}
-use Rattle.idn2_output.specs.Pieces.{Piece}
+use Rattle.idn2_answers.specs.Transcript.{TableGiven, IsReadAs, IsTableOf, check_output, check_status}
+use Rattle.idn2_output.specs.OutputLines.{OutputLine}
 use Rattle.idn2_output.specs.Writing.{Held, refusal_of, Emits}
 use Rattle.idn2_refusals.specs.Reports.{TakesText, closing_message}
 use Rattle.idn2_cli.specs.Ends.{Job, Does, Ends, Closes, mode_job}
@@ -18,7 +18,7 @@ use Rattle.idn2_options.specs.declared.command_line.mode.Mode.TheVariants.{Varia
 use Rattle.idn2_output.specs.declared.status.Status.{Status}
 use Rattle.idn2_output.specs.declared.stop.Stop.{Stop}
 use Rattle.idn2_output.specs.declared.stop.Stop.TheVariants as stop
-use Rattle.idn2_output.proofs.WrittenPieces.{stops_first}
+use Rattle.idn2_output.proofs.WrittenOutputLines.{stops_first}
 use Rattle.idn2_cli.proofs.LineSteps.{stands_at}
 use Rattle.idn2_refusals.proofs.ToldRefusals.{IsTold}
 use Rattle.idn2_cli.proofs.TableLemmas.{some_table, refused_table}
@@ -43,22 +43,22 @@ as_mode o mode text given job start now old new r e table same done = (
 
 -- ---- a mode that reads no line
 
--- its pieces are written, or some of them to a stop
-does_unread : (job : Job) (start : Reading) (old new : Held) (r : Result Status Stop) → IsUnread start → Emits old new (job.pieces []) r
+-- its output lines are written, or some of them to a stop
+does_unread : (job : Job) (start : Reading) (old new : Held) (r : Result Status Stop) → IsUnread start → Emits old new (job.output_lines []) r
     → IfOk r (λ status. (job.reads ≡ false) × (status ≡ job.status [])) → job.reads_table ≡ true → Does job start start old new r
 does_unread job start old new (Ok status) unread writes answered by_table = record {
   given = [];
   lines = [];
   read = has_read_nothing start unread;
   unread = λ _. refl;
-  ending = record { ended = λ reads. absurd (false≢true (sym answered.0 ∙ reads)); pieces = writes; answered = answered.1 };
+  ending = record { ended = λ reads. absurd (false≢true (sym answered.0 ∙ reads)); output_lines = writes; answered = answered.1 };
 }
 does_unread job start old new (Err why) unread writes answered by_table = record {
   given = [];
   lines = [];
   read = has_read_nothing start unread;
   unread = λ _. refl;
-  ending = record { written = writes.0; pieces = writes.1; stands = stands_at job why [] start start (job.pieces []) writes.0 writes.0 writes.2 (inr (record { no_line = refl; unread = refl; cut = writes.2; memory = λ _. by_table })) };
+  ending = record { written = writes.0; output_lines = writes.1; stands = stands_at job why [] start start (job.output_lines []) writes.0 writes.0 writes.2 (inr (record { no_line = refl; unread = refl; cut = writes.2; memory = λ _. by_table })) };
 }
 
 with_false : (r : Result Status Stop) (status : Status) → IfOk r (λ s. s ≡ status) → IfOk r (λ s. (false ≡ false) × (s ≡ status))
@@ -67,7 +67,7 @@ with_false (Err why) status e = tt
 
 -- the check of a table, whatever its text is
 pub checked : (o : Settings) (text : List ℕ) (given : TableGiven) (start : Reading) (old new : Held) (r : Result Status Stop)
-    → o.mode ≡ CheckTable → IsReadAs o.properties o.notation text given → IsUnread start → Emits old new (check_pieces o.form (tells_causes o) given) r → IfOk r (λ status. status ≡ check_status given)
+    → o.mode ≡ CheckTable → IsReadAs o.properties o.notation text given → IsUnread start → Emits old new (check_output o.form (tells_causes o) given) r → IfOk r (λ status. status ≡ check_status given)
     → (table : TableGiven) × IsTableOf o.properties o.mode o.notation text table × Does (mode_job o table) start start old new r
 checked o text (Ok table) start old new r e read unread writes answered =
     let job = mode_job (record o { mode = CheckTable }) (Ok table) in
@@ -76,10 +76,10 @@ checked o text (Err fault) start old new r e read unread writes answered =
     let job = mode_job (record o { mode = CheckTable }) (Err fault) in
     as_mode o CheckTable text (Err fault) job start start old new r e read refl (does_unread job start old new r unread writes (with_false r _ answered) refl)
 
--- lack of memory before any piece
-pub emits_memory : {A : Type 0} (old : Held) (pieces : List Piece) (r : Result A Stop) (why : Stop) → r ≡ Err why → why ≡ stop.Memory → Emits old old pieces r
-emits_memory {A} old pieces r why e memory =
-    subst (λ (s : Result A Stop). Emits old old pieces s) (sym (e ∙ ap Err memory)) (stops_first old pieces)
+-- lack of memory before any output line
+pub emits_memory : {A : Type 0} (old : Held) (output_lines : List OutputLine) (r : Result A Stop) (why : Stop) → r ≡ Err why → why ≡ stop.Memory → Emits old old output_lines r
+emits_memory {A} old output_lines r why e memory =
+    subst (λ (s : Result A Stop). Emits old old output_lines s) (sym (e ∙ ap Err memory)) (stops_first old output_lines)
 
 -- ---- a mode that answers lines by a table, as the listing does
 
@@ -103,12 +103,12 @@ module _ (o : Settings) (mode : Mode) (works : WorksByTable o mode) (text : List
       let t = some_table o.properties o.notation text in
       let job = mode_job (record o { mode = mode }) t.0 in
       as_mode o mode text t.0 job start start old old r works.named (works.reads text t.0 t.1) refl
-      (does_unread job start old old r unread (emits_memory old (job.pieces []) r why is memory)
+      (does_unread job start old old r unread (emits_memory old (job.output_lines []) r why is memory)
       (subst (λ (s : Result Status Stop). IfOk s (λ status. (job.reads ≡ false) × (status ≡ job.status []))) (sym is) tt) works.by_table)
 
   -- the fault of the table is told
   faulty : (told : ℕ × Refusal × Option LineCause) (old new : Held) (r : Result Status Stop)
-      → IsReadAs o.properties o.notation text (Err told) → IsUnread start → Emits old new (check_pieces o.form (tells_causes o) (Err told)) r → IfOk r (λ status. status ≡ check_status (Err told))
+      → IsReadAs o.properties o.notation text (Err told) → IsUnread start → Emits old new (check_output o.form (tells_causes o) (Err told)) r → IfOk r (λ status. status ≡ check_status (Err told))
       → (table : TableGiven) × IsTableOf o.properties o.mode o.notation text table × Does (mode_job o table) start start old new r
   faulty told old new r read unread writes answered =
       let job = mode_job (record o { mode = mode }) (Err told) in
@@ -122,7 +122,7 @@ module _ (o : Settings) (mode : Mode) (works : WorksByTable o mode) (text : List
       → (table : TableGiven) × IsTableOf o.properties o.mode o.notation text table × Does (mode_job o table) start start old new r
   refused_lines fault old new r unread is told answered = by (refused_table o.properties o.form (tells_causes o) o.notation text fault old new r is told)
     where
-      by : ((r ≡ Err stop.Memory) × (new ≡ old)) ⊎ ((told : ℕ × Refusal × Option LineCause) × IsReadAs o.properties o.notation text (Err told) × Emits old new (check_pieces o.form (tells_causes o) (Err told)) r)
+      by : ((r ≡ Err stop.Memory) × (new ≡ old)) ⊎ ((told : ℕ × Refusal × Option LineCause) × IsReadAs o.properties o.notation text (Err told) × Emits old new (check_output o.form (tells_causes o) (Err told)) r)
           → (table : TableGiven) × IsTableOf o.properties o.mode o.notation text table × Does (mode_job o table) start start old new r
       by (inl memory) =
           subst (λ (h : Held). (table : TableGiven) × IsTableOf o.properties o.mode o.notation text table × Does (mode_job o table) start start old h r) (sym memory.1)
@@ -151,16 +151,16 @@ module _ (properties : Properties) where
   pub refused_check : (form : Form) (wanted : Bool) (n : Notation) (text : List ℕ) (fault : TableFault) (old new : Held) (r : Result Status Stop) → IsToldOf properties n text fault
       → IsTold properties form wanted n text fault old new r (told_of fault)
       → IfOk r (λ status. status ≡ Unusable)
-      → (given : TableGiven) × IsReadAs properties n text given × Emits old new (check_pieces form wanted given) r × IfOk r (λ status. status ≡ check_status given)
+      → (given : TableGiven) × IsReadAs properties n text given × Emits old new (check_output form wanted given) r × IfOk r (λ status. status ≡ check_status given)
   refused_check form wanted n text fault old new r is told answered = by (refused_table properties form wanted n text fault old new r is told)
     where
-      by : ((r ≡ Err stop.Memory) × (new ≡ old)) ⊎ ((told : ℕ × Refusal × Option LineCause) × IsReadAs properties n text (Err told) × Emits old new (check_pieces form wanted (Err told)) r)
-          → (given : TableGiven) × IsReadAs properties n text given × Emits old new (check_pieces form wanted given) r × IfOk r (λ status. status ≡ check_status given)
+      by : ((r ≡ Err stop.Memory) × (new ≡ old)) ⊎ ((told : ℕ × Refusal × Option LineCause) × IsReadAs properties n text (Err told) × Emits old new (check_output form wanted (Err told)) r)
+          → (given : TableGiven) × IsReadAs properties n text given × Emits old new (check_output form wanted given) r × IfOk r (λ status. status ≡ check_status given)
       by (inl memory) =
           let t = some_table properties n text in (
             t.0,
             t.1,
-            subst (λ (h : Held). Emits old h (check_pieces form wanted t.0) r) (sym memory.1) (emits_memory old (check_pieces form wanted t.0) r stop.Memory memory.0 refl),
+            subst (λ (h : Held). Emits old h (check_output form wanted t.0) r) (sym memory.1) (emits_memory old (check_output form wanted t.0) r stop.Memory memory.0 refl),
             subst (λ (s : Result Status Stop). IfOk s (λ status. status ≡ check_status t.0)) (sym memory.0) tt,
           )
       by (inr t) = (Err t.0, t.1, t.2, answered)

@@ -9,7 +9,7 @@ use Rattle.variant_table.specs.Faults.{table_fault, LineFault}
 use Rattle.variant_table.specs.Faults as kinds
 use Rattle.variant_table.specs.declared.fault.TableFault.{TableFault}
 use Rattle.variant_table.proofs.TextLemmas.{text_decided}
-use Rattle.idn2_answers.specs.Transcript.{TableGiven, IsReadAs, table_refusal, check_pieces}
+use Rattle.idn2_answers.specs.Transcript.{TableGiven, IsReadAs, table_refusal, check_output}
 use Rattle.idn2_refusals.specs.TableCauses.{fault_cause}
 use Rattle.idn2_refusals.proofs.ToldRefusals.{IsTold}
 use Rattle.idn2_refusals.specs.TableFaults.{told_of}
@@ -54,10 +54,10 @@ module _ (properties : Properties) where
 
   pub refused_table : (form : Form) (wanted : Bool) (n : Notation) (text : List ℕ) (fault : TableFault) (old new : Held) (r : Result Status Stop) → IsToldOf properties n text fault
       → IsTold properties form wanted n text fault old new r (told_of fault)
-      → ((r ≡ Err stop.Memory) × (new ≡ old)) ⊎ ((told : ℕ × Refusal × Option LineCause) × IsReadAs properties n text (Err told) × Emits old new (check_pieces form wanted (Err told)) r)
+      → ((r ≡ Err stop.Memory) × (new ≡ old)) ⊎ ((told : ℕ × Refusal × Option LineCause) × IsReadAs properties n text (Err told) × Emits old new (check_output form wanted (Err told)) r)
   refused_table form wanted n text fault old new r is = by (told_of fault) refl
     where
       by : (o : Option (ℕ × Refusal)) → told_of fault ≡ o → IsTold properties form wanted n text fault old new r o
-          → ((r ≡ Err stop.Memory) × (new ≡ old)) ⊎ ((told : ℕ × Refusal × Option LineCause) × IsReadAs properties n text (Err told) × Emits old new (check_pieces form wanted (Err told)) r)
+          → ((r ≡ Err stop.Memory) × (new ≡ old)) ⊎ ((told : ℕ × Refusal × Option LineCause) × IsReadAs properties n text (Err told) × Emits old new (check_output form wanted (Err told)) r)
       by None e memory = inl memory
       by (Some told) e written = inr ((told.0, told.1, fault_cause properties n text fault), told_read n text fault told is e, written)

@@ -2,8 +2,8 @@
 use Rattle.std.specs.Prelude.{◌≡◌, ℕ, List, ◌⊎◌, ◌++◌, ◌≢◌, [], ◌∷◌, true, Result, MatchResult, Bool, false, IsTrue, Ok, Err}
 use Rattle.idn2_refusals.specs.Reports.{TakesText, TellsMemory, TellsUnreadLine, closing_message, closing_status}
 use Rattle.idn2_output.specs.Writing.{refusal_of, Held, Writes, IsCutBy, WritesUntil}
-use Rattle.idn2_output.specs.Pieces.{Piece}
-use Rattle.idn2_answers.specs.Transcript.{lines_pieces, has_refused, status_if, transcript, status_of, TableGiven}
+use Rattle.idn2_output.specs.OutputLines.{OutputLine}
+use Rattle.idn2_answers.specs.Transcript.{lines_output, has_refused, status_if, transcript, status_of, TableGiven}
 use Rattle.registered_labels.specs.declared.labels.RegisteredFileFault.{RegisteredFileFault}
 use Rattle.registered_labels.specs.declared.labels.RegisteredFileFault.TheVariants as registers
 use Rattle.idn2_output.specs.declared.status.Status.{Status}
@@ -26,7 +26,7 @@ use Rattle.idn2_output.specs.declared.stop.Stop.TheVariants as stop
 -- answered without memory, and of which the answer, once begun, goes on without
 pub record Job : Type 1 where
   pub reads : Bool
-  pub pieces : List Numbered → List Piece
+  pub output_lines : List Numbered → List OutputLine
   pub status : List Numbered → Status
   pub reads_table : Bool
   pub needs_none : List ℕ → Type 0
@@ -36,7 +36,7 @@ pub record Job : Type 1 where
 abbrev pub lines_job : Form → Explained → (List ℕ → LineAnswer) → Bool → (needs_none goes_on : List ℕ → Type 0) → Job
 lines_job form explained answer by_table needs_none goes_on = record {
   reads = true;
-  pieces = lines_pieces form explained answer;
+  output_lines = lines_output form explained answer;
   status = λ lines. status_if (has_refused answer lines);
   reads_table = by_table;
   needs_none = NeedsNone explained answer needs_none;
@@ -53,7 +53,7 @@ reads_lines mode (Ok table) = true
 abbrev pub mode_job : Settings → TableGiven → Job
 mode_job o table = record {
   reads = reads_lines o.mode table;
-  pieces = transcript o table;
+  output_lines = transcript o table;
   status = status_of o table;
   reads_table = reads_table o.mode;
   needs_none = ServesWithoutMemory o.mode o table;
@@ -62,44 +62,44 @@ mode_job o table = record {
 
 -- ---- to the end or to a stop
 
--- to the end of the input, if it is read: all pieces are written
+-- to the end of the input, if it is read: all output lines are written
 pub record EndsWell (job : Job) (lines : List Numbered) (now : Reading) (old new : Held) (status : Status) : Type 0 where
   pub ended : IsTrue job.reads → now.state ≡ Ended
-  pub pieces : Writes old new (job.pieces lines)
+  pub output_lines : Writes old new (job.output_lines lines)
   pub answered : status ≡ job.status lines
 
--- a write or memory stopped the job at the last line that was read: all pieces of the lines before it are written, and then
--- those of its own pieces that the stop let through; memory does so only where the answer to that line may take some, and then
--- before any piece of it, or where going on with it may take some
-pub record StopsAtLine (job : Job) (why : Stop) (lines : List Numbered) (now : Reading) (written : List Piece) : Type 0 where
+-- a write or memory stopped the job at the last line that was read: all output lines of the lines before it are
+-- written, and then those of its own output lines that the stop let through; memory does so only where the answer to
+-- that line may take some, and then before any output line of it, or where going on with it may take some
+pub record StopsAtLine (job : Job) (why : Stop) (lines : List Numbered) (now : Reading) (written : List OutputLine) : Type 0 where
   pub before : List Numbered
   pub line : Numbered
-  pub part : List Piece
+  pub part : List OutputLine
   pub last : lines ≡ before ++ line ∷ []
   pub going : now.state ≢ Stopped
-  pub cut : IsCutBy why (job.pieces (line ∷ [])) part
+  pub cut : IsCutBy why (job.output_lines (line ∷ [])) part
   pub memory : why ≡ stop.Memory → ¬ BodyNeedsNone job.needs_none line.body
   pub begun : why ≡ stop.Memory → (part ≡ []) ⊎ (¬ BodyNeedsNone job.goes_on line.body)
-  pub stand : written ≡ job.pieces before ++ part
+  pub stand : written ≡ job.output_lines before ++ part
 
 -- a write or memory stopped the job before a line was read, and the reader was not called: while the table was read, at the
 -- message of its fault, or in its check; memory does so only where a table is read
-pub record StopsUnread (job : Job) (why : Stop) (lines : List Numbered) (start now : Reading) (written : List Piece) : Type 0 where
+pub record StopsUnread (job : Job) (why : Stop) (lines : List Numbered) (start now : Reading) (written : List OutputLine) : Type 0 where
   pub no_line : lines ≡ []
   pub unread : now ≡ start
-  pub cut : IsCutBy why (job.pieces []) written
+  pub cut : IsCutBy why (job.output_lines []) written
   pub memory : why ≡ stop.Memory → job.reads_table ≡ true
 
--- where a read stops a job, all pieces of the lines that it read stand, which are those that a line feed ends; where a write or
--- memory does, it stops at once, and no line is read after that
-abbrev pub Stands : Job → Stop → List Numbered → Reading → Reading → List Piece → Type 0
-Stands job stop.Reading lines start now written = HasStopped start now × (now.state ≡ Stopped) × (written ≡ job.pieces lines)
+-- where a read stops a job, all output lines of the lines that it read stand, which are those that a line feed ends;
+-- where a write or memory does, it stops at once, and no line is read after that
+abbrev pub Stands : Job → Stop → List Numbered → Reading → Reading → List OutputLine → Type 0
+Stands job stop.Reading lines start now written = HasStopped start now × (now.state ≡ Stopped) × (written ≡ job.output_lines lines)
 Stands job why lines start now written = StopsAtLine job why lines now written ⊎ StopsUnread job why lines start now written
 
--- to a stop: of the pieces stands what it left
+-- to a stop: of the output lines stands what it left
 pub record EndsEarly (job : Job) (lines : List Numbered) (start now : Reading) (old new : Held) (why : Stop) : Type 0 where
-  pub written : List Piece
-  pub pieces : WritesUntil why old new written
+  pub written : List OutputLine
+  pub output_lines : WritesUntil why old new written
   pub stands : Stands job why lines start now written
 
 -- of the input these bytes were taken, and these lines of them read, and the job is done for them or stopped

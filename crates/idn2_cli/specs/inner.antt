@@ -2,7 +2,7 @@
 pub mod LineAnswers
 pub mod Dispositions
 pub mod GapSequences
-pub mod KeptLines
+pub mod CachedLines
 pub mod Asked
 pub mod ServedLines
 pub mod Ruling

@@ -10,7 +10,7 @@ use Rattle.idna.proofs.Computing.{idna}
 use Rattle.idna.specs.Validity.{has_ace_prefix}
 use Rattle.idn_text.specs.declared.refusal.Refusal.{Refusal}
 use Rattle.idn_text.specs.declared.refusal.Refusal.TheVariants.{Empty, Hyphen, LabelTooLong}
-use Rattle.idn_class.specs.Hopeless.{hopeless}
+use Rattle.idn_class.specs.DeadPrefixes.{hopeless}
 use Rattle.idn_class.proofs.ComputedLabels.{rules}
 use Rattle.idn_label.specs.ALabel.{a_label_of}
 use Rattle.idn_label.specs.FirstFault.{first_of, fault_if, has_hyphen_out_of_place, first_fault}
@@ -32,8 +32,8 @@ use Rattle.std.specs.Char.{encode_utf8}
 use Rattle.std.specs.Str.{is_utf8, chars}
 use Rattle.idn_text.specs.Lines.{lines_of}
 use Rattle.idn2_refusals.specs.Explained.{Unexplained, points_cause}
-use Rattle.idn2_output.specs.Pieces.{Output, Message}
-use Rattle.idn2_answers.specs.Transcript.{lines_pieces, has_refused, status_if}
+use Rattle.idn2_output.specs.OutputLines.{Output, Message}
+use Rattle.idn2_answers.specs.Transcript.{lines_output, has_refused, status_if}
 use Rattle.idn2_output.specs.declared.status.Status.TheVariants.{Refused}
 use Rattle.idn2_laws.specs.Examples.{ExamplesOfBlocks, ExamplesOfTranscripts, listing, three_lines, y_or_z, one_or_both}
 
@@ -108,7 +108,7 @@ answered = (
 )
 
 written : (r : List ℕ → Result (List ℕ) Refusal) → Answered r
-    → lines_pieces Plain Unexplained (λ label. one_answer (Registered (u_label_of Profile label)) (r label)) (lines_of three_lines) ≡ Output (codes "abc\n") ∷ Message (codes "idn2: line 2: 13 hyphen out of place\n") ∷ Output (codes "b\n") ∷ []
+    → lines_output Plain Unexplained (λ label. one_answer (Registered (u_label_of Profile label)) (r label)) (lines_of three_lines) ≡ Output (codes "abc\n") ∷ Message (codes "idn2: line 2: 13 hyphen out of place\n") ∷ Output (codes "b\n") ∷ []
 unfolding Answered is_utf8 chars encode_utf8 digits points_cause
 written r are = rw are.0 (rw are.1 (rw are.2 refl))
 

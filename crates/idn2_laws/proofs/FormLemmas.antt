@@ -11,37 +11,37 @@ use Rattle.idn2_options.specs.declared.command_line.mode.Mode.{Mode}
 use Rattle.idn2_options.specs.declared.command_line.mode.Mode.TheVariants.{Lookup, Register, Decode, Variants, Jump, CheckTable}
 use Rattle.idn2_answers.specs.Answers.{LineAnswer, line_answer, mode_answer}
 use Rattle.idn2_refusals.specs.Explained.{Explained, if_wanted}
-use Rattle.idn2_answers.specs.Transcript.{explained_by_mode, explained_in, Statement, Says, Refuses, Finds, Faults, TableGiven, answer_statements, check_findings, check_pieces, check_statements, lines_pieces, lines_statements, line_pieces, mode_pieces, mode_statements, mode_status, piece_in, pieces_for, statements, status_of, transcript}
+use Rattle.idn2_answers.specs.Transcript.{explained_by_mode, explained_in, Statement, Says, Refuses, Finds, Faults, TableGiven, answer_statements, check_findings, check_output, check_statements, lines_output, lines_statements, line_output, mode_output, mode_statements, mode_status, output_line_in, output_for, statements, status_of, transcript}
 use Rattle.idn2_answers.specs.Said.{Said, Finding, said_text, finding_text}
-use Rattle.idn2_output.specs.Pieces.{messages_of, outputs}
+use Rattle.idn2_output.specs.OutputLines.{messages_of, outputs}
 
 -- ---- each statement is written in the form
 
-outputs-said : (form : Form) (line : Numbered) (said : List Said) → outputs (said_text form line) said ≡ map (piece_in form) (map (Says line) said)
+outputs-said : (form : Form) (line : Numbered) (said : List Said) → outputs (said_text form line) said ≡ map (output_line_in form) (map (Says line) said)
 outputs-said form line [] = refl
-outputs-said form line (first ∷ said) = ap (λ ps. piece_in form (Says line first) ∷ ps) (outputs-said form line said)
+outputs-said form line (first ∷ said) = ap (λ ps. output_line_in form (Says line first) ∷ ps) (outputs-said form line said)
 
-outputs-found : (form : Form) (findings : List Finding) → outputs (finding_text form) findings ≡ map (piece_in form) (map Finds findings)
+outputs-found : (form : Form) (findings : List Finding) → outputs (finding_text form) findings ≡ map (output_line_in form) (map Finds findings)
 outputs-found form [] = refl
-outputs-found form (first ∷ findings) = ap (λ ps. piece_in form (Finds first) ∷ ps) (outputs-found form findings)
+outputs-found form (first ∷ findings) = ap (λ ps. output_line_in form (Finds first) ∷ ps) (outputs-found form findings)
 
-answer_written : (form : Form) (how : Explained) (line : Numbered) (answer : LineAnswer) → pieces_for form how line answer ≡ map (piece_in form) (answer_statements how line answer)
+answer_written : (form : Form) (how : Explained) (line : Numbered) (answer : LineAnswer) → output_for form how line answer ≡ map (output_line_in form) (answer_statements how line answer)
 answer_written form how line (Ok said) = outputs-said form line said
 answer_written form how line (Err refusal) = refl
 
-lines_written : (form : Form) (how : Explained) (answer : List ℕ → LineAnswer) (lines : List Numbered) → lines_pieces form how answer lines ≡ map (piece_in form) (lines_statements how answer lines)
+lines_written : (form : Form) (how : Explained) (answer : List ℕ → LineAnswer) (lines : List Numbered) → lines_output form how answer lines ≡ map (output_line_in form) (lines_statements how answer lines)
 lines_written form how answer [] = refl
 lines_written form how answer (line ∷ lines) =
     let first = answer_statements how line (line_answer answer line.body) in
-    ap (λ ps. line_pieces form how answer line ++ ps) (lines_written form how answer lines)
-    ∙ ap (λ ps. ps ++ map (piece_in form) (lines_statements how answer lines)) (answer_written form how line (line_answer answer line.body))
-    ∙ sym (map-append (piece_in form) first (lines_statements how answer lines))
+    ap (λ ps. line_output form how answer line ++ ps) (lines_written form how answer lines)
+    ∙ ap (λ ps. ps ++ map (output_line_in form) (lines_statements how answer lines)) (answer_written form how line (line_answer answer line.body))
+    ∙ sym (map-append (output_line_in form) first (lines_statements how answer lines))
 
-check_written : (form : Form) (wanted : Bool) (given : TableGiven) → check_pieces form wanted given ≡ map (piece_in form) (check_statements wanted given)
+check_written : (form : Form) (wanted : Bool) (given : TableGiven) → check_output form wanted given ≡ map (output_line_in form) (check_statements wanted given)
 check_written form wanted (Err fault) = refl
 check_written form wanted (Ok table) = outputs-found form (check_findings table.entries)
 
-mode_written : (mode : Mode) (o : Settings) (table : TableValue) (lines : List Numbered) → mode_pieces mode o table lines ≡ map (piece_in o.form) (mode_statements mode o table lines)
+mode_written : (mode : Mode) (o : Settings) (table : TableValue) (lines : List Numbered) → mode_output mode o table lines ≡ map (output_line_in o.form) (mode_statements mode o table lines)
 mode_written CheckTable o table lines = check_written o.form (tells_causes o) (Ok table)
 mode_written Lookup o table lines = lines_written o.form (explained_in Lookup o table) (mode_answer Lookup o table) lines
 mode_written Register o table lines = lines_written o.form (explained_in Register o table) (mode_answer Register o table) lines
@@ -49,7 +49,7 @@ mode_written Decode o table lines = lines_written o.form (explained_in Decode o 
 mode_written Variants o table lines = lines_written o.form (explained_in Variants o table) (mode_answer Variants o table) lines
 mode_written Jump o table lines = lines_written o.form (explained_in Jump o table) (mode_answer Jump o table) lines
 
-pub transcript_written : (o : Settings) (given : TableGiven) (lines : List Numbered) → transcript o given lines ≡ map (piece_in o.form) (statements o given lines)
+pub transcript_written : (o : Settings) (given : TableGiven) (lines : List Numbered) → transcript o given lines ≡ map (output_line_in o.form) (statements o given lines)
 transcript_written o (Err fault) lines = check_written o.form (tells_causes o) (Err fault)
 transcript_written o (Ok table) lines = mode_written o.mode o table lines
 
@@ -84,7 +84,7 @@ same_status o (Ok table) lines = status_by_mode o.mode o table lines
 
 -- ---- objects go to the output alone
 
-silent_in_json : (said : List Statement) → messages_of (map (piece_in Json) said) ≡ []
+silent_in_json : (said : List Statement) → messages_of (map (output_line_in Json) said) ≡ []
 silent_in_json [] = refl
 silent_in_json (Says line what ∷ said) = silent_in_json said
 silent_in_json (Refuses line refusal cause ∷ said) = silent_in_json said
@@ -93,4 +93,4 @@ silent_in_json (Faults line refusal cause ∷ said) = silent_in_json said
 
 pub json_silent : (o : Settings) (given : TableGiven) (lines : List Numbered) → o.form ≡ Json → messages_of (transcript o given lines) ≡ []
 json_silent o given lines is =
-    ap messages_of (transcript_written o given lines ∙ ap (λ (form : Form). map (piece_in form) (statements o given lines)) is) ∙ silent_in_json (statements o given lines)
+    ap messages_of (transcript_written o given lines ∙ ap (λ (form : Form). map (output_line_in form) (statements o given lines)) is) ∙ silent_in_json (statements o given lines)

@@ -45,7 +45,7 @@ use Rattle.idn2_options.specs.declared.command_line.mode.Mode.TheVariants as mod
 use Rattle.idn2_answers.specs.Answers.{IsRefusedAs, LineAnswer, if_admitted, line_answer, mode_answer, one_answer, text_answer}
 use Rattle.idn2_refusals.specs.Requests.{requested_label}
 use Rattle.idn2_refusals.specs.Explained.{Explained, Unexplained, ByLabel, ByName, ByQuery, ByTable, ByRequest, ByRegisteredLine, bad_byte, body_cause, if_wanted, invalid_cause, not_in_table_cause, points_cause, registration_cause, table_cause, unless_unexplained, validity_cause}
-use Rattle.idn2_answers.specs.Transcript.{explained_by_mode, explained_in, Refuses, pieces_for, piece_in}
+use Rattle.idn2_answers.specs.Transcript.{explained_by_mode, explained_in, Refuses, output_for, output_line_in}
 use Rattle.idn2_laws.specs.LineCauses.{IsBadByte, IsInvalidCause, IsLineCause, IsOf, IsNotInTableCause, IsPointsCause, IsRegistrationCause, IsTableCause, RefusalsAreExplained}
 use Rattle.idn2_answers.specs.Said.{Said}
 use Rattle.idn2_refusals.specs.declared.cause.LineCause.{LineCause}
@@ -427,6 +427,6 @@ refusals_explained mode o table line refusal other wanted formed refused =
       exactly = is;
       always = λ some lookup none. line-always mode o table line.body refusal other formed refused some lookup (ap (λ (how : Explained). body_cause how line.body refusal) (sym same) ∙ none);
       told = λ cause has.
-          ap (pieces_for o.form (explained_in mode o table) line) refused
-          ∙ ap (λ (told : Option LineCause). piece_in o.form (Refuses line refusal told) ∷ []) ((is cause).1 has);
+          ap (output_for o.form (explained_in mode o table) line) refused
+          ∙ ap (λ (told : Option LineCause). output_line_in o.form (Refuses line refusal told) ∷ []) ((is cause).1 has);
     }

@@ -8,7 +8,7 @@ use Rattle.std.specs.Ordering.{MatchOrdering, is_gt, is_le}
 use Rattle.registered_labels.specs.Collisions.{collisions, is_spelled}
 use Rattle.registered_labels.specs.Registered.{AreRegistered}
 use Rattle.variant_table.specs.Entries.{TableValue}
-use Rattle.variant_list.specs.Beginnings.{has_hope}
+use Rattle.variant_list.specs.Beginnings.{has_no_dead_prefix}
 use Rattle.variant_list.specs.Labels.{IsBelow, IsRising, label_cmp}
 use Rattle.variant_list.specs.Spelled.{spelled}
 use Rattle.variant_list.specs.Tested.{tested_among}
@@ -148,7 +148,7 @@ within_tries o table label some whole = by_kept o.registered whole
           lesser-second r (lesser_label stop s) listed,
           lesser-first stop s listed,
           up_to_both stop f.accepts tested,
-          up_to-nth tested (o.tries - 1) (variants-IsListed (λ v. fits_label v && has_hope f.hopeless v) labels o.after).rising,
+          up_to-nth tested (o.tries - 1) (variants-IsListed (λ v. fits_label v && has_no_dead_prefix f.hopeless v) labels o.after).rising,
         )
 
     same : variants_among f.accepts labels o.after ≡ filter f.accepts tested

@@ -38,7 +38,7 @@ use Rattle.variant_table.specs.WellFormed.{IsWellFormed}
 use Rattle.valid_labels.specs.Tests.{is_admitted, is_made_of_sources}
 use Rattle.valid_labels.specs.Validity.{IsSound}
 use Rattle.variant_table.proofs.MemberLists.{all-members}
-use Rattle.variant_list.specs.Beginnings.{has_hope, is_new, shortest_hopeless}
+use Rattle.variant_list.specs.Beginnings.{has_no_dead_prefix, is_new, shortest_hopeless}
 use Rattle.variant_list.specs.Jumps.{candidates_from}
 use Rattle.variant_list.specs.Labels.{label_cmp}
 use Rattle.variant_list.specs.Spelled.{spelled}
@@ -275,7 +275,7 @@ unless_kept-all P (Some registered) vs all = tt
 
 visited-all : (hopeless : List ℕ → Bool) (P : List ℕ → Type 0) (before : Option (List ℕ)) (vs : List (List ℕ)) → AllByRecursion P vs → AllByRecursion P (visited hopeless before vs)
 visited-all hopeless P before [] all = tt
-visited-all hopeless P before (v ∷ vs) all = by_test (has_hope hopeless v || is_new before v (shortest_hopeless hopeless v)) (visited-all hopeless P (Some v) vs all.1)
+visited-all hopeless P before (v ∷ vs) all = by_test (has_no_dead_prefix hopeless v || is_new before v (shortest_hopeless hopeless v)) (visited-all hopeless P (Some v) vs all.1)
   where
     by_test : (b : Bool) → AllByRecursion P (visited hopeless (Some v) vs) → AllByRecursion P (cond b (v ∷ visited hopeless (Some v) vs) (visited hopeless (Some v) vs))
     by_test true h = (all.0, h)
@@ -308,7 +308,7 @@ block-texts o table label well =
     let f : Filter = filter_of o.properties table in
     let labels = spelled table label in
     let vs = kept_to-all AreScalarValues o.registered (variants_among f.accepts labels o.after) (among-scalar table label well f.accepts o.after) in
-    let tests = unless_kept-all AreScalarValues o.registered (tested_among f.hopeless labels o.after) (among-scalar table label well (λ v. fits_label v && has_hope f.hopeless v) o.after) in
+    let tests = unless_kept-all AreScalarValues o.registered (tested_among f.hopeless labels o.after) (among-scalar table label well (λ v. fits_label v && has_no_dead_prefix f.hopeless v) o.after) in
     let candidates = unless_kept-all AreScalarValues o.registered (candidates_among labels o.after) (among-scalar table label well fits_label o.after) in
     let stop = stop_of f o labels in
     let stops : IsText stop =

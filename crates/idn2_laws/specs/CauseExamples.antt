@@ -28,7 +28,7 @@ pub record ExamplesOfCauses : Type 0 where
   pub bidi : tail_text refusals.Bidi (Some (OfLabel (causes.Condition (record { condition = RtlHolds; place = 2 }) 0x61 L))) ≡ codes ": U+0061 at place 3 is L: RFC 5893 2, condition 2"
   pub points : tail_text refusals.LabelTooLong (Some (OfLabel (causes.Points 64))) ≡ codes ": 64 code points"
   pub octets : tail_text refusals.LabelTooLong (Some (OfLabel (causes.Octets 70))) ≡ codes ": A-label of 70 octets"
-  pub no_code : tail_text refusals.BadALabel (Some (OfALabel a_labels.NoCode)) ≡ codes ": nothing behind xn--"
+  pub no_code : tail_text refusals.BadALabel (Some (OfALabel a_labels.NoCode)) ≡ codes ": nothing after xn--"
   pub not_ascii : tail_text refusals.BadALabel (Some (OfALabel (a_labels.NotAscii 6 0xDF))) ≡ codes ": U+00DF at place 7: not ASCII"
   pub no_punycode : tail_text refusals.BadALabel (Some (OfALabel a_labels.NoPunycode)) ≡ codes ": not RFC 3492 6.2 Punycode"
   pub decoded : tail_text refusals.Disallowed (Some (OfALabel (a_labels.Decoded (causes.Barred 0 0x46 lines.Unstable)))) ≡ codes ": decoded: U+0046 at place 1: RFC 5892 2.2 Unstable"

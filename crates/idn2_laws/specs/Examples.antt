@@ -10,7 +10,7 @@ use Rattle.valid_labels.specs.Examples.{digits, edges, half_ra, leads, signs, so
 use Rattle.variant_list.specs.Examples.{allocatable, entry, a_or_two, a_tag_of_its_own, b_outside, blocked, letter_or_hyphen, simplified_or_traditional, tags_of_two_cuttings}
 use Rattle.idn2_options.specs.Settings.{Settings}
 use Rattle.idn2_options.specs.Examples.{plain_run}
-use Rattle.idn2_output.specs.Pieces.{Output, Message}
+use Rattle.idn2_output.specs.OutputLines.{Output, Message}
 use Rattle.idn2_refusals.specs.Messages.{line_message, table_message}
 use Rattle.idn2_answers.specs.Transcript.{transcript, status_of, no_table}
 use Rattle.idn2_refusals.specs.Reports.{closing_message}

@@ -19,9 +19,9 @@ use Rattle.idn2_options.specs.declared.command_line.form.Form.TheVariants.{Plain
 use Rattle.idn2_answers.specs.Answers.{IsAllocatable, disposition}
 use Rattle.idn2_refusals.specs.CauseTexts.{tail_text}
 use Rattle.idn2_refusals.specs.Explained.{Unexplained, bad_byte, body_cause, table_cause}
-use Rattle.idn2_answers.specs.Transcript.{TableGiven, piece_in, statements, status_of, transcript}
+use Rattle.idn2_answers.specs.Transcript.{TableGiven, output_line_in, statements, status_of, transcript}
 use Rattle.idn2_refusals.specs.Messages.{line_message, refused_message}
-use Rattle.idn2_output.specs.Pieces.{messages_of}
+use Rattle.idn2_output.specs.OutputLines.{messages_of}
 use Rattle.idn2_refusals.specs.declared.cause.LineCause.TheVariants.{Byte, OfLabel}
 
 -- the disposition of a variant. Version 1 has none; a label may itself be allocated, whatever is blocked; where no variant is
@@ -45,10 +45,11 @@ pub record CausesAreTold : Type 0 where
   pub outside : (properties : Properties) (table : TableValue) (label : List ℕ) (place : ℕ) → IsWellFormed table.entries → length label ≤ 63 → IsFurthest table label place →
       table_cause properties table label NotInTable ≡ Some (OfLabel (Point place (slice_index label place)))
 
--- a run writes what it says piece by piece, each statement in the form that is asked for. What it says is the same in both forms:
--- with objects, what it says with `--explain`. So is its status, and with objects nothing goes to the messages
+-- a run writes what it says line by line, each statement in the form that is asked for. What it says is the same in
+-- both forms: with objects, what it says with `--explain`. So is its status, and with objects nothing goes to the
+-- messages
 pub record FormsSayTheSame : Type 0 where
-  pub written : (o : Settings) (given : TableGiven) (lines : List Numbered) → transcript o given lines ≡ map (piece_in o.form) (statements o given lines)
+  pub written : (o : Settings) (given : TableGiven) (lines : List Numbered) → transcript o given lines ≡ map (output_line_in o.form) (statements o given lines)
   pub same : (o : Settings) (given : TableGiven) (lines : List Numbered)
       → statements (record o { form = Json }) given lines ≡ statements (record o { form = Plain; explain = true }) given lines
   pub status : (o : Settings) (given : TableGiven) (lines : List Numbered)

@@ -22,7 +22,7 @@ use Rattle.idn2_options.specs.declared.command_line.mode.Mode.TheVariants.{Check
 use Rattle.idn2_answers.specs.Answers.{line_answer, mode_answer}
 use Rattle.idn2_refusals.specs.Requests.{requested_label}
 use Rattle.idn2_refusals.specs.Explained.{Explained, Unexplained, ByLabel, ByName, ByQuery, ByTable, ByRequest, ByRegisteredLine, body_cause, validity_cause}
-use Rattle.idn2_answers.specs.Transcript.{explained_in, Refuses, line_pieces, piece_in}
+use Rattle.idn2_answers.specs.Transcript.{explained_in, Refuses, line_output, output_line_in}
 use Rattle.idn2_refusals.specs.declared.cause.LineCause.{LineCause}
 use Rattle.idn2_refusals.specs.declared.cause.LineCause.TheVariants.{Byte, LongLine, OfLabel, OfALabel, OfName, OfQuery}
 
@@ -79,7 +79,7 @@ pub record IsExplained (mode : Mode) (o : Settings) (table : TableValue) (line :
       (body_cause (explained_in mode o table) line.body refusal ≡ Some cause) ↔ IsLineCause (explained_in mode o table) line.body refusal cause
   pub always : refusal ≢ Empty → refusal ≢ LookupInvalid → body_cause (explained_in mode o table) line.body refusal ≢ None
   pub told : (cause : LineCause) → IsLineCause (explained_in mode o table) line.body refusal cause →
-      line_pieces o.form (explained_in mode o table) (mode_answer mode o table) line ≡ piece_in o.form (Refuses line refusal (Some cause)) ∷ []
+      line_output o.form (explained_in mode o table) (mode_answer mode o table) line ≡ output_line_in o.form (Refuses line refusal (Some cause)) ∷ []
 
 -- so is each line that a mode refuses. The check of a table reads none
 abbrev pub RefusalsAreExplained : Type 0

@@ -4,7 +4,7 @@ use Rattle.label_patterns.specs.Patterns.{Any, Either, End, Many, Point, Set, Th
 use Rattle.variant_table.specs.Entries.{TableValue}
 use Rattle.valid_labels.specs.Examples.{after_a, c_for_a, letters, never, outside_within, source, two_for_one, vowel_for_consonant}
 use Rattle.variant_table.specs.ExampleTables.{table_with, when_first}
-use Rattle.valid_labels.specs.Tests.{is_lost, is_valid}
+use Rattle.valid_labels.specs.Tests.{is_dead_under, is_valid}
 use Rattle.variant_list.specs.Tested.{tested}
 use Rattle.variant_list.specs.Variants.{variants}
 use Rattle.variant_list.specs.Examples.{blocked, entry}
@@ -28,12 +28,13 @@ outside_after_a = table_with [] (Then (Point 97) Anchor ∷ []) []
 abbrev pub listed : TableValue → List ℕ → List (List ℕ)
 listed table label = variants (is_valid table) table label []
 
--- a listing tests no label with a lost beginning. A variant is valid as a label of its own: its signs follow consonants, its digits are of one kind, it doesn't end as none may, what is
--- outside stands where it may, a piece has its condition within a variant, and a variant that is no piece has none
+-- a listing tests no label with a dead prefix. A variant is valid as a label of its own: its signs follow consonants,
+-- its digits are of one kind, it doesn't end as none may, what is outside stands where it may, an output line has its
+-- condition within a variant, and a variant that is no output line has none
 pub record ListingsOfExamples : Type 0 where
-  pub one_kind_tested : tested (is_lost digits_of_two_kinds) digits_of_two_kinds (codes "01") [] ≡ codes "01" ∷ (2406 ∷ 2407 ∷ []) ∷ []
-  pub end_tested : tested (is_lost b_within) b_within (codes "aa") [] ≡ codes "aa" ∷ codes "ab" ∷ codes "ba" ∷ codes "bb" ∷ []
-  pub barred_not_tested : tested (is_lost c_for_a) c_for_a (codes "aba") [] ≡ codes "aba" ∷ codes "abc" ∷ []
+  pub one_kind_tested : tested (is_dead_under digits_of_two_kinds) digits_of_two_kinds (codes "01") [] ≡ codes "01" ∷ (2406 ∷ 2407 ∷ []) ∷ []
+  pub end_tested : tested (is_dead_under b_within) b_within (codes "aa") [] ≡ codes "aa" ∷ codes "ab" ∷ codes "ba" ∷ codes "bb" ∷ []
+  pub barred_not_tested : tested (is_dead_under c_for_a) c_for_a (codes "aba") [] ≡ codes "aba" ∷ codes "abc" ∷ []
   pub sign_on_the_consonant : listed vowel_for_consonant (2325 ∷ 2366 ∷ []) ≡ (2325 ∷ 2366 ∷ []) ∷ []
   pub vowel_in_its_place : listed vowel_for_consonant (2325 ∷ 2326 ∷ []) ≡ (2309 ∷ 2326 ∷ []) ∷ (2325 ∷ 2326 ∷ []) ∷ []
   pub digits_of_one_kind : listed digits_of_two_kinds (codes "01") ≡ codes "01" ∷ (2406 ∷ 2407 ∷ []) ∷ []

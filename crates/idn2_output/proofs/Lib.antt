@@ -1,2 +1,2 @@
--- What is written, piece by piece.
-pub mod WrittenPieces
+-- What is written, line by line.
+pub mod WrittenOutputLines

@@ -1,5 +1,5 @@
 -- The definitions that contracts cite.
-pub mod Pieces
+pub mod OutputLines
 pub mod Writing
 pub mod Objects
 pub mod Statuses

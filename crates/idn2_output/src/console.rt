@@ -35,15 +35,15 @@ impl<'o, 'm, W: Sink, E: Sink> Model for Console<'o, 'm, W, E> {
 
 impl<'o, 'm, W: Sink, E: Sink> Console<'o, 'm, W, E> {
     ghost use Rattle.answer_json.specs.Answers.{line_of};
-    ghost use Rattle.idn2_output.specs.Pieces as pieces;
+    ghost use Rattle.idn2_output.specs.OutputLines as transcript;
     ghost use Rattle.idn2_output.specs.Objects.{HasSpace, object_told};
     ghost use Rattle.idn2_output.specs.Writing.{Emits};
     ghost use Rattle.idn2_output.specs.declared.stop.Stop.TheVariants as stop;
 
-    /// Writes a piece to the output. It takes no memory.
+    /// Writes a line to the output. It takes no memory.
     #[inline]
     pub fn output(&mut self, text: &[u8]) -> Result<(), Stop>
-        ensures written { Emits self.old self.new (pieces.Output text.now ∷ []) result }
+        ensures written { Emits self.old self.new (transcript.Output text.now ∷ []) result }
         ensures why { IfErr result (λ why. why ≡ stop.Output) }
     {
         match write_answer(self.output, text) {
@@ -58,7 +58,7 @@ impl<'o, 'm, W: Sink, E: Sink> Console<'o, 'm, W, E> {
     #[inline(always)]
     pub fn object(&mut self, object: &Object<'_>) -> Result<(), Stop>
         requires { HasSpace object.now }
-        ensures written { Emits self.old self.new (pieces.Output (line_of (object_told object.now)) ∷ []) result }
+        ensures written { Emits self.old self.new (transcript.Output (line_of (object_told object.now)) ∷ []) result }
         ensures why { IfErr result (λ why. why ≡ stop.Output) }
     {
         let line = write_object(&mut self.room, object);
@@ -68,9 +68,9 @@ impl<'o, 'm, W: Sink, E: Sink> Console<'o, 'm, W, E> {
         }
     }
 
-    /// Writes a piece to the messages. It takes no memory.
+    /// Writes a line to the messages. It takes no memory.
     pub fn message(&mut self, text: &[u8]) -> Result<(), Stop>
-        ensures written { Emits self.old self.new (pieces.Message text.now ∷ []) result }
+        ensures written { Emits self.old self.new (transcript.Message text.now ∷ []) result }
         ensures why { IfErr result (λ why. why ≡ stop.Messages) }
     {
         match write_text(self.messages, text) {

@@ -8,7 +8,7 @@ use Rattle.idn2_refusals.specs.declared.cause.LineCause.{LineCause}
 use Rattle.idn2_output.specs.Writing.{Held, Emits}
 use Rattle.idn2_output.specs.declared.stop.Stop.{Stop}
 use Rattle.idn2_output.specs.declared.stop.Stop.TheVariants as stop
-use Rattle.idn2_output.proofs.WrittenPieces.{stops_first}
+use Rattle.idn2_output.proofs.WrittenOutputLines.{stops_first}
 use Rattle.idn_class.specs.declared.properties.Properties.{Properties}
 use Rattle.variant_table.specs.declared.version.Notation.{Notation}
 use Rattle.variant_table.specs.declared.fault.TableFault.{TableFault}
@@ -34,6 +34,6 @@ module _ (properties : Properties) where
   pub told_memory : (form : Form) (wanted : Bool) (n : Notation) (text : List ℕ) (fault : TableFault) (old : Held) (r : Result Status Stop) (told : ℕ × Refusal) → told_of fault ≡ Some told → r ≡ Err stop.Memory
       → IsTold form wanted n text fault old old r (told_of fault)
   told_memory form wanted n text fault old r told e is =
-      let pieces = fault_piece form told.0 told.1 (told_if wanted (fault_cause properties n text fault)) ∷ [] in
+      let output_lines = fault_piece form told.0 told.1 (told_if wanted (fault_cause properties n text fault)) ∷ [] in
       subst (λ (o : Option (ℕ × Refusal)). IsTold form wanted n text fault old old r o) (sym e)
-      (subst (λ (s : Result Status Stop). Emits old old pieces s) (sym is) (stops_first old pieces))
+      (subst (λ (s : Result Status Stop). Emits old old output_lines s) (sym is) (stops_first old output_lines))

@@ -27,7 +27,7 @@ points_read bytes points (Ok done) is none emptied =
 points_read bytes points (Err fault) is none emptied =
     emptied ∙ sym (ap (λ (b : Bool). let r : List ℕ = if b then chars bytes else [] in r) (is_not_utf8 bytes none (is_utf8 bytes) refl))
 
--- a text that was appended piece by piece
+-- a text that was appended part by part
 pub appended : (a b c d e f g h n : List ℕ) → (((((((a ++ b) ++ c) ++ d) ++ e) ++ f) ++ g) ++ h) ++ n ≡ a ++ (b ++ (c ++ (d ++ (e ++ (f ++ ((g ++ h) ++ n))))))
 appended a b c d e f g h n =
     let two = a ++ b in

@@ -103,7 +103,7 @@ cause_text refusal (Octets n) = codes "A-label of " ++ (decimal n ++ codes " oct
 
 -- the cause of the fault of what begins with "xn--"
 unfoldable pub a_label_text : Refusal → ALabelCause → List ℕ
-a_label_text refusal NoCode = codes "nothing behind xn--"
+a_label_text refusal NoCode = codes "nothing after xn--"
 a_label_text refusal (NotAscii place c) = place_text place c ++ codes ": not ASCII"
 a_label_text refusal NoPunycode = codes "not RFC 3492 6.2 Punycode"
 a_label_text refusal (Other octets) = codes "the A-label is " ++ octets.items

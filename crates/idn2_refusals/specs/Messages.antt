@@ -9,7 +9,7 @@ use Rattle.answer_json.specs.Inputs.{told_of}
 use Rattle.answer_json.specs.Objects.{refused, table_fault, registered_fault}
 use Rattle.idn2_options.specs.declared.command_line.form.Form.{Form}
 use Rattle.idn2_options.specs.declared.command_line.form.Form.TheVariants.{Plain, Json}
-use Rattle.idn2_output.specs.Pieces.{Piece, Output, Message}
+use Rattle.idn2_output.specs.OutputLines.{OutputLine, Output, Message}
 use Rattle.idn2_refusals.specs.CauseTexts.{tail_text}
 use Rattle.idn2_refusals.specs.CauseDetails.{told_details}
 use Rattle.idn2_refusals.specs.declared.cause.LineCause.{LineCause}
@@ -58,11 +58,11 @@ registered_object line refusal cause = line_of (registered_fault line refusal (t
 -- ---- either of them
 
 -- of a refused line, with its cause, if one is told
-abbrev pub refusal_piece : Form → Numbered → Refusal → Option LineCause → Piece
+abbrev pub refusal_piece : Form → Numbered → Refusal → Option LineCause → OutputLine
 refusal_piece Plain line refusal cause = Message (refused_message line.number refusal (tail_text refusal cause))
 refusal_piece Json line refusal cause = Output (refused_object line refusal cause)
 
 -- of a line of a table
-abbrev pub fault_piece : Form → ℕ → Refusal → Option LineCause → Piece
+abbrev pub fault_piece : Form → ℕ → Refusal → Option LineCause → OutputLine
 fault_piece Plain line refusal cause = Message (table_message line refusal (tail_text refusal cause))
 fault_piece Json line refusal cause = Output (table_object line refusal cause)

@@ -397,7 +397,7 @@ fn push_a_label_cause(text: &mut ExplainedMessage, refusal: &Refusal, cause: &AL
     ensures short { array_vec_len text.new ≤ array_vec_len text.old + 81 }
 {
     match cause {
-        ALabelCause::NoCode => append(text, b"nothing behind xn--"),
+        ALabelCause::NoCode => append(text, b"nothing after xn--"),
         ALabelCause::NotAscii(place, point) => {
             push_place(text, *place, *point);
             append(text, b": not ASCII");

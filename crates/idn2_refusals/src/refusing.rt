@@ -6,7 +6,7 @@ ghost use Rattle.answer_json.specs.Details.{given_len};
 ghost use Rattle.answer_json.specs.Inputs.{told, told_len, told_of};
 ghost use Rattle.idn2_refusals.specs.CauseTexts.{tail_text};
 ghost use Rattle.idn2_refusals.specs.Explained.{BodyCauseNeedsNone, body_cause};
-ghost use Rattle.idn2_output.specs.Pieces.{Message, Output};
+ghost use Rattle.idn2_output.specs.OutputLines.{Message, Output};
 ghost use Rattle.idn2_refusals.specs.Messages.{refusal_piece, refused_message, refused_object};
 ghost use Rattle.idn2_output.specs.Writing.{Emits};
 ghost use Rattle.idn2_refusals.specs.Explaining.{explained_by};

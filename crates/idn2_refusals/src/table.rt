@@ -4,7 +4,7 @@ ghost use Rattle.std.specs.Prelude.{◌≡◌, ◌≤◌, [], ◌∷◌, Err, If
 ghost use Rattle.std.specs.Option.{option_copied};
 ghost use Rattle.idn2_refusals.specs.CauseTexts.{tail_text};
 ghost use Rattle.idn2_refusals.specs.TableCauses.{fault_cause, told_if};
-ghost use Rattle.idn2_output.specs.Pieces.{Message};
+ghost use Rattle.idn2_output.specs.OutputLines.{Message};
 ghost use Rattle.idn2_refusals.specs.Messages.{fault_piece, table_message as table_message_of};
 ghost use Rattle.idn2_refusals.specs.CauseRoom.{cause_room};
 ghost use Rattle.idn2_output.specs.Writing.{Emits};

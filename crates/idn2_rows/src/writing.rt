@@ -81,7 +81,7 @@ fn no_call_follows_a_fault(rt: HostRuntime) {
 
 /// No call is made with nothing to write.
 #[test]
-fn a_call_for_each_piece(rt: HostRuntime) {
+fn a_call_for_each_output_line(rt: HostRuntime) {
     for (text, calls) in [(&b""[..], 0), (&b"a"[..], 1), (&b"aaa\taaa\n"[..], 8)] {
         let mut writer = Device::new(SlowWriter { calls: 0 });
         let result = write_text(&mut writer, text);

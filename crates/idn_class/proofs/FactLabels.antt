@@ -22,7 +22,7 @@ use Rattle.idn_class.specs.BidiClass.{bidi_class}
 use Rattle.idn_class.specs.BidiRule.{is_rtl_class}
 use Rattle.idn_class.specs.Class.{class_of, is_left_open, is_scalar, is_outside_profile}
 use Rattle.idn_class.specs.ContextO.{is_arabic_digit, is_extended_arabic_digit}
-use Rattle.idn_class.specs.Facts.{is_contextj, is_contexto, is_yes, is_kept_status, is_so, has_fact}
+use Rattle.idn_class.specs.Facts.{is_contextj, is_contexto, is_yes, is_kept_status, fact_holds, has_fact}
 use Rattle.idn_class.specs.declared.direction.Direction.TheVariants.{Ltr}
 use Rattle.idn_class.specs.Directions.{lengthened}
 use Rattle.idn_class.specs.LeadingMark.{is_mark}
@@ -38,8 +38,8 @@ use Rattle.idn_class.specs.declared.properties.Properties.TheVariants.{Profile, 
 -- ---- code points
 
 -- a code point that has not the fact
-pub without : (fact : Fact) (c : ℕ) → has_fact fact c ≡ false → is_so fact c ≡ false
-without fact c none = (or_parts (nat_le 0x11_0000 c) (is_so fact c) none).1
+pub without : (fact : Fact) (c : ℕ) → has_fact fact c ≡ false → fact_holds fact c ≡ false
+without fact c none = (or_parts (nat_le 0x11_0000 c) (fact_holds fact c) none).1
 
 -- what may be registered by the profile has the same class by the standard
 same_class : (s o : Bool) (rest : Class) → is_barred (cond (not s) Disallowed_class (cond o Disallowed_class rest)) ≡ false
@@ -62,29 +62,29 @@ unbarred_by Profile c free = free
 unbarred_by Unicode c free = ap is_barred (class_of-standard c free) ∙ free
 
 pub class_without : (c : ℕ) → has_fact MayBeBarred c ≡ false → (is_barred (class_of Profile c) ≡ false) × (is_left_open c ≡ false)
-unfolding is_so
+unfolding fact_holds
 class_without c none = or_parts _ _ (without MayBeBarred c none)
 
 pub contextj_without : (c : ℕ) → has_fact Contextj c ≡ false → is_contextj (class_of Profile c) ≡ false
-unfolding is_so
+unfolding fact_holds
 contextj_without c none = without Contextj c none
 
 contexto_without : (c : ℕ) → has_fact Contexto c ≡ false → is_contexto (class_of Profile c) ≡ false
-unfolding is_so
+unfolding fact_holds
 contexto_without c none = without Contexto c none
 
 pub compose_without : (c : ℕ) → has_fact MayCompose c ≡ false → (quick_check Nfc c ≡ Yes) × (canonical_combining_class c ≡ 0)
-unfolding is_so
+unfolding fact_holds
 compose_without c none =
     let parts = and_parts (is_yes (quick_check Nfc c)) (canonical_combining_class c == 0) (not-false _ (without MayCompose c none)) in
     (is_yes-true _ parts.0, eqb-true _ 0 parts.1)
 
 pub mark_without : (c : ℕ) → has_fact Mark c ≡ false → is_mark c ≡ false
-unfolding is_so
+unfolding fact_holds
 mark_without c none = without Mark c none
 
 pub rtl_without : (properties : Properties) (c : ℕ) → has_fact RightToLeft c ≡ false → is_rtl_class (bidi_class properties c) ≡ false
-unfolding is_so
+unfolding fact_holds
 rtl_without Profile c none = (or_parts _ _ (without RightToLeft c none)).0
 rtl_without Unicode c none = (or_parts _ _ (without RightToLeft c none)).1
 
@@ -95,7 +95,7 @@ lengthened-ltr properties c none = rw (rtl_without properties c none) refl
 pub ruleset left_to_right = (lengthened-ltr)
 
 pub kept_without : (c : ℕ) → has_fact NotKept c ≡ false → is_kept_status (idna_status c) ≡ true
-unfolding is_so
+unfolding fact_holds
 kept_without c none = not-false _ (without NotKept c none)
 
 -- ---- the code points that have a rule of their own

@@ -29,7 +29,7 @@ use Rattle.idn_class.specs.declared.class.Class.{Class}
 use Rattle.idn_class.specs.declared.class.Class.TheVariants.{Pvalid, Disallowed, Unassigned}
 use Rattle.idn_class.specs.declared.facts.Fact.{Fact}
 use Rattle.idn_class.specs.declared.facts.Fact.TheVariants.{MayBeBarred, Contextj, Contexto, MayCompose, Mark, RightToLeft, NotKept}
-use Rattle.idn_class.specs.Facts.{is_contextj, is_contexto, is_yes, is_kept_status, is_so, place_of}
+use Rattle.idn_class.specs.Facts.{is_contextj, is_contexto, is_yes, is_kept_status, fact_holds, place_of}
 use Rattle.idn_class.specs.LeadingMark.{is_mark_category, is_mark}
 use Rattle.idn_class.proofs.ClassNumbers.{class_from_number, class_number, class_number_stepped, from_number, from_five, five_open}
 use Rattle.idn_class.specs.declared.properties.Properties.TheVariants.{Profile, Unicode}
@@ -77,35 +77,35 @@ abbrev by_number : (Class → Bool) → ℕ → Bool
 by_number test c = test (class_from_number (class_number Profile c))
 
 -- the fact again, by the number of the class
-abbrev so_by_steps : Fact → ℕ → Bool
-so_by_steps MayBeBarred c = by_number is_barred c || is_left_open c
-so_by_steps Contextj c = by_number is_contextj c
-so_by_steps Contexto c = by_number is_contexto c
-so_by_steps MayCompose c = not (is_yes (quick_check Nfc c) && (canonical_combining_class c == 0))
-so_by_steps Mark c = is_mark c
-so_by_steps RightToLeft c = is_rtl_class (bidi_class Profile c) || is_rtl_class (bidi_class Unicode c)
-so_by_steps NotKept c = not (is_kept_status (idna_status c))
+abbrev fact_by_steps : Fact → ℕ → Bool
+fact_by_steps MayBeBarred c = by_number is_barred c || is_left_open c
+fact_by_steps Contextj c = by_number is_contextj c
+fact_by_steps Contexto c = by_number is_contexto c
+fact_by_steps MayCompose c = not (is_yes (quick_check Nfc c) && (canonical_combining_class c == 0))
+fact_by_steps Mark c = is_mark c
+fact_by_steps RightToLeft c = is_rtl_class (bidi_class Profile c) || is_rtl_class (bidi_class Unicode c)
+fact_by_steps NotKept c = not (is_kept_status (idna_status c))
 
 by_number_stepped : (test : Class → Bool) → Stepped (by_number test)
 unfolding class_number_stepped
 by_number_stepped test = map_stepped (λ n. test (class_from_number n)) (class_number Profile) class_number_stepped
 
-compose_stepped : Stepped (so_by_steps MayCompose)
+compose_stepped : Stepped (fact_by_steps MayCompose)
 unfolding quick_check_stepped canonical_combining_class_stepped
 compose_stepped =
     zip_stepped (λ check (n : ℕ). not (is_yes check && (n == 0))) (quick_check Nfc) canonical_combining_class (quick_check_stepped Nfc) canonical_combining_class_stepped
 
-rtl_stepped : Stepped (so_by_steps RightToLeft)
+rtl_stepped : Stepped (fact_by_steps RightToLeft)
 unfolding standard_bidi_class unicode_bidi_class_stepped profile_bidi_class_stepped
 rtl_stepped =
     or_stepped _ _ (map_stepped is_rtl_class profile_bidi_class profile_bidi_class_stepped)
     (map_stepped (λ class. is_rtl_class (named_class class)) unicode_bidi_class unicode_bidi_class_stepped)
 
-kept_stepped : Stepped (so_by_steps NotKept)
+kept_stepped : Stepped (fact_by_steps NotKept)
 unfolding idna_status_stepped
 kept_stepped = map_stepped (λ status. not (is_kept_status status)) idna_status idna_status_stepped
 
-so_stepped : (fact : Fact) → Stepped (so_by_steps fact)
+so_stepped : (fact : Fact) → Stepped (fact_by_steps fact)
 unfolding by_number_stepped left_open_stepped compose_stepped mark_stepped rtl_stepped kept_stepped
 so_stepped MayBeBarred = or_stepped _ _ (by_number_stepped is_barred) left_open_stepped
 so_stepped Contextj = by_number_stepped is_contextj
@@ -123,36 +123,36 @@ with_bit true others = 2 * others
 with_bit false others = 2 * others + 1
 
 abbrev absent_6 : ℕ → ℕ
-absent_6 c = with_bit (so_by_steps NotKept c) 0
+absent_6 c = with_bit (fact_by_steps NotKept c) 0
 
 abbrev absent_5 : ℕ → ℕ
-absent_5 c = with_bit (so_by_steps RightToLeft c) (absent_6 c)
+absent_5 c = with_bit (fact_by_steps RightToLeft c) (absent_6 c)
 
 abbrev absent_4 : ℕ → ℕ
-absent_4 c = with_bit (so_by_steps Mark c) (absent_5 c)
+absent_4 c = with_bit (fact_by_steps Mark c) (absent_5 c)
 
 abbrev absent_3 : ℕ → ℕ
-absent_3 c = with_bit (so_by_steps MayCompose c) (absent_4 c)
+absent_3 c = with_bit (fact_by_steps MayCompose c) (absent_4 c)
 
 abbrev absent_2 : ℕ → ℕ
-absent_2 c = with_bit (so_by_steps Contexto c) (absent_3 c)
+absent_2 c = with_bit (fact_by_steps Contexto c) (absent_3 c)
 
 abbrev absent_1 : ℕ → ℕ
-absent_1 c = with_bit (so_by_steps Contextj c) (absent_2 c)
+absent_1 c = with_bit (fact_by_steps Contextj c) (absent_2 c)
 
 unfoldable pub absent_facts : ℕ → ℕ
-absent_facts c = with_bit (so_by_steps MayBeBarred c) (absent_1 c)
+absent_facts c = with_bit (fact_by_steps MayBeBarred c) (absent_1 c)
 
 unfoldable pub absent_facts_stepped : Stepped absent_facts
 unfolding absent_facts so_stepped
 absent_facts_stepped =
-    let s6 = map_stepped (λ b. with_bit b 0) (so_by_steps NotKept) (so_stepped NotKept) in
-    let s5 = zip_stepped with_bit (so_by_steps RightToLeft) absent_6 (so_stepped RightToLeft) s6 in
-    let s4 = zip_stepped with_bit (so_by_steps Mark) absent_5 (so_stepped Mark) s5 in
-    let s3 = zip_stepped with_bit (so_by_steps MayCompose) absent_4 (so_stepped MayCompose) s4 in
-    let s2 = zip_stepped with_bit (so_by_steps Contexto) absent_3 (so_stepped Contexto) s3 in
-    let s1 = zip_stepped with_bit (so_by_steps Contextj) absent_2 (so_stepped Contextj) s2 in
-    zip_stepped with_bit (so_by_steps MayBeBarred) absent_1 (so_stepped MayBeBarred) s1
+    let s6 = map_stepped (λ b. with_bit b 0) (fact_by_steps NotKept) (so_stepped NotKept) in
+    let s5 = zip_stepped with_bit (fact_by_steps RightToLeft) absent_6 (so_stepped RightToLeft) s6 in
+    let s4 = zip_stepped with_bit (fact_by_steps Mark) absent_5 (so_stepped Mark) s5 in
+    let s3 = zip_stepped with_bit (fact_by_steps MayCompose) absent_4 (so_stepped MayCompose) s4 in
+    let s2 = zip_stepped with_bit (fact_by_steps Contexto) absent_3 (so_stepped Contexto) s3 in
+    let s1 = zip_stepped with_bit (fact_by_steps Contextj) absent_2 (so_stepped Contextj) s2 in
+    zip_stepped with_bit (fact_by_steps MayBeBarred) absent_1 (so_stepped MayBeBarred) s1
 
 -- ---- its bits
 
@@ -179,17 +179,17 @@ higher false others i = bit_at-suc (2 * others + 1) i ∙ ap (λ n. bit_at n i) 
 after : (b : Bool) (others i : ℕ) (answer : Bool) → (bit_at others i == 0) ≡ answer → (bit_at (with_bit b others) (suc i) == 0) ≡ answer
 after b others i answer is = ap (λ n. n == 0) (higher b others i) ∙ is
 
-pub absent_facts-bit : (c : ℕ) (fact : Fact) → (bit_at (absent_facts c) (place_of fact) == 0) ≡ so_by_steps fact c
+pub absent_facts-bit : (c : ℕ) (fact : Fact) → (bit_at (absent_facts c) (place_of fact) == 0) ≡ fact_by_steps fact c
 unfolding absent_facts
 absent_facts-bit c fact =
-    let b0 = so_by_steps MayBeBarred c in
-    let b1 = so_by_steps Contextj c in
-    let b2 = so_by_steps Contexto c in
-    let b3 = so_by_steps MayCompose c in
-    let b4 = so_by_steps Mark c in
-    let b5 = so_by_steps RightToLeft c in
-    let b6 = so_by_steps NotKept c in
-    elim fact as (λ f. (bit_at (absent_facts c) (place_of f) == 0) ≡ so_by_steps f c) [
+    let b0 = fact_by_steps MayBeBarred c in
+    let b1 = fact_by_steps Contextj c in
+    let b2 = fact_by_steps Contexto c in
+    let b3 = fact_by_steps MayCompose c in
+    let b4 = fact_by_steps Mark c in
+    let b5 = fact_by_steps RightToLeft c in
+    let b6 = fact_by_steps NotKept c in
+    elim fact as (λ f. (bit_at (absent_facts c) (place_of f) == 0) ≡ fact_by_steps f c) [
       | MayBeBarred ↦ lowest b0 (absent_1 c)
       | Contextj ↦ after b0 (absent_1 c) 0 b1 (lowest b1 (absent_2 c))
       | Contexto ↦ after b0 (absent_1 c) 1 b2 (after b1 (absent_2 c) 0 b2 (lowest b2 (absent_3 c)))
@@ -229,12 +229,12 @@ barred c =
           ap (λ class. is_barred class || is_left_open c) (from_number Profile c (class_number Profile c) refl known)
     ]
 
-pub so_by_steps-is_so : (fact : Fact) (c : ℕ) → so_by_steps fact c ≡ is_so fact c
-unfolding is_so
-so_by_steps-is_so MayBeBarred c = barred c
-so_by_steps-is_so Contextj c = by_number-class_of is_contextj refl refl c
-so_by_steps-is_so Contexto c = by_number-class_of is_contexto refl refl c
-so_by_steps-is_so MayCompose c = refl
-so_by_steps-is_so Mark c = refl
-so_by_steps-is_so RightToLeft c = refl
-so_by_steps-is_so NotKept c = refl
+pub fact_by_steps-fact_holds : (fact : Fact) (c : ℕ) → fact_by_steps fact c ≡ fact_holds fact c
+unfolding fact_holds
+fact_by_steps-fact_holds MayBeBarred c = barred c
+fact_by_steps-fact_holds Contextj c = by_number-class_of is_contextj refl refl c
+fact_by_steps-fact_holds Contexto c = by_number-class_of is_contexto refl refl c
+fact_by_steps-fact_holds MayCompose c = refl
+fact_by_steps-fact_holds Mark c = refl
+fact_by_steps-fact_holds RightToLeft c = refl
+fact_by_steps-fact_holds NotKept c = refl

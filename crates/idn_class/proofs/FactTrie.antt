@@ -12,9 +12,9 @@ use Rattle.ucd_table.proofs.TrieCheck.{trie_ok-IsTrie, trie_value-Stepped, trie_
 use Rattle.ucd_table.proofs.Computing.{tables}
 use Rattle.idn_class.specs.declared.class_table.TheConstants.{FACT_INDEX, FACT_WORDS}
 use Rattle.idn_class.specs.declared.facts.Fact.{Fact}
-use Rattle.idn_class.specs.Facts.{is_so, has_fact, place_of}
+use Rattle.idn_class.specs.Facts.{fact_holds, has_fact, place_of}
 use Rattle.idn_class.proofs.FactLemmas.{full}
-use Rattle.idn_class.proofs.FactSteps.{absent_facts, absent_facts_stepped, absent_facts-bit, so_by_steps-is_so}
+use Rattle.idn_class.proofs.FactSteps.{absent_facts, absent_facts_stepped, absent_facts-bit, fact_by_steps-fact_holds}
 
 facts_trie_ok : trie_ok 8 16 128 FACT_INDEX FACT_WORDS [] (runs_of absent_facts absent_facts_stepped) ≡ true
 unfolding tables absent_facts_stepped
@@ -39,12 +39,12 @@ has_fact-table c fact =
       | inl within ↦
           ap (λ n. bit_at n (place_of fact) == 0) (trie_value-FACT c within)
           ∙ absent_facts-bit c fact
-          ∙ so_by_steps-is_so fact c
-          ∙ ap (λ b. b || is_so fact c) (sym (lt-leb_false c within))
+          ∙ fact_by_steps-fact_holds fact c
+          ∙ ap (λ b. b || fact_holds fact c) (sym (lt-leb_false c within))
       | inr beyond ↦
           ap (λ n. bit_at n (place_of fact) == 0) (beyond_table c beyond)
           ∙ ap (λ n. n == 0) (bit_at-zero (place_of fact))
-          ∙ ap (λ b. b || is_so fact c) (sym (le-leb 0x11_0000 c beyond))
+          ∙ ap (λ b. b || fact_holds fact c) (sym (le-leb 0x11_0000 c beyond))
     ]
   where
     lt-leb_false : (c : ℕ) → c < 0x11_0000 → nat_le 0x11_0000 c ≡ false

@@ -13,8 +13,8 @@ use Rattle.idn_class.specs.declared.known.Known.{Known}
 use Rattle.idn_class.specs.Directions.{HasNone, IsShortest, breaks_at_first, breaks_after, lengthened}
 use Rattle.idn_class.specs.Facts.{contains, has_fact}
 use Rattle.idn_class.specs.Known.{IsKnown, AreKnown}
-use Rattle.idn_class.proofs.HopelessSteps.{broken_or_breaks_after, breaks_after-cons, breaks_after-nil}
-use Rattle.idn_class.proofs.HopelessShortest.{HasNone-nil}
+use Rattle.idn_class.proofs.DeadPrefixSteps.{broken_or_breaks_after, breaks_after-cons, breaks_after-nil}
+use Rattle.idn_class.proofs.DeadPrefixShortest.{HasNone-nil}
 use Rattle.idn_class.specs.declared.properties.Properties.{Properties}
 
 module _ (properties : Properties) where
@@ -36,7 +36,7 @@ module _ (properties : Properties) where
         ];
       }
 
-  -- ---- what is kept of each beginning
+  -- ---- what is cached of each beginning
 
   pub AreKnown-nil : (label : List ℕ) → AreKnown properties label []
   AreKnown-nil label = record { within = omega arith; each = λ i d within. absurd (omega (arith, within)) }

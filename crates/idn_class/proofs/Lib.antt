@@ -28,12 +28,12 @@ pub mod ContextOTests
 pub mod BidiTests
 -- The digits that have a rule of their own are AN and EN, by the profile and by Unicode.
 pub mod DigitClasses
--- The test of hopeless beginnings, code point by code point: a list that is hopeless once stays so.
-pub mod HopelessSteps
--- The test of hopeless beginnings says what it is to be hopeless; a hopeless list stays so, and fails some test of a label.
-pub mod HopelessTests
--- The shortest hopeless beginning: the shortest that breaks the direction, or hyphens third and fourth before it.
-pub mod HopelessShortest
+-- The test of dead prefixes, code point by code point: a list that is dead once stays so.
+pub mod DeadPrefixSteps
+-- The test of dead prefixes says what it is to be dead; a dead prefix stays so, and fails some test of a label.
+pub mod DeadPrefixTests
+-- The shortest dead prefix: the shortest that breaks the direction, or hyphens third and fourth before it.
+pub mod DeadPrefixShortest
 -- The joiners that the profile allows, the standards allow.
 pub mod StandardLemmas
 -- How a proof computes classes and rules on a label that is written out.
@@ -48,7 +48,7 @@ pub mod CauseLemmas
 pub mod BrokenLemmas
 -- The line that is told of a code point which may not be registered.
 pub mod BarringLemmas
--- The part of the hopeless beginnings that is the Bidi rule is exact.
-pub mod DeadBeginnings
+-- The part of the dead prefixes that is the Bidi rule is exact.
+pub mod DeadPrefixes
 -- The Bidi classes of what the profile permits are those of Unicode, but for eight marks, or L where the rule does not ask.
 pub mod StandardBidi

@@ -23,7 +23,7 @@ use Rattle.idn_class.specs.Tests.{is_en, is_an, is_rtl, ends_in, bidi_rule, bidi
 use Rattle.idn_class.proofs.BidiTests.{bidi_ok-PassesBidiRule}
 use Rattle.idn_class.proofs.CategoryLemmas.{none_fails}
 use Rattle.idn_class.proofs.ClassNumbers.{class_from_number, class_number, class_number_stepped, from_number}
-use Rattle.idn_class.proofs.DeadBeginnings.{asked_as_rtl, fails}
+use Rattle.idn_class.proofs.DeadPrefixes.{asked_as_rtl, fails}
 use Rattle.idn_class.proofs.FactSteps.{profile_bidi_class_stepped}
 
 -- ---- by code point

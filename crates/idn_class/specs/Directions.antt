@@ -1,4 +1,4 @@
--- How far a label goes before it is hopeless, code point by code point.
+-- How far a label goes before it is dead, code point by code point.
 use Rattle.std.specs.Prelude.{◌≡◌, ℕ, ◌≤◌, ◌<◌, Bool, true, false, ◌&&◌, ◌||◌, ◌==◌, List, length, map, take, Option, Some, None, if◌then◌else◌}
 use Rattle.std.specs.List.{list_any}
 use Rattle.idn_class.specs.declared.bidi_class.BidiClass.{BidiClass}
@@ -10,7 +10,7 @@ use Rattle.idn_class.specs.BidiClass.{bidi_class}
 use Rattle.idn_class.specs.BidiRule.{is_rtl_class}
 use Rattle.idn_class.specs.LeadingMark.{is_mark}
 use Rattle.idn_class.specs.Tests.{leading_mark, is_en, is_an, is_rtl}
-use Rattle.idn_class.specs.Hopeless.{begins_with_hyphen, breaks_bidi, is_barred_in_rtl}
+use Rattle.idn_class.specs.DeadPrefixes.{begins_with_hyphen, breaks_bidi, is_barred_in_rtl}
 
 -- the first n code points pass the test, and no fewer do
 pub record IsShortest (test : List ℕ → Bool) (label : List ℕ) (n : ℕ) : Type 0 where
@@ -22,7 +22,7 @@ pub record IsShortest (test : List ℕ → Bool) (label : List ℕ) (n : ℕ) : 
 abbrev pub HasNone : (List ℕ → Bool) → List ℕ → Type 0
 HasNone test label = (k : ℕ) → test (take k label) ≡ false
 
--- a list is hopeless by its first code point or by the Bidi rule
+-- a list is dead by its first code point or by the Bidi rule
 abbrev pub breaks_at_first : Properties → List ℕ → Bool
 breaks_at_first properties w = begins_with_hyphen w || leading_mark w || breaks_bidi (is_rtl (map (bidi_class properties) w)) (map (bidi_class properties) w)
 

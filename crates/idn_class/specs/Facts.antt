@@ -42,24 +42,24 @@ is_kept_status Deviation = true
 is_kept_status _ = false
 
 -- a code point has the fact
-unfoldable pub is_so : Fact → ℕ → Bool
+unfoldable pub fact_holds : Fact → ℕ → Bool
 -- it may not be registered, or no look-up says whether it may
-is_so MayBeBarred c = is_barred (class_of Profile c) || is_left_open c
+fact_holds MayBeBarred c = is_barred (class_of Profile c) || is_left_open c
 -- a joiner, or another code point that needs a context (RFC 5892, appendix A)
-is_so Contextj c = is_contextj (class_of Profile c)
-is_so Contexto c = is_contexto (class_of Profile c)
+fact_holds Contextj c = is_contextj (class_of Profile c)
+fact_holds Contexto c = is_contexto (class_of Profile c)
 -- NFC may change a text that holds it (UAX 15, section 9)
-is_so MayCompose c = not (is_yes (quick_check Nfc c) && (canonical_combining_class c == 0))
+fact_holds MayCompose c = not (is_yes (quick_check Nfc c) && (canonical_combining_class c == 0))
 -- it may not begin a label (RFC 5891, section 4.2.3.2)
-is_so Mark c = is_mark c
+fact_holds Mark c = is_mark c
 -- it makes the Bidi rule apply, by the profile or by Unicode (RFC 5893, section 2)
-is_so RightToLeft c = is_rtl_class (bidi_class Profile c) || is_rtl_class (bidi_class Unicode c)
+fact_holds RightToLeft c = is_rtl_class (bidi_class Profile c) || is_rtl_class (bidi_class Unicode c)
 -- UTS 46 maps it to another text, ignores it or disallows it
-is_so NotKept c = not (is_kept_status (idna_status c))
+fact_holds NotKept c = not (is_kept_status (idna_status c))
 
 -- the same, and a number past Unicode has each fact
 abbrev pub has_fact : Fact → ℕ → Bool
-has_fact fact c = nat_le 0x11_0000 c || is_so fact c
+has_fact fact c = nat_le 0x11_0000 c || fact_holds fact c
 
 -- the bit of a fact
 abbrev pub place_of : Fact → ℕ

@@ -13,7 +13,7 @@ pub mod Neighbors
 pub mod WorkedRows
 pub mod Profile
 pub mod Tests
-pub mod Hopeless
+pub mod DeadPrefixes
 pub mod Directions
 pub mod Known
 pub mod Shared

@@ -36,12 +36,12 @@ broken_by_standard_bidi =
     (0x5D0 ∷ 0x2C6 ∷ []) ∷ (0x2C6 ∷ 0x5D0 ∷ []) ∷ (0x5D0 ∷ 0xCBF ∷ []) ∷ (0x1_0D00 ∷ 0x6F0 ∷ 0x1_0D30 ∷ [])
     ∷ (0x1_E922 ∷ 0x61 ∷ []) ∷ (0x31 ∷ 0x1_E922 ∷ []) ∷ (0x5D0 ∷ 0x2003 ∷ 0x5D0 ∷ []) ∷ (0x61 ∷ 0x2003 ∷ 0x5D0 ∷ []) ∷ []
 
--- ---- hopeless beginnings
+-- ---- dead prefixes
 
-abbrev pub without_hope_by_standard : List (List ℕ)
-without_hope_by_standard =
+abbrev pub dead_lists_by_standard : List (List ℕ)
+dead_lists_by_standard =
     (0x5D0 ∷ 0xCBF ∷ []) ∷ (0x1_E922 ∷ 0x61 ∷ []) ∷ (0x2C6 ∷ 0x5D0 ∷ []) ∷ (0x31 ∷ 0x1_E922 ∷ []) ∷ (0x660 ∷ []) ∷ (0x660 ∷ 0x6F0 ∷ [])
     ∷ (0x1_0D30 ∷ []) ∷ (0x1_0D00 ∷ 0x31 ∷ 0x1_0D30 ∷ []) ∷ (0x5D0 ∷ 0x2003 ∷ []) ∷ (0x2D ∷ []) ∷ []
 
-abbrev pub with_hope_by_standard : List (List ℕ)
-with_hope_by_standard = (0x5D0 ∷ 0x2C6 ∷ []) ∷ (0x2C6 ∷ []) ∷ (0x1_E922 ∷ 0x2D ∷ []) ∷ (0xC95 ∷ 0xCBF ∷ []) ∷ (0x2003 ∷ 0x61 ∷ []) ∷ []
+abbrev pub alive_lists_by_standard : List (List ℕ)
+alive_lists_by_standard = (0x5D0 ∷ 0x2C6 ∷ []) ∷ (0x2C6 ∷ []) ∷ (0x1_E922 ∷ 0x2D ∷ []) ∷ (0xC95 ∷ 0xCBF ∷ []) ∷ (0x2003 ∷ 0x61 ∷ []) ∷ []

@@ -147,23 +147,23 @@ broken_by_labels =
     ∷ (0x61 ∷ 0x5D0 ∷ []) ∷ (0x61 ∷ 0x5D0 ∷ 0x61 ∷ [])
     ∷ []
 
--- ---- hopeless beginnings
+-- ---- dead prefixes
 
-abbrev pub without_hope : List (List ℕ)
-without_hope =
+abbrev pub dead_lists : List (List ℕ)
+dead_lists =
     (0x2D ∷ []) ∷ (0x61 ∷ 0x62 ∷ 0x2D ∷ 0x2D ∷ []) ∷ (0x301 ∷ []) ∷ (0x903 ∷ []) ∷ (0x61 ∷ 0x5D0 ∷ []) ∷ (0x31 ∷ 0x5D0 ∷ [])
     ∷ (0x5D0 ∷ 0x61 ∷ []) ∷ (0x627 ∷ 0x31 ∷ 0x660 ∷ []) ∷ (0x627 ∷ 0x660 ∷ 0x6F0 ∷ []) ∷ (0x660 ∷ 0x6F0 ∷ []) ∷ (0x660 ∷ [])
     -- whatever follows
     ∷ (0x61 ∷ 0x62 ∷ 0x2D ∷ 0x2D ∷ 0x63 ∷ []) ∷ (0x5D0 ∷ 0x61 ∷ 0x5D1 ∷ [])
-    -- a sign is L; by Unicode the first of these has hope
+    -- a sign is L; by Unicode the first of these has no dead prefix
     ∷ (0x5D0 ∷ 0x2C6 ∷ []) ∷ (0x2C6 ∷ 0x5D0 ∷ [])
     ∷ []
 
 -- also lists that end in what no label may end in, or in what needs a context
-abbrev pub with_hope : List (List ℕ)
-with_hope =
+abbrev pub alive_lists : List (List ℕ)
+alive_lists =
     [] ∷ (0x61 ∷ 0x2D ∷ 0x2D ∷ []) ∷ (0x61 ∷ 0x62 ∷ 0x2D ∷ []) ∷ (0x61 ∷ 0x62 ∷ 0x63 ∷ 0x2D ∷ 0x2D ∷ []) ∷ (0x5D0 ∷ 0x2D ∷ [])
     ∷ (0x5D0 ∷ 0x5B0 ∷ []) ∷ (0x627 ∷ 0x660 ∷ []) ∷ (0x627 ∷ 0x31 ∷ []) ∷ (0x61 ∷ 0x301 ∷ []) ∷ (0xD800 ∷ []) ∷ (0x11_0000 ∷ 0x61 ∷ [])
-    -- by Unicode neither of these has hope
+    -- by Unicode neither of these has no dead prefix
     ∷ (0x5D0 ∷ 0xCBF ∷ []) ∷ (0x1_E922 ∷ 0x61 ∷ [])
     ∷ []

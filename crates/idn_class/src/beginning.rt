@@ -1,6 +1,6 @@
-//! Hopeless beginnings: no label that begins so may be registered, whatever follows.
+//! Dead prefixes: no label that begins so may be registered, whatever follows.
 ghost use Rattle.std.specs.Prelude.{◌≡◌, ◌↔◌, IsTrue, None, MatchOption};
-ghost use Rattle.idn_class.specs.Hopeless.{has_hyphens_third_and_fourth, hopeless, IsHopeless, IsShortestHopeless, HasHope};
+ghost use Rattle.idn_class.specs.DeadPrefixes.{has_hyphens_third_and_fourth, hopeless, IsDeadPrefix, IsShortestDeadPrefix, HasNoDeadPrefix};
 ghost use Rattle.idn_class.specs.Directions.{IsShortest, HasNone, breaks_at_first};
 
 use crate::direction::Direction;
@@ -9,11 +9,11 @@ use crate::properties::Properties;
 const HYPHEN: u32 = 0x2D;
 
 /// Whether no label that begins so may be registered (RFC 5891, section 4.2), whatever follows: a test of its hyphens,
-/// of a leading mark, or of the Bidi rule has failed for good. The empty list is not hopeless, and a number that is no
-/// scalar value counts as an LTR letter. Only tests call this and `shortest_hopeless`: a run asks `KeptBeginnings`,
+/// of a leading mark, or of the Bidi rule has failed for good. The empty list is not dead, and a number that is no
+/// scalar value counts as an LTR letter. Only tests call this and `shortest_hopeless`: a run asks `CachedPrefixes`,
 /// which keeps what it found for the next label.
 pub fn hopeless(label: &[u32]) -> bool
-    ensures rule { IsTrue result ↔ IsHopeless Properties.Profile label.now }
+    ensures rule { IsTrue result ↔ IsDeadPrefix Properties.Profile label.now }
     ensures test { result ≡ hopeless Properties.Profile label.now }
 {
     hopeless_by(label, Properties::Profile)
@@ -21,21 +21,21 @@ pub fn hopeless(label: &[u32]) -> bool
 
 /// Whether no label that begins so may be registered by these properties, as `hopeless` tells it.
 pub fn hopeless_by(label: &[u32], properties: Properties) -> bool
-    ensures rule { IsTrue result ↔ IsHopeless properties label.now }
+    ensures rule { IsTrue result ↔ IsDeadPrefix properties label.now }
     ensures test { result ≡ hopeless properties label.now }
 {
     shortest_hopeless(label, properties).is_some()
 }
 
-/// How many code points the shortest hopeless beginning of a label has, by one pass over the label. `None` where
-/// neither a beginning nor the whole label is hopeless. It says in one call what `KeptBeginnings` tells.
+/// How many code points the shortest dead prefix of a label has, by one pass over the label. `None` where
+/// the label has none. It says in one call what `CachedPrefixes` tells.
 pub fn shortest_hopeless(label: &[u32], properties: Properties) -> Option<usize>
-    ensures { MatchOption result (HasHope properties label.now) (IsShortestHopeless properties label.now) }
+    ensures { MatchOption result (HasNoDeadPrefix properties label.now) (IsShortestDeadPrefix properties label.now) }
 {
     with_hyphens(label, shortest_breaking(label, properties), properties)
 }
 
-/// The shortest hopeless beginning of a label, by the shortest that breaks a test of its first code point or the Bidi
+/// The shortest dead prefix of a label, by the shortest that breaks a test of its first code point or the Bidi
 /// rule, and by the hyphens third and fourth.
 pub(crate) fn with_hyphens(
     label: &[u32],
@@ -43,7 +43,7 @@ pub(crate) fn with_hyphens(
     properties: Properties,
 ) -> Option<usize>
     requires { MatchOption breaking (HasNone (breaks_at_first properties) label.now) (IsShortest (breaks_at_first properties) label.now) }
-    ensures shortest { MatchOption result (HasHope properties label.now) (IsShortestHopeless properties label.now) }
+    ensures shortest { MatchOption result (HasNoDeadPrefix properties label.now) (IsShortestDeadPrefix properties label.now) }
     ensures whole { result ≡ None → breaking ≡ None }
 {
     if has_hyphens_third_and_fourth(label) {

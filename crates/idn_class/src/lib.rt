@@ -9,6 +9,8 @@ mod beginning;
 mod bidi;
 mod bidi_class;
 mod broken;
+mod cached_label;
+mod cached_prefixes;
 mod category;
 mod class;
 mod class_table;
@@ -17,8 +19,6 @@ mod contexto;
 mod direction;
 mod facts;
 mod joining_type;
-mod kept_beginnings;
-mod kept_label;
 mod known;
 mod laws;
 mod mark;
@@ -32,13 +32,13 @@ pub use beginning::{hopeless, hopeless_by, shortest_hopeless};
 pub use bidi::{bidi_ok, bidi_ok_by};
 pub use bidi_class::BidiClass;
 pub use broken::{BidiCondition, Broken, broken_condition, broken_in_name};
+pub use cached_label::{CachedLabel, MAX_LABEL_LEN};
+pub use cached_prefixes::CachedPrefixes;
 pub use class::{Class, class_of, class_of_by};
 pub use contextj::{contextj_ok, contextj_ok_by, misplaced_joiner};
 pub use contexto::{contexto_ok, misplaced_other};
 pub use facts::{Fact, Facts};
 pub use joining_type::JoiningType;
-pub use kept_beginnings::KeptBeginnings;
-pub use kept_label::{KeptLabel, MAX_LABEL_LEN};
 pub use laws::{
     barring_lines_are_told, bidi_part_is_exact, bidi_rows, class_rows, first_faults_are_told,
     hopeless_for_good, hopeless_rows, joiner_rows, lists_of_the_profile, mark_rows,

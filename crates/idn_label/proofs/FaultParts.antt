@@ -1,4 +1,5 @@
--- The first fault by its parts. Filters cite the law on hopeless beginnings, so this stands on no module that leads to a function's proof.
+-- The first fault by its parts. Filters cite the law on dead prefixes, so this stands on no module that leads to a
+-- function's proof.
 use Rattle.std.proofs.Common.{◌≡◌, ℕ, ◌==◌, Bool, true, false, List, [], ◌∷◌, length, Option, None, refl}
 use Rattle.std.proofs.lemmas.Bool.{not-false, both_ways}
 use Rattle.unicode_normalization.specs.Forms.{is_nfc}

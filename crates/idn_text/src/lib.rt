@@ -1,5 +1,5 @@
 //! Text as the other crates take it and give it: code points and their UTF-8, the lines of a text,
-//! the numbered lines of a reader, pieces written to a writer, and the numbers and texts of all
+//! the numbered lines of a reader, texts written to a writer, and the numbers and texts of all
 //! refusals.
 #![tactic(auto)]
 

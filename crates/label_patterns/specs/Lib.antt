@@ -7,7 +7,7 @@ pub mod Matches
 pub mod Rules
 pub mod Conditions
 pub mod Laws
-pub mod KeptPlaces
+pub mod CachedPlaces
 pub mod FirstEnds
 pub mod Barring
 pub mod Tests

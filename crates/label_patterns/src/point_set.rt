@@ -2,7 +2,7 @@
 ghost use Rattle.std.specs.Prelude.{◌≡◌, ◌≤◌, nat_lt, length, IfOk};
 ghost use Rattle.label_patterns.specs.Sets.{is_in, Rise};
 ghost use Rattle.label_patterns.specs.Places.{AreThePlaces};
-ghost use Rattle.label_patterns.specs.KeptPlaces.{AreThePlacesBelow};
+ghost use Rattle.label_patterns.specs.CachedPlaces.{AreThePlacesBelow};
 
 use crate::places::{both, point_places, with_place_if};
 use crate::span::Span;

@@ -1,7 +1,7 @@
 //! A label as patterns see it.
 ghost use Rattle.std.specs.Prelude.{◌≡◌, ◌≤◌, ◌<◌, ◌==◌, true, [], length, slice_index_or};
 ghost use Rattle.label_patterns.specs.inner.Masks.{AreMasks};
-ghost use Rattle.label_patterns.specs.KeptPlaces.{AreMasksBelow};
+ghost use Rattle.label_patterns.specs.CachedPlaces.{AreMasksBelow};
 ghost use Rattle.label_patterns.specs.Matches.{Seen};
 ghost use Rattle.label_patterns.specs.Places.{Has, AreThePlaces};
 ghost use Rattle.label_patterns.specs.Sets.{is_in};

@@ -2,7 +2,7 @@
 use idn_class::{Properties, hopeless, hopeless_by, shortest_hopeless};
 use std::process::Abort;
 
-/// What a list shows, its code points, and how long its shortest hopeless beginning is, if it has one.
+/// What a list shows, its code points, and how long its shortest dead prefix is, if it has one.
 type Case = (&'static str, &'static [u32], Option<usize>);
 
 /// RFC 5891, sections 4.2.3.1 and 4.2.3.2.
@@ -53,7 +53,7 @@ const DIRECTIONS: [Case; 15] = [
     ("a number past Unicode", &[0x11_0000, 0x61], None),
 ];
 
-/// A list, its code points, and how long its shortest hopeless beginning is by the profile and by Unicode. U+02C6 is ON, and
+/// A list, its code points, and how long its shortest dead prefix is by the profile and by Unicode. U+02C6 is ON, and
 /// U+0CBF is L. A space has a class that the Bidi rule doesn't name.
 const BY_EITHER: [(&str, &[u32], Option<usize>, Option<usize>); 5] = [
     ("a neutral in Hebrew", &[0x5D0, 0x2C6], Some(2), None),

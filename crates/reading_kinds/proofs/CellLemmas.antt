@@ -213,7 +213,7 @@ bit_of_without a b k fits l = let e = bit_at_and a (bit_not w64 b) k in let f = 
   λ h. let s : bit_at b k < 2 = omega arith in let n = h.0 in omega (arith, e, f, h.1, n, s),
 )
 
--- the words after a use of these kinds, from a cell that is reached
+-- the words after a substitution of these kinds, from a cell that is reached
 pub InWords-after : (cells : Cells) (column place kinds : ℕ) → kinds < 2 ^ 64 → Tells cells column place Reached → (m : Mark) → InWords (bit_or (get_or cells.has (cell_of column place) 0) kinds) (bit_and (get_or cells.lacks (cell_of column place) 0) (bit_not w64 kinds)) m ↔ TellsAfter cells column place kinds m
 InWords-after cells column place kinds fits at Reached = (λ h. tt, λ h. tt)
 InWords-after cells column place kinds fits at (Has k) =
@@ -234,7 +234,7 @@ InWords-after cells column place kinds fits at (Lacks k) = (
       (within, (bit_of_without (get_or cells.lacks (cell_of column place) 0) kinds k fits within).1 (h.0, ((h.1).words).1)),
 )
 
--- a cell with the words after a use
+-- a cell with the words after a substitution
 pub AddsAfter-words : (old new : Cells) (from_column from_place kinds column place has lacks : ℕ) → kinds < 2 ^ 64 → Tells old from_column from_place Reached → has ≡ get_or old.has (cell_of from_column from_place) 0 → lacks ≡ get_or old.lacks (cell_of from_column from_place) 0 → Adds old new column place (bit_or has kinds) (bit_and lacks (bit_not w64 kinds)) → AddsAfter old new from_column from_place kinds column place
 AddsAfter-words old new from_column from_place kinds column place has lacks fits at has_is lacks_is adds c p m =
     let same : InWords (bit_or has kinds) (bit_and lacks (bit_not w64 kinds)) m ↔ TellsAfter old from_column from_place kinds m =

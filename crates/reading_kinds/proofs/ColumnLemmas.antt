@@ -3,14 +3,14 @@ use Rattle.std.proofs.Common.{◌≡◌, ◌≢◌, ℕ, ◌+◌, ◌-◌, ◌�
 use Rattle.std.specs.Prelude.{Contains}
 use Rattle.std.proofs.lemmas.List.{length-take-le, take-take, drop-take}
 use Rattle.std.proofs.Math.Seq.{take-add, take-append_seam, drop-append_seam}
-use Rattle.reading_kinds.specs.Readings.{Use, uses_at}
+use Rattle.reading_kinds.specs.Readings.{Substitution, substitutions_at}
 use Rattle.reading_kinds.specs.inner.Cells.{Cells, Mark, Tells, IsRightAt, IsRight, LeadsTo, Shows, SomeLeads}
 use Rattle.reading_kinds.specs.inner.Cuts.{AllFit}
 use Rattle.reading_kinds.specs.inner.Columns.{TellsAfter, EndsWith, HasTaken, Grows, IsSoundAt}
 use Rattle.reading_kinds.specs.inner.Cells.Mark.{Reached, Has, Lacks}
 use Rattle.reading_kinds.proofs.CellLemmas.{same_or_not}
 
--- the first code points of w, when a use is put at their end
+-- the first code points of w, when a substitution is put at their end
 pub take-EndsWith : (w : List ℕ) (column : ℕ) (points : List ℕ) → EndsWith w column points → take column w ≡ take (column - length points) w ++ points
 take-EndsWith w column points h =
     let sum : column ≡ (column - length points) + length points = omega (arith, h.0) in
@@ -26,9 +26,9 @@ EndsWith-take w column q points within e =
     sym (drop-append_seam q points) ∙ ap (drop (length q)) (sym e) ∙ ap (λ n. drop (length q) (take n w)) total ∙ drop-take (length q) (length points) w in
     ((omega (arith, total), ap (λ n. take (length points) (drop n w)) start ∙ sym points_are), q_is ∙ ap (λ n. take n w) (sym start))
 
-module _ (uses : List (List Use)) (w : List ℕ) where
-  -- what a use adds is shown by beginnings
-  pub SomeLeads-after : (cells : Cells) (column place : ℕ) (u : Use) → Contains (uses_at uses place) u → EndsWith w column u.points → IsRightAt uses w cells (column - length u.points) → Tells cells (column - length u.points) place Reached → (m : Mark) → TellsAfter cells (column - length u.points) place u.kinds m → SomeLeads uses (place + u.covers) (take column w) m
+module _ (substitutions : List (List Substitution)) (w : List ℕ) where
+  -- what a substitution adds is shown by beginnings
+  pub SomeLeads-after : (cells : Cells) (column place : ℕ) (u : Substitution) → Contains (substitutions_at substitutions place) u → EndsWith w column u.points → IsRightAt substitutions w cells (column - length u.points) → Tells cells (column - length u.points) place Reached → (m : Mark) → TellsAfter cells (column - length u.points) place u.kinds m → SomeLeads substitutions (place + u.covers) (take column w) m
   SomeLeads-after cells column place u there ends right at Reached h =
       let l = (right place Reached).0 at in
       (u ∷ l.0, (place, take (column - length u.points) w, there, refl, take-EndsWith w column u.points ends, l.1), tt)
@@ -47,8 +47,8 @@ module _ (uses : List (List Use)) (w : List ℕ) where
         ((l.2).0, λ x. elim x [ inl same ↦ h.0 same | inr has ↦ (l.2).1 has ]),
       )
 
-  -- what a beginning shows that ends with a use
-  TellsAfter-shown : (cells : Cells) (column place : ℕ) (u : Use) (before : List Use) → IsRightAt uses w cells column → LeadsTo uses place (take column w) before → (m : Mark) → Shows (u ∷ before) m → TellsAfter cells column place u.kinds m
+  -- what a beginning shows that ends with a substitution
+  TellsAfter-shown : (cells : Cells) (column place : ℕ) (u : Substitution) (before : List Substitution) → IsRightAt substitutions w cells column → LeadsTo substitutions place (take column w) before → (m : Mark) → Shows (u ∷ before) m → TellsAfter cells column place u.kinds m
   TellsAfter-shown cells column place u before right leads Reached h = tt
   TellsAfter-shown cells column place u before right leads (Has k) h = (
     h.0,
@@ -60,28 +60,28 @@ module _ (uses : List (List Use)) (w : List ℕ) where
   TellsAfter-shown cells column place u before right leads (Lacks k) h =
       (λ same. h.1 (inl same), (right place (Lacks k)).1 (before, leads, (h.0, λ x. h.1 (inr x))))
 
-  -- a column that has taken each use tells what each beginning shows
-  pub Tells-all : (cells : Cells) (column : ℕ) → AllFit uses → 1 ≤ column → column ≤ length w → IsRight uses w cells (column - 1) → ((place : ℕ) (u : Use) → Contains (uses_at uses place) u → HasTaken w cells column place u) → (p : ℕ) (m : Mark) (cut : List Use) → LeadsTo uses p (take column w) cut → Shows cut m → Tells cells column p m
+  -- a column that has taken each substitution tells what each beginning shows
+  pub Tells-all : (cells : Cells) (column : ℕ) → AllFit substitutions → 1 ≤ column → column ≤ length w → IsRight substitutions w cells (column - 1) → ((place : ℕ) (u : Substitution) → Contains (substitutions_at substitutions place) u → HasTaken w cells column place u) → (p : ℕ) (m : Mark) (cut : List Substitution) → LeadsTo substitutions p (take column w) cut → Shows cut m → Tells cells column p m
   Tells-all cells column are some within right taken p m [] leads shows =
       absurd (let none : column ≡ 0 = sym (length-take-le column w within) ∙ ap length leads.1 in omega (arith, none, some))
   Tells-all cells column are some within right taken p m (u ∷ before) leads shows =
       let is = are leads.0 u leads.2 in
       let ends = EndsWith-take w column leads.1 u.points within leads.4 in
-      let right_before : IsRightAt uses w cells (column - length u.points) = right (column - length u.points) (omega (arith, is.some)) in
-      let led : LeadsTo uses leads.0 (take (column - length u.points) w) before = subst (λ x. LeadsTo uses leads.0 x before) ends.1 leads.5 in
+      let right_before : IsRightAt substitutions w cells (column - length u.points) = right (column - length u.points) (omega (arith, is.some)) in
+      let led : LeadsTo substitutions leads.0 (take (column - length u.points) w) before = subst (λ x. LeadsTo substitutions leads.0 x before) ends.1 leads.5 in
       subst (λ x. Tells cells column x m) (sym leads.3)
       (taken leads.0 u leads.2 ends.0 ((right_before leads.0 Reached).1 (before, led, tt)) m
       (TellsAfter-shown cells (column - length u.points) leads.0 u before right_before led m shows))
 
   -- the whole step
-  pub IsRight-step : (cells : Cells) (column : ℕ) → AllFit uses → 1 ≤ column → column ≤ length w → IsRight uses w cells (column - 1) → IsSoundAt uses w cells column → ((place : ℕ) (u : Use) → Contains (uses_at uses place) u → HasTaken w cells column place u) → IsRight uses w cells column
+  pub IsRight-step : (cells : Cells) (column : ℕ) → AllFit substitutions → 1 ≤ column → column ≤ length w → IsRight substitutions w cells (column - 1) → IsSoundAt substitutions w cells column → ((place : ℕ) (u : Substitution) → Contains (substitutions_at substitutions place) u → HasTaken w cells column place u) → IsRight substitutions w cells column
   IsRight-step cells column are some within right sound taken c l = elim (same_or_not c column) [
-    | inl same ↦ subst (λ x. IsRightAt uses w cells x) (sym same) (λ p m. (sound p m, λ h. Tells-all cells column are some within right taken p m h.0 h.1 h.2))
+    | inl same ↦ subst (λ x. IsRightAt substitutions w cells x) (sym same) (λ p m. (sound p m, λ h. Tells-all cells column are some within right taken p m h.0 h.1 h.2))
     | inr other ↦ right c (omega (arith, l, other))
   ]
 
   -- columns that stay are as right as they were
-  pub IsRight-grows : (old new : Cells) (column : ℕ) → 1 ≤ column → Grows old new column → IsRight uses w old (column - 1) → IsRight uses w new (column - 1)
+  pub IsRight-grows : (old new : Cells) (column : ℕ) → 1 ≤ column → Grows old new column → IsRight substitutions w old (column - 1) → IsRight substitutions w new (column - 1)
   IsRight-grows old new column some grows right c l p m =
       let same = grows.others c (omega (arith, some, l)) p m in
       (λ h. (right c l p m).0 (same.0 h), λ h. same.1 ((right c l p m).1 h))
@@ -92,7 +92,7 @@ TellsAfter-same old new column place kinds same Reached h = tt
 TellsAfter-same old new column place kinds same (Has k) h = (h.0, elim h.1 [ inl e ↦ inl e | inr t ↦ inr (same (Has k) t) ])
 TellsAfter-same old new column place kinds same (Lacks k) h = (h.0, same (Lacks k) h.1)
 
-pub HasTaken-grows : (w : List ℕ) (old new : Cells) (column place : ℕ) (u : Use) → 1 ≤ length u.points → Grows old new column → HasTaken w old column place u → HasTaken w new column place u
+pub HasTaken-grows : (w : List ℕ) (old new : Cells) (column place : ℕ) (u : Substitution) → 1 ≤ length u.points → Grows old new column → HasTaken w old column place u → HasTaken w new column place u
 HasTaken-grows w old new column place u some grows taken ends at m after =
     let apart : column - length u.points ≢ column = λ e. omega (arith, some, ends.0, e) in
     let same = grows.others (column - length u.points) apart place in

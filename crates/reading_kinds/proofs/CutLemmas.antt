@@ -1,40 +1,40 @@
--- Cuts of a label, along the list of its uses and by the numbers of its places.
+-- Cuts of a label, along the list of its substitutions and by the numbers of its places.
 use Rattle.std.proofs.Common.{◌≡◌, ℕ, zero, suc, ◌+◌, ◌-◌, ◌≤◌, ◌↔◌, List, [], ◌∷◌, length, get_or, drop, sym, ap, ◌∙◌, subst, refl, arith}
 use Rattle.std.specs.Prelude.{Contains}
 use Rattle.std.proofs.Math.ListN.{get_or-eq_default}
 use Rattle.std.proofs.lemmas.List.{length-drop, get_or-drop, drop-drop}
 use Rattle.std.proofs.lemmas.List.Elements.{All-contains}
-use Rattle.reading_kinds.specs.Readings.{Use, uses_at, IsCut, IsUse, AreUses}
+use Rattle.reading_kinds.specs.Readings.{Substitution, substitutions_at, IsCut, IsSubstitution, AreSubstitutions}
 use Rattle.reading_kinds.specs.inner.Cuts.{IsCutFrom, Fits, AllFit}
 use Rattle.reading_kinds.proofs.ListMembers.{Contains-none}
 
--- uses end within the label at each place
-pub AllFit-of : (uses : List (List Use)) → AreUses uses → AllFit uses
+-- substitutions end within the label at each place
+pub AllFit-of : (substitutions : List (List Substitution)) → AreSubstitutions substitutions → AllFit substitutions
 AllFit-of [] are place u h = absurd (Contains-none u h)
 AllFit-of (here ∷ later) are zero u h =
-    let is : IsUse (length later + 1) u = All-contains (IsUse (length later + 1)) here u are.0 h in
+    let is : IsSubstitution (length later + 1) u = All-contains (IsSubstitution (length later + 1)) here u are.0 h in
     record { within = omega (arith, is.within); covers = is.some; some = is.filled }
 AllFit-of (here ∷ later) are (suc place) u h =
     let is = AllFit-of later are.2 place u h in
     record { within = omega (arith, is.within); covers = is.covers; some = is.some }
 
--- cut along the list of the uses from a place on
-IsCut-from : (uses : List (List Use)) → AllFit uses → (cut : List Use) (rest : List (List Use)) (place : ℕ) → rest ≡ drop place uses → place ≤ length uses → IsCut rest cut ↔ IsCutFrom uses place cut
-IsCut-from uses are [] [] place e l = (λ h. omega (arith, l, ap length e, length-drop place uses), λ h. tt)
-IsCut-from uses are [] (here ∷ later) place e l = (λ h. absurd h, λ h. absurd (omega (arith, h, ap length e, length-drop place uses)))
-IsCut-from uses are (u ∷ cut) [] place e l = (
+-- cut along the list of the substitutions from a place on
+IsCut-from : (substitutions : List (List Substitution)) → AllFit substitutions → (cut : List Substitution) (rest : List (List Substitution)) (place : ℕ) → rest ≡ drop place substitutions → place ≤ length substitutions → IsCut rest cut ↔ IsCutFrom substitutions place cut
+IsCut-from substitutions are [] [] place e l = (λ h. omega (arith, l, ap length e, length-drop place substitutions), λ h. tt)
+IsCut-from substitutions are [] (here ∷ later) place e l = (λ h. absurd h, λ h. absurd (omega (arith, h, ap length e, length-drop place substitutions)))
+IsCut-from substitutions are (u ∷ cut) [] place e l = (
   λ h. absurd h,
-  λ h. absurd (let past : length uses ≤ place = omega (arith, l, ap length e, length-drop place uses) in Contains-none u (subst (λ xs. Contains xs u) (get_or-eq_default uses [] past) h.0)),
+  λ h. absurd (let past : length substitutions ≤ place = omega (arith, l, ap length e, length-drop place substitutions) in Contains-none u (subst (λ xs. Contains xs u) (get_or-eq_default substitutions [] past) h.0)),
 )
-IsCut-from uses are (u ∷ cut) (here ∷ later) place e l =
-    let first : here ≡ uses_at uses place = ap (λ xs. get_or xs 0 []) e ∙ get_or-drop place uses 0 [] ∙ ap (λ n. get_or uses n []) (omega arith) in
-    let both : length (here ∷ later) ≡ length uses - place = ap length e ∙ length-drop place uses in
-    let size : length later + 1 ≡ length uses - place = omega (arith, both) in
-    let next : drop u.covers (here ∷ later) ≡ drop (place + u.covers) uses = ap (drop u.covers) e ∙ drop-drop u.covers place uses in (
-      λ h. (subst (λ xs. Contains xs u) first h.0, (IsCut-from uses are cut (drop u.covers (here ∷ later)) (place + u.covers) next (omega (arith, size, h.1, l))).0 h.2),
+IsCut-from substitutions are (u ∷ cut) (here ∷ later) place e l =
+    let first : here ≡ substitutions_at substitutions place = ap (λ xs. get_or xs 0 []) e ∙ get_or-drop place substitutions 0 [] ∙ ap (λ n. get_or substitutions n []) (omega arith) in
+    let both : length (here ∷ later) ≡ length substitutions - place = ap length e ∙ length-drop place substitutions in
+    let size : length later + 1 ≡ length substitutions - place = omega (arith, both) in
+    let next : drop u.covers (here ∷ later) ≡ drop (place + u.covers) substitutions = ap (drop u.covers) e ∙ drop-drop u.covers place substitutions in (
+      λ h. (subst (λ xs. Contains xs u) first h.0, (IsCut-from substitutions are cut (drop u.covers (here ∷ later)) (place + u.covers) next (omega (arith, size, h.1, l))).0 h.2),
       λ h. let is = are place u h.0 in
-          (subst (λ xs. Contains xs u) (sym first) h.0, omega (arith, size, is.within), (IsCut-from uses are cut (drop u.covers (here ∷ later)) (place + u.covers) next is.within).1 h.1),
+          (subst (λ xs. Contains xs u) (sym first) h.0, omega (arith, size, is.within), (IsCut-from substitutions are cut (drop u.covers (here ∷ later)) (place + u.covers) next is.within).1 h.1),
     )
 
-pub IsCut-by_place : (uses : List (List Use)) → AllFit uses → (cut : List Use) → IsCut uses cut ↔ IsCutFrom uses 0 cut
-IsCut-by_place uses are cut = IsCut-from uses are cut uses 0 refl (omega arith)
+pub IsCut-by_place : (substitutions : List (List Substitution)) → AllFit substitutions → (cut : List Substitution) → IsCut substitutions cut ↔ IsCutFrom substitutions 0 cut
+IsCut-by_place substitutions are cut = IsCut-from substitutions are cut substitutions 0 refl (omega arith)

@@ -4,11 +4,11 @@ use Rattle.std.specs.Prelude.{Contains, filter, not, ◌==◌}
 use Rattle.std.specs.Int.{bit_at}
 use Rattle.std.proofs.lemmas.List.{length-map, drop-map}
 use Rattle.std.proofs.lemmas.Bool.Decides.{Decides-eqb}
-use Rattle.reading_kinds.specs.Readings.{Use, IsCut, HasKind}
+use Rattle.reading_kinds.specs.Readings.{Substitution, IsCut, HasKind}
 use Rattle.reading_kinds.specs.Laws.{lacking, LackingSpell}
 use Rattle.reading_kinds.proofs.ListMembers.{Contains-filter}
 
--- the test of a use that lacks a kind
+-- the test of a substitution that lacks a kind
 lacks_test : (n : ℕ) → (not (n == 1) ≡ true) ↔ (n ≢ 1)
 lacks_test n = let d = Decides-eqb n 1 in (
   λ h e. let x = d.1 e in let clash : true ≡ false = sym h ∙ ap not x in cc,
@@ -20,18 +20,18 @@ lacks_test n = let d = Decides-eqb n 1 in (
     by_bool false is h = refl
 
 module _ (k : ℕ) where
-  lacks : Use → Bool
+  lacks : Substitution → Bool
   lacks u = not (bit_at u.kinds k == 1)
 
-  IsCut-lacking : (cut : List Use) (uses : List (List Use)) → IsCut (lacking k uses) cut ↔ (IsCut uses cut × ¬ HasKind cut k)
+  IsCut-lacking : (cut : List Substitution) (substitutions : List (List Substitution)) → IsCut (lacking k substitutions) cut ↔ (IsCut substitutions cut × ¬ HasKind cut k)
   IsCut-lacking [] [] = (λ h. (tt, λ x. x), λ h. tt)
   IsCut-lacking [] (here ∷ later) = (λ h. absurd h, λ h. absurd h.0)
   IsCut-lacking (u ∷ cut) [] = (λ h. absurd h, λ h. absurd h.0)
   IsCut-lacking (u ∷ cut) (here ∷ later) =
-      let kept = Contains-filter (λ (v : Use). not (bit_at v.kinds k == 1)) here u in
+      let kept = Contains-filter (λ (v : Substitution). not (bit_at v.kinds k == 1)) here u in
       let t = lacks_test (bit_at u.kinds k) in
-      let size : length (lacking k later) ≡ length later = length-map later (filter (λ (v : Use). not (bit_at v.kinds k == 1))) in
-      let next : drop u.covers (lacking k (here ∷ later)) ≡ lacking k (drop u.covers (here ∷ later)) = drop-map (filter (λ (v : Use). not (bit_at v.kinds k == 1))) u.covers (here ∷ later) in
+      let size : length (lacking k later) ≡ length later = length-map later (filter (λ (v : Substitution). not (bit_at v.kinds k == 1))) in
+      let next : drop u.covers (lacking k (here ∷ later)) ≡ lacking k (drop u.covers (here ∷ later)) = drop-map (filter (λ (v : Substitution). not (bit_at v.kinds k == 1))) u.covers (here ∷ later) in
       let rest = IsCut-lacking cut (drop u.covers (here ∷ later)) in (
         λ h. let g = kept.0 h.0 in
             let r = rest.0 (subst (λ us. IsCut us cut) next h.2) in
@@ -44,7 +44,7 @@ module _ (k : ℕ) where
       )
 
 pub LackingSpell-holds : LackingSpell
-LackingSpell-holds uses w k = (
-  λ h. (h.0, (IsCut-lacking k h.0 uses).1 ((h.1).is_cut, h.2), (h.1).joined),
-  λ h. let g = (IsCut-lacking k h.0 uses).0 h.1 in (h.0, record { is_cut = g.0; joined = h.2 }, g.1),
+LackingSpell-holds substitutions w k = (
+  λ h. (h.0, (IsCut-lacking k h.0 substitutions).1 ((h.1).is_cut, h.2), (h.1).joined),
+  λ h. let g = (IsCut-lacking k h.0 substitutions).0 h.1 in (h.0, record { is_cut = g.0; joined = h.2 }, g.1),
 )

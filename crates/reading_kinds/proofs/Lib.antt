@@ -6,13 +6,13 @@ pub mod CutLemmas
 pub mod ReadingLemmas
 -- A step to a column.
 pub mod ColumnLemmas
--- The uses of a place, one after the other.
+-- The substitutions of a place, one after the other.
 pub mod TakenLemmas
 -- The first column, and what the last cell says.
 pub mod WordsLemmas
--- The uses of a label as they are kept.
+-- The substitutions of a label as they are kept.
 pub mod KeptLemmas
--- The uses of a label as they are found.
+-- The substitutions of a label as they are found.
 pub mod DraftLemmas
 -- Membership of lists.
 pub mod ListMembers

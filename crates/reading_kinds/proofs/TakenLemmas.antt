@@ -1,4 +1,4 @@
--- The uses of a place, one after the other.
+-- The substitutions of a place, one after the other.
 use Rattle.std.proofs.Common.{◌≡◌, ◌≢◌, ℕ, ◌+◌, ◌-◌, ◌<◌, ◌≤◌, ◌⊎◌, inl, inr, List, length, get_or, take, drop, sym, ap, ◌∙◌, subst, refl, arith}
 use Rattle.std.specs.Prelude.{Contains, Some, slice_get, unwrap_or, bytes_eq, true, false, min}
 use Rattle.std.proofs.lemmas.List.{length-take-le, length-drop}
@@ -9,7 +9,7 @@ use Rattle.std.specs.Prelude.{bit_and}
 use Rattle.std.proofs.Common.{◌^◌, ◌*◌, ◌%◌}
 use Rattle.std.proofs.lemmas.Nat.{and_le_l}
 use Rattle.std.proofs.lemmas.Nat.Bits.{bit_at-trailing_zeros, bit_at-zero, bit_at_clear_same, bit_at_clear_other}
-use Rattle.reading_kinds.specs.Readings.{Use, uses_at}
+use Rattle.reading_kinds.specs.Readings.{Substitution, substitutions_at}
 use Rattle.reading_kinds.specs.inner.Cells.{Cells, Tells, LeadsTo, IsRightAt, IsRight}
 use Rattle.reading_kinds.specs.inner.Cuts.{AllFit}
 use Rattle.reading_kinds.specs.inner.Columns.{Clears, AddsAfter, EndsWith, HasTaken, Grows, IsSoundAt}
@@ -28,7 +28,7 @@ Contains-slice_get xs k x e =
 pub slice_get-Contains : {X : Type 0} → (xs : List X) (x : X) → (h : Contains xs x) → slice_get xs h.0 ≡ Some x
 slice_get-Contains xs x h = slice_get-get_or xs h.0 x h.1 ∙ ap Some h.2
 
--- what a use adds is more
+-- what a substitution adds is more
 pub Grows-after : (old new : Cells) (from_column from_place kinds column place : ℕ) → AddsAfter old new from_column from_place kinds column place → Grows old new column
 Grows-after old new from_column from_place kinds column place adds = record {
   others = λ c other p m. (
@@ -38,14 +38,14 @@ Grows-after old new from_column from_place kinds column place adds = record {
   more = λ p m h. (adds column p m).1 (inl h);
 }
 
-module _ (uses : List (List Use)) (w : List ℕ) (now new : Cells) (column place : ℕ) (u : Use) (there : Contains (uses_at uses place) u) (some : 1 ≤ length u.points) (ends : EndsWith w column u.points) (adds : AddsAfter now new (column - length u.points) place u.kinds column (place + u.covers)) where
-  pub IsSoundAt-after : IsRight uses w now (column - 1) → Tells now (column - length u.points) place Reached → IsSoundAt uses w now column → IsSoundAt uses w new column
+module _ (substitutions : List (List Substitution)) (w : List ℕ) (now new : Cells) (column place : ℕ) (u : Substitution) (there : Contains (substitutions_at substitutions place) u) (some : 1 ≤ length u.points) (ends : EndsWith w column u.points) (adds : AddsAfter now new (column - length u.points) place u.kinds column (place + u.covers)) where
+  pub IsSoundAt-after : IsRight substitutions w now (column - 1) → Tells now (column - length u.points) place Reached → IsSoundAt substitutions w now column → IsSoundAt substitutions w new column
   IsSoundAt-after right at sound p m h = elim ((adds column p m).0 h) [
     | inl o ↦ sound p m o
     | inr a ↦
-        let right_before : IsRightAt uses w now (column - length u.points) = right (column - length u.points) (omega (arith, some)) in
-        let led = SomeLeads-after uses w now column place u there ends right_before at m a.2 in
-        (led.0, subst (λ x. LeadsTo uses x (take column w) led.0) (sym a.1) led.1, led.2)
+        let right_before : IsRightAt substitutions w now (column - length u.points) = right (column - length u.points) (omega (arith, some)) in
+        let led = SomeLeads-after substitutions w now column place u there ends right_before at m a.2 in
+        (led.0, subst (λ x. LeadsTo substitutions x (take column w) led.0) (sym a.1) led.1, led.2)
   ]
 
   pub HasTaken-after : HasTaken w new column place u
@@ -54,56 +54,56 @@ module _ (uses : List (List Use)) (w : List ℕ) (now new : Cells) (column place
       let grows = Grows-after now new (column - length u.points) place u.kinds column (place + u.covers) adds in
       (adds column (place + u.covers) m).1 (inr (refl, refl, TellsAfter-same new now (column - length u.points) place u.kinds (λ n h. (grows.others (column - length u.points) apart place n).0 h) m after))
 
--- the uses before this number at the place have been taken, as far as they have so many code points
-pub record TakenUpTo (uses : List (List Use)) (w : List ℕ) (first now : Cells) (column count place upto : ℕ) : Type 0 where
+-- the substitutions before this number at the place have been taken, as far as they have so many code points
+pub record TakenUpTo (substitutions : List (List Substitution)) (w : List ℕ) (first now : Cells) (column count place upto : ℕ) : Type 0 where
   pub grows : Grows first now column
-  pub sound : IsSoundAt uses w now column
-  pub taken : (k : ℕ) (u : Use) → k < upto → slice_get (uses_at uses place) k ≡ Some u → length u.points ≡ count → HasTaken w now column place u
+  pub sound : IsSoundAt substitutions w now column
+  pub taken : (k : ℕ) (u : Substitution) → k < upto → slice_get (substitutions_at substitutions place) k ≡ Some u → length u.points ≡ count → HasTaken w now column place u
 
-module _ (uses : List (List Use)) (w : List ℕ) (first : Cells) (column count place : ℕ) (some : 1 ≤ count) (enough : count ≤ column) (right : IsRight uses w first (column - 1)) (at : Tells first (column - count) place Reached) where
-  pub TakenUpTo-start : IsSoundAt uses w first column → TakenUpTo uses w first first column count place 0
+module _ (substitutions : List (List Substitution)) (w : List ℕ) (first : Cells) (column count place : ℕ) (some : 1 ≤ count) (enough : count ≤ column) (right : IsRight substitutions w first (column - 1)) (at : Tells first (column - count) place Reached) where
+  pub TakenUpTo-start : IsSoundAt substitutions w first column → TakenUpTo substitutions w first first column count place 0
   TakenUpTo-start sound = record { grows = Grows-refl first column; sound = sound; taken = λ k u l. absurd (omega (arith, l)) }
 
-  pub TakenUpTo-reached : (now : Cells) (upto : ℕ) → TakenUpTo uses w first now column count place upto → Tells now (column - count) place Reached
+  pub TakenUpTo-reached : (now : Cells) (upto : ℕ) → TakenUpTo substitutions w first now column count place upto → Tells now (column - count) place Reached
   TakenUpTo-reached now upto so_far =
       let apart : column - count ≢ column = λ e. omega (arith, some, enough, e) in
       ((so_far.grows).others (column - count) apart place Reached).1 at
 
-  -- the next use is taken
-  pub TakenUpTo-add : (now new : Cells) (number : ℕ) (u : Use) → slice_get (uses_at uses place) number ≡ Some u → length u.points ≡ count → EndsWith w column u.points → AddsAfter now new (column - count) place u.kinds column (place + u.covers) → TakenUpTo uses w first now column count place number → TakenUpTo uses w first new column count place (number + 1)
+  -- the next substitution is taken
+  pub TakenUpTo-add : (now new : Cells) (number : ℕ) (u : Substitution) → slice_get (substitutions_at substitutions place) number ≡ Some u → length u.points ≡ count → EndsWith w column u.points → AddsAfter now new (column - count) place u.kinds column (place + u.covers) → TakenUpTo substitutions w first now column count place number → TakenUpTo substitutions w first new column count place (number + 1)
   TakenUpTo-add now new number u is counted ends adds so_far =
       let adds_same : AddsAfter now new (column - length u.points) place u.kinds column (place + u.covers) = subst (λ n. AddsAfter now new (column - n) place u.kinds column (place + u.covers)) (sym counted) adds in
       let reached : Tells now (column - length u.points) place Reached = subst (λ n. Tells now (column - n) place Reached) (sym counted) (TakenUpTo-reached now number so_far) in
       let filled : 1 ≤ length u.points = omega (arith, some, counted) in
-      let there : Contains (uses_at uses place) u = Contains-slice_get (uses_at uses place) number u is in
+      let there : Contains (substitutions_at substitutions place) u = Contains-slice_get (substitutions_at substitutions place) number u is in
       let grows : Grows now new column = Grows-after now new (column - length u.points) place u.kinds column (place + u.covers) adds_same in
       record {
         grows = Grows-trans first now new column so_far.grows grows;
-        sound = IsSoundAt-after uses w now new column place u there filled ends adds_same (IsRight-grows uses w first now column (omega (arith, some, enough)) so_far.grows right) reached so_far.sound;
+        sound = IsSoundAt-after substitutions w now new column place u there filled ends adds_same (IsRight-grows substitutions w first now column (omega (arith, some, enough)) so_far.grows right) reached so_far.sound;
         taken = λ k v l is_v counted_v. elim (same_or_not k number) [
           | inl same ↦
-              let one : v ≡ u = some_same v u (sym is_v ∙ ap (slice_get (uses_at uses place)) same ∙ is) in
-              subst (λ x. HasTaken w new column place x) (sym one) (HasTaken-after uses w now new column place u there filled ends adds_same)
+              let one : v ≡ u = some_same v u (sym is_v ∙ ap (slice_get (substitutions_at substitutions place)) same ∙ is) in
+              subst (λ x. HasTaken w new column place x) (sym one) (HasTaken-after substitutions w now new column place u there filled ends adds_same)
           | inr other ↦ HasTaken-grows w now new column place v (omega (arith, some, counted_v)) grows (so_far.taken k v (omega (arith, l, other)) is_v counted_v)
         ];
       }
 
-  -- the next use doesn't stand at the end
-  pub TakenUpTo-skip : (now : Cells) (number : ℕ) (u : Use) → slice_get (uses_at uses place) number ≡ Some u → (length u.points ≡ count → EndsWith w column u.points → ⊥) → TakenUpTo uses w first now column count place number → TakenUpTo uses w first now column count place (number + 1)
+  -- the next substitution doesn't stand at the end
+  pub TakenUpTo-skip : (now : Cells) (number : ℕ) (u : Substitution) → slice_get (substitutions_at substitutions place) number ≡ Some u → (length u.points ≡ count → EndsWith w column u.points → ⊥) → TakenUpTo substitutions w first now column count place number → TakenUpTo substitutions w first now column count place (number + 1)
   TakenUpTo-skip now number u is apart so_far = record {
     grows = so_far.grows;
     sound = so_far.sound;
     taken = λ k v l is_v counted_v. elim (same_or_not k number) [
       | inl same ↦
-          let one : v ≡ u = some_same v u (sym is_v ∙ ap (slice_get (uses_at uses place)) same ∙ is) in
+          let one : v ≡ u = some_same v u (sym is_v ∙ ap (slice_get (substitutions_at substitutions place)) same ∙ is) in
           (λ ends. absurd (apart (ap (λ x. length x.points) (sym one) ∙ counted_v) (subst (λ x. EndsWith w column x.points) one ends)))
       | inr other ↦ so_far.taken k v (omega (arith, l, other)) is_v counted_v
     ];
   }
 
   -- all have been taken
-  pub TakenUpTo-all : (now : Cells) (u : Use) → TakenUpTo uses w first now column count place (length (uses_at uses place)) → Contains (uses_at uses place) u → length u.points ≡ count → HasTaken w now column place u
-  TakenUpTo-all now u so_far there counted = so_far.taken there.0 u there.1 (slice_get-Contains (uses_at uses place) u there) counted
+  pub TakenUpTo-all : (now : Cells) (u : Substitution) → TakenUpTo substitutions w first now column count place (length (substitutions_at substitutions place)) → Contains (substitutions_at substitutions place) u → length u.points ≡ count → HasTaken w now column place u
+  TakenUpTo-all now u so_far there counted = so_far.taken there.0 u there.1 (slice_get-Contains (substitutions_at substitutions place) u there) counted
 
 -- the test of the code points that stand at the end
 module _ (w points : List ℕ) (column count : ℕ) (enough : count ≤ column) (within : column ≤ length w) where
@@ -122,15 +122,15 @@ module _ (w points : List ℕ) (column count : ℕ) (enough : count ≤ column) 
       sym ends.1 ∙ ap (λ n. take n (drop (column - n) w)) counted ∙ ap (λ n. take n (drop (column - count) w)) (sym as_many) in
       let clash : true ≡ false = sym ((bytes_eq-Decides _ _).1 same) ∙ test in cc
 
--- the uses of so many code points have been taken, but for those at places of which the bit is left
-pub record PlacesTaken (uses : List (List Use)) (w : List ℕ) (first now : Cells) (column count left : ℕ) : Type 0 where
+-- the substitutions of so many code points have been taken, but for those at places of which the bit is left
+pub record PlacesTaken (substitutions : List (List Substitution)) (w : List ℕ) (first now : Cells) (column count left : ℕ) : Type 0 where
   pub grows : Grows first now column
-  pub sound : IsSoundAt uses w now column
+  pub sound : IsSoundAt substitutions w now column
   pub ahead : (p : ℕ) → p < 64 → bit_at left p ≡ 1 → Tells now (column - count) p Reached
-  pub taken : (p : ℕ) (u : Use) → Contains (uses_at uses p) u → length u.points ≡ count → (bit_at left p ≡ 1) ⊎ HasTaken w now column p u
+  pub taken : (p : ℕ) (u : Substitution) → Contains (substitutions_at substitutions p) u → length u.points ≡ count → (bit_at left p ≡ 1) ⊎ HasTaken w now column p u
 
-module _ (uses : List (List Use)) (w : List ℕ) (first : Cells) (column count : ℕ) (some : 1 ≤ count) (enough : count ≤ column) (small : column ≤ 63) (are : AllFit uses) (wide : length uses ≤ 63) where
-  pub PlacesTaken-start : (left : ℕ) → left ≡ get_or first.reached (column - count) 0 → IsSoundAt uses w first column → PlacesTaken uses w first first column count left
+module _ (substitutions : List (List Substitution)) (w : List ℕ) (first : Cells) (column count : ℕ) (some : 1 ≤ count) (enough : count ≤ column) (small : column ≤ 63) (are : AllFit substitutions) (wide : length substitutions ≤ 63) where
+  pub PlacesTaken-start : (left : ℕ) → left ≡ get_or first.reached (column - count) 0 → IsSoundAt substitutions w first column → PlacesTaken substitutions w first first column count left
   PlacesTaken-start left read sound = record {
     grows = Grows-refl first column;
     sound = sound;
@@ -163,16 +163,16 @@ module _ (uses : List (List Use)) (w : List ℕ) (first : Cells) (column count :
       | inr other ↦ sym (bit_at_clear_other w64 left lowest lowest_is.0 p l other) ∙ b
     ]
 
-    below : (p : ℕ) (u : Use) → Contains (uses_at uses p) u → p < length uses
+    below : (p : ℕ) (u : Substitution) → Contains (substitutions_at substitutions p) u → p < length substitutions
     below p u there = let is = are p u there in omega (arith, is.within, is.covers)
 
-    pub PlacesTaken-place : (now new : Cells) → Grows now new column → IsSoundAt uses w new column → ((u : Use) → Contains (uses_at uses lowest) u → length u.points ≡ count → HasTaken w new column lowest u) → PlacesTaken uses w first now column count left → PlacesTaken uses w first new column count rest
+    pub PlacesTaken-place : (now new : Cells) → Grows now new column → IsSoundAt substitutions w new column → ((u : Substitution) → Contains (substitutions_at substitutions lowest) u → length u.points ≡ count → HasTaken w new column lowest u) → PlacesTaken substitutions w first now column count left → PlacesTaken substitutions w first new column count rest
     PlacesTaken-place now new grows sound here so_far = record {
       grows = Grows-trans first now new column so_far.grows grows;
       sound = sound;
       ahead = λ p l b. (grows.others (column - count) (λ e. omega (arith, some, enough, e)) p Reached).1 (so_far.ahead p l (rest_bit p l b));
       taken = λ p u there counted. elim (same_or_not p lowest) [
-        | inl same ↦ inr (subst (λ x. HasTaken w new column x u) (sym same) (here u (subst (λ x. Contains (uses_at uses x) u) same there) counted))
+        | inl same ↦ inr (subst (λ x. HasTaken w new column x u) (sym same) (here u (subst (λ x. Contains (substitutions_at substitutions x) u) same there) counted))
         | inr other ↦ elim (so_far.taken p u there counted) [
           | inl one ↦ let inside = below p u there in inl (bit_at_clear_other w64 left lowest lowest_is.0 p (omega (arith, inside, wide)) other ∙ one)
           | inr done ↦ inr (HasTaken-grows w now new column p u (omega (arith, some, counted)) grows done)
@@ -180,27 +180,27 @@ module _ (uses : List (List Use)) (w : List ℕ) (first : Cells) (column count :
       ];
     }
 
-    pub PlacesTaken-skip : (now : Cells) → (lowest < length uses → ⊥) → PlacesTaken uses w first now column count left → PlacesTaken uses w first now column count rest
+    pub PlacesTaken-skip : (now : Cells) → (lowest < length substitutions → ⊥) → PlacesTaken substitutions w first now column count left → PlacesTaken substitutions w first now column count rest
     PlacesTaken-skip now past so_far =
         PlacesTaken-place now now (Grows-refl now column) so_far.sound (λ u there counted. absurd (past (below lowest u there))) so_far
 
-  pub PlacesTaken-all : (now : Cells) (left p : ℕ) (u : Use) → left ≡ 0 → PlacesTaken uses w first now column count left → Contains (uses_at uses p) u → length u.points ≡ count → HasTaken w now column p u
+  pub PlacesTaken-all : (now : Cells) (left p : ℕ) (u : Substitution) → left ≡ 0 → PlacesTaken substitutions w first now column count left → Contains (substitutions_at substitutions p) u → length u.points ≡ count → HasTaken w now column p u
   PlacesTaken-all now left p u none so_far there counted = elim (so_far.taken p u there counted) [
     | inl one ↦ absurd (let z = ap (λ x. bit_at x p) none ∙ bit_at-zero p in omega (arith, z, one))
     | inr done ↦ done
   ]
 
--- the uses of fewer code points than this have been taken
-pub record CountsTaken (uses : List (List Use)) (w : List ℕ) (first now : Cells) (column upto : ℕ) : Type 0 where
+-- the substitutions of fewer code points than this have been taken
+pub record CountsTaken (substitutions : List (List Substitution)) (w : List ℕ) (first now : Cells) (column upto : ℕ) : Type 0 where
   pub grows : Grows first now column
-  pub sound : IsSoundAt uses w now column
-  pub taken : (p : ℕ) (u : Use) → Contains (uses_at uses p) u → length u.points < upto → HasTaken w now column p u
+  pub sound : IsSoundAt substitutions w now column
+  pub taken : (p : ℕ) (u : Substitution) → Contains (substitutions_at substitutions p) u → length u.points < upto → HasTaken w now column p u
 
-module _ (uses : List (List Use)) (w : List ℕ) (first : Cells) (column : ℕ) (are : AllFit uses) where
-  pub CountsTaken-start : IsSoundAt uses w first column → CountsTaken uses w first first column 1
+module _ (substitutions : List (List Substitution)) (w : List ℕ) (first : Cells) (column : ℕ) (are : AllFit substitutions) where
+  pub CountsTaken-start : IsSoundAt substitutions w first column → CountsTaken substitutions w first first column 1
   CountsTaken-start sound = record { grows = Grows-refl first column; sound = sound; taken = λ p u there l. absurd (let some = (are p u there).some in omega (arith, l, some)) }
 
-  pub CountsTaken-count : (now new : Cells) (count : ℕ) → Grows now new column → IsSoundAt uses w new column → ((p : ℕ) (u : Use) → Contains (uses_at uses p) u → length u.points ≡ count → HasTaken w new column p u) → CountsTaken uses w first now column count → CountsTaken uses w first new column (count + 1)
+  pub CountsTaken-count : (now new : Cells) (count : ℕ) → Grows now new column → IsSoundAt substitutions w new column → ((p : ℕ) (u : Substitution) → Contains (substitutions_at substitutions p) u → length u.points ≡ count → HasTaken w new column p u) → CountsTaken substitutions w first now column count → CountsTaken substitutions w first new column (count + 1)
   CountsTaken-count now new count grows sound here so_far = record {
     grows = Grows-trans first now new column so_far.grows grows;
     sound = sound;
@@ -211,16 +211,16 @@ module _ (uses : List (List Use)) (w : List ℕ) (first : Cells) (column : ℕ) 
   }
 
   -- all have been taken
-  pub CountsTaken-all : (now : Cells) (longest upto : ℕ) → upto ≡ min longest column + 1 → ((p : ℕ) (u : Use) → Contains (uses_at uses p) u → length u.points ≤ longest) → CountsTaken uses w first now column upto → (p : ℕ) (u : Use) → Contains (uses_at uses p) u → HasTaken w now column p u
+  pub CountsTaken-all : (now : Cells) (longest upto : ℕ) → upto ≡ min longest column + 1 → ((p : ℕ) (u : Substitution) → Contains (substitutions_at substitutions p) u → length u.points ≤ longest) → CountsTaken substitutions w first now column upto → (p : ℕ) (u : Substitution) → Contains (substitutions_at substitutions p) u → HasTaken w now column p u
   CountsTaken-all now longest upto is long so_far p u there ends =
       so_far.taken p u there (omega (arith, is, ends.0, long p u there)) ends
 
 -- a column that was cleared
-module _ (uses : List (List Use)) (w : List ℕ) (old new : Cells) (column : ℕ) (clears : Clears old new column) where
-  pub IsSoundAt-cleared : IsSoundAt uses w new column
+module _ (substitutions : List (List Substitution)) (w : List ℕ) (old new : Cells) (column : ℕ) (clears : Clears old new column) where
+  pub IsSoundAt-cleared : IsSoundAt substitutions w new column
   IsSoundAt-cleared p m h = absurd (((clears column p m).0 h).0 refl)
 
-  pub IsRight-cleared : 1 ≤ column → IsRight uses w old (column - 1) → IsRight uses w new (column - 1)
+  pub IsRight-cleared : 1 ≤ column → IsRight substitutions w old (column - 1) → IsRight substitutions w new (column - 1)
   IsRight-cleared some right c l p m = (
     λ h. (right c l p m).0 ((clears c p m).0 h).1,
     λ h. (clears c p m).1 ((λ e. omega (arith, some, l, e)), (right c l p m).1 h),

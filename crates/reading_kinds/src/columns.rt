@@ -1,14 +1,14 @@
 //! Filling a board, column by column.
 ghost use Rattle.std.specs.Prelude.{◌≡◌, ℕ, ◌+◌, ◌-◌, ◌<◌, ◌≤◌, ◌↔◌, List, length, Contains, IsSome, IfSome};
 ghost use Rattle.std.specs.Int.{bit_at};
-ghost use Rattle.reading_kinds.specs.Readings.{Use, uses_at, UsesSpell, SomeHas, SomeLacks};
+ghost use Rattle.reading_kinds.specs.Readings.{Substitution, substitutions_at, SubstitutionsSpell, SomeHas, SomeLacks};
 ghost use Rattle.reading_kinds.specs.inner.Cells.{Tells, IsRight};
 ghost use Rattle.reading_kinds.specs.inner.Cells.Mark.{Reached};
 ghost use Rattle.reading_kinds.specs.inner.Cuts.{AllFit};
 ghost use Rattle.reading_kinds.specs.inner.Columns.{AddsAfter, Grows, HasTaken, IsSoundAt};
 
 use crate::board::{Board, Words};
-use crate::kept_uses::KeptUses;
+use crate::label_substitutions::LabelSubstitutions;
 
 /// A cell of a board.
 #[derive(Clone, Copy, Debug)]
@@ -18,7 +18,7 @@ struct Cell {
 }
 
 impl Board {
-    /// Adds to a cell what a cell of a column before tells, after a use of these kinds.
+    /// Adds to a cell what a cell of a column before tells, after a substitution of these kinds.
     fn add_after(&mut self, from: Cell, to: Cell, kinds: u64)
         requires column { to.column < 64 }
         requires place { to.place < 64 }
@@ -33,36 +33,36 @@ impl Board {
         self.add(to.column, to.place, words);
     }
 
-    /// Takes the uses of this many code points at a place into a column.
+    /// Takes the substitutions of this many code points at a place into a column.
     fn take_place(
         &mut self,
-        uses: &KeptUses,
+        substitutions: &LabelSubstitutions,
         label: &[u32],
         column: usize,
         count: usize,
         place: usize,
     )
-        requires uses { AllFit uses.now }
-        requires wide { length uses.now ≤ 63 }
+        requires substitutions { AllFit substitutions.now }
+        requires wide { length substitutions.now ≤ 63 }
         requires column { column ≤ 63 }
         requires within { column ≤ length label.now }
         requires some { 1 ≤ count }
         requires count { count ≤ column }
-        requires place { place < length uses.now }
+        requires place { place < length substitutions.now }
         requires reached { Tells self.old (column - count) place Reached }
-        requires right { IsRight uses.now label.now self.old (column - 1) }
-        requires sound { IsSoundAt uses.now label.now self.old column }
+        requires right { IsRight substitutions.now label.now self.old (column - 1) }
+        requires sound { IsSoundAt substitutions.now label.now self.old column }
         ensures grows { Grows self.old self.new column }
-        ensures sound { IsSoundAt uses.now label.now self.new column }
-        ensures taken { (u : Use) → Contains (uses_at uses.now place) u → length u.points ≡ count → HasTaken label.now self.new column place u }
+        ensures sound { IsSoundAt substitutions.now label.now self.new column }
+        ensures taken { (u : Substitution) → Contains (substitutions_at substitutions.now place) u → length u.points ≡ count → HasTaken label.now self.new column place u }
     {
         let from = Cell {
             column: column - count,
             place,
         };
         let end = &label[column - count..column];
-        for number in 0..uses.count_at(place) {
-            let found = uses.get(place, number);
+        for number in 0..substitutions.count_at(place) {
+            let found = substitutions.get(place, number);
             if found.points == end {
                 let to = Cell {
                     column,
@@ -73,67 +73,85 @@ impl Board {
         }
     }
 
-    /// Takes the uses of this many code points into a column.
-    fn take_count(&mut self, uses: &KeptUses, label: &[u32], column: usize, count: usize)
-        requires uses { AllFit uses.now }
-        requires wide { length uses.now ≤ 63 }
+    /// Takes the substitutions of this many code points into a column.
+    fn take_count(
+        &mut self,
+        substitutions: &LabelSubstitutions,
+        label: &[u32],
+        column: usize,
+        count: usize,
+    )
+        requires substitutions { AllFit substitutions.now }
+        requires wide { length substitutions.now ≤ 63 }
         requires column { column ≤ 63 }
         requires within { column ≤ length label.now }
         requires some { 1 ≤ count }
         requires count { count ≤ column }
-        requires right { IsRight uses.now label.now self.old (column - 1) }
-        requires sound { IsSoundAt uses.now label.now self.old column }
+        requires right { IsRight substitutions.now label.now self.old (column - 1) }
+        requires sound { IsSoundAt substitutions.now label.now self.old column }
         ensures grows { Grows self.old self.new column }
-        ensures sound { IsSoundAt uses.now label.now self.new column }
-        ensures taken { (p : ℕ) (u : Use) → Contains (uses_at uses.now p) u → length u.points ≡ count → HasTaken label.now self.new column p u }
+        ensures sound { IsSoundAt substitutions.now label.now self.new column }
+        ensures taken { (p : ℕ) (u : Substitution) → Contains (substitutions_at substitutions.now p) u → length u.points ≡ count → HasTaken label.now self.new column p u }
     {
         let mut left = self.reached_in(column - count);
         while left != 0 {
             let place = left.trailing_zeros() as usize;
             left &= !(1 << place);
-            // At the end of the label no use begins.
-            if place < uses.len() {
-                self.take_place(uses, label, column, count, place);
+            // At the end of the label no substitution begins.
+            if place < substitutions.len() {
+                self.take_place(substitutions, label, column, count, place);
             }
         }
     }
 
     /// Fills a column, when those before it are right.
-    fn fill_column(&mut self, uses: &KeptUses, label: &[u32], column: usize, longest: usize)
-        requires uses { AllFit uses.now }
-        requires wide { length uses.now ≤ 63 }
-        requires longest { (p : ℕ) (u : Use) → Contains (uses_at uses.now p) u → length u.points ≤ longest }
+    fn fill_column(
+        &mut self,
+        substitutions: &LabelSubstitutions,
+        label: &[u32],
+        column: usize,
+        longest: usize,
+    )
+        requires substitutions { AllFit substitutions.now }
+        requires wide { length substitutions.now ≤ 63 }
+        requires longest { (p : ℕ) (u : Substitution) → Contains (substitutions_at substitutions.now p) u → length u.points ≤ longest }
         requires column { column ≤ 63 }
         requires within { column ≤ length label.now }
         requires some { 1 ≤ column }
-        requires right { IsRight uses.now label.now self.old (column - 1) }
-        ensures { IsRight uses.now label.now self.new column }
+        requires right { IsRight substitutions.now label.now self.old (column - 1) }
+        ensures { IsRight substitutions.now label.now self.new column }
     {
         self.clear(column);
         for count in 1..longest.min(column) + 1 {
-            self.take_count(uses, label, column, count);
+            self.take_count(substitutions, label, column, count);
         }
     }
 
     /// Fills all columns of a label after the first ones, which stay as they are.
-    pub(crate) fn fill(&mut self, uses: &KeptUses, label: &[u32], kept: usize, longest: usize)
-        requires uses { AllFit uses.now }
-        requires wide { length uses.now ≤ 63 }
-        requires longest { (p : ℕ) (u : Use) → Contains (uses_at uses.now p) u → length u.points ≤ longest }
+    pub(crate) fn fill(
+        &mut self,
+        substitutions: &LabelSubstitutions,
+        label: &[u32],
+        kept: usize,
+        longest: usize,
+    )
+        requires substitutions { AllFit substitutions.now }
+        requires wide { length substitutions.now ≤ 63 }
+        requires longest { (p : ℕ) (u : Substitution) → Contains (substitutions_at substitutions.now p) u → length u.points ≤ longest }
         requires long { length label.now ≤ 63 }
         requires kept { kept ≤ length label.now }
-        requires right { IsRight uses.now label.now self.old kept }
-        ensures { IsRight uses.now label.now self.new (length label.now) }
+        requires right { IsRight substitutions.now label.now self.old kept }
+        ensures { IsRight substitutions.now label.now self.new (length label.now) }
     {
         for column in kept + 1..label.len() + 1 {
-            self.fill_column(uses, label, column, longest);
+            self.fill_column(substitutions, label, column, longest);
         }
     }
 
     /// Fills the first column: nothing is spelled yet, and no kind is there. The board is of the empty label then, for any
-    /// uses.
+    /// substitutions.
     pub(crate) fn begin(&mut self)
-        ensures { (uses : List (List Use)) (label : List ℕ) → AllFit uses → IsRight uses label self.new 0 }
+        ensures { (substitutions : List (List Substitution)) (label : List ℕ) → AllFit substitutions → IsRight substitutions label self.new 0 }
     {
         self.clear(0);
         let words = Words {
@@ -144,18 +162,18 @@ impl Board {
     }
 
     /// The words of a label, if it is spelled, when its columns are right.
-    pub(crate) fn words(&self, uses: &KeptUses, label: &[u32]) -> Option<Words>
-        requires uses { AllFit uses.now }
-        requires wide { length uses.now ≤ 63 }
+    pub(crate) fn words(&self, substitutions: &LabelSubstitutions, label: &[u32]) -> Option<Words>
+        requires substitutions { AllFit substitutions.now }
+        requires wide { length substitutions.now ≤ 63 }
         requires long { length label.now ≤ 63 }
-        requires right { IsRight uses.now label.now self.now (length label.now) }
-        ensures spelled { IsSome result ↔ UsesSpell uses.now label.now }
-        ensures has { IfSome result (λ words. (k : ℕ) → k < 64 → (bit_at words.has k ≡ 1) ↔ SomeHas uses.now label.now k) }
-        ensures lacks { IfSome result (λ words. (k : ℕ) → k < 64 → (bit_at words.lacks k ≡ 1) ↔ SomeLacks uses.now label.now k) }
+        requires right { IsRight substitutions.now label.now self.now (length label.now) }
+        ensures spelled { IsSome result ↔ SubstitutionsSpell substitutions.now label.now }
+        ensures has { IfSome result (λ words. (k : ℕ) → k < 64 → (bit_at words.has k ≡ 1) ↔ SomeHas substitutions.now label.now k) }
+        ensures lacks { IfSome result (λ words. (k : ℕ) → k < 64 → (bit_at words.lacks k ≡ 1) ↔ SomeLacks substitutions.now label.now k) }
     {
-        if !self.reaches(label.len(), uses.len()) {
+        if !self.reaches(label.len(), substitutions.len()) {
             return None;
         }
-        Some(self.words_at(label.len(), uses.len()))
+        Some(self.words_at(label.len(), substitutions.len()))
     }
 }

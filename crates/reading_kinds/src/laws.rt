@@ -1,7 +1,8 @@
-//! A law of the definitions that the contracts of this crate use. The function is empty, and its contract is the law.
+//! A law of the definitions that the contracts of this crate substitution. The function is empty, and its contract is
+//! the law.
 ghost use Rattle.reading_kinds.specs.Laws.{LackingSpell};
 
-/// Some reading lacks a kind exactly if the uses that lack it spell the label.
-pub fn lacking_uses_spell()
+/// Some reading lacks a kind exactly if the substitutions that lack it spell the label.
+pub fn lacking_substitutions_spell()
     ensures { LackingSpell }
 {}

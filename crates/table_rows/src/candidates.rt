@@ -1,4 +1,4 @@
-//! How many edges a net's search looks at, step by step. Which candidates come is tested in `spelled.rt`.
+//! How many edges a variant graph's search looks at, step by step. Which candidates come is tested in `spelled.rt`.
 use crate::nets::{SHARP_S, net};
 use std::alloc::Global;
 use std::test::Fail;

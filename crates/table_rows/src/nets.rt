@@ -1,4 +1,4 @@
-//! Nets and the tables that they are made of, for the tests of listings.
+//! Variant graphs and the tables that they are made of, for the tests of listings.
 ghost use Rattle.std.specs.Prelude.{All, IfOk};
 ghost use Rattle.idn_text.specs.Points.{AreScalarValues};
 
@@ -28,7 +28,7 @@ pub fn points(alloc: Global, text: &str) -> Result<Vec<u32>, AllocError> {
     Ok(points)
 }
 
-/// The net of a label, where it has 1 to 63 code points.
+/// The variant graph of a label, where it has 1 to 63 code points.
 pub fn net_of(alloc: Global, table: &Table, label: &[u32]) -> Result<Net, Fail>
     ensures { IfOk result (λ net. All AreScalarValues net.spelled) }
 {
@@ -38,7 +38,7 @@ pub fn net_of(alloc: Global, table: &Table, label: &[u32]) -> Result<Net, Fail>
     Ok(Net::build(alloc, table, label)?)
 }
 
-/// The net of a label in UTF-8 under the table that a text spells, where it has 1 to 63 code points.
+/// The variant graph of a label in UTF-8 under the table that a text spells, where it has 1 to 63 code points.
 pub fn net(alloc: Global, table: &[u8], label: &str) -> Result<Net, Fail>
     ensures { IfOk result (λ net. All AreScalarValues net.spelled) }
 {
@@ -49,7 +49,7 @@ pub fn net(alloc: Global, table: &[u8], label: &str) -> Result<Net, Fail>
     )
 }
 
-/// Labels with the number of edges of their nets, and the least length that they spell.
+/// Labels with the number of edges of their variant graphs, and the least length that they spell.
 const MEASURED: [(&[u8], &str, u64, usize); 4] = [
     (DOUBLED, "aa", 6, 2),
     (SHARP_S, "strasse", 10, 6),

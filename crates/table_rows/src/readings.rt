@@ -3,7 +3,7 @@ use crate::nets::{BLIND, SHARP_S, points};
 use reading_kinds::Readings;
 use std::alloc::Global;
 use std::test::Fail;
-use variant_list::uses_of;
+use variant_list::substitutions_of;
 use variant_table::{Notation, Table};
 
 /// The readings of a label of at most 63 code points under the table or ruleset of a text.
@@ -18,7 +18,7 @@ fn readings_of(
     if label.len() > 63 {
         return Err("a label of more than 63 code points".into());
     }
-    Ok(Readings::new(alloc, uses_of(alloc, &table, &label)?)?)
+    Ok(Readings::new(alloc, substitutions_of(alloc, &table, &label)?)?)
 }
 
 /// Whether readings spell a label. None of more than 63 code points is asked about.

@@ -1,4 +1,5 @@
-//! What a net lists is what the plain lister holds: over random tables, labels and texts, always the same ones.
+//! What a variant graph lists is what the plain lister holds: over random tables, labels and texts, always the same
+//! ones.
 ghost use Rattle.std.specs.Prelude.{◌≤◌, length};
 
 use crate::readings::spells;
@@ -8,7 +9,7 @@ use std::collections::BTreeSet;
 use std::process::Abort;
 use std::test::Fail;
 use variant_list::plain::all_labels;
-use variant_list::{Cursor, Net, NetFault, uses_of};
+use variant_list::{Cursor, Net, NetFault, substitutions_of};
 use variant_table::{Notation, Table};
 
 /// How many cases there are.
@@ -114,8 +115,8 @@ fn shortest_of(labels: &BTreeSet<Vec<u32>>) -> usize {
     shortest
 }
 
-/// The candidates that a net gives after the text are those of the plain lister, which also has its shortest label. The
-/// answer is how many candidates there are.
+/// The candidates that a variant graph gives after the text are those of the plain lister, which also has its shortest
+/// label. The answer is how many candidates there are.
 fn assert_listed(
     rt: &impl Abort,
     net: &Net,
@@ -152,8 +153,8 @@ fn assert_spelled(
     assert_eq!(rt; is_spelled, among, "{after:?}");
 }
 
-/// The readings of a label under a table spell the labels of the plain lister, and a listing lists them. There is no net
-/// exactly where the plain lister has no label.
+/// The readings of a label under a table spell the labels of the plain lister, and a listing lists them. There is no
+/// variant graph exactly where the plain lister has no label.
 fn assert_case(
     rt: &impl Abort,
     alloc: Global,
@@ -174,7 +175,7 @@ fn assert_case(
         }
     };
     assert!(rt; !labels.is_empty(), "{label:?}");
-    let readings = Readings::new(alloc, uses_of(alloc, table, label)?)?;
+    let readings = Readings::new(alloc, substitutions_of(alloc, table, label)?)?;
     assert_spelled(rt, readings, &labels, after);
     let mut cursor = Cursor::new(alloc, &net, after)?;
     Ok(assert_listed(rt, &net, &labels, &mut cursor, after))

@@ -1,4 +1,4 @@
-//! The accepted labels of a net: how tries are counted, what is passed over, and what lack of memory leaves.
+//! The accepted labels of a variant graph: how tries are counted, what is passed over, and what lack of memory leaves.
 ghost use Rattle.std.specs.Prelude.{◌≡◌, false, refl};
 ghost use Rattle.std.proofs.lemmas.Bool.{false≢true};
 ghost use Rattle.table_rows.specs.Filters.{begins_with, begins_otherwise, otherwise-refused};
@@ -9,15 +9,15 @@ use std::process::Abort;
 use std::test::Fail;
 use variant_list::{Cursor, Filter, Net, Step};
 
-/// Accepts the labels that begin with this code point, and calls no list hopeless.
+/// Accepts the labels that begin with this code point, and calls no prefix dead.
 struct BeginsWith(u32);
 
 impl Filter for BeginsWith {
     ghost accepted = { λ f v. begins_with f.0 v };
 
-    ghost lost = { λ _ _. false };
+    ghost dead = { λ _ _. false };
 
-    ghost lost_for_good = { λ _ _ _ lost. absurd (false≢true lost) };
+    ghost dead_for_good = { λ _ _ _ dead. absurd (false≢true dead) };
 
     fn accepts(&self, _alloc: Global, label: &[u32]) -> Result<bool, AllocError> {
         Ok(begins_with(self.0, label))
@@ -28,15 +28,15 @@ impl Filter for BeginsWith {
     }
 }
 
-/// Accepts the same labels, and calls all lists hopeless that begin differently.
+/// Accepts the same labels, and calls all prefixes dead that begin differently.
 struct OnlyAfter(u32);
 
 impl Filter for OnlyAfter {
     ghost accepted = { λ f v. begins_with f.0 v };
 
-    ghost lost = { λ f w. begins_otherwise f.0 w };
+    ghost dead = { λ f w. begins_otherwise f.0 w };
 
-    ghost lost_for_good = { λ f w z lost. otherwise-refused f.0 w z lost };
+    ghost dead_for_good = { λ f w z dead. otherwise-refused f.0 w z dead };
 
     fn accepts(&self, _alloc: Global, label: &[u32]) -> Result<bool, AllocError> {
         Ok(begins_with(self.0, label))
@@ -62,9 +62,9 @@ struct RefusedAt(u32);
 impl Filter for RefusedAt {
     ghost accepted = { λ _ _. false };
 
-    ghost lost = { λ _ _. false };
+    ghost dead = { λ _ _. false };
 
-    ghost lost_for_good = { λ _ _ _ _. refl };
+    ghost dead_for_good = { λ _ _ _ _. refl };
 
     fn accepts(&self, _alloc: Global, label: &[u32]) -> Result<bool, AllocError> {
         if begins_with(self.0, label) {
@@ -155,9 +155,9 @@ fn tries_are_counted(rt: HostRuntime) -> Result<(), Fail> {
     Ok(())
 }
 
-/// Labels with a hopeless beginning need no try, and the listing never stops at one.
+/// Labels with a dead prefix need no try, and the listing never stops at one.
 #[test]
-fn hopeless_beginnings_are_passed_over(rt: HostRuntime) -> Result<(), Fail> {
+fn dead_prefixes_are_passed_over(rt: HostRuntime) -> Result<(), Fail> {
     let rows = [
         (("", 0), ("spent", 0, "")),
         (("", 1), ("a--,spent", 0, "a--")),

@@ -24,7 +24,7 @@ use Rattle.valid_labels.specs.Causes.{held_places, is_misplaced, broken_from, fo
 use Rattle.valid_labels.proofs.CutLemmas.{EntryStands}
 use Rattle.valid_labels.proofs.LoneLemmas.{same-test}
 use Rattle.valid_labels.proofs.PartLemmas.{first-inside}
-use Rattle.valid_labels.proofs.PieceSteps.{InsideSteps}
+use Rattle.valid_labels.proofs.SegmentSteps.{InsideSteps}
 use Rattle.valid_labels.proofs.SegmentationLemmas.{IsInside, HoldsIn}
 use Rattle.valid_labels.proofs.SourceLemmas.{source-steps}
 use Rattle.valid_labels.proofs.TestLemmas.{sources-agree, inside-are, inside-filled, holds-tells, wanted-agrees, made-agrees}

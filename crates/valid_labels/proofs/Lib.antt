@@ -6,14 +6,14 @@ pub mod ReachedLemmas
 pub mod CutLemmas
 -- Segmentations, and what a label is made of.
 pub mod SegmentationLemmas
--- Pieces of a table as a list, and where they end.
-pub mod PieceLemmas
+-- Segments of a table as a list, and where they end.
+pub mod SegmentLemmas
 -- The tests that compute are true where the definitions hold.
 pub mod TestLemmas
 -- No rule of a table asks for the end of a label before '_'.
 pub mod RuleLemmas
--- What is lost stays so, and is never valid.
-pub mod LostLemmas
+-- What is dead stays so, and is never valid.
+pub mod DeadPrefixLemmas
 -- Labels that may be asked about, and tables that ask nothing.
 pub mod NothingLemmas
 -- Where sources and other sequences end that stand at a place.
@@ -22,14 +22,14 @@ pub mod EndLemmas
 pub mod StepLemmas
 -- Labels that are made of sources, by their steps; how far sources reach.
 pub mod SourceLemmas
--- The variants that are not made of sources, found one after the other; the longest piece.
+-- The variants that are not made of sources, found one after the other; the longest segment.
 pub mod LoneLemmas
 -- Demands, one after the other.
 pub mod DemandLemmas
--- Steps of the program as pieces that stand in a label.
-pub mod PieceSteps
--- Which beginnings of a label are lost, by two places.
-pub mod LostPlaces
+-- Steps of the program as segments that stand in a label.
+pub mod SegmentSteps
+-- Which beginnings of a label are dead, by two places.
+pub mod DeadPrefixPlaces
 -- Why a label may not be asked about, step by step.
 pub mod CauseLemmas
 -- The cause that is told is the one that there is.

@@ -1,4 +1,4 @@
--- The variants that are not made of sources, found one after the other; the longest piece.
+-- The variants that are not made of sources, found one after the other; the longest segment.
 use Rattle.std.proofs.Common.{◌≡◌, ℕ, zero, suc, ◌+◌, ◌<◌, ◌≤◌, ◌⊎◌, inl, inr, max, Bool, true, false, not, cond, List, [], ◌∷◌, ◌++◌, length, map, take, refl, sym, ap, subst, ◌∙◌, arith, append-nil, Vec, Global}
 use Rattle.std.specs.Prelude.{◌↔◌, IsTrue, Option, Some, None, slice_get, filter}
 use Rattle.std.specs.List.{AllByRecursion, Contains, flat_map}
@@ -9,9 +9,9 @@ use Rattle.label_patterns.specs.declared.condition.Condition.{Condition}
 use Rattle.variant_table.specs.Entries.{Entry, TableValue, replacements, sequences_in}
 use Rattle.variant_table.specs.WellFormed.{IsEntry, IsSequence, IsWellFormed}
 use Rattle.variant_table.proofs.MemberLemmas.{Contains-head, Contains-later, Contains-none, Contains-one}
-use Rattle.valid_labels.specs.Pieces.{IsPiece}
+use Rattle.valid_labels.specs.Segments.{IsSegment}
 use Rattle.valid_labels.specs.Tests.{is_covered, lone_variants}
-use Rattle.valid_labels.specs.inner.Pieces.{items_of, AreLone, IsLongest}
+use Rattle.valid_labels.specs.inner.Segments.{items_of, AreLone, IsLongest}
 use Rattle.variant_table.proofs.MemberLists.{Contains-map, all-members}
 use Rattle.valid_labels.proofs.TestLemmas.{lone-agree, variant-filled}
 use Rattle.variant_table.proofs.ListLemmas.{take_next}
@@ -91,12 +91,12 @@ most-more sequences s n is = record {
     ]
     by_size (inr e) = inr (s, Contains-append_right sequences (s ∷ []) s (Contains-head s []), sym e)
 
--- the sources, and the lone variants, are the sequences of pieces
+-- the sources, and the lone variants, are the sequences of segments
 pub most-longest : (table : TableValue) (lone : List (List ℕ)) (n : ℕ) → AreLone table lone → IsMost (map (λ (e : Entry). e.source) table.entries ++ lone) n → IsLongest table n
 most-longest table lone n are is =
     let sources : List (List ℕ) = map (λ (e : Entry). e.source) table.entries in
     record {
-      most = λ s c piece. is.most s (elim piece [
+      most = λ s c segment. is.most s (elim segment [
         | inl a ↦ Contains-append_left sources lone s ((Contains-map (λ (e : Entry). e.source) table.entries s).1 (a.0, a.1, sym a.2))
         | inr b ↦ Contains-append_right sources lone s ((are s).1 (b.0, b.1))
       ]);
@@ -116,15 +116,15 @@ lone-filled table sequences formed are = all-members (λ (v : Vec ℕ Global). 0
 pub are-lone : (table : TableValue) (sequences : List (List ℕ)) → IsWellFormed table.entries → sequences ≡ lone_variants table → AreLone table sequences
 are-lone table sequences formed e = subst (AreLone table) (sym e) (λ s. lone-agree table s formed)
 
--- a piece has 8 code points at most
+-- a segment has 8 code points at most
 sequence-short : (entries : List Entry) (e : Entry) (s : List ℕ) → IsWellFormed entries → Contains entries e → Contains (replacements e) s → length s ≤ 8
 sequence-short entries e s formed h r =
     let each : IsEntry e = All-contains IsEntry entries e formed.entries h in
     let one : IsSequence s = All-contains IsSequence (replacements e) s each.sequences r in
     one.short
 
-piece-short : (table : TableValue) (s : List ℕ) (c : Option Condition) → IsWellFormed table.entries → IsPiece table s c → length s ≤ 8
-piece-short table s c formed piece = elim piece [
+segment-short : (table : TableValue) (s : List ℕ) (c : Option Condition) → IsWellFormed table.entries → IsSegment table s c → length s ≤ 8
+segment-short table s c formed segment = elim segment [
   | inl a ↦ (let l = sequence-short table.entries a.0 a.0.source formed a.1 (Contains-head a.0.source (sequences_in a.0.variants)) in omega (arith, l, ap length a.2))
   | inr b ↦ sequence-short table.entries b.0.0 s formed b.0.1 (Contains-later b.0.0.source (sequences_in b.0.0.variants) s b.0.2)
 ]
@@ -132,5 +132,5 @@ piece-short table s c formed piece = elim piece [
 pub longest-short : (table : TableValue) (n : ℕ) → IsWellFormed table.entries → IsLongest table n → n ≤ 8
 longest-short table n formed is = elim is.one [
   | inl none ↦ omega (arith, none)
-  | inr one ↦ (let l = piece-short table one.0 one.1.0 formed one.1.1 in let e = one.1.2 in omega (arith, l, e))
+  | inr one ↦ (let l = segment-short table one.0 one.1.0 formed one.1.1 in let e = one.1.2 in omega (arith, l, e))
 ]

@@ -11,7 +11,7 @@ use Rattle.variant_table.specs.Entries.{Entry, TableValue, IsOfVersion, IsPlain,
 use Rattle.variant_table.specs.WellFormed.{AreOfVersion, IsTable}
 use Rattle.variant_table.proofs.MemberLemmas.{Contains-cases, Contains-head}
 use Rattle.variant_table.specs.Segmentations.{IsMadeOfSources, seen_under}
-use Rattle.valid_labels.specs.Pieces.{IsCovered, IsVariant, IsPiece, PieceStands}
+use Rattle.valid_labels.specs.Segments.{IsCovered, IsVariant, IsSegment, SegmentStands}
 use Rattle.valid_labels.specs.Demands.{IsMet, MeetsDemands}
 use Rattle.valid_labels.specs.Validity.{AsksNothing, IsAdmitted, IsSound, IsValid}
 use Rattle.valid_labels.specs.Tests.{is_covered}
@@ -23,13 +23,13 @@ use Rattle.valid_labels.proofs.PartLemmas.{first-part, first-inside, after-first
 use Rattle.valid_labels.proofs.SegmentationLemmas.{IsInside, HoldsIn, segmentation-cut, segmentation-free}
 use Rattle.valid_labels.proofs.TestLemmas.{rounds-map, covered-agrees}
 
--- an entry that stands in a label is a piece that does
-entry-stands : (table : TableValue) (label : List ℕ) (i j : ℕ) → EntryStands (IsInside table) (HoldsIn table label) label i j → PieceStands table label i j
+-- an entry that stands in a label is a segment that does
+entry-stands : (table : TableValue) (label : List ℕ) (i j : ℕ) → EntryStands (IsInside table) (HoldsIn table label) label i j → SegmentStands table label i j
 entry-stands table label i j h = (h.0.condition, (h.2, h.3, inl (h.0, h.1.0, sym h.4, refl)), h.5)
 
 pub admitted-valid : AdmittedAreValid
 admitted-valid table label h = record {
-  cut = rounds-map (EntryStands (IsInside table) (HoldsIn table label) label) (PieceStands table label) (entry-stands table label) 0 (length label)
+  cut = rounds-map (EntryStands (IsInside table) (HoldsIn table label) label) (SegmentStands table label) (entry-stands table label) 0 (length label)
       (cut-steps (IsInside table) (HoldsIn table label) label ((segmentation-cut table label).0 h.cut));
   met = h.met;
 }
@@ -44,24 +44,24 @@ module _ (table : TableValue) (label : List ℕ) (sound : IsSound table) (nothin
   no-condition e h = All-contains (λ (x : Entry). x.condition ≡ None) table.entries e (All-from_recursion (λ (x : Entry). x.condition ≡ None) table.entries nothing.conditions) h
 
   -- a source that stands in the label
-  source-stands : (e : Entry) (i j : ℕ) → Contains table.entries e → i ≤ j → j ≤ length label → slice_range label i j ≡ e.source → PieceStands table label i j
+  source-stands : (e : Entry) (i j : ℕ) → Contains table.entries e → i ≤ j → j ≤ length label → slice_range label i j ≡ e.source → SegmentStands table label i j
   source-stands e i j h l m is = (None, (l, m, inl (e, h, sym is, no-condition e h)), tt)
 
   -- sources one after the other
   sources-lead : (es : List Entry) (place : ℕ) (rest : List ℕ) → AllByRecursion (Contains table.entries) es → place ≤ length label → drop place label ≡ flat_map (λ (e : Entry). e.source) es ++ rest
-      → Rounds (PieceStands table label) 0 place → Rounds (PieceStands table label) 0 (place + length (flat_map (λ (e : Entry). e.source) es))
-  sources-lead [] place rest each l is rounds = subst (Rounds (PieceStands table label) 0) (omega arith) rounds
+      → Rounds (SegmentStands table label) 0 place → Rounds (SegmentStands table label) 0 (place + length (flat_map (λ (e : Entry). e.source) es))
+  sources-lead [] place rest each l is rounds = subst (Rounds (SegmentStands table label) 0) (omega arith) rounds
   sources-lead (e ∷ es) place rest each l is rounds =
       let later : List ℕ = flat_map (λ (x : Entry). x.source) es in
       let cut : drop place label ≡ e.source ++ (later ++ rest) = is ∙ append_assoc e.source later rest in
       let inside = first-inside label place e.source (later ++ rest) l cut in
       let step = source-stands e place (place + length e.source) each.0 (omega arith) inside (first-part label place e.source (later ++ rest) cut) in
-      subst (Rounds (PieceStands table label) 0) (let n = length-append e.source later in omega (arith, n))
+      subst (Rounds (SegmentStands table label) 0) (let n = length-append e.source later in omega (arith, n))
       (sources-lead es (place + length e.source) rest each.1 inside (after-first label place e.source (later ++ rest) cut) (one_more place (place + length e.source) rounds step))
 
   -- a source or a variant
-  part-leads : (s rest : List ℕ) (place : ℕ) → Contains (flat_map replacements table.entries) s → place ≤ length label → drop place label ≡ s ++ rest → Rounds (PieceStands table label) 0 place
-      → Rounds (PieceStands table label) 0 (place + length s)
+  part-leads : (s rest : List ℕ) (place : ℕ) → Contains (flat_map replacements table.entries) s → place ≤ length label → drop place label ≡ s ++ rest → Rounds (SegmentStands table label) 0 place
+      → Rounds (SegmentStands table label) 0 (place + length s)
   part-leads s rest place h l is rounds =
       let e = (Contains-flat_map replacements table.entries s).0 h in
       let inside = first-inside label place s rest l is in
@@ -72,21 +72,21 @@ module _ (table : TableValue) (label : List ℕ) (sound : IsSound table) (nothin
       ]
     where
       by_test : (b : Bool) → is_covered table s ≡ b → IsTrue (is_covered table s) ↔ IsCovered table s → IsVariant table s → place + length s ≤ length label → slice_range label place (place + length s) ≡ s
-          → Rounds (PieceStands table label) 0 (place + length s)
+          → Rounds (SegmentStands table label) 0 (place + length s)
       by_test true e agrees variant inside at =
           let es = agrees.0 e in
-          subst (λ n. Rounds (PieceStands table label) 0 (place + n)) (ap length es.2)
+          subst (λ n. Rounds (SegmentStands table label) 0 (place + n)) (ap length es.2)
           (sources-lead es.0 place rest es.1 l (is ∙ ap (λ t. t ++ rest) (sym es.2)) rounds)
       by_test false e agrees variant inside at =
           let lone : IsCovered table s → ⊥ = λ c. (let f : true ≡ false = sym (agrees.1 c) ∙ e in cc) in
-          one_more place (place + length s) rounds (None, (omega arith, inside, subst (λ t. IsPiece table t None) (sym at) (inr (variant, lone, refl))), tt)
+          one_more place (place + length s) rounds (None, (omega arith, inside, subst (λ t. IsSegment table t None) (sym at) (inr (variant, lone, refl))), tt)
 
   parts-lead : (parts : List (List ℕ)) (place : ℕ) → AllByRecursion (Contains (flat_map replacements table.entries)) parts → place ≤ length label → drop place label ≡ flat_map (λ (s : List ℕ). s) parts
-      → Rounds (PieceStands table label) 0 place → Rounds (PieceStands table label) 0 (length label)
+      → Rounds (SegmentStands table label) 0 place → Rounds (SegmentStands table label) 0 (length label)
   parts-lead [] place each l is rounds =
       let d : length (drop place label) ≡ length label - place = length-drop place label in
       let none : length (drop place label) ≡ 0 = ap length is in
-      subst (Rounds (PieceStands table label) 0) (omega (arith, d, none, l)) rounds
+      subst (Rounds (SegmentStands table label) 0) (omega (arith, d, none, l)) rounds
   parts-lead (s ∷ parts) place each l is rounds =
       let rest : List ℕ = flat_map (λ (t : List ℕ). t) parts in
       parts-lead parts (place + length s) each.1 (first-inside label place s rest l is) (after-first label place s rest is) (part-leads s rest place each.0 l is rounds)

@@ -2,7 +2,7 @@
 use Rattle.std.proofs.Common.{◌≡◌, ℕ, ◌+◌, List, [], ◌∷◌, length, sym, subst}
 use Rattle.std.specs.Prelude.{◌↔◌, Option, None, false, Contains}
 use Rattle.label_patterns.specs.declared.condition.Condition.{Condition}
-use Rattle.valid_labels.specs.Pieces.{IsCovered}
+use Rattle.valid_labels.specs.Segments.{IsCovered}
 use Rattle.variant_table.proofs.MemberLists.{all-map}
 use Rattle.valid_labels.proofs.CutLemmas.{AllAsked, IsCut}
 use Rattle.std.specs.List.{AllByRecursion}

@@ -24,7 +24,7 @@ use Rattle.variant_table.proofs.MemberLemmas.{Contains-none, Contains-one}
 use Rattle.valid_labels.specs.declared.single_places.SinglePlaces.{SinglePlaces}
 use Rattle.valid_labels.specs.declared.cutting.SingleSteps.{SingleSteps}
 use Rattle.variant_table.specs.Segmentations.{seen_under}
-use Rattle.valid_labels.specs.inner.Pieces.{AreLone, NoneBegins}
+use Rattle.valid_labels.specs.inner.Segments.{AreLone, NoneBegins}
 use Rattle.valid_labels.specs.inner.Singles.{asked_at, places_of_kind, AreHoldingSteps, AreSingles, IsSingle}
 use Rattle.valid_labels.specs.inner.Steps.{AreSteps, StepIs}
 use Rattle.valid_labels.proofs.SegmentationLemmas.{HoldsIn}
@@ -34,8 +34,8 @@ use Rattle.valid_labels.proofs.StepLemmas.{single-steps}
 pub single-point : (table : TableValue) (lone : List (List ℕ)) (point : ℕ) (e : Entry) → IsWellFormed table.entries → AreLone table lone → NoneBegins lone point → sources.IsSingle table.entries point e → IsSingle table point e.condition
 single-point table lone point e formed are none single = record {
   formed = formed;
-  piece = inl (e, single.in_table, single.alone, refl);
-  alone = λ rest c piece. elim piece [
+  segment = inl (e, single.in_table, single.alone, refl);
+  alone = λ rest c segment. elim segment [
     | inl a ↦ by_rest rest c a.0 a.1 a.2 a.3
     | inr b ↦ absurd (none rest ((are (point ∷ rest)).1 (b.0, b.1)))
   ];
@@ -59,7 +59,7 @@ steps-of A free table label lone places steps are singles known leading i h =
         λ step. let r = (is j).0 step in (r.0, k.2 r.1),
         λ r.
             let o = leading i r.1 in
-            let same : o.0 ≡ k.0 = (s.1.alone [] o.0 (singles i o.0 o.1).1.piece).1 in
+            let same : o.0 ≡ k.0 = (s.1.alone [] o.0 (singles i o.0 o.1).1.segment).1 in
             (is j).1 (r.0, subst (λ c. A c i (i + 1)) same o.2),
       ),
     )

@@ -10,7 +10,7 @@ use Rattle.variant_table.specs.Entries.{Entry, TableValue}
 use Rattle.variant_table.specs.WellFormed.{IsWellFormed}
 use Rattle.variant_table.proofs.MemberLemmas.{Contains-none}
 use Rattle.variant_table.specs.Segmentations.{IsMadeOfSources}
-use Rattle.valid_labels.specs.Pieces.{IsCovered}
+use Rattle.valid_labels.specs.Segments.{IsCovered}
 use Rattle.valid_labels.specs.Tests.{is_made_of_sources}
 use Rattle.valid_labels.specs.Furthest.{furthest, furthest_within, IsFurthest, FurthestIsTold}
 use Rattle.valid_labels.specs.inner.Steps.{StepIs}

@@ -5,10 +5,10 @@ use Rattle.std.proofs.lemmas.List.{drop_more}
 use Rattle.label_patterns.specs.declared.condition.Condition.{Condition}
 use Rattle.label_patterns.proofs.PlaceLemmas.{not-in-none}
 use Rattle.variant_table.specs.Entries.{TableValue}
-use Rattle.valid_labels.specs.Pieces.{IsPiece}
-use Rattle.valid_labels.specs.inner.Pieces.{AreLone}
+use Rattle.valid_labels.specs.Segments.{IsSegment}
+use Rattle.valid_labels.specs.inner.Segments.{AreLone}
 use Rattle.valid_labels.specs.inner.Singles.{IsSingle}
-use Rattle.valid_labels.proofs.PieceSteps.{step-piece}
+use Rattle.valid_labels.proofs.SegmentSteps.{step-segment}
 use Rattle.std.specs.List.{AllByRecursion, slice_range}
 use Rattle.std.proofs.lemmas.List.Elements.{All-contains, All-from_recursion}
 use Rattle.label_patterns.specs.Places.{Has}
@@ -18,7 +18,7 @@ use Rattle.variant_table.proofs.MemberLemmas.{Contains-head}
 use Rattle.valid_labels.specs.inner.Steps.{SourceIs, SequenceIs, StepIs}
 use Rattle.variant_table.proofs.MemberLists.{Contains-map}
 use Rattle.valid_labels.proofs.PartLemmas.{part-length, first-part}
-use Rattle.valid_labels.proofs.TestLemmas.{sequence-filled, piece-filled}
+use Rattle.valid_labels.proofs.TestLemmas.{sequence-filled, segment-filled}
 
 abbrev pub items_of : List (Vec ℕ Global) → List (List ℕ)
 items_of vs = map (λ (v : Vec ℕ Global). v.items) vs
@@ -63,7 +63,7 @@ single-ends R Leading place ends leading tells with_end is j = (
 pub single-steps : (A : Option Condition → ℕ → ℕ → Type 0) (free : (i j : ℕ) → A None i j) (table : TableValue) (label : List ℕ) (lone : List (List ℕ)) → AreLone table lone
     → (i : ℕ) (d : Option Condition) → i < length label → IsSingle table (get_or label i 0) d → (j : ℕ) → StepIs (λ e a b. A e.condition a b) table.entries lone label i j ↔ ((j ≡ i + 1) × A d i (i + 1))
 single-steps A free table label lone are i d l single j =
-    let same = step-piece A free table label lone are i j in
+    let same = step-segment A free table label lone are i j in
     let here : drop i label ≡ get_or label i 0 ∷ drop (i + 1) label = drop_more label i 0 l in
     let one : slice_range label i (i + 1) ≡ get_or label i 0 ∷ [] = first-part label i (get_or label i 0 ∷ []) (drop (i + 1) label) here in (
       λ step.
@@ -72,7 +72,7 @@ single-steps A free table label lone are i d l single j =
           (at.0, subst (λ n. A d i n) at.0 (subst (λ c. A c i j) at.1 p.2)),
       λ h. same.1 (
         d,
-        ((let e = h.0 in omega (arith, e)), (let e = h.0 in omega (arith, e, l)), subst (λ n. IsPiece table (slice_range label i n) d) (sym h.0) (subst (λ s. IsPiece table s d) (sym one) single.piece)),
+        ((let e = h.0 in omega (arith, e)), (let e = h.0 in omega (arith, e, l)), subst (λ n. IsSegment table (slice_range label i n) d) (sym h.0) (subst (λ s. IsSegment table s d) (sym one) single.segment)),
         subst (λ n. A d i n) (sym h.0) h.1,
       ),
     )
@@ -85,12 +85,12 @@ single-steps A free table label lone are i d l single j =
         by_size zero e = inl (ap (λ m. take m (drop a label)) e)
         by_size (suc n) e = inr (take n (drop (a + 1) label), ap (λ m. take m (drop a label)) e ∙ ap (take (suc n)) (drop_more label a 0 inside))
 
-    by_end : (b : ℕ) (c : Option Condition) → i ≤ b → b ≤ length label → IsPiece table (slice_range label i b) c
+    by_end : (b : ℕ) (c : Option Condition) → i ≤ b → b ≤ length label → IsSegment table (slice_range label i b) c
         → (slice_range label i b ≡ []) ⊎ ((rest : List ℕ) × (slice_range label i b ≡ get_or label i 0 ∷ rest)) → (b ≡ i + 1) × (c ≡ d)
-    by_end b c le m piece (inl none) =
-        absurd (let some = piece-filled table (slice_range label i b) c single.formed piece in let z = ap length none in omega (arith, some, z))
-    by_end b c le m piece (inr more) =
-        let alone = single.alone more.0 c (subst (λ s. IsPiece table s c) more.1 piece) in
+    by_end b c le m segment (inl none) =
+        absurd (let some = segment-filled table (slice_range label i b) c single.formed segment in let z = ap length none in omega (arith, some, z))
+    by_end b c le m segment (inr more) =
+        let alone = single.alone more.0 c (subst (λ s. IsSegment table s c) more.1 segment) in
         let size = part-length label i b le m in
         let whole : length (slice_range label i b) ≡ 1 = ap length (more.1 ∙ ap (λ r. get_or label i 0 ∷ r) alone.0) in
         (omega (arith, size, whole, le), alone.1)

@@ -18,14 +18,14 @@ use Rattle.variant_table.specs.Entries.{Entry, TableValue, replacements, sequenc
 use Rattle.variant_table.specs.WellFormed.{IsEntry, IsSequence, IsWellFormed}
 use Rattle.variant_table.proofs.MemberLemmas.{Contains-head, Contains-later}
 use Rattle.variant_table.specs.Segmentations.{IsMadeOfSources, HasSegmentation, seen_under, inside_of}
-use Rattle.valid_labels.specs.Pieces.{IsCovered, IsVariant, IsPiece, PieceIs, IsMadeOfPieces, MayReach}
+use Rattle.valid_labels.specs.Segments.{IsCovered, IsVariant, IsSegment, SegmentIs, IsMadeOfSegments, MayReach}
 use Rattle.valid_labels.specs.Demands.{IsMet, IsWanted, MeetsDemands}
-use Rattle.valid_labels.specs.Validity.{AsksNothing, IsAdmitted, IsValid, IsRefused, LeadsNowhere, IsLost}
-use Rattle.valid_labels.specs.Tests.{Piece, cut_places, not_asked, sources_of, is_covered, lone_variants, pieces_of, holds_in, may_hold_in, is_made_of_sources, has_segmentation, is_made_of_pieces, may_reach, is_wanted, are_met, meets_demands, is_admitted, is_valid, is_never, is_refused, leads_past, one_up_to, leads_on, is_lost, asks_nothing}
+use Rattle.valid_labels.specs.Validity.{AsksNothing, IsAdmitted, IsValid, IsRefused, LeadsNowhere, IsDeadUnder}
+use Rattle.valid_labels.specs.Tests.{Segment, cut_places, not_asked, sources_of, is_covered, lone_variants, segments_of, holds_in, may_hold_in, is_made_of_sources, has_segmentation, is_made_of_segments, may_reach, is_wanted, are_met, meets_demands, is_admitted, is_valid, is_never, is_refused, leads_past, one_up_to, leads_on, is_dead_under, asks_nothing}
 use Rattle.valid_labels.specs.Laws.{TestsAgree}
 use Rattle.valid_labels.proofs.CutLemmas.{EntryStands, cut-steps, steps-cut}
 use Rattle.variant_table.proofs.MemberLists.{Contains-map, Contains-flat_map, Contains-filter, not-true, any-one, all-members}
-use Rattle.valid_labels.proofs.PieceLemmas.{OneStands, IsFilled, Tells, cut-places-are}
+use Rattle.valid_labels.proofs.SegmentLemmas.{OneStands, IsFilled, Tells, cut-places-are}
 use Rattle.valid_labels.proofs.SegmentationLemmas.{IsInside, NotAsked, HoldsIn, made-cut, segmentation-cut, covered-cut}
 
 pub rounds-map : (R S : ℕ → ℕ → Type 0) → ((i j : ℕ) → R i j → S i j) → (i j : ℕ) → Rounds R i j → Rounds S i j
@@ -46,16 +46,16 @@ AreOf entries es = (e : Entry) → Contains es e → Contains entries e
 
 pub sources-filled : (entries es : List Entry) → IsWellFormed entries → AreOf entries es → AllByRecursion IsFilled (sources_of es)
 sources-filled entries es formed of = all-members IsFilled (sources_of es) (λ p h.
-    let g = (Contains-map (λ (e : Entry). let q : Piece = record { points = e.source; condition = e.condition } in q) es p).0 h in
+    let g = (Contains-map (λ (e : Entry). let q : Segment = record { points = e.source; condition = e.condition } in q) es p).0 h in
     subst IsFilled (sym g.2) (sequence-filled entries g.0 g.0.source formed (of g.0 g.1) (Contains-head g.0.source (sequences_in g.0.variants))))
 
 -- sources stand where their entries do
 sources-stand : (A : Option Condition → ℕ → ℕ → Type 0) (Q : Entry → Type 0) (es : List Entry) (label : List ℕ) → ((e : Entry) → Contains es e ↔ Q e) → (i j : ℕ) → OneStands A (sources_of es) label i j ↔ EntryStands Q A label i j
 sources-stand A Q es label are i j =
-    let f : Entry → Piece = λ e. record { points = e.source; condition = e.condition } in (
+    let f : Entry → Segment = λ e. record { points = e.source; condition = e.condition } in (
       λ h.
           let g = (Contains-map f es h.0).0 h.1 in
-          (g.0, (are g.0).0 g.1, h.2, h.3, h.4 ∙ ap (λ (q : Piece). q.points) g.2, subst (λ (q : Piece). A q.condition i j) g.2 h.5),
+          (g.0, (are g.0).0 g.1, h.2, h.3, h.4 ∙ ap (λ (q : Segment). q.points) g.2, subst (λ (q : Segment). A q.condition i j) g.2 h.5),
       λ h. (f h.0, (Contains-map f es (f h.0)).1 (h.0, (are h.0).1 h.1, refl), h.2, h.3, h.4, h.5),
     )
 
@@ -111,7 +111,7 @@ segmentation-agrees table label formed =
       λ h. s.1 (cut-steps (IsInside table) (HoldsIn table label) label (c.0 h)),
     )
 
--- ---- pieces
+-- ---- segments
 
 pub lone-agree : (table : TableValue) (s : List ℕ) → IsWellFormed table.entries → Contains (lone_variants table) s ↔ (IsVariant table s × (IsCovered table s → ⊥))
 lone-agree table s formed =
@@ -120,72 +120,72 @@ lone-agree table s formed =
     let n = not-false (is_covered table s) (IsCovered table s) (covered-agrees table s formed) in
     (λ h. (let g = f.0 h in (m.0 g.0, n.0 g.1)), λ h. f.1 (m.1 h.0, n.1 h.1))
 
-piece-is : (p : Piece) (s : List ℕ) (c : Option Condition) → s ≡ p.points → c ≡ p.condition → p ≡ (let q : Piece = record { points = s; condition = c } in q)
-piece-is p s c e f =
-    ap (λ t. let q : Piece = record { points = t; condition = p.condition } in q) (sym e) ∙ ap (λ d. let q : Piece = record { points = s; condition = d } in q) (sym f)
+segment-is : (p : Segment) (s : List ℕ) (c : Option Condition) → s ≡ p.points → c ≡ p.condition → p ≡ (let q : Segment = record { points = s; condition = c } in q)
+segment-is p s c e f =
+    ap (λ t. let q : Segment = record { points = t; condition = p.condition } in q) (sym e) ∙ ap (λ d. let q : Segment = record { points = s; condition = d } in q) (sym f)
 
-pub pieces-agree : (table : TableValue) (p : Piece) → IsWellFormed table.entries → Contains (pieces_of table) p ↔ IsPiece table p.points p.condition
-pieces-agree table p formed =
-    let f : Entry → Piece = λ e. record { points = e.source; condition = e.condition } in
-    let g : List ℕ → Piece = λ s. record { points = s; condition = None } in
+pub segments-agree : (table : TableValue) (p : Segment) → IsWellFormed table.entries → Contains (segments_of table) p ↔ IsSegment table p.points p.condition
+segments-agree table p formed =
+    let f : Entry → Segment = λ e. record { points = e.source; condition = e.condition } in
+    let g : List ℕ → Segment = λ s. record { points = s; condition = None } in
     let first = Contains-map f table.entries p in
     let last = Contains-map g (lone_variants table) p in (
       λ h. elim (Contains-append_cases (sources_of table.entries) (map g (lone_variants table)) p h) [
-        | inl a ↦ (let e = first.0 a in inl (e.0, e.1, ap (λ (q : Piece). q.points) (sym e.2), ap (λ (q : Piece). q.condition) (sym e.2)))
+        | inl a ↦ (let e = first.0 a in inl (e.0, e.1, ap (λ (q : Segment). q.points) (sym e.2), ap (λ (q : Segment). q.condition) (sym e.2)))
         | inr b ↦
             let s = last.0 b in
             let l = (lone-agree table s.0 formed).0 s.1 in
-            let same : s.0 ≡ p.points = ap (λ (q : Piece). q.points) (sym s.2) in
-            inr (subst (IsVariant table) same l.0, (λ c. l.1 (subst (IsCovered table) (sym same) c)), ap (λ (q : Piece). q.condition) s.2)
+            let same : s.0 ≡ p.points = ap (λ (q : Segment). q.points) (sym s.2) in
+            inr (subst (IsVariant table) same l.0, (λ c. l.1 (subst (IsCovered table) (sym same) c)), ap (λ (q : Segment). q.condition) s.2)
       ],
       λ h. elim h [
-        | inl a ↦ Contains-append_left (sources_of table.entries) (map g (lone_variants table)) p (first.1 (a.0, a.1, piece-is p a.0.source a.0.condition a.2 a.3))
+        | inl a ↦ Contains-append_left (sources_of table.entries) (map g (lone_variants table)) p (first.1 (a.0, a.1, segment-is p a.0.source a.0.condition a.2 a.3))
         | inr b ↦ Contains-append_right (sources_of table.entries) (map g (lone_variants table)) p
-            (last.1 (p.points, (lone-agree table p.points formed).1 (b.0, b.1), piece-is p p.points None refl (sym b.2)))
+            (last.1 (p.points, (lone-agree table p.points formed).1 (b.0, b.1), segment-is p p.points None refl (sym b.2)))
       ],
     )
 
 pub variant-filled : (table : TableValue) (s : List ℕ) → IsWellFormed table.entries → IsVariant table s → 0 < length s
 variant-filled table s formed v = sequence-filled table.entries v.0 s formed v.1 (Contains-later v.0.source (sequences_in v.0.variants) s v.2)
 
-pub piece-filled : (table : TableValue) (s : List ℕ) (c : Option Condition) → IsWellFormed table.entries → IsPiece table s c → 0 < length s
-piece-filled table s c formed piece = elim piece [
+pub segment-filled : (table : TableValue) (s : List ℕ) (c : Option Condition) → IsWellFormed table.entries → IsSegment table s c → 0 < length s
+segment-filled table s c formed segment = elim segment [
   | inl a ↦ subst (λ t. 0 < length t) a.2 (sequence-filled table.entries a.0 a.0.source formed a.1 (Contains-head a.0.source (sequences_in a.0.variants)))
   | inr b ↦ variant-filled table s formed b.0
 ]
 
-pub pieces-filled : (table : TableValue) → IsWellFormed table.entries → AllByRecursion IsFilled (pieces_of table)
-pieces-filled table formed = all-members IsFilled (pieces_of table) (λ p h. piece-filled table p.points p.condition formed ((pieces-agree table p formed).0 h))
+pub segments-filled : (table : TableValue) → IsWellFormed table.entries → AllByRecursion IsFilled (segments_of table)
+segments-filled table formed = all-members IsFilled (segments_of table) (λ p h. segment-filled table p.points p.condition formed ((segments-agree table p formed).0 h))
 
--- a piece stands in the label, and what is asked of it is so
-abbrev pub SomePiece : (Option Condition → ℕ → ℕ → Type 0) → TableValue → List ℕ → ℕ → ℕ → Type 0
-SomePiece A table label i j = (c : Option Condition) × PieceIs table label c i j × A c i j
+-- a segment stands in the label, and what is asked of it is so
+abbrev pub SomeSegment : (Option Condition → ℕ → ℕ → Type 0) → TableValue → List ℕ → ℕ → ℕ → Type 0
+SomeSegment A table label i j = (c : Option Condition) × SegmentIs table label c i j × A c i j
 
-pieces-stand : (A : Option Condition → ℕ → ℕ → Type 0) (table : TableValue) (label : List ℕ) → IsWellFormed table.entries → (i j : ℕ) → OneStands A (pieces_of table) label i j ↔ SomePiece A table label i j
-pieces-stand A table label formed i j = (
-  λ h. (h.0.condition, (h.2, h.3, subst (λ s. IsPiece table s h.0.condition) (sym h.4) ((pieces-agree table h.0 formed).0 h.1)), h.5),
+segments-stand : (A : Option Condition → ℕ → ℕ → Type 0) (table : TableValue) (label : List ℕ) → IsWellFormed table.entries → (i j : ℕ) → OneStands A (segments_of table) label i j ↔ SomeSegment A table label i j
+segments-stand A table label formed i j = (
+  λ h. (h.0.condition, (h.2, h.3, subst (λ s. IsSegment table s h.0.condition) (sym h.4) ((segments-agree table h.0 formed).0 h.1)), h.5),
   λ h.
-      let p : Piece = record { points = slice_range label i j; condition = h.0 } in
-      (p, (pieces-agree table p formed).1 h.1.2, h.1.0, h.1.1, refl, h.2),
+      let p : Segment = record { points = slice_range label i j; condition = h.0 } in
+      (p, (segments-agree table p formed).1 h.1.2, h.1.0, h.1.1, refl, h.2),
 )
 
-pieces-cut : (asked : Option Condition → ℕ → ℕ → Bool) (A : Option Condition → ℕ → ℕ → Type 0) (table : TableValue) (label : List ℕ) → Tells (length label) asked A → IsWellFormed table.entries
-    → (j : ℕ) → IsTrue (has_place (cut_places asked (pieces_of table) label) j) ↔ Rounds (SomePiece A table label) 0 j
-pieces-cut asked A table label tells formed j =
-    let t = place-tested (cut_places asked (pieces_of table) label) j in
-    let c = cut-places-are label asked A tells (pieces_of table) (pieces-filled table formed) j in (
-      λ h. rounds-map (OneStands A (pieces_of table) label) (SomePiece A table label) (λ a b. (pieces-stand A table label formed a b).0) 0 j (c.0 (t.0 h)),
-      λ h. t.1 (c.1 (rounds-map (SomePiece A table label) (OneStands A (pieces_of table) label) (λ a b. (pieces-stand A table label formed a b).1) 0 j h)),
+segments-cut : (asked : Option Condition → ℕ → ℕ → Bool) (A : Option Condition → ℕ → ℕ → Type 0) (table : TableValue) (label : List ℕ) → Tells (length label) asked A → IsWellFormed table.entries
+    → (j : ℕ) → IsTrue (has_place (cut_places asked (segments_of table) label) j) ↔ Rounds (SomeSegment A table label) 0 j
+segments-cut asked A table label tells formed j =
+    let t = place-tested (cut_places asked (segments_of table) label) j in
+    let c = cut-places-are label asked A tells (segments_of table) (segments-filled table formed) j in (
+      λ h. rounds-map (OneStands A (segments_of table) label) (SomeSegment A table label) (λ a b. (segments-stand A table label formed a b).0) 0 j (c.0 (t.0 h)),
+      λ h. t.1 (c.1 (rounds-map (SomeSegment A table label) (OneStands A (segments_of table) label) (λ a b. (segments-stand A table label formed a b).1) 0 j h)),
     )
 
-pub made-of-pieces-agrees : (table : TableValue) (label : List ℕ) → IsWellFormed table.entries → IsTrue (is_made_of_pieces table label) ↔ IsMadeOfPieces table label
-made-of-pieces-agrees table label formed = pieces-cut (holds_in table label) (HoldsIn table label) table label (holds-tells table label) formed (length label)
+pub made-of-segments-agrees : (table : TableValue) (label : List ℕ) → IsWellFormed table.entries → IsTrue (is_made_of_segments table label) ↔ IsMadeOfSegments table label
+made-of-segments-agrees table label formed = segments-cut (holds_in table label) (HoldsIn table label) table label (holds-tells table label) formed (length label)
 
 may-tells : (table : TableValue) (label : List ℕ) → Tells (length label) (may_hold_in table label) (λ c i j. IsBarred table.definitions.rules (seen_under table label) c i → ⊥)
 may-tells table label c i j l m = not-false (condition_barred table.definitions.rules (seen_under table label) c i) (IsBarred table.definitions.rules (seen_under table label) c i) (barred-agrees table.definitions.rules (seen_under table label) c i l)
 
 pub may-reach-agrees : (table : TableValue) (label : List ℕ) → IsWellFormed table.entries → (j : ℕ) → IsTrue (has_place (may_reach table label) j) ↔ MayReach table label j
-may-reach-agrees table label formed j = pieces-cut (may_hold_in table label) (λ c a b. IsBarred table.definitions.rules (seen_under table label) c a → ⊥) table label (may-tells table label) formed j
+may-reach-agrees table label formed j = segments-cut (may_hold_in table label) (λ c a b. IsBarred table.definitions.rules (seen_under table label) c a → ⊥) table label (may-tells table label) formed j
 
 -- ---- demands
 
@@ -204,7 +204,7 @@ met-agree s (d ∷ demands) =
 pub demands-agree : (table : TableValue) (label : List ℕ) → IsTrue (meets_demands table label) ↔ MeetsDemands table label
 demands-agree table label = met-agree (seen_under table label) table.definitions.demands
 
--- ---- what is lost
+-- ---- what is dead
 
 never-agrees : (kind : DemandKind) → IsTrue (is_never kind) ↔ (kind ≡ Never)
 never-agrees Never = (λ h. refl, λ h. refl)
@@ -248,47 +248,47 @@ may-reach-within table label _ no_round = omega arith
 may-reach-within table label _ (one_more k j rounds step) = step.1.1
 
 abbrev LeadsOn : TableValue → List ℕ → Type 0
-LeadsOn table label = (place : ℕ) × (place ≤ length label) × MayReach table label place × ((p : Piece) × IsPiece table p.points p.condition × (length label < place + length p.points))
+LeadsOn table label = (place : ℕ) × (place ≤ length label) × MayReach table label place × ((p : Segment) × IsSegment table p.points p.condition × (length label < place + length p.points))
 
 leads-agrees : (table : TableValue) (label : List ℕ) → IsWellFormed table.entries → IsTrue (leads_on table label) ↔ LeadsOn table label
 leads-agrees table label formed =
     let reached = may_reach table label in
-    let pieces = pieces_of table in
+    let segments = segments_of table in
     let n = length label in
-    let one = one-place n (λ place. has_place reached place && leads_past pieces n place) in
-    let split = λ (place : ℕ). and-both (has_place reached place) (leads_past pieces n place) in
-    let any = λ (place : ℕ). any-one (λ (p : Piece). ltb n (place + length p.points)) pieces in (
+    let one = one-place n (λ place. has_place reached place && leads_past segments n place) in
+    let split = λ (place : ℕ). and-both (has_place reached place) (leads_past segments n place) in
+    let any = λ (place : ℕ). any-one (λ (p : Segment). ltb n (place + length p.points)) segments in (
       λ h.
           let g = one.0 h in
           let b = (split g.0).0 g.2 in
           let p = (any g.0).0 b.1 in
-          (g.0, g.1, (may-reach-agrees table label formed g.0).0 b.0, (p.0, (pieces-agree table p.0 formed).0 p.1, ltb-true n (g.0 + length p.0.points) p.2)),
-      λ h. one.1 (h.0, h.1, (split h.0).1 ((may-reach-agrees table label formed h.0).1 h.2, (any h.0).1 (h.3.0, (pieces-agree table h.3.0 formed).1 h.3.1, lt-ltb n (h.0 + length h.3.0.points) h.3.2))),
+          (g.0, g.1, (may-reach-agrees table label formed g.0).0 b.0, (p.0, (segments-agree table p.0 formed).0 p.1, ltb-true n (g.0 + length p.0.points) p.2)),
+      λ h. one.1 (h.0, h.1, (split h.0).1 ((may-reach-agrees table label formed h.0).1 h.2, (any h.0).1 (h.3.0, (segments-agree table h.3.0 formed).1 h.3.1, lt-ltb n (h.0 + length h.3.0.points) h.3.2))),
     )
 
 nowhere-agrees : (table : TableValue) (label : List ℕ) → IsWellFormed table.entries → IsTrue (not (leads_on table label)) ↔ LeadsNowhere table label
 nowhere-agrees table label formed =
     let none = not-false (leads_on table label) (LeadsOn table label) (leads-agrees table label formed) in (
-      λ h place points c reached piece. elim (cases_order (length label) (place + length points)) [
+      λ h place points c reached segment. elim (cases_order (length label) (place + length points)) [
         | inl e ↦ omega (arith, e)
         | inr o ↦ elim o [
-          | inl less ↦ absurd (none.0 h (place, may-reach-within table label place reached, reached, ((let p : Piece = record { points = points; condition = c } in p), piece, less)))
+          | inl less ↦ absurd (none.0 h (place, may-reach-within table label place reached, reached, ((let p : Segment = record { points = points; condition = c } in p), segment, less)))
           | inr greater ↦ omega (arith, greater)
         ]
       ],
       λ h. none.1 (λ on. (let l = h on.0 on.3.0.points on.3.0.condition on.2 on.3.1 in let m = on.3.2 in omega (arith, l, m))),
     )
 
-pub lost-agrees : (table : TableValue) (label : List ℕ) → IsWellFormed table.entries → IsTrue (is_lost table label) ↔ IsLost table label
-lost-agrees table label formed =
+pub dead-agrees : (table : TableValue) (label : List ℕ) → IsWellFormed table.entries → IsTrue (is_dead_under table label) ↔ IsDeadUnder table label
+dead-agrees table label formed =
     let two = and-both (ltb 0 (length label)) (is_refused table label || not (leads_on table label)) in
     let either = or-one (is_refused table label) (not (leads_on table label)) in
     let refused = refused-agrees table label in
     let nowhere = nowhere-agrees table label formed in (
       λ h.
           let b = two.0 h in
-          record { some = ltb-true 0 (length label) b.0; lost = elim (either.0 b.1) [ inl r ↦ inl (refused.0 r) | inr w ↦ inr (nowhere.0 w) ] },
-      λ h. two.1 (lt-ltb 0 (length label) h.some, either.1 (elim h.lost [ inl r ↦ inl (refused.1 r) | inr w ↦ inr (nowhere.1 w) ])),
+          record { some = ltb-true 0 (length label) b.0; dead = elim (either.0 b.1) [ inl r ↦ inl (refused.0 r) | inr w ↦ inr (nowhere.0 w) ] },
+      λ h. two.1 (lt-ltb 0 (length label) h.some, either.1 (elim h.dead [ inl r ↦ inl (refused.1 r) | inr w ↦ inr (nowhere.1 w) ])),
     )
 
 -- ---- all of them
@@ -302,8 +302,8 @@ admitted-agrees table label formed =
 
 valid-agrees : (table : TableValue) (label : List ℕ) → IsWellFormed table.entries → IsTrue (is_valid table label) ↔ IsValid table label
 valid-agrees table label formed =
-    let two = and-both (is_made_of_pieces table label) (meets_demands table label) in
-    let s = made-of-pieces-agrees table label formed in
+    let two = and-both (is_made_of_segments table label) (meets_demands table label) in
+    let s = made-of-segments-agrees table label formed in
     let d = demands-agree table label in
     (λ h. (let b = two.0 h in record { cut = s.0 b.0; met = d.0 b.1 }), λ h. two.1 (s.1 h.cut, d.1 h.met))
 
@@ -334,5 +334,5 @@ tests-agree = record {
   admitted = λ table label sound. admitted-agrees table label sound.entries;
   valid = λ table label sound. valid-agrees table label sound.entries;
   nothing = nothing-agrees;
-  lost = λ table label sound. lost-agrees table label sound.entries;
+  dead = λ table label sound. dead-agrees table label sound.entries;
 }

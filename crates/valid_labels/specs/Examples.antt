@@ -7,7 +7,7 @@ use Rattle.ruleset_text.specs.declared.definition.DemandKind.TheVariants.{Never,
 use Rattle.ruleset_text.specs.Definitions.{Demand}
 use Rattle.variant_table.specs.Entries.{Entry, TableValue, plain_variant}
 use Rattle.variant_table.specs.ExampleTables.{table_with, when_first, unless_first}
-use Rattle.valid_labels.specs.Tests.{is_made_of_sources, has_segmentation, is_admitted, is_valid, is_lost}
+use Rattle.valid_labels.specs.Tests.{is_made_of_sources, has_segmentation, is_admitted, is_valid, is_dead_under}
 
 abbrev pub never : Pattern → Demand
 never p = record { kind = Never; pattern = p }
@@ -111,24 +111,24 @@ pub record ValidityOfExamples : Type 0 where
   pub sign_after_nukta : is_admitted signs (2325 ∷ 2364 ∷ 2366 ∷ []) ≡ true
   pub sign_after_sign : is_admitted signs (2325 ∷ 2366 ∷ 2366 ∷ []) ≡ false
   pub sign_after_sign_made : is_made_of_sources signs (2325 ∷ 2366 ∷ 2366 ∷ []) ≡ true
-  pub sign_after_sign_lost : is_lost signs (2325 ∷ 2366 ∷ 2366 ∷ []) ≡ true
+  pub sign_after_sign_dead : is_dead_under signs (2325 ∷ 2366 ∷ 2366 ∷ []) ≡ true
   pub no_source : is_made_of_sources signs (2325 ∷ 2366 ∷ 97 ∷ []) ≡ false
   pub lead : is_admitted leads (3648 ∷ 3585 ∷ []) ≡ true
   pub lead_at_end : is_admitted leads (3585 ∷ 3648 ∷ []) ≡ false
-  pub lead_not_lost : is_lost leads (3585 ∷ 3648 ∷ []) ≡ false
+  pub lead_not_dead : is_dead_under leads (3585 ∷ 3648 ∷ []) ≡ false
   pub between : is_admitted between_l (codes "al" ++ 183 ∷ codes "la") ≡ true
   pub not_between : is_admitted between_l (codes "a" ++ 183 ∷ codes "la") ≡ false
   pub hyphen : is_admitted edges (codes "a-b") ≡ true
   pub hyphen_third : is_admitted edges (codes "ab-c") ≡ false
   pub hyphen_fourth : is_admitted edges (codes "abc-d") ≡ true
-  pub hyphen_third_lost : is_lost edges (codes "ab-") ≡ true
-  pub hyphen_last_not_lost : is_lost edges (codes "abc-") ≡ false
+  pub hyphen_third_dead : is_dead_under edges (codes "ab-") ≡ true
+  pub hyphen_last_not_dead : is_dead_under edges (codes "abc-") ≡ false
   pub one_kind : is_valid digits (2406 ∷ 2407 ∷ []) ≡ true
   pub two_kinds : is_valid digits (48 ∷ 2407 ∷ []) ≡ false
-  pub two_kinds_lost : is_lost digits (48 ∷ 2407 ∷ []) ≡ true
+  pub two_kinds_dead : is_dead_under digits (48 ∷ 2407 ∷ []) ≡ true
   pub ends_in_a : is_valid no_end_in_b (codes "ba") ≡ true
   pub ends_in_b : is_valid no_end_in_b (codes "ab") ≡ false
-  pub ends_in_b_not_lost : is_lost no_end_in_b (codes "ab") ≡ false
+  pub ends_in_b_not_dead : is_dead_under no_end_in_b (codes "ab") ≡ false
   pub has_a : is_admitted some_a (codes "ba") ≡ true
   pub has_none : is_admitted some_a (codes "bb") ≡ false
   pub syllable : is_admitted syllables (codes "ahbhce") ≡ true
@@ -137,7 +137,7 @@ pub record ValidityOfExamples : Type 0 where
   pub not_held : is_admitted always_held (codes "ab") ≡ false
   pub variant_in_place : is_valid after_a (codes "abc") ≡ true
   pub variant_out_of_place : is_valid after_a (codes "cb") ≡ false
-  pub variant_lost : is_lost after_a (codes "acb") ≡ false
+  pub variant_dead : is_dead_under after_a (codes "acb") ≡ false
   pub lone_variant : is_valid after_a (codes "bdc") ≡ true
   pub lone_variant_not_asked : is_made_of_sources after_a (codes "bdc") ≡ false
   pub cut_two_ways : has_segmentation several (codes "abc") ≡ true
@@ -147,7 +147,7 @@ pub record ValidityOfExamples : Type 0 where
   pub two_leads : is_admitted leads (3648 ∷ 3648 ∷ 3585 ∷ []) ≡ false
   pub two_kinds_made : is_made_of_sources digits (48 ∷ 2407 ∷ []) ≡ true
   pub two_a : is_admitted one_a (codes "aba") ≡ false
-  pub two_a_lost : is_lost one_a (codes "aba") ≡ true
+  pub two_a_dead : is_dead_under one_a (codes "aba") ≡ true
   pub outside_arises : is_valid outside_within (1072 ∷ codes "ba") ≡ true
   pub outside_at_end : is_valid outside_within (codes "ab" ++ 1072 ∷ []) ≡ false
   pub outside_not_made : is_made_of_sources outside_within (1072 ∷ codes "b") ≡ false
@@ -159,5 +159,5 @@ pub record ValidityOfExamples : Type 0 where
   pub covered_variant_asked : is_valid two_for_one (codes "abb") ≡ false
   pub no_pair : is_admitted no_pairs_at_end (codes "acb") ≡ true
   pub one_pair : is_admitted no_pairs_at_end (codes "cbacc") ≡ false
-  pub b_after_c_lost : is_lost c_for_a (codes "cb") ≡ true
-  pub b_after_a_not_lost : is_lost c_for_a (codes "ab") ≡ false
+  pub b_after_c_dead : is_dead_under c_for_a (codes "cb") ≡ true
+  pub b_after_a_not_dead : is_dead_under c_for_a (codes "ab") ≡ false

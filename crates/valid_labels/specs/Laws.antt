@@ -6,7 +6,7 @@ use Rattle.variant_table.specs.WellFormed.{IsTable}
 use Rattle.valid_labels.specs.declared.validity.Admission.TheVariants.{NotAdmitted}
 use Rattle.variant_table.specs.Segmentations.{IsMadeOfSources, HasSegmentation, HasNoConditions, IsMadeOfReplacements}
 use Rattle.valid_labels.specs.Testing.{IsAdmission}
-use Rattle.valid_labels.specs.Validity.{IsSound, AsksNothing, IsAdmitted, IsValid, IsLost}
+use Rattle.valid_labels.specs.Validity.{IsSound, AsksNothing, IsAdmitted, IsValid, IsDeadUnder}
 use Rattle.valid_labels.specs.Tests as tests
 
 -- a label with a segmentation is made of sources, and where no source has a condition each label that is made of them has one
@@ -21,12 +21,12 @@ pub record TestsAgree : Type 0 where
   pub admitted : (table : TableValue) (label : List ℕ) → IsSound table → IsTrue (tests.is_admitted table label) ↔ IsAdmitted table label
   pub valid : (table : TableValue) (label : List ℕ) → IsSound table → IsTrue (tests.is_valid table label) ↔ IsValid table label
   pub nothing : (table : TableValue) → IsTrue (tests.asks_nothing table) ↔ AsksNothing table
-  pub lost : (table : TableValue) (label : List ℕ) → IsSound table → IsTrue (tests.is_lost table label) ↔ IsLost table label
+  pub dead : (table : TableValue) (label : List ℕ) → IsSound table → IsTrue (tests.is_dead_under table label) ↔ IsDeadUnder table label
 
--- what is lost stays so whatever follows, and is never valid
-pub record LostForGood : Type 0 where
-  pub stays : (table : TableValue) (label more : List ℕ) → IsSound table → IsLost table label → IsLost table (label ++ more)
-  pub invalid : (table : TableValue) (label more : List ℕ) → IsSound table → IsLost table label → ¬ IsValid table (label ++ more)
+-- what is dead stays so whatever follows, and is never valid
+pub record DeadForGood : Type 0 where
+  pub stays : (table : TableValue) (label more : List ℕ) → IsSound table → IsDeadUnder table label → IsDeadUnder table (label ++ more)
+  pub invalid : (table : TableValue) (label more : List ℕ) → IsSound table → IsDeadUnder table label → ¬ IsValid table (label ++ more)
 
 -- a label that may be asked about is valid
 abbrev pub AdmittedAreValid : Type 0

@@ -1,5 +1,5 @@
 -- The definitions that contracts cite.
-pub mod Pieces
+pub mod Segments
 pub mod Demands
 pub mod Validity
 pub mod Testing

@@ -8,19 +8,19 @@ use Rattle.valid_labels.specs.declared.validity.Admission.TheVariants.{NotCut, N
 use Rattle.valid_labels.specs.declared.validity.Validity.{Validity}
 use Rattle.valid_labels.specs.declared.validity.Validity.TheVariants as validity
 use Rattle.variant_table.specs.Segmentations.{IsMadeOfSources}
-use Rattle.valid_labels.specs.Validity.{IsAdmitted, IsValid, IsShortestLost, HasNoLostBeginning}
+use Rattle.valid_labels.specs.Validity.{IsAdmitted, IsValid, IsShortestDeadUnder, HasNoDeadPrefixUnder}
 
 -- the table whose labels are tested, and the label that was tested last
 pub record Testing : Type 0 where
   pub table : TableValue
-  pub kept : List ℕ
+  pub cached : List ℕ
 
 abbrev pub testing_code : Coded Testing
-testing_code = code_by (TableValue × List ℕ) (coded× table_code (coded_list coded_ℕ)) (λ t. (t.table, t.kept)) (λ p. record { table = p.0; kept = p.1 }) (λ _. refl)
+testing_code = code_by (TableValue × List ℕ) (coded× table_code (coded_list coded_ℕ)) (λ t. (t.table, t.cached)) (λ p. record { table = p.0; cached = p.1 }) (λ _. refl)
 
--- of the kept label as many code points as are shared, or all if it has fewer, are the first ones of this label
-abbrev pub SharesKept : ℕ → List ℕ → List ℕ → Type 0
-SharesKept shared kept label = take (min shared (length kept)) kept ≡ take (min shared (length kept)) label
+-- of the cached label as many code points as are shared, or all if it has fewer, are the first ones of this label
+abbrev pub SharesCached : ℕ → List ℕ → List ℕ → Type 0
+SharesCached shared cached label = take (min shared (length cached)) cached ≡ take (min shared (length cached)) label
 
 -- whether a label may be asked about, and if not, why
 abbrev pub IsAdmission : TableValue → List ℕ → Admission → Type 0
@@ -28,8 +28,8 @@ IsAdmission table label NotCut = ¬ IsMadeOfSources table label
 IsAdmission table label NotAdmitted = IsMadeOfSources table label × (¬ IsAdmitted table label)
 IsAdmission table label Admitted = IsAdmitted table label
 
--- whether a label is valid, and if not, how long its shortest lost beginning is
+-- whether a label is valid, and if not, how long its shortest dead prefix is
 abbrev pub IsValidity : TableValue → List ℕ → Validity → Type 0
-IsValidity table label validity.Valid = IsValid table label × HasNoLostBeginning table label
-IsValidity table label (validity.Lost n) = IsShortestLost table label n
-IsValidity table label validity.NotValid = (¬ IsValid table label) × HasNoLostBeginning table label
+IsValidity table label validity.Valid = IsValid table label × HasNoDeadPrefixUnder table label
+IsValidity table label (validity.DeadPrefix n) = IsShortestDeadUnder table label n
+IsValidity table label validity.NotValid = (¬ IsValid table label) × HasNoDeadPrefixUnder table label

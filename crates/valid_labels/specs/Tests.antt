@@ -23,34 +23,34 @@ abbrev pub reached_by : (ℕ → ℕ) → ℕ → ℕ
 reached_by ends zero = 1
 reached_by ends (suc n) = with_ends ends n (reached_by ends n)
 
--- ---- pieces
+-- ---- segments
 
 -- a sequence, and the condition under which it may stand in a label
-pub record Piece : Type 0 where
+pub record Segment : Type 0 where
   pub points : List ℕ
   pub condition : Option Condition
 
--- a piece stands at the place, and what is asked of it is so
-abbrev pub stands_at : (Option Condition → ℕ → ℕ → Bool) → List ℕ → ℕ → Piece → Bool
+-- a segment stands at the place, and what is asked of it is so
+abbrev pub stands_at : (Option Condition → ℕ → ℕ → Bool) → List ℕ → ℕ → Segment → Bool
 stands_at asked label place p =
     bytes_eq (slice_range label place (place + length p.points)) p.points && asked p.condition place (place + length p.points)
 
--- the places where those of some pieces end that stand at this place
-abbrev pub piece_ends : (Option Condition → ℕ → ℕ → Bool) → List Piece → List ℕ → ℕ → ℕ
-piece_ends asked [] label place = 0
-piece_ends asked (p ∷ pieces) label place =
-    if stands_at asked label place p then bit_or (piece_ends asked pieces label place) (2 ^ (place + length p.points)) else piece_ends asked pieces label place
+-- the places where those of some segments end that stand at this place
+abbrev pub segment_ends : (Option Condition → ℕ → ℕ → Bool) → List Segment → List ℕ → ℕ → ℕ
+segment_ends asked [] label place = 0
+segment_ends asked (p ∷ segments) label place =
+    if stands_at asked label place p then bit_or (segment_ends asked segments label place) (2 ^ (place + length p.points)) else segment_ends asked segments label place
 
--- the places up to which a label can be cut into such pieces
-abbrev pub cut_places : (Option Condition → ℕ → ℕ → Bool) → List Piece → List ℕ → ℕ
-cut_places asked pieces label = reached_by (piece_ends asked pieces label) (length label)
+-- the places up to which a label can be cut into such segments
+abbrev pub cut_places : (Option Condition → ℕ → ℕ → Bool) → List Segment → List ℕ → ℕ
+cut_places asked segments label = reached_by (segment_ends asked segments label) (length label)
 
 -- nothing is asked
 abbrev pub not_asked : Option Condition → ℕ → ℕ → Bool
 not_asked c i j = true
 
--- sources as pieces
-abbrev pub sources_of : List Entry → List Piece
+-- sources as segments
+abbrev pub sources_of : List Entry → List Segment
 sources_of entries = map (λ e. record { points = e.source; condition = e.condition }) entries
 
 -- a sequence is made of sources of the table, of outside ones too
@@ -61,9 +61,9 @@ is_covered table points = has_place (cut_places not_asked (sources_of table.entr
 abbrev pub lone_variants : TableValue → List (List ℕ)
 lone_variants table = filter (λ s. not (is_covered table s)) (flat_map (λ e. sequences_in e.variants) table.entries)
 
--- the pieces of a table
-abbrev pub pieces_of : TableValue → List Piece
-pieces_of table = sources_of table.entries ++ map (λ s. record { points = s; condition = None }) (lone_variants table)
+-- the segments of a table
+abbrev pub segments_of : TableValue → List Segment
+segments_of table = sources_of table.entries ++ map (λ s. record { points = s; condition = None }) (lone_variants table)
 
 -- ---- labels
 
@@ -81,13 +81,13 @@ is_made_of_sources table label = has_place (cut_places not_asked (sources_of (in
 abbrev pub has_segmentation : TableValue → List ℕ → Bool
 has_segmentation table label = has_place (cut_places (holds_in table label) (sources_of (inside_of table.entries)) label) (length label)
 
--- the label is made of pieces that may stand where they do
-abbrev pub is_made_of_pieces : TableValue → List ℕ → Bool
-is_made_of_pieces table label = has_place (cut_places (holds_in table label) (pieces_of table) label) (length label)
+-- the label is made of segments that may stand where they do
+abbrev pub is_made_of_segments : TableValue → List ℕ → Bool
+is_made_of_segments table label = has_place (cut_places (holds_in table label) (segments_of table) label) (length label)
 
 -- the places up to which the label may be cut
 abbrev pub may_reach : TableValue → List ℕ → ℕ
-may_reach table label = cut_places (may_hold_in table label) (pieces_of table) label
+may_reach table label = cut_places (may_hold_in table label) (segments_of table) label
 
 abbrev pub is_wanted : DemandKind → Bool → Bool
 is_wanted Never occurring = not occurring
@@ -105,9 +105,9 @@ abbrev pub is_admitted : TableValue → List ℕ → Bool
 is_admitted table label = has_segmentation table label && meets_demands table label
 
 abbrev pub is_valid : TableValue → List ℕ → Bool
-is_valid table label = is_made_of_pieces table label && meets_demands table label
+is_valid table label = is_made_of_segments table label && meets_demands table label
 
--- ---- what is lost
+-- ---- what is dead
 
 abbrev pub is_never : DemandKind → Bool
 is_never Never = true
@@ -121,19 +121,19 @@ abbrev pub one_up_to : ℕ → (ℕ → Bool) → Bool
 one_up_to zero test = test 0
 one_up_to (suc n) test = test (suc n) || one_up_to n test
 
--- some piece that begins at the place ends after n code points
-abbrev pub leads_past : List Piece → ℕ → ℕ → Bool
-leads_past pieces n place = list_any (λ p. nat_lt n (place + length p.points)) pieces
+-- some segment that begins at the place ends after n code points
+abbrev pub leads_past : List Segment → ℕ → ℕ → Bool
+leads_past segments n place = list_any (λ p. nat_lt n (place + length p.points)) segments
 
 abbrev pub leads_on : TableValue → List ℕ → Bool
 leads_on table label =
     let reached = may_reach table label in
-    let pieces = pieces_of table in
-    one_up_to (length label) (λ place. has_place reached place && leads_past pieces (length label) place)
+    let segments = segments_of table in
+    one_up_to (length label) (λ place. has_place reached place && leads_past segments (length label) place)
 
 -- neither the label nor any label that begins with it is valid
-abbrev pub is_lost : TableValue → List ℕ → Bool
-is_lost table label = nat_lt 0 (length label) && (is_refused table label || not (leads_on table label))
+abbrev pub is_dead_under : TableValue → List ℕ → Bool
+is_dead_under table label = nat_lt 0 (length label) && (is_refused table label || not (leads_on table label))
 
 -- the table asks nothing of its labels
 abbrev pub asks_nothing : TableValue → Bool

@@ -9,7 +9,7 @@ use Rattle.ruleset_text.specs.WellFormed.{AreDefinitions}
 use Rattle.variant_table.specs.Entries.{TableValue}
 use Rattle.variant_table.specs.WellFormed.{IsWellFormed}
 use Rattle.variant_table.specs.Segmentations.{seen_under, HasSegmentation, HasNoConditions}
-use Rattle.valid_labels.specs.Pieces.{IsPiece, IsMadeOfPieces, MayReach}
+use Rattle.valid_labels.specs.Segments.{IsSegment, IsMadeOfSegments, MayReach}
 use Rattle.valid_labels.specs.Demands.{MeetsDemands}
 
 -- well-formed entries, and definitions without a fault
@@ -27,9 +27,10 @@ pub record IsAdmitted (table : TableValue) (label : List ℕ) : Type 0 where
   pub cut : HasSegmentation table label
   pub met : MeetsDemands table label
 
--- a valid label, be it asked about or a variant: it is made of pieces that may stand where they do, and meets the demands
+-- a valid label, be it asked about or a variant: it is made of segments that may stand where they do, and meets the
+-- demands
 pub record IsValid (table : TableValue) (label : List ℕ) : Type 0 where
-  pub cut : IsMadeOfPieces table label
+  pub cut : IsMadeOfSegments table label
   pub met : MeetsDemands table label
 
 -- a part of the label matches a pattern that no label may match, and that doesn't ask for the end of the label
@@ -37,21 +38,21 @@ abbrev pub IsRefused : TableValue → List ℕ → Type 0
 IsRefused table label =
     (d : Demand) × Contains table.definitions.demands d × (d.kind ≡ Never) × IgnoresEnd d.pattern × Occurs (seen_under table label) d.pattern
 
--- no piece that begins at a place up to which the label may be cut ends after the label
+-- no segment that begins at a place up to which the label may be cut ends after the label
 abbrev pub LeadsNowhere : TableValue → List ℕ → Type 0
-LeadsNowhere table label = (place : ℕ) (points : List ℕ) (c : Option Condition) → MayReach table label place → IsPiece table points c → place + length points ≤ length label
+LeadsNowhere table label = (place : ℕ) (points : List ℕ) (c : Option Condition) → MayReach table label place → IsSegment table points c → place + length points ≤ length label
 
--- a lost label, of one code point or more: neither it nor any label that begins with it is valid
-pub record IsLost (table : TableValue) (label : List ℕ) : Type 0 where
+-- a dead label, of one code point or more: neither it nor any label that begins with it is valid
+pub record IsDeadUnder (table : TableValue) (label : List ℕ) : Type 0 where
   pub some : 0 < length label
-  pub lost : IsRefused table label ⊎ LeadsNowhere table label
+  pub dead : IsRefused table label ⊎ LeadsNowhere table label
 
--- the first n code points of the label are lost, and no fewer are
-pub record IsShortestLost (table : TableValue) (label : List ℕ) (n : ℕ) : Type 0 where
+-- the first n code points of the label are dead, and no fewer are
+pub record IsShortestDeadUnder (table : TableValue) (label : List ℕ) (n : ℕ) : Type 0 where
   pub within : n ≤ length label
-  pub lost : IsLost table (take n label)
-  pub first : (k : ℕ) → k < n → ¬ IsLost table (take k label)
+  pub dead : IsDeadUnder table (take n label)
+  pub first : (k : ℕ) → k < n → ¬ IsDeadUnder table (take k label)
 
--- no beginning of the label is lost, nor is the whole
-abbrev pub HasNoLostBeginning : TableValue → List ℕ → Type 0
-HasNoLostBeginning table label = (k : ℕ) → k ≤ length label → ¬ IsLost table (take k label)
+-- no beginning of the label is dead, nor is the whole
+abbrev pub HasNoDeadPrefixUnder : TableValue → List ℕ → Type 0
+HasNoDeadPrefixUnder table label = (k : ℕ) → k ≤ length label → ¬ IsDeadUnder table (take k label)

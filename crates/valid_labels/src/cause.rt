@@ -8,9 +8,9 @@ ghost use Rattle.ruleset_text.specs.DemandTrees.{demand};
 ghost use Rattle.valid_labels.specs.Causes.{broken_from, cause_of, held_places as held_places_of, is_misplaced as is_misplaced_by, found_at as found_at_place, misplaced_at as misplaced_at_place, misplaced_below};
 ghost use Rattle.variant_table.specs.Segmentations.{seen_under};
 
-use crate::asking::{HoldingInside, holds};
 use crate::cutting::reached;
 use crate::demands::is_met;
+use crate::source_predicate::{HoldingInside, holds};
 use crate::sources::is_made_of_sources;
 use label_patterns::{Condition, PointSet, SeenLabel, has, renew_masks};
 use ruleset_text::{Demand, DemandKind};
@@ -74,8 +74,8 @@ fn held_places(table: &Table, seen: &SeenLabel<'_>, label: &[u32]) -> u64
     let _entries = table.len();
     let definitions = table.definitions();
     let none: &[Vec<u32>] = &[];
-    let asking = HoldingInside { definitions, seen };
-    reached(table, none, label, &asking)
+    let predicate = HoldingInside { definitions, seen };
+    reached(table, none, label, &predicate)
 }
 
 /// The source at the last place where one is misplaced.

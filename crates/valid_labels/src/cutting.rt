@@ -5,7 +5,7 @@ ghost use Rattle.label_patterns.specs.Matches.{Rounds};
 ghost use Rattle.label_patterns.specs.Places.{Has};
 ghost use Rattle.valid_labels.specs.inner.Steps.{AreSteps, SequenceIs, SourceIs, StepIs};
 
-use crate::asking::Asking;
+use crate::source_predicate::SourcePredicate;
 use label_patterns::{either, has, with_place_if};
 use variant_table::Table;
 
@@ -19,33 +19,38 @@ pub struct SingleSteps {
 }
 
 /// The places up to which a label can be cut into sources of which what is asked is so, and into these sequences.
-pub fn reached<A: Asking>(table: &Table, sequences: &[Vec<u32>], label: &[u32], asking: &A) -> u64
+pub fn reached<A: SourcePredicate>(
+    table: &Table,
+    sequences: &[Vec<u32>],
+    label: &[u32],
+    predicate: &A,
+) -> u64
     requires short { length label.now ≤ 63 }
-    requires ready { A.can_ask asking.now (length label.now) }
+    requires ready { A.can_ask predicate.now (length label.now) }
     requires filled { AllByRecursion (λ v. 0 < length v.items) sequences.now }
-    ensures { (j : _) → Has result j ↔ Rounds (StepIs (A.asks asking.now) table.now.entries (map (λ v. v.items) sequences.now) label.now) 0 j }
+    ensures { (j : _) → Has result j ↔ Rounds (StepIs (A.asks predicate.now) table.now.entries (map (λ v. v.items) sequences.now) label.now) 0 j }
 {
     let none = SingleSteps {
         known: 0,
         leading: 0,
     };
-    reached_over(table, sequences, label, asking, none)
+    reached_over(table, sequences, label, predicate, none)
 }
 
 /// The places up to which a label can be cut, as `reached` tells them, where it is known of some places whether one code
 /// point leads on from there, and that nothing else does.
-pub fn reached_over<A: Asking>(
+pub fn reached_over<A: SourcePredicate>(
     table: &Table,
     sequences: &[Vec<u32>],
     label: &[u32],
-    asking: &A,
+    predicate: &A,
     steps: SingleSteps,
 ) -> u64
     requires short { length label.now ≤ 63 }
-    requires ready { A.can_ask asking.now (length label.now) }
+    requires ready { A.can_ask predicate.now (length label.now) }
     requires filled { AllByRecursion (λ v. 0 < length v.items) sequences.now }
-    requires steps { AreSteps (StepIs (A.asks asking.now) table.now.entries (map (λ v. v.items) sequences.now) label.now) (length label.now) steps }
-    ensures { (j : _) → Has result j ↔ Rounds (StepIs (A.asks asking.now) table.now.entries (map (λ v. v.items) sequences.now) label.now) 0 j }
+    requires steps { AreSteps (StepIs (A.asks predicate.now) table.now.entries (map (λ v. v.items) sequences.now) label.now) (length label.now) steps }
+    ensures { (j : _) → Has result j ↔ Rounds (StepIs (A.asks predicate.now) table.now.entries (map (λ v. v.items) sequences.now) label.now) 0 j }
 {
     // Only for the proof: the contract of `len` says that no source is empty.
     let _entries = table.len();
@@ -55,7 +60,7 @@ pub fn reached_over<A: Asking>(
             let ends = if has(steps.known, place) {
                 with_place_if(0, place + 1, has(steps.leading, place))
             } else {
-                step_ends(table, sequences, label, place, asking)
+                step_ends(table, sequences, label, place, predicate)
             };
             found = either(found, ends);
         }
@@ -64,34 +69,34 @@ pub fn reached_over<A: Asking>(
 }
 
 /// The places where the sources end that stand at a place, if what is asked of them is so, and the sequences.
-fn step_ends<A: Asking>(
+fn step_ends<A: SourcePredicate>(
     table: &Table,
     sequences: &[Vec<u32>],
     label: &[u32],
     place: usize,
-    asking: &A,
+    predicate: &A,
 ) -> u64
     requires short { length label.now ≤ 63 }
     requires place { place ≤ length label.now }
-    requires ready { A.can_ask asking.now (length label.now) }
-    ensures { (j : _) → Has result j ↔ StepIs (A.asks asking.now) table.now.entries (map (λ v. v.items) sequences.now) label.now place j }
+    requires ready { A.can_ask predicate.now (length label.now) }
+    ensures { (j : _) → Has result j ↔ StepIs (A.asks predicate.now) table.now.entries (map (λ v. v.items) sequences.now) label.now place j }
 {
-    let ends = source_ends(table, label, place, asking);
+    let ends = source_ends(table, label, place, predicate);
     let others = sequence_ends(sequences, label, place);
     either(ends, others)
 }
 
 /// The places where the sources end that stand at a place, if what is asked of them is so.
-fn source_ends<A: Asking>(table: &Table, label: &[u32], place: usize, asking: &A) -> u64
+fn source_ends<A: SourcePredicate>(table: &Table, label: &[u32], place: usize, predicate: &A) -> u64
     requires short { length label.now ≤ 63 }
     requires place { place ≤ length label.now }
-    requires ready { A.can_ask asking.now (length label.now) }
-    ensures { (j : _) → Has result j ↔ SourceIs (A.asks asking.now) table.now.entries label.now place j }
+    requires ready { A.can_ask predicate.now (length label.now) }
+    ensures { (j : _) → Has result j ↔ SourceIs (A.asks predicate.now) table.now.entries label.now place j }
 {
     let mut ends = 0;
     for entry in table.entries_at(label, place) {
         let end = place + entry.source().len();
-        ends = with_place_if(ends, end, asking.is_so(&entry, place, end));
+        ends = with_place_if(ends, end, predicate.holds(&entry, place, end));
     }
     ends
 }

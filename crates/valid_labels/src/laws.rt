@@ -2,7 +2,7 @@
 ghost use Rattle.valid_labels.specs.CauseLaws.{CauseIsExact};
 ghost use Rattle.valid_labels.specs.Examples.{ValidityOfExamples};
 ghost use Rattle.valid_labels.specs.Furthest.{FurthestIsTold};
-ghost use Rattle.valid_labels.specs.Laws.{AdmittedAreValid, LostForGood, NothingIsAsked, SegmentationsAgree, TestsAgree};
+ghost use Rattle.valid_labels.specs.Laws.{AdmittedAreValid, DeadForGood, NothingIsAsked, SegmentationsAgree, TestsAgree};
 
 /// A label with a segmentation is made of sources, and a label that is made of sources without conditions has one.
 pub fn segmentations_agree()
@@ -14,9 +14,9 @@ pub fn tests_agree()
     ensures { TestsAgree }
 {}
 
-/// What is lost stays so whatever follows, and is never valid.
-pub fn lost_for_good()
-    ensures { LostForGood }
+/// What is dead stays so whatever follows, and is never valid.
+pub fn dead_for_good()
+    ensures { DeadForGood }
 {}
 
 /// A label that may be asked about is valid.

@@ -1,15 +1,15 @@
 //! Which labels are valid under a ruleset.
 #![tactic(auto)]
 
-mod asking;
 mod cause;
 mod cutting;
+mod dead_prefix;
 mod demands;
 mod laws;
-mod lost;
-mod pieces;
+mod segments;
 mod single_places;
 mod single_points;
+mod source_predicate;
 mod sources;
 mod testing;
 mod valid;
@@ -17,10 +17,10 @@ mod validity;
 
 pub use cause::{ValidityCause, invalid_cause};
 pub use laws::{
-    admitted_are_valid, cause_is_exact, examples_hold, furthest_is_told, lost_for_good,
+    admitted_are_valid, cause_is_exact, dead_for_good, examples_hold, furthest_is_told,
     nothing_is_asked, segmentations_agree, tests_agree,
 };
-pub use pieces::Pieces;
+pub use segments::Segments;
 pub use sources::{asks_nothing, furthest, is_made_of_sources};
 pub use testing::ValidityTest;
 pub use validity::{Admission, Validity};

@@ -4,7 +4,7 @@ ghost use Rattle.label_patterns.specs.Places.{Has};
 
 use crate::cutting::SingleSteps;
 use crate::single_points::SinglePoints;
-use idn_class::KeptLabel;
+use idn_class::CachedLabel;
 use label_patterns::{
     Condition, ConditionKind, PatternTree, SeenLabel, both, either, holding_points, point_places,
     with_place_if, without,
@@ -44,18 +44,19 @@ impl SinglePlaces {
         })
     }
 
-    /// Makes those of a label of those that are kept of a label with the same first `shared` code points, which is `kept`.
+    /// Makes those of a label of those that are cached of a label with the same first `shared` code points, which is
+    /// `cached`.
     pub fn renew(
         &mut self,
         points: &mut SinglePoints<'_>,
-        kept: &KeptLabel,
+        cached: &CachedLabel,
         label: &[u32],
         shared: usize,
     )
         requires short { length label.now ≤ 63 }
         requires shared { shared ≤ length label.now }
-        requires same { take shared kept.now ≡ take shared label.now }
-        requires singles { AreSingles (length kept.now) points.old kept.now self.old }
+        requires same { take shared cached.now ≡ take shared label.now }
+        requires singles { AreSingles (length cached.now) points.old cached.now self.old }
         ensures singles { AreSingles (length label.now) points.old label.now self.new }
         ensures same { points.new ≡ points.old }
         ensures room { (n : ℕ) → HasRoom n self.old → HasRoom n self.new }

@@ -1,18 +1,18 @@
-//! Code points that are sources with which no other piece begins.
+//! Code points that are sources with which no other segment begins.
 
-use crate::pieces::{Pieces, SinglePoint};
+use crate::segments::{Segments, SinglePoint};
 use std::marker::Model;
 
-/// How many code points are kept of which it is known that they are single.
+/// How many code points are cached of which it is known that they are single.
 const SLOTS: usize = 16;
 
-/// What stands in a slot in which none is kept.
+/// What stands in a slot in which none is cached.
 const NO_POINT: u32 = u32::MAX;
 
-/// The single points of a table, of which those are kept that were asked about last.
+/// The single points of a table, of which those are cached that were asked about last.
 #[derive(Drop)]
 pub struct SinglePoints<'a> {
-    pieces: &'a Pieces<'a>,
+    segments: &'a Segments<'a>,
     /// Such code points, each in the slot of its last bits.
     known: [SinglePoint; SLOTS],
 }
@@ -27,9 +27,9 @@ impl<'a> Model for SinglePoints<'a> {
 
     ghost coded = { table_code };
 
-    ghost view = { λ p. p.pieces.now };
+    ghost view = { λ p. p.segments.now };
 
-    ghost invariant = { λ p. AllByRecursion (IsKnown p.pieces.now) p.known };
+    ghost invariant = { λ p. AllByRecursion (IsKnown p.segments.now) p.known };
 }
 
 impl<'a> SinglePoints<'a> {
@@ -37,24 +37,24 @@ impl<'a> SinglePoints<'a> {
     ghost use Rattle.valid_labels.specs.inner.Singles.{IsSingle};
 
     /// Those of a table.
-    pub fn new(pieces: &'a Pieces<'a>) -> Self
-        ensures { result ≡ pieces.now }
+    pub fn new(segments: &'a Segments<'a>) -> Self
+        ensures { result ≡ segments.now }
     {
         let none = SinglePoint {
             point: NO_POINT,
             condition: None,
         };
         SinglePoints {
-            pieces,
+            segments,
             known: [none; SLOTS],
         }
     }
 
-    /// The pieces of the table.
-    pub fn pieces(&self) -> &'a Pieces<'a>
+    /// The segments of the table.
+    pub fn segments(&self) -> &'a Segments<'a>
         ensures { result.now ≡ self.now }
     {
-        self.pieces
+        self.segments
     }
 
     /// What is known of a code point, if it is known to be single.
@@ -67,7 +67,7 @@ impl<'a> SinglePoints<'a> {
         if point != NO_POINT && known.point == point {
             return Some(known);
         }
-        let found = self.pieces.single(point);
+        let found = self.segments.single(point);
         if let Some(single) = found {
             self.known[slot] = single;
         }

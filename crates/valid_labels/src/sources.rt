@@ -7,8 +7,8 @@ ghost use Rattle.variant_table.specs.Segmentations.{IsMadeOfSources};
 ghost use Rattle.valid_labels.specs.Tests.{is_covered as is_covered_by};
 ghost use Rattle.valid_labels.specs.Validity.{AsksNothing};
 
-use crate::asking::{AnySource, InsideSource};
 use crate::cutting::reached;
+use crate::source_predicate::{AnySource, InsideSource};
 use label_patterns::has;
 use variant_table::Table;
 

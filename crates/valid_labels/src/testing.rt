@@ -1,11 +1,11 @@
 //! Tests of labels under a table.
-use crate::pieces::Pieces;
+use crate::segments::Segments;
 use crate::single_places::SinglePlaces;
 use crate::single_points::SinglePoints;
 use crate::sources::is_made_of_sources;
 use crate::valid::{is_admitted, validity};
 use crate::validity::{Admission, Validity};
-use idn_class::KeptLabel;
+use idn_class::CachedLabel;
 use label_patterns::renew_masks;
 use std::alloc::{AllocError, Global};
 use std::marker::Model;
@@ -16,7 +16,7 @@ use std::marker::Model;
 pub struct ValidityTest<'a> {
     points: SinglePoints<'a>,
     /// The label that was tested last.
-    kept: KeptLabel,
+    cached: CachedLabel,
     /// For each set its places in that label.
     masks: Vec<u64>,
     /// Where single points stand in that label.
@@ -33,46 +33,46 @@ impl<'a> Model for ValidityTest<'a> {
 
     ghost coded = { testing_code };
 
-    ghost view = { λ t. record { table = t.points; kept = t.kept } };
+    ghost view = { λ t. record { table = t.points; cached = t.cached } };
 
-    ghost invariant = { λ t. AreMasks t.points.definitions.sets t.kept t.masks.items × HasRoom (length t.points.definitions.rules) t.singles × AreSingles (length t.kept) t.points t.kept t.singles };
+    ghost invariant = { λ t. AreMasks t.points.definitions.sets t.cached t.masks.items × HasRoom (length t.points.definitions.rules) t.singles × AreSingles (length t.cached) t.points t.cached t.singles };
 }
 
 impl<'a> ValidityTest<'a> {
     ghost use Rattle.std.specs.Prelude.{◌≡◌, ◌≤◌, [], length, IfOk};
-    ghost use Rattle.valid_labels.specs.Testing.{IsAdmission, IsValidity, SharesKept};
+    ghost use Rattle.valid_labels.specs.Testing.{IsAdmission, IsValidity, SharesCached};
 
-    /// A test of labels under the table of these pieces. It is an `Err` only where memory was refused.
-    pub fn new(alloc: Global, pieces: &'a Pieces<'a>) -> Result<Self, AllocError>
-        ensures table { IfOk result (λ test. test.table ≡ pieces.now) }
-        ensures kept { IfOk result (λ test. test.kept ≡ []) }
+    /// A test of labels under the table of these segments. It is an `Err` only where memory was refused.
+    pub fn new(alloc: Global, segments: &'a Segments<'a>) -> Result<Self, AllocError>
+        ensures table { IfOk result (λ test. test.table ≡ segments.now) }
+        ensures kept { IfOk result (λ test. test.cached ≡ []) }
     {
-        let sets = pieces.table().definitions().sets();
+        let sets = segments.table().definitions().sets();
         let masks = vec![in alloc; 0; sets.len()]?;
         Ok(ValidityTest {
-            points: SinglePoints::new(pieces),
-            kept: KeptLabel::new(),
+            points: SinglePoints::new(segments),
+            cached: CachedLabel::new(),
             masks,
-            singles: SinglePlaces::new(alloc, pieces.table().definitions().rules().len())?,
+            singles: SinglePlaces::new(alloc, segments.table().definitions().rules().len())?,
         })
     }
 
-    /// Whether a label of at most 63 code points may be asked about. What is kept of the label that was tested last stays as
-    /// it is. It takes no memory.
+    /// Whether a label of at most 63 code points may be asked about. What is cached of the label that was tested last
+    /// stays as it is. It takes no memory.
     pub fn admission(&mut self, label: &[u32]) -> Admission
         requires short { length label.now ≤ 63 }
         ensures admission { IsAdmission self.old.table label.now result }
         ensures same { self.new ≡ self.old }
     {
-        let table = self.points.pieces().table();
+        let table = self.points.segments().table();
         if !is_made_of_sources(table, label) {
             return Admission::NotCut;
         }
         let sets = table.definitions().sets();
         renew_masks(sets, label, 0, &mut self.masks);
         let admitted = is_admitted(table, sets, label, &self.masks);
-        // The masks are again those of the label that is kept.
-        renew_masks(sets, self.kept.as_slice(), 0, &mut self.masks);
+        // The masks are again those of the label that is cached.
+        renew_masks(sets, self.cached.as_slice(), 0, &mut self.masks);
         if admitted {
             Admission::Admitted
         } else {
@@ -80,26 +80,26 @@ impl<'a> ValidityTest<'a> {
         }
     }
 
-    /// Whether a label of at most 63 code points is valid, and if it isn't, how long its shortest lost beginning is. It
+    /// Whether a label of at most 63 code points is valid, and if it isn't, how long its shortest dead prefix is. It
     /// has the first `shared` code points of the label that was tested last, or all of them if that has fewer. It takes no
     /// memory.
     pub fn judge(&mut self, label: &[u32], shared: usize) -> Validity
         requires short { length label.now ≤ 63 }
-        requires kept { SharesKept shared self.old.kept label.now }
+        requires kept { SharesCached shared self.old.cached label.now }
         ensures validity { IsValidity self.old.table label.now result }
-        ensures kept { self.new.kept ≡ label.now }
+        ensures kept { self.new.cached ≡ label.now }
         ensures same_table { self.new.table ≡ self.old.table }
     {
         self.see(label, shared);
-        let pieces = self.points.pieces();
-        let sets = pieces.table().definitions().sets();
+        let segments = self.points.segments();
+        let sets = segments.table().definitions().sets();
         let masks: &[u64] = &self.masks;
-        validity(pieces, sets, label, masks, &self.singles)
+        validity(segments, sets, label, masks, &self.singles)
     }
 
     /// Keeps nothing of the label that was tested last.
     pub fn forget(&mut self)
-        ensures kept { self.new.kept ≡ [] }
+        ensures kept { self.new.cached ≡ [] }
         ensures same_table { self.new.table ≡ self.old.table }
     {
         let empty: &[u32] = &[];
@@ -109,18 +109,18 @@ impl<'a> ValidityTest<'a> {
     /// Keeps this label in place of the last one.
     fn see(&mut self, label: &[u32], shared: usize)
         requires short { length label.now ≤ 63 }
-        requires kept { SharesKept shared self.old.kept label.now }
-        ensures kept { self.new.kept ≡ label.now }
+        requires kept { SharesCached shared self.old.cached label.now }
+        ensures kept { self.new.cached ≡ label.now }
         ensures same_table { self.new.table ≡ self.old.table }
     {
-        let shared = shared.min(label.len()).min(self.kept.len());
+        let shared = shared.min(label.len()).min(self.cached.len());
         self.singles
-            .renew(&mut self.points, &self.kept, label, shared);
-        self.kept.keep(shared);
+            .renew(&mut self.points, &self.cached, label, shared);
+        self.cached.keep(shared);
         for place in shared..label.len() {
-            self.kept.push(label[place]);
+            self.cached.push(label[place]);
         }
-        let sets = self.points.pieces().table().definitions().sets();
+        let sets = self.points.segments().table().definitions().sets();
         renew_masks(sets, label, shared, &mut self.masks);
     }
 }

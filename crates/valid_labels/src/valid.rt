@@ -3,18 +3,18 @@ ghost use Rattle.std.specs.Prelude.{◌≡◌, ◌↔◌, ◌≤◌, length, IsT
 ghost use Rattle.std.specs.List.{AllByRecursion};
 ghost use Rattle.label_patterns.specs.inner.Masks.{AreMasks};
 ghost use Rattle.valid_labels.specs.Demands.{IsMet};
-ghost use Rattle.valid_labels.specs.Pieces.{IsMadeOfPieces};
+ghost use Rattle.valid_labels.specs.Segments.{IsMadeOfSegments};
 ghost use Rattle.variant_table.specs.Segmentations.{HasSegmentation, seen_under};
 ghost use Rattle.valid_labels.specs.Testing.{IsValidity};
 ghost use Rattle.valid_labels.specs.Validity.{IsAdmitted, IsValid};
 ghost use Rattle.valid_labels.specs.inner.Singles.{AreSingles, HasRoom};
 
-use crate::asking::{HoldingInside, HoldingSource};
 use crate::cutting::{reached, reached_over};
+use crate::dead_prefix::shortest_dead_prefix;
 use crate::demands::are_met;
-use crate::lost::shortest_lost;
-use crate::pieces::Pieces;
+use crate::segments::Segments;
 use crate::single_places::SinglePlaces;
+use crate::source_predicate::{HoldingInside, HoldingSource};
 use crate::validity::Validity;
 use label_patterns::{PointSet, SeenLabel, has};
 use variant_table::Table;
@@ -30,47 +30,47 @@ pub fn is_admitted(table: &Table, sets: &[PointSet], label: &[u32], masks: &[u64
     has_segmentation(table, &seen, label) && meets_demands(table, &seen)
 }
 
-/// Whether a label is valid, and if it isn't, how long its shortest lost beginning is. `masks` has the places of each of
+/// Whether a label is valid, and if it isn't, how long its shortest dead prefix is. `masks` has the places of each of
 /// the table's sets in it, and `singles` places at which single points stand.
 pub fn validity(
-    pieces: &Pieces<'_>,
+    segments: &Segments<'_>,
     sets: &[PointSet],
     label: &[u32],
     masks: &[u64],
     singles: &SinglePlaces,
 ) -> Validity
     requires short { length label.now ≤ 63 }
-    requires sets { sets.now ≡ pieces.now.definitions.sets }
+    requires sets { sets.now ≡ segments.now.definitions.sets }
     requires masks { AreMasks sets.now label.now masks.now }
-    requires room { HasRoom (length pieces.now.definitions.rules) singles.now }
-    requires singles { AreSingles (length label.now) pieces.now label.now singles.now }
-    ensures { IsValidity pieces.now label.now result }
+    requires room { HasRoom (length segments.now.definitions.rules) singles.now }
+    requires singles { AreSingles (length label.now) segments.now label.now singles.now }
+    ensures { IsValidity segments.now label.now result }
 {
-    pieces.recall_soundness();
+    segments.recall_soundness();
     let seen = SeenLabel::of_masks(sets, label, masks);
-    if is_valid(pieces, &seen, label, singles) {
+    if is_valid(segments, &seen, label, singles) {
         return Validity::Valid;
     }
-    match shortest_lost(pieces, &seen, label, singles) {
-        Some(count) => Validity::Lost(count),
+    match shortest_dead_prefix(segments, &seen, label, singles) {
+        Some(count) => Validity::DeadPrefix(count),
         None => Validity::NotValid,
     }
 }
 
 /// Whether a label is valid.
 fn is_valid(
-    pieces: &Pieces<'_>,
+    segments: &Segments<'_>,
     seen: &SeenLabel<'_>,
     label: &[u32],
     singles: &SinglePlaces,
 ) -> bool
     requires short { length label.now ≤ 63 }
-    requires seen { seen.now ≡ seen_under pieces.now label.now }
-    requires room { HasRoom (length pieces.now.definitions.rules) singles.now }
-    requires singles { AreSingles (length label.now) pieces.now label.now singles.now }
-    ensures { IsTrue result ↔ IsValid pieces.now label.now }
+    requires seen { seen.now ≡ seen_under segments.now label.now }
+    requires room { HasRoom (length segments.now.definitions.rules) singles.now }
+    requires singles { AreSingles (length label.now) segments.now label.now singles.now }
+    ensures { IsTrue result ↔ IsValid segments.now label.now }
 {
-    is_made_of_pieces(pieces, seen, label, singles) && meets_demands(pieces.table(), seen)
+    is_made_of_segments(segments, seen, label, singles) && meets_demands(segments.table(), seen)
 }
 
 /// Whether a label can be cut into sources of the table that may stand where they do.
@@ -81,29 +81,29 @@ fn has_segmentation(table: &Table, seen: &SeenLabel<'_>, label: &[u32]) -> bool
 {
     let definitions = table.definitions();
     let none: &[Vec<u32>] = &[];
-    let asking = HoldingInside { definitions, seen };
-    let places = reached(table, none, label, &asking);
+    let predicate = HoldingInside { definitions, seen };
+    let places = reached(table, none, label, &predicate);
     has(places, label.len())
 }
 
-/// Whether a label can be cut into pieces that may stand where they do.
-fn is_made_of_pieces(
-    pieces: &Pieces<'_>,
+/// Whether a label can be cut into segments that may stand where they do.
+fn is_made_of_segments(
+    segments: &Segments<'_>,
     seen: &SeenLabel<'_>,
     label: &[u32],
     singles: &SinglePlaces,
 ) -> bool
     requires short { length label.now ≤ 63 }
-    requires seen { seen.now ≡ seen_under pieces.now label.now }
-    requires room { HasRoom (length pieces.now.definitions.rules) singles.now }
-    requires singles { AreSingles (length label.now) pieces.now label.now singles.now }
-    ensures { IsTrue result ↔ IsMadeOfPieces pieces.now label.now }
+    requires seen { seen.now ≡ seen_under segments.now label.now }
+    requires room { HasRoom (length segments.now.definitions.rules) singles.now }
+    requires singles { AreSingles (length label.now) segments.now label.now singles.now }
+    ensures { IsTrue result ↔ IsMadeOfSegments segments.now label.now }
 {
-    let table = pieces.table();
+    let table = segments.table();
     let definitions = table.definitions();
-    let asking = HoldingSource { definitions, seen };
+    let predicate = HoldingSource { definitions, seen };
     let steps = singles.holding_steps(definitions.rules(), seen);
-    let places = reached_over(table, pieces.lone(), label, &asking, steps);
+    let places = reached_over(table, segments.lone(), label, &predicate, steps);
     has(places, label.len())
 }
 

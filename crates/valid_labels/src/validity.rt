@@ -14,10 +14,10 @@ pub enum Admission {
 /// Whether a label is valid.
 #[derive(Clone, Copy, Debug, PartialEq, Eq)]
 pub enum Validity {
-    /// The first code points, as many as told, are the shortest lost beginning. No valid label begins with them.
-    Lost(usize),
+    /// The first code points, as many as told, are the shortest dead prefix. No valid label begins with them.
+    DeadPrefix(usize),
     /// The label is valid.
     Valid,
-    /// The label isn't valid, but has no lost beginning.
+    /// The label isn't valid, but has no dead prefix.
     NotValid,
 }

@@ -1,8 +1,8 @@
--- The shortest hopeless beginning, and labels that begin alike.
+-- The shortest dead prefix, and labels that begin alike.
 use Rattle.std.proofs.Common.{◌≡◌, ◌==◌, ℕ, zero, suc, ◌<◌, ◌≤◌, Bool, true, false, cond, List, [], ◌∷◌, length, take, Option, Some, None, option_map, refl, sym, ap, ◌∙◌, subst, inl, inr, arith}
 use Rattle.std.proofs.lemmas.Bool.{and_parts, and_from, eqb-true, eq-eqb}
 use Rattle.variant_list.specs.Labels.{IsBelow}
-use Rattle.variant_list.specs.Beginnings.{shortest_hopeless, shares, has_hope, IsShortest, HasHope}
+use Rattle.variant_list.specs.Beginnings.{shortest_hopeless, shares, has_no_dead_prefix, IsShortest, HasNoDeadPrefix}
 use Rattle.std.specs.Option.{is_none}
 
 -- ---- labels that begin alike
@@ -49,7 +49,7 @@ shares-between (suc n) (c ∷ u) (d ∷ w) (e ∷ z) below above h =
       ]
     ]
 
--- ---- the shortest_hopeless hopeless beginning
+-- ---- the shortest dead prefix
 
 longer_of : (o : Option ℕ) (n : ℕ) → option_map suc o ≡ Some (suc n) → o ≡ Some n
 longer_of None n h = cc
@@ -60,7 +60,7 @@ no_zero true o h = cc
 no_zero false None h = cc
 no_zero false (Some m) h = cc
 
--- a label that begins with the shortest_hopeless hopeless beginning of another has the same
+-- a label that begins with the shortest dead prefix of another has the same
 pub shortest_hopeless-shares : (hopeless : List ℕ → Bool) (n : ℕ) (v w : List ℕ) → shares n v w ≡ true → shortest_hopeless hopeless v ≡ Some n → shortest_hopeless hopeless w ≡ Some n
 shortest_hopeless-shares hopeless n [] w h is = cc
 shortest_hopeless-shares hopeless zero (c ∷ v) w h is = absurd (no_zero (hopeless (c ∷ [])) (shortest_hopeless (λ z. hopeless (c ∷ z)) v) is)
@@ -125,12 +125,12 @@ shortest_hopeless-gives hopeless [] n is = cc
 shortest_hopeless-gives hopeless (c ∷ v) n is =
     by_parts hopeless c v (hopeless (c ∷ [])) (shortest_hopeless (λ w. hopeless (c ∷ w)) v) n refl is (λ m e. shortest_hopeless-gives (λ w. hopeless (c ∷ w)) v m e)
 
-pub hope-gives : (hopeless : List ℕ → Bool) (v : List ℕ) → has_hope hopeless v ≡ true → HasHope hopeless v
-hope-gives hopeless [] hope k low high = absurd (omega arith)
-hope-gives hopeless (c ∷ v) hope k low high =
-    by_first (hopeless (c ∷ [])) (shortest_hopeless (λ w. hopeless (c ∷ w)) v) refl hope (λ e. hope-gives (λ w. hopeless (c ∷ w)) v (ap is_none e)) k low high
+pub alive-gives : (hopeless : List ℕ → Bool) (v : List ℕ) → has_no_dead_prefix hopeless v ≡ true → HasNoDeadPrefix hopeless v
+alive-gives hopeless [] alive k low high = absurd (omega arith)
+alive-gives hopeless (c ∷ v) alive k low high =
+    by_first (hopeless (c ∷ [])) (shortest_hopeless (λ w. hopeless (c ∷ w)) v) refl alive (λ e. alive-gives (λ w. hopeless (c ∷ w)) v (ap is_none e)) k low high
   where
-    by_first : (b : Bool) (o : Option ℕ) → hopeless (c ∷ []) ≡ b → is_none (cond b (Some 1) (option_map suc o)) ≡ true → (o ≡ None → HasHope (λ w. hopeless (c ∷ w)) v) → (k : ℕ) → 1 ≤ k → k ≤ suc (length v) → hopeless (take k (c ∷ v)) ≡ false
+    by_first : (b : Bool) (o : Option ℕ) → hopeless (c ∷ []) ≡ b → is_none (cond b (Some 1) (option_map suc o)) ≡ true → (o ≡ None → HasNoDeadPrefix (λ w. hopeless (c ∷ w)) v) → (k : ℕ) → 1 ≤ k → k ≤ suc (length v) → hopeless (take k (c ∷ v)) ≡ false
     by_first true o first h rest k low high = let clash : false ≡ true = h in cc
     by_first false (Some m) first h rest k low high = let clash : false ≡ true = h in cc
     by_first false None first h rest zero low high = absurd (omega arith)

@@ -10,7 +10,7 @@ use Rattle.label_patterns.proofs.TestLemmas.{condition-agrees}
 use Rattle.variant_table.specs.Entries.{Entry, TableValue, Variant, itself, source_of, whole, replacements}
 use Rattle.variant_table.specs.Segmentations.{seen_under}
 use Rattle.variant_list.specs.Parts.{Part, full_replacements, part_has}
-use Rattle.variant_list.specs.Uses.{holds_for, may_replace}
+use Rattle.variant_list.specs.Substitutions.{holds_for, may_replace}
 use Rattle.variant_list.proofs.PartLemmas.{mapped-at, mapped-same}
 
 pub held_by : (table : TableValue) (label : List ℕ) (place : ℕ) (e : Entry) (condition : Option Condition) → place + length e.source ≤ length label

@@ -1,4 +1,4 @@
--- The least label that is no less than a text, of a net and of a cursor.
+-- The least label that is no less than a text, of a variant graph and of a cursor.
 use Rattle.std.proofs.Common.{◌≡◌, inl, inr, ◌↔◌, ℕ, zero, suc, ◌*◌, ◌<◌, ◌≤◌, Bool, false, List, [], ◌∷◌, length, take, min, Option, Some, None, is_some, refl, sym, ap, subst, ◌∙◌, arith, length-take}
 use Rattle.std.specs.Bool.{OnTrue, OnFalse}
 use Rattle.std.specs.Prelude.{Contains, IfSome, IfNone}

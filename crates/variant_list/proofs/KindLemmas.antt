@@ -10,14 +10,14 @@ use Rattle.std.proofs.lemmas.Nat.{pow_below}
 use Rattle.std.proofs.lemmas.Nat.Bits.{bit_at-pow_other, bit_at-pow_same, bit_at-zero, bit_at_or}
 use Rattle.variant_table.specs.Entries.{Entry, TableValue, Variant}
 use Rattle.variant_table.specs.Places.{entries_at}
-use Rattle.reading_kinds.specs.Readings.{Use, UsesSpell}
+use Rattle.reading_kinds.specs.Readings.{Substitution, SubstitutionsSpell}
 use Rattle.reading_kinds.specs.Laws.{lacking}
 use Rattle.reading_kinds.proofs.LawLemmas.{LackingSpell-holds}
 use Rattle.variant_list.specs.Laws.{KindsTellParts}
 use Rattle.variant_list.specs.Parts.{are_of, full_replacements, kinds_below, part_has, part_of}
 use Rattle.variant_list.specs.Parts.Part.{Whole}
-use Rattle.variant_list.specs.Uses.{holds_for, may_replace, may_stand, use_of, uses_at, uses_from, uses_of, uses_of_entry}
-use Rattle.variant_list.proofs.UsesLemmas.{UsesSpell-label}
+use Rattle.variant_list.specs.Substitutions.{holds_for, may_replace, may_stand, substitution_of, substitutions_at, substitutions_from, substitutions_of, substitutions_of_entry}
+use Rattle.variant_list.proofs.SubstitutionLemmas.{SubstitutionsSpell-label}
 
 -- one kind more, that of a tag
 more : (kind : ℕ) (r : Variant) (has : Bool) → 1 ≤ kind → (not r.marked && are_of (kind - 1) r.tags) ≡ has → bit_or (kinds_below kind r) (if has then 0 else 2 ^ kind) ≡ kinds_below (kind + 1) r
@@ -74,13 +74,13 @@ bit-told (suc n) i r l =
     last true = bit_at-zero i
     last false = bit_at-pow_same i
 
--- ---- the uses that lack a kind are those of its part
+-- ---- the substitutions that lack a kind are those of its part
 
 module _ (kind : ℕ) (small : kind < 9) where
-  abbrev lacks : Use → Bool
+  abbrev lacks : Substitution → Bool
   lacks u = not (bit_at u.kinds kind == 1)
 
-  has-told : (e : Entry) (r : Variant) → lacks (use_of e r) ≡ part_has (part_of kind) r
+  has-told : (e : Entry) (r : Variant) → lacks (substitution_of e r) ≡ part_has (part_of kind) r
   has-told e r = ap (λ n. not (n == 1)) (bit-told 9 kind r small) ∙ turned (part_has (part_of kind) r)
     where
       turned : (has : Bool) → not ((if has then 0 else 1) == 1) ≡ has
@@ -89,36 +89,36 @@ module _ (kind : ℕ) (small : kind < 9) where
 
   module _ (table : TableValue) (label : List ℕ) where
     of_replacements : (place : ℕ) (e : Entry) (rs : List Variant)
-        → filter lacks (map (use_of e) (filter (may_replace Whole table label place e) rs)) ≡ map (use_of e) (filter (may_replace (part_of kind) table label place e) rs)
+        → filter lacks (map (substitution_of e) (filter (may_replace Whole table label place e) rs)) ≡ map (substitution_of e) (filter (may_replace (part_of kind) table label place e) rs)
     of_replacements place e [] = refl
     of_replacements place e (r ∷ rs) = by_test (holds_for table label place e r.condition) (part_has (part_of kind) r) (has-told e r) (of_replacements place e rs)
       where
-        by_test : (held has : Bool) → lacks (use_of e r) ≡ has → filter lacks (map (use_of e) (filter (may_replace Whole table label place e) rs)) ≡ map (use_of e) (filter (may_replace (part_of kind) table label place e) rs)
-            → filter lacks (map (use_of e) (if held then r ∷ filter (may_replace Whole table label place e) rs else filter (may_replace Whole table label place e) rs))
-            ≡ map (use_of e) (if has && held then r ∷ filter (may_replace (part_of kind) table label place e) rs else filter (may_replace (part_of kind) table label place e) rs)
-        by_test true true is rest = ap (λ (t : Bool). if t then use_of e r ∷ filter lacks (map (use_of e) (filter (may_replace Whole table label place e) rs)) else filter lacks (map (use_of e) (filter (may_replace Whole table label place e) rs))) is ∙ ap (λ us. use_of e r ∷ us) rest
-        by_test true false is rest = ap (λ (t : Bool). if t then use_of e r ∷ filter lacks (map (use_of e) (filter (may_replace Whole table label place e) rs)) else filter lacks (map (use_of e) (filter (may_replace Whole table label place e) rs))) is ∙ rest
+        by_test : (held has : Bool) → lacks (substitution_of e r) ≡ has → filter lacks (map (substitution_of e) (filter (may_replace Whole table label place e) rs)) ≡ map (substitution_of e) (filter (may_replace (part_of kind) table label place e) rs)
+            → filter lacks (map (substitution_of e) (if held then r ∷ filter (may_replace Whole table label place e) rs else filter (may_replace Whole table label place e) rs))
+            ≡ map (substitution_of e) (if has && held then r ∷ filter (may_replace (part_of kind) table label place e) rs else filter (may_replace (part_of kind) table label place e) rs)
+        by_test true true is rest = ap (λ (t : Bool). if t then substitution_of e r ∷ filter lacks (map (substitution_of e) (filter (may_replace Whole table label place e) rs)) else filter lacks (map (substitution_of e) (filter (may_replace Whole table label place e) rs))) is ∙ ap (λ us. substitution_of e r ∷ us) rest
+        by_test true false is rest = ap (λ (t : Bool). if t then substitution_of e r ∷ filter lacks (map (substitution_of e) (filter (may_replace Whole table label place e) rs)) else filter lacks (map (substitution_of e) (filter (may_replace Whole table label place e) rs))) is ∙ rest
         by_test false true is rest = rest
         by_test false false is rest = rest
 
-    of_entries : (place : ℕ) (es : List Entry) → filter lacks (flat_map (uses_of_entry Whole table label place) es) ≡ flat_map (uses_of_entry (part_of kind) table label place) es
+    of_entries : (place : ℕ) (es : List Entry) → filter lacks (flat_map (substitutions_of_entry Whole table label place) es) ≡ flat_map (substitutions_of_entry (part_of kind) table label place) es
     of_entries place [] = refl
     of_entries place (e ∷ es) =
-        filter-append lacks (uses_of_entry Whole table label place e) (flat_map (uses_of_entry Whole table label place) es)
-        ∙ ap (λ us. us ++ filter lacks (flat_map (uses_of_entry Whole table label place) es)) (of_replacements place e (full_replacements e))
-        ∙ ap (λ us. uses_of_entry (part_of kind) table label place e ++ us) (of_entries place es)
+        filter-append lacks (substitutions_of_entry Whole table label place e) (flat_map (substitutions_of_entry Whole table label place) es)
+        ∙ ap (λ us. us ++ filter lacks (flat_map (substitutions_of_entry Whole table label place) es)) (of_replacements place e (full_replacements e))
+        ∙ ap (λ us. substitutions_of_entry (part_of kind) table label place e ++ us) (of_entries place es)
 
-    lacking-from : (place n : ℕ) → lacking kind (uses_from Whole table label place n) ≡ uses_from (part_of kind) table label place n
+    lacking-from : (place n : ℕ) → lacking kind (substitutions_from Whole table label place n) ≡ substitutions_from (part_of kind) table label place n
     lacking-from place zero = refl
     lacking-from place (suc n) =
-        ap (λ us. us ∷ lacking kind (uses_from Whole table label (suc place) n)) (of_entries place (filter (may_stand table label place) (entries_at table.entries label place)))
-        ∙ ap (λ us. uses_at (part_of kind) table label place ∷ us) (lacking-from (suc place) n)
+        ap (λ us. us ∷ lacking kind (substitutions_from Whole table label (suc place) n)) (of_entries place (filter (may_stand table label place) (entries_at table.entries label place)))
+        ∙ ap (λ us. substitutions_at (part_of kind) table label place ∷ us) (lacking-from (suc place) n)
 
 pub kinds-tell_parts : KindsTellParts
 kinds-tell_parts kind table label v small formed =
-    let lacking_spell = LackingSpell-holds (uses_of Whole table label) v kind in
-    let same : lacking kind (uses_of Whole table label) ≡ uses_of (part_of kind) table label = lacking-from kind small table label 0 (length label) in
-    let part = UsesSpell-label (part_of kind) table label formed v in (
-      λ h. part.0 (subst (λ us. UsesSpell us v) same (lacking_spell.0 h)),
-      λ s. lacking_spell.1 (subst (λ us. UsesSpell us v) (sym same) (part.1 s)),
+    let lacking_spell = LackingSpell-holds (substitutions_of Whole table label) v kind in
+    let same : lacking kind (substitutions_of Whole table label) ≡ substitutions_of (part_of kind) table label = lacking-from kind small table label 0 (length label) in
+    let part = SubstitutionsSpell-label (part_of kind) table label formed v in (
+      λ h. part.0 (subst (λ us. SubstitutionsSpell us v) same (lacking_spell.0 h)),
+      λ s. lacking_spell.1 (subst (λ us. SubstitutionsSpell us v) (sym same) (part.1 s)),
     )

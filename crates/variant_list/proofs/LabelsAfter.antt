@@ -7,7 +7,7 @@ use Rattle.variant_list.specs.Beginnings.{shares}
 use Rattle.variant_list.specs.inner.Skips.{outside}
 use Rattle.variant_list.proofs.ListLemmas.{AllByRecursion-map, filter-all, filter-none, filter-passes}
 use Rattle.variant_list.proofs.BeginningLemmas.{shares-between, shares-within}
-use Rattle.variant_list.proofs.DeadEndLemmas.{AllShare, BeginsApart}
+use Rattle.variant_list.proofs.DeadPrefixLemmas.{AllShare, BeginsApart}
 
 abbrev pub inside : ℕ → List ℕ → List (List ℕ) → List (List ℕ)
 inside n u = filter (shares n u)

@@ -1,4 +1,4 @@
--- The labels that a net spells, as a list.
+-- The labels that a variant graph spells, as a list.
 use Rattle.std.proofs.Common.{◌≡◌, ℕ, zero, suc, ◌+◌, ◌-◌, ◌*◌, ◌<◌, ◌≤◌, List, [], ◌∷◌, length, take, drop, map, get_or, refl, sym, ap, ◌∙◌, subst, inl, inr, ◌↔◌, arith, length-append, Bool, true, false, ◌&&◌, Option, None}
 use Rattle.std.specs.Prelude.{slice_get, slice_index, Some}
 use Rattle.std.specs.List.{Contains, filter, flat_map}
@@ -10,8 +10,8 @@ use Rattle.std.proofs.lemmas.List.Sums.{sum_by-le, sum_by-cons}
 use Rattle.std.proofs.lemmas.List.Elements.{All-contains, Contains-get_or, Contains-append_left, Contains-append_right, Contains-append_cases}
 use Rattle.variant_list.specs.Labels.{label_cmp}
 use Rattle.variant_list.specs.Nets.{IsLeastLength}
-use Rattle.reading_kinds.specs.Readings.{Use, IsUse, AreUses, IsCut, points_of, UsesSpell}
-use Rattle.variant_list.specs.Uses.{points_in, use_edges}
+use Rattle.reading_kinds.specs.Readings.{Substitution, IsSubstitution, AreSubstitutions, IsCut, points_of, SubstitutionsSpell}
+use Rattle.variant_list.specs.Substitutions.{points_in, substitution_edges}
 use Rattle.variant_list.specs.Variants.{in_order, variants_among}
 use Rattle.variant_list.specs.declared.edges.Edge.{Edge}
 use Rattle.variant_list.specs.inner.Plans.{Plan, Step, Reads, first_place}
@@ -19,7 +19,7 @@ use Rattle.variant_list.specs.inner.NetPlans.{IsNetOf, IsNet, edges_at, spelled_
 use Rattle.variant_list.proofs.OrderLemmas.{IsListOf-unique}
 use Rattle.variant_list.proofs.VariantLists.{IsRising-in_order, Contains-in_order}
 use Rattle.variant_list.proofs.PlanLemmas.{Contains-at, slice_get-Contains}
-use Rattle.variant_list.proofs.SpelledByLemmas.{AreUses-drop}
+use Rattle.variant_list.proofs.SpelledByLemmas.{AreSubstitutions-drop}
 use Rattle.variant_table.proofs.MemberLemmas.{Contains-head, Contains-none, Contains-one}
 use Rattle.variant_table.proofs.MemberLists.{Contains-map, Contains-flat_map}
 use Rattle.variant_table.proofs.EntryLemmas.{slice_get-drop, slice_get-take}
@@ -109,42 +109,42 @@ in_order-same xs ys same =
 pub among-in_order : (accepts : List ℕ → Bool) (labels others : List (List ℕ)) (after : List ℕ) → in_order labels ≡ in_order others → variants_among accepts labels after ≡ variants_among accepts others after
 among-in_order accepts labels others after same = ap (filter (λ v. accepts v && is_gt (label_cmp v after))) same
 
--- ---- uses give a net
+-- ---- substitutions give a variant graph
 
--- what uses put in the place of a label is at most eight times as long
-cut_short : (cut : List Use) (uses : List (List Use)) → AreUses uses → IsCut uses cut → length (points_of cut) ≤ 8 * length uses
+-- what substitutions put in the place of a label is at most eight times as long
+cut_short : (cut : List Substitution) (substitutions : List (List Substitution)) → AreSubstitutions substitutions → IsCut substitutions cut → length (points_of cut) ≤ 8 * length substitutions
 cut_short [] [] are cuts = omega arith
 cut_short [] (here ∷ later) are cuts = absurd cuts
 cut_short (u ∷ cut) [] are cuts = absurd cuts
 cut_short (u ∷ cut) (here ∷ later) are cuts =
-    let is : IsUse (length later + 1) u = All-contains (IsUse (length later + 1)) here u are.0 cuts.0 in
-    let rest = cut_short cut (drop u.covers (here ∷ later)) (AreUses-drop (here ∷ later) u.covers are) cuts.2 in
+    let is : IsSubstitution (length later + 1) u = All-contains (IsSubstitution (length later + 1)) here u are.0 cuts.0 in
+    let rest = cut_short cut (drop u.covers (here ∷ later)) (AreSubstitutions-drop (here ∷ later) u.covers are) cuts.2 in
     omega (arith, length-append u.points (points_of cut), is.some, is.short, is.within, rest, length-drop u.covers (here ∷ later))
 
-pub spelled_short : (uses : List (List Use)) (v : List ℕ) → AreUses uses → length uses ≤ 63 → UsesSpell uses v → length v ≤ 504
-spelled_short uses v are few s = omega (arith, cut_short s.0 uses are s.1, ap length s.2, few)
+pub spelled_short : (substitutions : List (List Substitution)) (v : List ℕ) → AreSubstitutions substitutions → length substitutions ≤ 63 → SubstitutionsSpell substitutions v → length v ≤ 504
+spelled_short substitutions v are few s = omega (arith, cut_short s.0 substitutions are s.1, ap length s.2, few)
 
-pub use_edges_few : (uses : List (List Use)) → AreUses uses → use_edges uses ≤ 1088 * length uses
-use_edges_few [] are = omega arith
-use_edges_few (here ∷ later) are =
-    let each : (k : ℕ) (d : Use) → k < length here → length (get_or here k d).points ≤ 8 =
-    λ (k : ℕ) (d : Use) l. (All-contains (IsUse (length later + 1)) here (get_or here k d) are.0 (Contains-get_or here k d l)).short in
-    omega (arith, sum_by-cons points_in here later, sum_by-le (λ (u : Use). length u.points) 8 here each, are.1, use_edges_few later are.2)
+pub substitution_edges_few : (substitutions : List (List Substitution)) → AreSubstitutions substitutions → substitution_edges substitutions ≤ 1088 * length substitutions
+substitution_edges_few [] are = omega arith
+substitution_edges_few (here ∷ later) are =
+    let each : (k : ℕ) (d : Substitution) → k < length here → length (get_or here k d).points ≤ 8 =
+    λ (k : ℕ) (d : Substitution) l. (All-contains (IsSubstitution (length later + 1)) here (get_or here k d) are.0 (Contains-get_or here k d l)).short in
+    omega (arith, sum_by-cons points_in here later, sum_by-le (λ (u : Substitution). length u.points) 8 here each, are.1, substitution_edges_few later are.2)
 
-module _ (uses : List (List Use)) (plan : Plan) (net : IsNetOf uses plan) where
+module _ (substitutions : List (List Substitution)) (plan : Plan) (net : IsNetOf substitutions plan) where
   -- where something is spelled
-  pub IsNet-uses : (o : Option ℕ) → AreUses uses → length uses ≤ 63 → IsLeastLength (Reads plan (first_place plan)) o → is_some o ≡ true → IsNet plan
-  IsNet-uses None are few least some = absurd (false≢true some)
-  IsNet-uses (Some len) are few least some = record {
+  pub IsNet-substitutions : (o : Option ℕ) → AreSubstitutions substitutions → length substitutions ≤ 63 → IsLeastLength (Reads plan (first_place plan)) o → is_some o ≡ true → IsNet plan
+  IsNet-substitutions None are few least some = absurd (false≢true some)
+  IsNet-substitutions (Some len) are few least some = record {
     some = (least.0.0, least.0.1);
-    short = λ v r. spelled_short uses v are few ((net.reads v).0 r);
-    few = omega (arith, net.edges, use_edges_few uses are, few);
+    short = λ v r. spelled_short substitutions v are few ((net.reads v).0 r);
+    few = omega (arith, net.edges, substitution_edges_few substitutions are, few);
     room = omega (arith, net.places, few);
   }
 
-  pub spelled-uses : IsNet plan → (v : List ℕ) → Contains (spelled_of plan) v ↔ UsesSpell uses v
-  spelled-uses is v = let own = Reads-spelled plan is v in (λ m. (net.reads v).0 (own.1 m), λ s. own.0 ((net.reads v).1 s))
+  pub spelled-substitutions : IsNet plan → (v : List ℕ) → Contains (spelled_of plan) v ↔ SubstitutionsSpell substitutions v
+  spelled-substitutions is v = let own = Reads-spelled plan is v in (λ m. (net.reads v).0 (own.1 m), λ s. own.0 ((net.reads v).1 s))
 
-  pub none-uses : (o : Option ℕ) → IsLeastLength (Reads plan (first_place plan)) o → is_some o ≡ false → (v : List ℕ) → UsesSpell uses v → ⊥
-  none-uses None least none v s = least v ((net.reads v).1 s)
-  none-uses (Some len) least none v s = absurd (false≢true (sym none))
+  pub none-substitutions : (o : Option ℕ) → IsLeastLength (Reads plan (first_place plan)) o → is_some o ≡ false → (v : List ℕ) → SubstitutionsSpell substitutions v → ⊥
+  none-substitutions None least none v s = least v ((net.reads v).1 s)
+  none-substitutions (Some len) least none v s = absurd (false≢true (sym none))

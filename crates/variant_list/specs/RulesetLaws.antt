@@ -13,7 +13,7 @@ abbrev pub as_ruleset : TableValue → TableValue
 as_ruleset table = record table { version = Three }
 
 -- under each part the same labels are spelled; the variants are the same, whichever labels are accepted, and so are the tested
--- labels, whichever are hopeless
+-- labels, whichever prefixes are dead
 pub record RulesetsListTheSame : Type 0 where
   pub spells : (part : Part) (table : TableValue) (label v : List ℕ) → PartSpells part table label v ↔ PartSpells part (as_ruleset table) label v
   pub spelled : (part : Part) (table : TableValue) (label : List ℕ) → part_spelled part table label ≡ part_spelled part (as_ruleset table) label

@@ -1,4 +1,4 @@
--- What one label shares with another one at its start, and what may be kept of that.
+-- What one label shares with another one at its start, and what may be cached of that.
 use Rattle.std.specs.Prelude.{◌≡◌, ℕ, ◌≤◌, List, length, take}
 use Rattle.idn_class.specs.Shared.{IsLongestShared}
 
@@ -17,7 +17,7 @@ pub record IsSharedThrough (text a b : List ℕ) (n : ℕ) : Type 0 where
   pub second : take n b ≡ take n text
   pub longest : (m : ℕ) → m ≤ length a → m ≤ length b → take m a ≡ take m text → take m b ≡ take m text → m ≤ n
 
--- what is kept is of a label that begins with the same n code points
+-- what is cached is of a label that begins with the same n code points
 pub record IsKeptOf (keeps : List ℕ → Type 0) (n : ℕ) (label : List ℕ) : Type 0 where
   pub before : List ℕ
   pub kept : keeps before

@@ -1,13 +1,14 @@
 -- The labels that a listing comes to, one for each step of its search, and how many steps are left.
 use Rattle.std.specs.Prelude.{◌≡◌, ℕ, ◌-◌, ◌≤◌, ◌||◌, nat_lt, Bool, true, List, [], ◌∷◌, Option, Some, None, IfSome, if◌then◌else◌}
-use Rattle.variant_list.specs.Beginnings.{shortest_hopeless, has_hope, is_new}
+use Rattle.variant_list.specs.Beginnings.{shortest_hopeless, has_no_dead_prefix, is_new}
 use Rattle.variant_list.specs.Positions.{Position, candidates_ahead}
 
--- the labels of a list that a search comes to: in order, those that have hope, and the dead ends; the others it passes over
+-- the labels of a list that a search comes to: in order, those without a dead prefix, and the dead prefixes; the others
+-- it passes over
 abbrev pub visited : (List ℕ → Bool) → Option (List ℕ) → List (List ℕ) → List (List ℕ)
 visited hopeless before [] = []
 visited hopeless before (v ∷ vs) =
-    if has_hope hopeless v || is_new before v (shortest_hopeless hopeless v)
+    if has_no_dead_prefix hopeless v || is_new before v (shortest_hopeless hopeless v)
     then v ∷ visited hopeless (Some v) vs
     else visited hopeless (Some v) vs
 

@@ -1,7 +1,7 @@
-//! Laying out a net from the uses of a label: what may stand in the place of which of its code points. The last place of
-//! the label comes first.
+//! Laying out a variant graph from the substitutions of a label: what may stand in the place of which of its code
+//! points. The last place of the label comes first.
 ghost use Rattle.std.specs.Prelude.{◌≡◌, ◌+◌, ◌<◌, ◌≤◌, [], ◌∷◌, length, IfOk, OnOk};
-ghost use Rattle.reading_kinds.specs.Readings.{AreUses, uses_at};
+ghost use Rattle.reading_kinds.specs.Readings.{AreSubstitutions, substitutions_at};
 ghost use Rattle.variant_list.specs.inner.Plans.{IsPlan};
 ghost use Rattle.variant_list.specs.inner.Layouts.{Draft, IsSound, IsLaid, HasTaken, HasEnded};
 ghost use Rattle.variant_list.specs.inner.NetPlans.{IsNetOf};
@@ -9,17 +9,18 @@ ghost use Rattle.variant_list.specs.inner.NetPlans.{IsNetOf};
 use crate::edges::Edge;
 use crate::graph::Graph;
 use crate::layout::Layout;
-use reading_kinds::{KeptUses, UseView};
+use reading_kinds::{LabelSubstitutions, SubstitutionView};
 use std::alloc::{AllocError, Global};
 use std::marker::Model;
 
-/// A net, as far as it has been laid out. After an error it is half done, and good for nothing but to be let go.
+/// A variant graph, as far as it has been laid out. After an error it is half done, and good for nothing but to be let
+/// go.
 #[derive(Drop)]
 struct NetDraft {
     layout: Layout,
     /// The places before the last code points of the label: before none of them, one, two, and so on.
     places: Vec<usize>,
-    /// The edges of the place that is being laid out, in the order of its uses.
+    /// The edges of the place that is being laid out, in the order of its substitutions.
     begun: Vec<Edge>,
 }
 
@@ -31,22 +32,26 @@ impl Model for NetDraft {
     ghost invariant = { λ draft. Unit {0} };
 }
 
-/// The net of the uses of a label: a place for each of its beginnings, and a chain of edges for each use.
-pub(crate) fn lay_out(alloc: Global, uses: &KeptUses) -> Result<Graph, AllocError>
-    requires { AreUses uses.now }
-    ensures { IfOk result (IsNetOf uses.now) }
+/// The variant graph of the substitutions of a label: a place for each of its beginnings, and a chain of edges for each
+/// substitution.
+pub(crate) fn lay_out(
+    alloc: Global,
+    substitutions: &LabelSubstitutions,
+) -> Result<Graph, AllocError>
+    requires { AreSubstitutions substitutions.now }
+    ensures { IfOk result (IsNetOf substitutions.now) }
 {
-    let mut draft = NetDraft::new(alloc, uses.len())?;
-    for place in (0..uses.len()).rev() {
-        draft.add_uses(uses, place)?;
+    let mut draft = NetDraft::new(alloc, substitutions.len())?;
+    for place in (0..substitutions.len()).rev() {
+        draft.add_substitutions(substitutions, place)?;
         draft.end_place()?;
     }
     Ok(draft.finished())
 }
 
 impl NetDraft {
-    /// A net with only the end of a label of so many code points. Memory for its places is taken at once, which is much
-    /// faster than little by little.
+    /// A variant graph with only the end of a label of so many code points. Memory for its places is taken at once,
+    /// which is much faster than little by little.
     fn new(alloc: Global, count: usize) -> Result<NetDraft, AllocError>
         ensures { IfOk result (IsLaid []) }
     {
@@ -60,23 +65,27 @@ impl NetDraft {
         })
     }
 
-    /// Adds the uses of the place that is being laid out.
-    fn add_uses(&mut self, uses: &KeptUses, place: usize) -> Result<(), AllocError>
+    /// Adds the substitutions of the place that is being laid out.
+    fn add_substitutions(
+        &mut self,
+        substitutions: &LabelSubstitutions,
+        place: usize,
+    ) -> Result<(), AllocError>
         requires sound { IsSound self.old }
-        requires uses { AreUses uses.now }
-        requires place { place < length uses.now }
-        requires count { place + length self.old.places ≡ length uses.now }
-        ensures { OnOk result (HasTaken self.old (uses_at uses.now place) self.new) }
+        requires substitutions { AreSubstitutions substitutions.now }
+        requires place { place < length substitutions.now }
+        requires count { place + length self.old.places ≡ length substitutions.now }
+        ensures { OnOk result (HasTaken self.old (substitutions_at substitutions.now place) self.new) }
     {
-        for number in 0..uses.count_at(place) {
-            self.add_use(uses.get(place, number))?;
+        for number in 0..substitutions.count_at(place) {
+            self.add_substitution(substitutions.get(place, number))?;
         }
         Ok(())
     }
 
-    /// Adds a use of the place that is being laid out.
+    /// Adds a substitution of the place that is being laid out.
     #[inline]
-    fn add_use(&mut self, found: UseView<'_>) -> Result<(), AllocError>
+    fn add_substitution(&mut self, found: SubstitutionView<'_>) -> Result<(), AllocError>
         requires sound { IsSound self.old }
         requires some { 1 ≤ found.covers }
         requires within { found.covers ≤ length self.old.places }
@@ -89,7 +98,7 @@ impl NetDraft {
         Ok(())
     }
 
-    /// Ends the place, which has no more uses, and goes on to the one before it.
+    /// Ends the place, which has no more substitutions, and goes on to the one before it.
     fn end_place(&mut self) -> Result<(), AllocError>
         requires sound { IsSound self.old }
         ensures { OnOk result (HasEnded self.old self.new) }
@@ -101,7 +110,7 @@ impl NetDraft {
         Ok(())
     }
 
-    /// The net of the places that are done, from the last one on.
+    /// The variant graph of the places that are done, from the last one on.
     fn finished(self) -> Graph
         requires { IsPlan self.plan }
         ensures { result ≡ self.plan }

@@ -10,13 +10,13 @@ use std::alloc::{AllocError, Global};
 
 /// A test of labels that keeps what it found out of the last one. It is called for one label after another, and is told
 /// how much both share at their start. What it keeps does not change which labels are accepted and which beginnings are
-/// hopeless. So a listing gives the same labels whenever it is resumed.
+/// dead. So a listing gives the same labels whenever it is resumed.
 pub trait Judge {
     /// Which labels are accepted.
     ghost accepted: { Self → List ℕ → Bool };
 
-    /// Which beginnings are hopeless: no accepted label begins with one.
-    ghost lost: { Self → List ℕ → Bool };
+    /// Which prefixes are dead: no accepted label begins with one.
+    ghost dead: { Self → List ℕ → Bool };
 
     /// What the judge, once it accepted a label, tells of it.
     ghost tells: { Self → List ℕ → Type 0 };
@@ -28,33 +28,33 @@ pub trait Judge {
     ghost needs_none: { Self → List ℕ → Type 0 } = { λ _ _. ⊥ };
 
     /// The verdict on a label of at most 63 code points, of which the first `shared` are those of a label that the judge
-    /// keeps something of. Memory is needed only for a label without a hopeless beginning.
+    /// keeps something of. Memory is needed only for a label without a dead prefix.
     fn judge(&mut self, alloc: Global, label: &[u32], shared: usize) -> Result<Verdict, AllocError>
         requires short { length label.now ≤ 63 }
         requires kept { IsKeptOf (keeps self.old) shared label.now }
         ensures kept { keeps self.new label.now }
-        ensures verdict { IfOk result (IsVerdict (accepted self.old) (lost self.old) (tells self.new) label.now) }
-        ensures memory { OnErr result (shortest_hopeless (lost self.old) label.now ≡ None) }
+        ensures verdict { IfOk result (IsVerdict (accepted self.old) (dead self.old) (tells self.new) label.now) }
+        ensures memory { OnErr result (shortest_hopeless (dead self.old) label.now ≡ None) }
         ensures no_memory { needs_none self.old label.now → IsOk result }
         ensures same_needs { (v : List ℕ) → needs_none self.old v → needs_none self.new v }
         ensures same_labels { accepted self.new ≡ accepted self.old }
-        ensures same_beginnings { lost self.new ≡ lost self.old };
+        ensures same_beginnings { dead self.new ≡ dead self.old };
 
-    /// No accepted label begins with a hopeless beginning.
-    ghost lost_for_good: { (judge : Self) (w z : List ℕ) → IsTrue (lost judge w) → accepted judge (w ++ z) ≡ false };
+    /// No accepted label begins with a dead prefix.
+    ghost dead_for_good: { (judge : Self) (w z : List ℕ) → IsTrue (dead judge w) → accepted judge (w ++ z) ≡ false };
 }
 
 /// A filter keeps nothing of a label, and tells nothing of one that it accepted.
 impl<F: Filter> Judge for &F {
     ghost accepted = { λ filter. F.accepted filter.now };
 
-    ghost lost = { λ filter. F.lost filter.now };
+    ghost dead = { λ filter. F.dead filter.now };
 
     ghost tells = { λ _ _. Unit {0} };
 
     ghost keeps = { λ _ _. Unit {0} };
 
-    ghost lost_for_good = { λ filter w z. F.lost_for_good filter.now w z };
+    ghost dead_for_good = { λ filter w z. F.dead_for_good filter.now w z };
 
     fn judge(
         &mut self,
@@ -63,7 +63,7 @@ impl<F: Filter> Judge for &F {
         _shared: usize,
     ) -> Result<Verdict, AllocError> {
         if let Some(count) = self.shortest_hopeless(label) {
-            return Ok(Verdict::Hopeless(count));
+            return Ok(Verdict::DeadPrefix(count));
         }
         if self.accepts(alloc, label)? {
             Ok(Verdict::Accepted)

@@ -3,10 +3,10 @@
 /// What a judge says of a label.
 #[derive(Clone, Copy, Debug)]
 pub enum Verdict {
-    /// The shortest hopeless beginning of the label has so many code points, one or more.
-    Hopeless(usize),
-    /// No beginning is hopeless, and the label is accepted.
+    /// The shortest dead prefix of the label has so many code points, one or more.
+    DeadPrefix(usize),
+    /// No prefix is dead, and the label is accepted.
     Accepted,
-    /// No beginning is hopeless, but the label is not accepted.
+    /// No prefix is dead, but the label is not accepted.
     NotAccepted,
 }

@@ -1,7 +1,7 @@
--- No label that a listing accepts begins with a list that is hopeless to it.
+-- No label that a listing accepts begins with a dead prefix.
 use Rattle.std.specs.Prelude.{◌≡◌, ◌++◌, ℕ, List, Option, Some, None, true, false}
 use Rattle.idn_class.specs.declared.properties.Properties.{Properties}
-use Rattle.idn_label.proofs.HopeLemmas.{none_hopeless}
+use Rattle.idn_label.proofs.DeadPrefixLemmas.{none_hopeless}
 use Rattle.variant_table.specs.Entries.{TableValue}
 use Rattle.idn2_answers.proofs.LostBeginnings.{ruled-for_good}
 use Rattle.idn2_cli.specs.inner.Ruling.{filter_by}

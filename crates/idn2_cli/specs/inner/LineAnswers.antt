@@ -9,7 +9,7 @@ use Rattle.idn_label.specs.Lookup.{utf8_answer}
 use Rattle.idn2_options.specs.declared.command_line.form.Form.{Form}
 use Rattle.idn2_answers.specs.Answers.{LineAnswer}
 use Rattle.idn2_answers.specs.Said.{Said, LookedUp, Decoded, said_text}
-use Rattle.idn2_output.specs.Pieces.{Piece, outputs}
+use Rattle.idn2_output.specs.OutputLines.{OutputLine, outputs}
 use Rattle.idn2_output.specs.Writing.{Held}
 use Rattle.idn2_output.specs.declared.stop.Stop.{Stop}
 use Rattle.idn2_cli.specs.declared.modes.answering.Kind.{Kind}
@@ -47,9 +47,9 @@ longest kind.Decoded = 4097
 -- ---- what a mode does with a line
 
 -- what is written of an answer: of a refusal nothing, since it is given back
-abbrev pub reply_pieces : Form → Numbered → LineAnswer → List Piece
-reply_pieces form line (Ok said) = outputs (said_text form line) said
-reply_pieces form line (Err refusal) = []
+abbrev pub reply_output : Form → Numbered → LineAnswer → List OutputLine
+reply_output form line (Ok said) = outputs (said_text form line) said
+reply_output form line (Err refusal) = []
 
 -- why a line is refused, if it is
 abbrev pub refusal_in : LineAnswer → Option Refusal

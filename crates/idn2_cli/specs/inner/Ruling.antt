@@ -3,12 +3,12 @@ use Rattle.std.specs.Prelude.{◌≡◌, ◌&&◌, ℕ, nat_le, Bool, true, fals
 use Rattle.std.specs.Option.{option_map}
 use Rattle.idn_class.specs.declared.properties.Properties.{Properties}
 use Rattle.variant_table.specs.Entries.{TableValue}
-use Rattle.valid_labels.specs.Testing.{SharesKept, Testing}
+use Rattle.valid_labels.specs.Testing.{SharesCached, Testing}
 use Rattle.valid_labels.specs.Validity.{IsSound}
-use Rattle.valid_labels.specs.Tests.{asks_nothing, is_lost, is_valid}
+use Rattle.valid_labels.specs.Tests.{asks_nothing, is_dead_under, is_valid}
 use Rattle.valid_labels.specs.declared.validity.Validity.{Validity}
-use Rattle.valid_labels.specs.declared.validity.Validity.TheVariants.{Lost, Valid, NotValid}
-use Rattle.variant_list.specs.Beginnings.{has_hope, shortest_hopeless}
+use Rattle.valid_labels.specs.declared.validity.Validity.TheVariants.{DeadPrefix, Valid, NotValid}
+use Rattle.variant_list.specs.Beginnings.{has_no_dead_prefix, shortest_hopeless}
 use Rattle.idn2_answers.specs.Answers.{Filter, registrable_labels, ruled_labels}
 
 abbrev pub ruling_of : TableValue → Option TableValue
@@ -21,12 +21,12 @@ ruling_in test = option_map (λ t. t.table) test
 -- its table is sound, and what it keeps of the label before is of one that begins with the same code points
 abbrev pub KeepsShared : Option Testing → ℕ → List ℕ → Type 0
 KeepsShared None shared label = Unit {0}
-KeepsShared (Some test) shared label = IsSound test.table × SharesKept shared test.kept label
+KeepsShared (Some test) shared label = IsSound test.table × SharesCached shared test.cached label
 
 -- its table is sound, and what it keeps is of this label
 abbrev pub KeepsOf : List ℕ → Option Testing → Type 0
 KeepsOf label None = Unit {0}
-KeepsOf label (Some test) = IsSound test.table × (take (length test.kept) label ≡ test.kept)
+KeepsOf label (Some test) = IsSound test.table × (take (length test.cached) label ≡ test.cached)
 
 -- what is then asked of labels
 abbrev pub filter_by : Properties → Option TableValue → Filter
@@ -36,18 +36,18 @@ filter_by properties (Some table) = ruled_labels properties table
 -- a label that may be registered is accepted so
 abbrev pub passes : Option TableValue → List ℕ → Bool
 passes None v = true
-passes (Some table) v = is_valid table v && has_hope (is_lost table) v
+passes (Some table) v = is_valid table v && has_no_dead_prefix (is_dead_under table) v
 
 -- ---- what is found of a label
 
--- how many code points its shortest lost beginning has, if it has one
-abbrev pub lost_in : Validity → Option ℕ
-lost_in (Lost count) = Some count
-lost_in Valid = None
-lost_in NotValid = None
+-- how many code points its shortest dead prefix has, if it has one
+abbrev pub dead_prefix_in : Validity → Option ℕ
+dead_prefix_in (DeadPrefix count) = Some count
+dead_prefix_in Valid = None
+dead_prefix_in NotValid = None
 
 abbrev pub is_found_valid : Validity → Type 0 → Type 0 → Type 0
-is_found_valid (Lost count) valid not_valid = Unit {0}
+is_found_valid (DeadPrefix count) valid not_valid = Unit {0}
 is_found_valid Valid valid not_valid = valid
 is_found_valid NotValid valid not_valid = not_valid
 
@@ -55,7 +55,7 @@ is_found_valid NotValid valid not_valid = not_valid
 abbrev pub IsValidityBy : Option TableValue → List ℕ → Validity → Type 0
 IsValidityBy None label validity = validity ≡ Valid
 IsValidityBy (Some table) label validity =
-    (shortest_hopeless (is_lost table) label ≡ lost_in validity) × is_found_valid validity (is_valid table label ≡ true) (is_valid table label ≡ false)
+    (shortest_hopeless (is_dead_under table) label ≡ dead_prefix_in validity) × is_found_valid validity (is_valid table label ≡ true) (is_valid table label ≡ false)
 
 -- the lesser of two numbers, as far as they are there
 abbrev pub lesser_count : Option ℕ → Option ℕ → Option ℕ

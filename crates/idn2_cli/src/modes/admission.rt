@@ -7,11 +7,11 @@ ghost use Rattle.valid_labels.specs.Validity.{IsAdmitted, IsSound};
 ghost use Rattle.variant_list.specs.Spelled.{spelled};
 ghost use Rattle.variant_list.specs.Variants.{in_order};
 ghost use Rattle.idn2_answers.specs.Answers.{IsRefusedAs};
-ghost use Rattle.idn2_cli.specs.inner.Ruling.{IsValidityBy, KeepsOf, KeepsShared, lesser_count, lost_in, passes, ruling_in, ruling_of};
+ghost use Rattle.idn2_cli.specs.inner.Ruling.{IsValidityBy, KeepsOf, KeepsShared, lesser_count, dead_prefix_in, passes, ruling_in, ruling_of};
 
 use idn_text::Refusal;
 use std::alloc::{AllocError, Global};
-use valid_labels::{Admission, Pieces, Validity, ValidityTest, asks_nothing};
+use valid_labels::{Admission, Segments, Validity, ValidityTest, asks_nothing};
 use variant_list::{Net, NetFault};
 use variant_table::Table;
 
@@ -19,29 +19,29 @@ use variant_table::Table;
 pub(crate) fn ruling_of_table(
     alloc: Global,
     table: &Table,
-) -> Result<Option<Pieces<'_>>, AllocError>
+) -> Result<Option<Segments<'_>>, AllocError>
     ensures { IfOk result (λ ruling. ruling ≡ ruling_of table.now) }
 {
     if asks_nothing(table) {
         return Ok(None);
     }
-    Ok(Some(Pieces::of_table(alloc, table)?))
+    Ok(Some(Segments::of_table(alloc, table)?))
 }
 
 /// The test of the labels of one line.
 pub(crate) fn validity_test_by<'p>(
     alloc: Global,
-    ruling: &'p Option<Pieces<'p>>,
+    ruling: &'p Option<Segments<'p>>,
 ) -> Result<Option<ValidityTest<'p>>, AllocError>
     ensures ruling { IfOk result (λ test. ruling_in test ≡ ruling.now) }
 {
     match ruling {
         None => Ok(None),
-        Some(pieces) => Ok(Some(ValidityTest::new(alloc, pieces)?)),
+        Some(segments) => Ok(Some(ValidityTest::new(alloc, segments)?)),
     }
 }
 
-/// The net of a label that the table admits, or why it refuses the label, or that memory was refused.
+/// The variant graph of a label that the table admits, or why it refuses the label, or that memory was refused.
 pub(crate) fn admitted_net(
     alloc: Global,
     table: &Table,
@@ -74,7 +74,7 @@ pub(crate) fn admitted_net(
     }
 }
 
-/// Whether a label is valid, or how many code points its shortest lost beginning has. Without a test each label is. Its
+/// Whether a label is valid, or how many code points its shortest dead prefix has. Without a test each label is. Its
 /// first `shared` code points are those of the label before.
 #[inline(always)]
 pub(crate) fn validity_by(
@@ -94,13 +94,13 @@ pub(crate) fn validity_by(
     }
 }
 
-/// How many code points the shortest lost beginning of a label has, if it has one.
+/// How many code points the shortest dead prefix of a label has, if it has one.
 #[inline(always)]
-pub(crate) fn lost_by(validity: Validity) -> Option<usize>
-    ensures { result ≡ lost_in validity }
+pub(crate) fn dead_prefix_by(validity: Validity) -> Option<usize>
+    ensures { result ≡ dead_prefix_in validity }
 {
     match validity {
-        Validity::Lost(count) => Some(count),
+        Validity::DeadPrefix(count) => Some(count),
         Validity::Valid | Validity::NotValid => None,
     }
 }

@@ -10,7 +10,7 @@ ghost use Rattle.idn2_cli.specs.inner.Dispositions.{IsOfSubTable};
 use reading_kinds::{Readings, Words};
 use std::alloc::{AllocError, Global};
 use std::marker::Model;
-use variant_list::{BLOCKED, uses_of};
+use variant_list::{BLOCKED, substitutions_of};
 use variant_table::Table;
 
 /// The test of which variants of a label may be allocated, by the kinds of their readings. Contracts see the table and
@@ -28,7 +28,7 @@ impl<'l> Model for AllocationTest<'l> {
     ghost use Rattle.variant_table.specs.TableCodes.{table_code};
     ghost use Rattle.variant_table.specs.WellFormed.{IsWellFormed};
     ghost use Rattle.variant_list.specs.Parts.Part.{Whole};
-    ghost use Rattle.variant_list.specs.Uses.{uses_of};
+    ghost use Rattle.variant_list.specs.Uses.{substitutions_of};
     ghost use Rattle.idn2_cli.specs.inner.Dispositions.{Asked};
 
     ghost Value = { Asked };
@@ -37,7 +37,7 @@ impl<'l> Model for AllocationTest<'l> {
 
     ghost view = { λ t. record { table = t.table.now; label = t.label.now } };
 
-    ghost invariant = { λ t. IsWellFormed t.table.now.entries × (t.readings ≡ uses_of Whole t.table.now t.label.now) };
+    ghost invariant = { λ t. IsWellFormed t.table.now.entries × (t.readings ≡ substitutions_of Whole t.table.now t.label.now) };
 }
 
 impl<'l> AllocationTest<'l> {
@@ -50,8 +50,8 @@ impl<'l> AllocationTest<'l> {
         requires { length label.now ≤ 63 }
         ensures { IfOk result (λ test. test ≡ record { table = table.now; label = label.now }) }
     {
-        let uses = uses_of(alloc, table, label)?;
-        let readings = Readings::new(alloc, uses)?;
+        let substitutions = substitutions_of(alloc, table, label)?;
+        let readings = Readings::new(alloc, substitutions)?;
         Ok(AllocationTest {
             table,
             label,

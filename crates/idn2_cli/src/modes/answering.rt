@@ -5,9 +5,9 @@ ghost use Rattle.idn2_answers.specs.Answers.{LineAnswer, text_answer};
 ghost use Rattle.answer_json.specs.Answers.{line_of};
 ghost use Rattle.answer_json.specs.Inputs.{told_of};
 ghost use Rattle.idn2_answers.specs.Said.{Decoded, LookedUp, said_object, said_text};
-ghost use Rattle.idn2_output.specs.Pieces.{Output};
+ghost use Rattle.idn2_output.specs.OutputLines.{Output};
 ghost use Rattle.idn2_cli.specs.inner.Asked.{asked_line};
-ghost use Rattle.idn2_cli.specs.inner.LineAnswers.{KeepsIfRefused, longest, refusal_in, reply_pieces, said_by};
+ghost use Rattle.idn2_cli.specs.inner.LineAnswers.{KeepsIfRefused, longest, refusal_in, reply_output, said_by};
 ghost use Rattle.idn2_cli.specs.inner.ServedLines.{answered_as, result_of};
 ghost use Rattle.idn2_output.specs.Objects.{HasSpace, object_told};
 ghost use Rattle.idn2_output.specs.Writing.{Emits, StopsForMemory};
@@ -61,7 +61,7 @@ pub(crate) trait Answering {
         requires ready { is_ready self.now }
         requires few { length asked.now.text.now ≤ MAX_LINE_LEN }
         ensures written { Emits console.old console.new
-            (reply_pieces asked.now.form (asked_line asked.now) (text_answer (answer_of self.now) asked.now.text.now)) (result_of result) }
+            (reply_output asked.now.form (asked_line asked.now) (text_answer (answer_of self.now) asked.now.text.now)) (result_of result) }
         ensures refused { IfOk (result_of result) (λ refusal. refusal ≡ refusal_in (text_answer (answer_of self.now) asked.now.text.now)) }
         ensures kept { KeepsIfRefused console.old console.new (result_of result) }
         ensures no_memory { needs_none self.now asked.now.text.now → result ≢ served.Stopped stop.Memory }

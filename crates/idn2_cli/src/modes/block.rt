@@ -4,7 +4,7 @@ ghost use Rattle.std.specs.Prelude.{◌≡◌, ◌≤◌, ℕ, ◌∷◌, [], �
 ghost use Rattle.idn_text.specs.Points.{AreScalarValues};
 ghost use Rattle.idn_class.specs.Known.{AreKnown};
 ghost use Rattle.idn_class.specs.declared.properties.Properties.{Properties};
-ghost use Rattle.idn_punycode.specs.Kept.{IsTakenApart};
+ghost use Rattle.idn_punycode.specs.Cached.{IsTakenApart};
 ghost use Rattle.idn_label.specs.ALabel.{a_label_of};
 ghost use Rattle.idn_label.specs.FirstFault.{IsRegistrable};
 ghost use Rattle.idn_label.specs.Memory.{NeedsNoMemory};
@@ -13,26 +13,26 @@ ghost use Rattle.variant_list.specs.Sharing.{IsKeptOf};
 ghost use Rattle.variant_list.specs.Tested.{tested_among};
 ghost use Rattle.variant_list.specs.Verdicts.{IsVerdict};
 ghost use Rattle.idn2_options.specs.Settings.{IsWithinLimits, keeping};
-ghost use Rattle.idn2_output.specs.Pieces.{outputs, Output};
+ghost use Rattle.idn2_output.specs.OutputLines.{outputs, Output};
 ghost use Rattle.idn2_answers.specs.Said.{BlockEnd, Listed, disposition_field, said_text, variant_line};
 ghost use Rattle.idn2_cli.specs.inner.Asked.{asked_line};
 ghost use Rattle.idn2_cli.specs.inner.ForGood.{none_accepted};
 ghost use Rattle.idn2_cli.specs.inner.Ruling.{KeepsOf, filter_by, ruling_in};
 ghost use Rattle.idn2_cli.specs.inner.Dispositions.{block_by, field_by};
-ghost use Rattle.idn2_cli.specs.inner.KeptLines.{IsBegun};
+ghost use Rattle.idn2_cli.specs.inner.CachedLines.{IsBegun};
 ghost use Rattle.idn2_cli.specs.inner.LineAnswers.{reaches};
 ghost use Rattle.idn2_output.specs.Writing.{Emits, StopsForMemory};
 ghost use Rattle.idn2_output.specs.declared.stop.Stop.TheVariants as stop;
 
-use crate::modes::admission::{lesser, lost_by, validity_by};
+use crate::modes::admission::{dead_prefix_by, lesser, validity_by};
 use crate::modes::allocation_test::AllocationTest;
 use crate::modes::asked::Asked;
+use crate::modes::cached_line::CachedLine;
 use crate::modes::dispositions::Dispositions;
-use crate::modes::kept_line::KeptLine;
 use answer_json::{Disposition, Input};
 use arrayvec::{ArrayString, ArrayVec};
-use idn_class::{KeptBeginnings, Properties};
-use idn_label::{ALabel, KeptALabel};
+use idn_class::{CachedPrefixes, Properties};
+use idn_label::{ALabel, CachedALabel};
 use idn_text::{MAX_LINE_LEN, Refusal, Sink};
 use idn2_options::{Form, Options};
 use idn2_output::{Console, Object, Stop, append};
@@ -41,8 +41,8 @@ use std::alloc::{AllocError, Global};
 use valid_labels::{Validity, ValidityTest};
 use variant_list::{Cursor, Judge, Net, Outcome, Verdict};
 
-/// Writes the block of a net's label: its variants up to the stop, and the trailer. They are tested for being valid,
-/// too, where there is a test.
+/// Writes the block of a variant graph's label: its variants up to the stop, and the trailer. They are tested for being
+/// valid, too, where there is a test.
 pub(crate) fn write_block<W: Sink, E: Sink>(
     alloc: Global,
     asked: &Asked<'_>,
@@ -63,9 +63,9 @@ pub(crate) fn write_block<W: Sink, E: Sink>(
 {
     let mut cursor = Cursor::new(alloc, net, &options.after)?;
     let mut judge = VariantJudge {
-        beginnings: KeptBeginnings::new(),
-        test: KeptALabel::new(),
-        line: KeptLine::new(),
+        beginnings: CachedPrefixes::new(),
+        test: CachedALabel::new(),
+        line: CachedLine::new(),
         validity,
         properties: options.properties,
     };
@@ -85,14 +85,14 @@ pub(crate) fn write_block<W: Sink, E: Sink>(
         }
         let variant = cursor.last();
         let disposition = dispositions.of_variant(variant);
-        let kept = &mut judge;
-        let a_label = kept.test.a_label();
+        let cached = &mut judge;
+        let a_label = cached.test.a_label();
         write_variant(
             asked,
             variant,
             a_label,
             disposition,
-            &mut kept.line,
+            &mut cached.line,
             console,
         )?;
         count += 1;
@@ -106,9 +106,9 @@ pub(crate) fn write_block<W: Sink, E: Sink>(
 /// section 8). What a label shares at its start with the one before is neither tested nor taken apart nor written again.
 #[derive(Drop)]
 struct VariantJudge<'p> {
-    beginnings: KeptBeginnings,
-    test: KeptALabel,
-    line: KeptLine,
+    beginnings: CachedPrefixes,
+    test: CachedALabel,
+    line: CachedLine,
     validity: Option<ValidityTest<'p>>,
     properties: Properties,
 }
@@ -116,7 +116,7 @@ struct VariantJudge<'p> {
 impl<'p> Judge for VariantJudge<'p> {
     ghost accepted = { λ judge label. (filter_by judge.properties (ruling_in judge.validity)).accepts label };
 
-    ghost lost = { λ judge label. (filter_by judge.properties (ruling_in judge.validity)).hopeless label };
+    ghost dead = { λ judge label. (filter_by judge.properties (ruling_in judge.validity)).hopeless label };
 
     ghost tells = { λ judge label. judge.test.text ≡ a_label_of label };
 
@@ -124,7 +124,7 @@ impl<'p> Judge for VariantJudge<'p> {
 
     ghost needs_none = { λ _ label. NeedsNoMemory label };
 
-    ghost lost_for_good = { λ judge w z lost. none_accepted judge.properties (ruling_in judge.validity) w z lost };
+    ghost dead_for_good = { λ judge w z dead. none_accepted judge.properties (ruling_in judge.validity) w z dead };
 
     /// Judges a label. It takes no memory for one of which the test needs none.
     fn judge(&mut self, alloc: Global, label: &[u32], shared: usize) -> Result<Verdict, AllocError>
@@ -142,8 +142,8 @@ impl<'p> Judge for VariantJudge<'p> {
         self.line.keep(shared);
         let hopeless = self.beginnings.shortest_hopeless(label, self.properties);
         let validity = validity_by(&mut self.validity, label, shared);
-        if let Some(count) = lesser(hopeless, lost_by(validity)) {
-            return Ok(Verdict::Hopeless(count));
+        if let Some(count) = lesser(hopeless, dead_prefix_by(validity)) {
+            return Ok(Verdict::DeadPrefix(count));
         }
         if let Validity::NotValid = validity {
             return Ok(Verdict::NotAccepted);
@@ -176,7 +176,7 @@ pub(crate) fn write_variant<W: Sink, E: Sink>(
     label: &[u32],
     a_label: &ALabel,
     disposition: Option<Disposition>,
-    line: &mut KeptLine,
+    line: &mut CachedLine,
     console: &mut Console<'_, '_, W, E>,
 ) -> Result<(), Stop>
     requires registrable { (properties : Properties) × IsRegistrable properties label.now }
@@ -203,7 +203,7 @@ fn write_variant_line<W: Sink, E: Sink>(
     label: &[u32],
     a_label: &ALabel,
     disposition: Option<Disposition>,
-    line: &mut KeptLine,
+    line: &mut CachedLine,
     console: &mut Console<'_, '_, W, E>,
 ) -> Result<(), Stop>
     requires registrable { (properties : Properties) × IsRegistrable properties label.now }
@@ -238,24 +238,24 @@ fn field_of(disposition: Option<Disposition>) -> &'static str
     }
 }
 
-/// Writes the end of a listing that stops at a label of at most 63 code points. `kept` gives the UTF-8 of the label.
+/// Writes the end of a listing that stops at a label of at most 63 code points. `cached` gives the UTF-8 of the label.
 pub(crate) fn write_stop<W: Sink, E: Sink>(
     asked: &Asked<'_>,
     count: u64,
     last: &[u32],
-    kept: &mut KeptLine,
+    cached: &mut CachedLine,
     console: &mut Console<'_, '_, W, E>,
 ) -> Result<(), Stop>
     requires few { length asked.now.text.now ≤ MAX_LINE_LEN }
     requires short { length last.now ≤ 63 }
     requires scalar_values { AreScalarValues last.now }
-    requires begun { IsBegun last.now kept.old }
+    requires begun { IsBegun last.now cached.old }
     ensures written { Emits console.old console.new
         (Output (said_text asked.now.form (asked_line asked.now) (BlockEnd count (Some last.now))) ∷ []) result }
     ensures why { IfErr result (λ why. why ≡ stop.Output) }
 {
-    kept.begin(last);
-    let label = kept.as_slice();
+    cached.begin(last);
+    let label = cached.as_slice();
     match asked.form {
         Form::Plain => {
             let line = stop_line(count, label);

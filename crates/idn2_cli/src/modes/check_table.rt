@@ -5,7 +5,7 @@ ghost use Rattle.idn_text.specs.Points.{AreScalarValues};
 ghost use Rattle.variant_table.specs.Gaps.{gaps_of, pairs_of};
 ghost use Rattle.idn2_cli.specs.inner.GapSequences.{HoldSequences};
 ghost use Rattle.idn2_answers.specs.Said.{Counted, Gap, finding_text, gap_line, table_line};
-ghost use Rattle.idn2_output.specs.Pieces.{Output, outputs};
+ghost use Rattle.idn2_output.specs.OutputLines.{Output, outputs};
 ghost use Rattle.idn2_answers.specs.Transcript.{check_findings, status_if};
 ghost use Rattle.idn2_output.specs.Writing.{Emits};
 ghost use Rattle.idn2_output.specs.declared.stop.Stop.TheVariants as stop;

@@ -5,7 +5,7 @@ ghost use Rattle.idn_text.specs.Points.{AreScalarValues};
 ghost use Rattle.registered_labels.specs.Registered.{AreRegistered};
 ghost use Rattle.idn2_options.specs.Settings.{IsWithinLimits, keeping};
 ghost use Rattle.idn2_answers.specs.Said.{said_text};
-ghost use Rattle.idn2_output.specs.Pieces.{outputs};
+ghost use Rattle.idn2_output.specs.OutputLines.{outputs};
 ghost use Rattle.idn2_cli.specs.inner.Asked.{asked_line};
 ghost use Rattle.idn2_cli.specs.inner.Ruling.{KeepsOf, filter_by, ruling_in};
 ghost use Rattle.idn2_cli.specs.inner.Dispositions.{block_by, field_by};
@@ -16,8 +16,8 @@ use crate::modes::admission::is_valid_by;
 use crate::modes::allocation_test::AllocationTest;
 use crate::modes::asked::Asked;
 use crate::modes::block::{is_reached, write_end, write_stop, write_variant};
+use crate::modes::cached_line::CachedLine;
 use crate::modes::dispositions::Dispositions;
-use crate::modes::kept_line::KeptLine;
 use idn_label::encode_label;
 use idn_text::{MAX_LINE_LEN, Sink};
 use idn2_options::Options;
@@ -27,8 +27,8 @@ use std::alloc::Global;
 use valid_labels::ValidityTest;
 use variant_list::Net;
 
-/// Writes the block of a net's label, with those of its variants that are registered. It goes from one of them to the next
-/// and tests no candidate, since what is registered may be.
+/// Writes the block of a variant graph's label, with those of its variants that are registered. It goes from one of
+/// them to the next and tests no candidate, since what is registered may be.
 pub(crate) fn write_collisions<W: Sink, E: Sink>(
     alloc: Global,
     asked: &Asked<'_>,
@@ -52,7 +52,7 @@ pub(crate) fn write_collisions<W: Sink, E: Sink>(
     let total = registered.len();
     let mut search = Collisions::new(alloc, net, registered, &options.after)?;
     let mut count = 0;
-    let mut line = KeptLine::new();
+    let mut line = CachedLine::new();
     'collisions: while let Some(shared) = search.advance() {
         line.keep(shared);
         let label = search.label();

@@ -10,10 +10,10 @@ ghost use Rattle.idn2_answers.specs.Answers.{jump_answer, least_answer};
 ghost use Rattle.idn2_refusals.specs.Requests.{requested_label, requested_text};
 ghost use Rattle.idn2_cli.specs.Memory.{IsRefusedWithoutMemory};
 ghost use Rattle.idn2_answers.specs.Said.{Least, said_text};
-ghost use Rattle.idn2_output.specs.Pieces.{Output};
+ghost use Rattle.idn2_output.specs.OutputLines.{Output};
 ghost use Rattle.idn2_cli.specs.inner.Asked.{asked_line};
 ghost use Rattle.idn2_output.specs.Writing.{Emits};
-ghost use Rattle.idn2_cli.specs.inner.LineAnswers.{KeepsIfRefused, refusal_in, reply_pieces};
+ghost use Rattle.idn2_cli.specs.inner.LineAnswers.{KeepsIfRefused, refusal_in, reply_output};
 ghost use Rattle.idn2_cli.specs.inner.Ruling.{ruling_of};
 ghost use Rattle.idn2_cli.specs.inner.ServedLines.{result_of};
 ghost use Rattle.idn2_cli.specs.declared.modes.answering.Served.TheVariants as served;
@@ -22,8 +22,8 @@ ghost use Rattle.idn2_output.specs.declared.stop.Stop.TheVariants as stop;
 use crate::modes::admission::{admitted_net, validity_test_by};
 use crate::modes::answering::{Served, answered, refused};
 use crate::modes::asked::Asked;
+use crate::modes::cached_line::CachedLine;
 use crate::modes::code_points::PointAnswering;
-use crate::modes::kept_line::KeptLine;
 use answer_json::Input;
 use idn_class::Properties;
 use idn_label::test_label_by;
@@ -32,7 +32,7 @@ use idn2_options::Form;
 use idn2_output::{Console, Object, Stop};
 use idn2_refusals::{label_of_request, parts_of};
 use std::alloc::Global;
-use valid_labels::Pieces;
+use valid_labels::Segments;
 use variant_list::{Cursor, Net};
 use variant_table::Table;
 
@@ -40,7 +40,7 @@ use variant_table::Table;
 #[derive(Drop)]
 pub(crate) struct Jumps<'t, 'p> {
     pub table: &'t Table,
-    pub ruling: &'p Option<Pieces<'t>>,
+    pub ruling: &'p Option<Segments<'t>>,
     pub properties: Properties,
 }
 
@@ -81,7 +81,7 @@ fn answer_least<W: Sink, E: Sink>(
     requires scalar_values { AreScalarValues points.now }
     requires registrable { IsRegistrable mode.now.properties (requested_label points.now) }
     ensures written { Emits console.old console.new
-        (reply_pieces asked.now.form (asked_line asked.now) (least_answer mode.now.table.now (requested_label points.now) (requested_text points.now))) (result_of result) }
+        (reply_output asked.now.form (asked_line asked.now) (least_answer mode.now.table.now (requested_label points.now) (requested_text points.now))) (result_of result) }
     ensures refused { IfOk (result_of result) (λ refusal. refusal ≡ refusal_in (least_answer mode.now.table.now (requested_label points.now) (requested_text points.now))) }
     ensures kept { KeepsIfRefused console.old console.new (result_of result) }
     ensures begun { result ≡ served.Stopped stop.Memory → console.new ≡ console.old }
@@ -96,7 +96,7 @@ fn answer_least<W: Sink, E: Sink>(
     }
 }
 
-/// Answers by the least candidate of a net that is no less than a text, or by none.
+/// Answers by the least candidate of a variant graph that is no less than a text, or by none.
 fn write_least<W: Sink, E: Sink>(
     alloc: Global,
     asked: &Asked<'_>,
@@ -130,7 +130,7 @@ fn write_label<W: Sink, E: Sink>(
         (Output (said_text asked.now.form (asked_line asked.now) (Least (Some label.now))) ∷ []) result }
     ensures why { IfErr result (λ why. why ≡ stop.Output) }
 {
-    let mut line = KeptLine::new();
+    let mut line = CachedLine::new();
     line.begin(label);
     match asked.form {
         Form::Plain => {

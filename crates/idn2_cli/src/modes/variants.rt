@@ -13,10 +13,10 @@ ghost use Rattle.idn2_answers.specs.Answers.{filter_of, variants_answer, listing
 ghost use Rattle.idn2_cli.specs.inner.Dispositions.{AreOfTable, block_by, field_by};
 ghost use Rattle.idn2_cli.specs.Memory.{IsRefusedWithoutMemory};
 ghost use Rattle.idn2_answers.specs.Said.{said_text};
-ghost use Rattle.idn2_output.specs.Pieces.{outputs};
+ghost use Rattle.idn2_output.specs.OutputLines.{outputs};
 ghost use Rattle.idn2_cli.specs.inner.Asked.{asked_line};
 ghost use Rattle.idn2_output.specs.Writing.{Emits, StopsForMemory};
-ghost use Rattle.idn2_cli.specs.inner.LineAnswers.{KeepsIfRefused, refusal_in, reply_pieces};
+ghost use Rattle.idn2_cli.specs.inner.LineAnswers.{KeepsIfRefused, refusal_in, reply_output};
 ghost use Rattle.idn2_cli.specs.inner.Ruling.{KeepsOf, filter_by, ruling_in, ruling_of};
 ghost use Rattle.idn2_cli.specs.inner.ServedLines.{result_of};
 
@@ -34,7 +34,7 @@ use idn2_options::Options;
 use idn2_output::{Console, Stop};
 use registered_labels::RegisteredLabels;
 use std::alloc::Global;
-use valid_labels::{Pieces, ValidityTest};
+use valid_labels::{Segments, ValidityTest};
 use variant_list::Net;
 use variant_table::Table;
 
@@ -43,7 +43,7 @@ use variant_table::Table;
 #[derive(Drop)]
 pub(crate) struct Variants<'t, 'p, 'r, 'b> {
     pub table: &'t Table,
-    pub ruling: &'p Option<Pieces<'t>>,
+    pub ruling: &'p Option<Segments<'t>>,
     pub dispositions: &'t Dispositions<()>,
     pub options: &'t Options,
     pub registered: Option<&'r RegisteredLabels<'b>>,
@@ -77,7 +77,7 @@ impl<'t, 'p, 'r, 'b> PointAnswering for Variants<'t, 'p, 'r, 'b> {
     }
 }
 
-/// Writes the block of a net's label: its variants up to the stop, or those that are registered.
+/// Writes the block of a variant graph's label: its variants up to the stop, or those that are registered.
 fn write_block_or_collisions<W: Sink, E: Sink>(
     alloc: Global,
     mode: &Variants<'_, '_, '_, '_>,
@@ -140,7 +140,7 @@ fn list<W: Sink, E: Sink>(
     requires scalar_values { AreScalarValues label.now }
     requires registrable { IsRegistrable mode.now.options.now.properties label.now }
     ensures written { Emits console.old console.new
-        (reply_pieces asked.now.form (asked_line asked.now)
+        (reply_output asked.now.form (asked_line asked.now)
         (listing_answer (keeping (option_copied mode.now.registered) mode.now.options.now) mode.now.table.now label.now)) (result_of result) }
     ensures refused { IfOk (result_of result)
         (λ refusal. refusal ≡ refusal_in (listing_answer (keeping (option_copied mode.now.registered) mode.now.options.now) mode.now.table.now label.now)) }

@@ -5,11 +5,11 @@ ghost use Rattle.std.specs.Result.{is_err};
 ghost use Rattle.idn_text.specs.Reading.{IsUnread, line_at};
 ghost use Rattle.idn2_output.specs.Writing.{Emits, StopsForMemory};
 ghost use Rattle.idn2_refusals.specs.Explaining.{explained_by};
-ghost use Rattle.idn2_cli.specs.inner.LineAnswers.{KeepsIfRefused, refusal_in, reply_pieces};
+ghost use Rattle.idn2_cli.specs.inner.LineAnswers.{KeepsIfRefused, refusal_in, reply_output};
 ghost use Rattle.idn2_cli.specs.inner.ServedLines.{result_of};
 ghost use Rattle.idn2_cli.specs.declared.modes.answering.Served.TheVariants as served;
 ghost use Rattle.idn2_answers.specs.Answers.{line_answer};
-ghost use Rattle.idn2_answers.specs.Transcript.{line_pieces};
+ghost use Rattle.idn2_answers.specs.Transcript.{line_output};
 ghost use Rattle.idn2_cli.specs.Ends.{Does, lines_job};
 ghost use Rattle.idn2_cli.specs.Memory.{BodyNeedsNone, NeedsNone};
 ghost use Rattle.idn2_output.specs.declared.stop.Stop.TheVariants as stop;
@@ -64,7 +64,7 @@ fn serve_line<M: Answering, R: Source, W: Sink, E: Sink>(
     requires ready { M.is_ready mode.now }
     requires few { (line_at input.now).number ≤ 2 ^ 32 }
     ensures written { Emits console.old console.new
-        (line_pieces form (explained_by explaining.now) (M.answer_of mode.now) (line_at input.now)) result }
+        (line_output form (explained_by explaining.now) (M.answer_of mode.now) (line_at input.now)) result }
     ensures refused { IfOk result (λ refused. refused ≡ is_err (line_answer (M.answer_of mode.now) (line_at input.now).body)) }
     ensures no_memory { BodyNeedsNone (NeedsNone (explained_by explaining.now) (M.answer_of mode.now) (M.needs_none mode.now)) (line_at input.now).body → result ≢ Err stop.Memory }
     ensures begun { StopsForMemory (BodyNeedsNone (M.goes_on mode.now) (line_at input.now).body) console.old console.new result }
@@ -91,7 +91,7 @@ fn answer_line<M: Answering, R: Source, W: Sink, E: Sink>(
 ) -> Served
     requires { M.is_ready mode.now }
     ensures written { Emits console.old console.new
-        (reply_pieces form (line_at input.now) (line_answer (M.answer_of mode.now) (line_at input.now).body)) (result_of result) }
+        (reply_output form (line_at input.now) (line_answer (M.answer_of mode.now) (line_at input.now).body)) (result_of result) }
     ensures refused { IfOk (result_of result) (λ refusal. refusal ≡ refusal_in (line_answer (M.answer_of mode.now) (line_at input.now).body)) }
     ensures kept { KeepsIfRefused console.old console.new (result_of result) }
     ensures no_memory { BodyNeedsNone (M.needs_none mode.now) (line_at input.now).body → result ≢ served.Stopped stop.Memory }

@@ -12,7 +12,7 @@ ghost use Rattle.idn2_refusals.specs.Requests.{requested_label};
 ghost use Rattle.idn2_output.specs.Writing.{held, refusal_of, Emits};
 ghost use Rattle.idn2_refusals.specs.Reports.{closing_status};
 ghost use Rattle.idn2_cli.specs.Ends.{Does, Ends, Closes, mode_job};
-ghost use Rattle.idn2_answers.specs.Transcript.{TableGiven, IsCheck, IsReadAs, IsTableOf, check_findings, check_pieces, check_status};
+ghost use Rattle.idn2_answers.specs.Transcript.{TableGiven, IsCheck, IsReadAs, IsTableOf, check_findings, check_output, check_status};
 ghost use Rattle.idn2_cli.specs.Headline.{PrintsListings};
 ghost use Rattle.idn2_options.specs.declared.command_line.mode.Mode.TheVariants as modes;
 
@@ -31,10 +31,10 @@ use registered_labels::RegisteredLabels;
 use std::alloc::Global;
 use variant_table::{Notation, Table, TableFault};
 
-/// Runs a mode over its input, of which no line was read yet. Where nothing fails, the pieces of the transcript are
-/// written, and the status says whether something was refused. A fault of a reader, of a writer or of memory ends the
-/// run at once with a last message. Listings have all variants: for options that name a file of registered labels there
-/// is `run_among`. Only tests call this: the program calls `run_among` in each mode.
+/// Runs a mode over its input, of which no line was read yet. Where nothing fails, the output lines of the transcript
+/// are written, and the status says whether something was refused. A fault of a reader, of a writer or of memory ends
+/// the run at once with a last message. Listings have all variants: for options that name a file of registered labels
+/// there is `run_among`. Only tests call this: the program calls `run_among` in each mode.
 pub fn run<R: Source, W: Sink, E: Sink>(
     alloc: Global,
     options: &Options,
@@ -295,7 +295,7 @@ fn serve_check<W: Sink, E: Sink>(
     console: &mut Console<'_, '_, W, E>,
 ) -> Result<Status, Stop>
     ensures { (given : TableGiven) × IsReadAs properties notation text.now given
-        × Emits console.old console.new (check_pieces form wanted given) result
+        × Emits console.old console.new (check_output form wanted given) result
         × IfOk result (λ status. status ≡ check_status given) }
 {
     match Table::read_by(alloc, notation, text, properties) {

@@ -10,7 +10,7 @@ const MAX_COUNT: u64 = 1_000_000_000;
 /// The most digits of a count.
 const MAX_COUNT_DIGITS: usize = 10;
 
-/// The least number of steps: with one alone, a listing that goes on in the midst of a hopeless beginning would come to
+/// The least number of steps: with one alone, a listing that goes on in the midst of a dead prefix would come to
 /// each label of it.
 const MIN_STEPS: u64 = 2;
 

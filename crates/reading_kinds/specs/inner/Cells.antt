@@ -1,7 +1,7 @@
 -- What the cells of a board say of the readings of a label: a column for each length of what is spelled, a cell in it for each place of the label.
 use Rattle.std.specs.Prelude.{◌≡◌, ℕ, ◌+◌, ◌*◌, ◌<◌, ◌≤◌, ◌↔◌, List, [], ◌∷◌, ◌++◌, length, take, slice_index, Contains}
 use Rattle.std.specs.Int.{bit_at}
-use Rattle.reading_kinds.specs.Readings.{Use, uses_at, HasKind}
+use Rattle.reading_kinds.specs.Readings.{Substitution, substitutions_at, HasKind}
 
 -- the words of each cell, column by column, 64 in each; of each column, which cells are reached
 pub record Cells : Type 0 where
@@ -29,24 +29,24 @@ pub record Tells (cells : Cells) (column place : ℕ) (m : Mark) : Type 0 where
 
 -- ---- beginnings of readings
 
--- these uses, the last one first, cut the label up to the place, and put p in the place of what they cover
-abbrev pub LeadsTo : List (List Use) → ℕ → List ℕ → List Use → Type 0
-LeadsTo uses place p [] = (place ≡ 0) × (p ≡ [])
-LeadsTo uses place p (u ∷ before) =
-    (a : ℕ) × (q : List ℕ) × Contains (uses_at uses a) u × (place ≡ a + u.covers) × (p ≡ q ++ u.points) × LeadsTo uses a q before
+-- these substitutions, the last one first, cut the label up to the place, and put p in the place of what they cover
+abbrev pub LeadsTo : List (List Substitution) → ℕ → List ℕ → List Substitution → Type 0
+LeadsTo substitutions place p [] = (place ≡ 0) × (p ≡ [])
+LeadsTo substitutions place p (u ∷ before) =
+    (a : ℕ) × (q : List ℕ) × Contains (substitutions_at substitutions a) u × (place ≡ a + u.covers) × (p ≡ q ++ u.points) × LeadsTo substitutions a q before
 
-abbrev pub Shows : List Use → Mark → Type 0
+abbrev pub Shows : List Substitution → Mark → Type 0
 Shows cut Reached = Unit {0}
 Shows cut (Has k) = (k < 64) × HasKind cut k
 Shows cut (Lacks k) = (k < 64) × ¬ HasKind cut k
 
-abbrev pub SomeLeads : List (List Use) → ℕ → List ℕ → Mark → Type 0
-SomeLeads uses place p m = (cut : List Use) × LeadsTo uses place p cut × Shows cut m
+abbrev pub SomeLeads : List (List Substitution) → ℕ → List ℕ → Mark → Type 0
+SomeLeads substitutions place p m = (cut : List Substitution) × LeadsTo substitutions place p cut × Shows cut m
 
 -- a column tells exactly what beginnings show
-abbrev pub IsRightAt : List (List Use) → List ℕ → Cells → ℕ → Type 0
-IsRightAt uses w cells column = (p : ℕ) (m : Mark) → Tells cells column p m ↔ SomeLeads uses p (take column w) m
+abbrev pub IsRightAt : List (List Substitution) → List ℕ → Cells → ℕ → Type 0
+IsRightAt substitutions w cells column = (p : ℕ) (m : Mark) → Tells cells column p m ↔ SomeLeads substitutions p (take column w) m
 
 -- so do the columns up to this one
-abbrev pub IsRight : List (List Use) → List ℕ → Cells → ℕ → Type 0
-IsRight uses w cells column = (c : ℕ) → c ≤ column → IsRightAt uses w cells c
+abbrev pub IsRight : List (List Substitution) → List ℕ → Cells → ℕ → Type 0
+IsRight substitutions w cells column = (c : ℕ) → c ≤ column → IsRightAt substitutions w cells c

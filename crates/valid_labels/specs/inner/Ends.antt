@@ -1,4 +1,4 @@
--- Where a beginning of a label is lost by a demand.
+-- Where a beginning of a label is dead by a demand.
 use Rattle.std.specs.Prelude.{◌≡◌, ◌⊎◌, ℕ, ◌<◌, ◌≤◌, min, Option, Some, None, List, length, Contains}
 use Rattle.label_patterns.specs.FirstEnds.{IsFirstEnd}
 use Rattle.label_patterns.specs.Laws.{IgnoresEnd}
@@ -26,20 +26,20 @@ lesser_of None b = b
 lesser_of (Some a) None = Some a
 lesser_of (Some a) (Some b) = Some (min a b)
 
--- a beginning of k code points is lost by a demand whose part ends at a place that may be missing, or since no piece leads past
--- another
+-- a beginning of k code points is dead by a demand whose part ends at a place that may be missing, or since no segment
+-- leads past another
 abbrev pub IsPast : Option ℕ → ℕ → Type 0
 IsPast None k = ⊥
 IsPast (Some end) k = end ≤ k
 
-abbrev pub IsLostFrom : Option ℕ → ℕ → ℕ → Type 0
-IsLostFrom refused nowhere k = (1 ≤ k) × (IsPast refused k ⊎ (nowhere ≤ k))
+abbrev pub IsDeadFrom : Option ℕ → ℕ → ℕ → Type 0
+IsDeadFrom refused nowhere k = (1 ≤ k) × (IsPast refused k ⊎ (nowhere ≤ k))
 
 -- the least such k, which is within n
-pub record IsLeastLost (refused : Option ℕ) (nowhere n k : ℕ) : Type 0 where
+pub record IsLeastDead (refused : Option ℕ) (nowhere n k : ℕ) : Type 0 where
   pub within : k ≤ n
-  pub lost : IsLostFrom refused nowhere k
-  pub least : (m : ℕ) → m < k → ¬ IsLostFrom refused nowhere m
+  pub dead : IsDeadFrom refused nowhere k
+  pub least : (m : ℕ) → m < k → ¬ IsDeadFrom refused nowhere m
 
-abbrev pub NoneIsLost : Option ℕ → ℕ → ℕ → Type 0
-NoneIsLost refused nowhere n = (k : ℕ) → k ≤ n → ¬ IsLostFrom refused nowhere k
+abbrev pub NoneIsDead : Option ℕ → ℕ → ℕ → Type 0
+NoneIsDead refused nowhere n = (k : ℕ) → k ≤ n → ¬ IsDeadFrom refused nowhere k

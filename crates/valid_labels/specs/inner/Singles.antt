@@ -1,4 +1,4 @@
--- Code points that are sources with which no other piece begins, and where they stand in a label.
+-- Code points that are sources with which no other segment begins, and where they stand in a label.
 use Rattle.std.specs.Prelude.{◌≡◌, ◌⊎◌, ℕ, ◌+◌, ◌<◌, List, [], ◌∷◌, length, Option, Some, None, slice_index}
 use Rattle.label_patterns.specs.declared.condition.Condition.{Condition}
 use Rattle.label_patterns.specs.declared.condition.ConditionKind.{ConditionKind}
@@ -11,16 +11,16 @@ use Rattle.variant_table.specs.Entries.{TableValue}
 use Rattle.variant_table.specs.WellFormed.{IsWellFormed}
 use Rattle.valid_labels.specs.declared.single_places.SinglePlaces.{SinglePlaces}
 use Rattle.valid_labels.specs.declared.cutting.SingleSteps.{SingleSteps}
-use Rattle.valid_labels.specs.declared.pieces.SinglePoint.{SinglePoint}
-use Rattle.valid_labels.specs.Pieces.{IsPiece}
+use Rattle.valid_labels.specs.declared.segments.SinglePoint.{SinglePoint}
+use Rattle.valid_labels.specs.Segments.{IsSegment}
 
--- a code point is a piece with this condition, and no other piece begins with it
+-- a code point is a segment with this condition, and no other segment begins with it
 pub record IsSingle (table : TableValue) (point : ℕ) (condition : Option Condition) : Type 0 where
   pub formed : IsWellFormed table.entries
-  pub piece : IsPiece table (point ∷ []) condition
-  pub alone : (rest : List ℕ) (c : Option Condition) → IsPiece table (point ∷ rest) c → (rest ≡ []) × (c ≡ condition)
+  pub segment : IsSegment table (point ∷ []) condition
+  pub alone : (rest : List ℕ) (c : Option Condition) → IsSegment table (point ∷ rest) c → (rest ≡ []) × (c ≡ condition)
 
--- what is kept of a code point stands for none, or is so
+-- what is cached of a code point stands for none, or is so
 abbrev pub IsKnown : TableValue → SinglePoint → Type 0
 IsKnown table s = (s.point ≡ 4294967295) ⊎ IsSingle table s.point s.condition
 

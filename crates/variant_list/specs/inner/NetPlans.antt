@@ -1,26 +1,27 @@
--- The net of a label as places and edges, and the labels that it spells as a list.
+-- The variant graph of a label as places and edges, and the labels that it spells as a list.
 use Rattle.std.specs.Prelude.{◌≡◌, ℕ, zero, suc, ◌+◌, ◌-◌, ◌≤◌, ◌↔◌, List, [], ◌∷◌, ◌++◌, length, take, drop, map, slice_index}
 use Rattle.std.specs.List.{flat_map}
-use Rattle.reading_kinds.specs.Readings.{Use, UsesSpell}
-use Rattle.variant_list.specs.Uses.{use_edges, use_count}
+use Rattle.reading_kinds.specs.Readings.{Substitution, SubstitutionsSpell}
+use Rattle.variant_list.specs.Substitutions.{substitution_edges, substitution_count}
 use Rattle.variant_list.specs.Positions.{Built}
 use Rattle.variant_list.specs.declared.edges.Edge.{Edge}
 use Rattle.variant_list.specs.inner.Plans.{Plan, Reads, first_place}
 
--- the paths from the beginning of the label to its end spell what the uses spell
-pub record IsNetOf (uses : List (List Use)) (plan : Plan) : Type 0 where
-  pub reads : (v : List ℕ) → Reads plan (first_place plan) v ↔ UsesSpell uses v
-  pub edges : length plan.edges ≡ use_edges uses
-  pub places : length plan.rests + use_count uses ≡ length plan.edges + length uses + 1
+-- the paths from the beginning of the label to its end spell what the substitutions spell
+pub record IsNetOf (substitutions : List (List Substitution)) (plan : Plan) : Type 0 where
+  pub reads : (v : List ℕ) → Reads plan (first_place plan) v ↔ SubstitutionsSpell substitutions v
+  pub edges : length plan.edges ≡ substitution_edges substitutions
+  pub places : length plan.rests + substitution_count substitutions ≡ length plan.edges + length substitutions + 1
 
--- a net that spells something; no label of it is longer than what 63 uses put in the place of a label
+-- a variant graph that spells something; no label of it is longer than what 63 substitutions put in the place of a
+-- label
 pub record IsNet (plan : Plan) : Type 0 where
   pub some : (v : List ℕ) × Reads plan (first_place plan) v
   pub short : (v : List ℕ) → Reads plan (first_place plan) v → length v ≤ 504
   pub few : length plan.edges ≤ 68544
   pub room : length plan.rests ≤ length plan.edges + 64
 
--- ---- what contracts see of a net
+-- ---- what contracts see of a variant graph
 
 -- the edges that begin at a place
 abbrev pub edges_at : Plan → ℕ → List Edge

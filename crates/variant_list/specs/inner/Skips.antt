@@ -1,10 +1,10 @@
--- How a listing passes over hopeless beginnings: words of the cursor's inner steps.
+-- How a listing passes over dead prefixes: words of the cursor's inner steps.
 use Rattle.std.specs.Prelude.{◌≡◌, ◌≤◌, ◌+◌, ◌*◌, ℕ, Bool, true, false, not, List, ◌∷◌, ◌++◌, length, filter, Some, None, slice_get, if◌then◌else◌}
 use Rattle.std.specs.List.{AllByRecursion}
-use Rattle.variant_list.specs.Beginnings.{has_hope, shares, dead_ends}
+use Rattle.variant_list.specs.Beginnings.{has_no_dead_prefix, shares, dead_prefixes}
 use Rattle.variant_list.specs.Positions.{Position, candidates_ahead}
 
--- how many edges the net of a cursor has
+-- how many edges the variant graph of a cursor has
 abbrev pub edges_of_net : Position → ℕ
 edges_of_net p = p.net.edges
 
@@ -26,17 +26,18 @@ pub record GoesBack (old : Position) (label : List ℕ) (new : Position) : Type 
   pub last : new.last ≡ label
   pub looks : new.edge_tests ≤ old.edge_tests + 63 * edges_of_net old
 
--- the cursor went to the first candidate that has hope, by one search for each dead end before it, and one more
-pub record FindsHope (hopeless : List ℕ → Bool) (old new : Position) : Type 0 where
+-- the cursor went to the first candidate without a dead prefix, by one search for each dead prefix before it, and one
+-- more
+pub record FindsTested (hopeless : List ℕ → Bool) (old new : Position) : Type 0 where
   pub net : new.net ≡ old.net
   pub passed : List (List ℕ)
   pub whole : candidates_ahead old ≡ passed ++ new.last ∷ candidates_ahead new
-  pub lost : AllByRecursion (λ v. has_hope hopeless v ≡ false) passed
-  pub hope : has_hope hopeless new.last ≡ true
-  pub looks : new.edge_tests ≤ old.edge_tests + 126 * (edges_of_net old * (length (dead_ends hopeless None passed) + 1))
+  pub dead : AllByRecursion (λ v. has_no_dead_prefix hopeless v ≡ false) passed
+  pub alive : has_no_dead_prefix hopeless new.last ≡ true
+  pub looks : new.edge_tests ≤ old.edge_tests + 126 * (edges_of_net old * (length (dead_prefixes hopeless None passed) + 1))
 
--- no candidate has hope
+-- each candidate has a dead prefix
 pub record FindsNone (hopeless : List ℕ → Bool) (old new : Position) : Type 0 where
   pub net : new.net ≡ old.net
-  pub lost : AllByRecursion (λ v. has_hope hopeless v ≡ false) (candidates_ahead old)
-  pub looks : new.edge_tests ≤ old.edge_tests + 126 * (edges_of_net old * (length (dead_ends hopeless None (candidates_ahead old)) + 1))
+  pub dead : AllByRecursion (λ v. has_no_dead_prefix hopeless v ≡ false) (candidates_ahead old)
+  pub looks : new.edge_tests ≤ old.edge_tests + 126 * (edges_of_net old * (length (dead_prefixes hopeless None (candidates_ahead old)) + 1))

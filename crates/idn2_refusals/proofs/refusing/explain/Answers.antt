@@ -1,5 +1,5 @@
 use Rattle.std.proofs.lemmas.Result.{err_from_is_err_and}
-use Rattle.idn2_output.proofs.WrittenPieces.{stops_first}
+use Rattle.idn2_output.proofs.WrittenOutputLines.{stops_first}
 use Rattle.idn2_refusals.proofs.refusing.explain.Goals as goal
 
 pub returns-in_err-cause-clause-told : goal.returns-in_err-cause-clause-told

@@ -1,6 +1,6 @@
 use Rattle.std.proofs.Common.{◌∙◌}
-use Rattle.idn2_output.specs.Pieces.{Message}
-use Rattle.idn2_output.proofs.WrittenPieces.{emits_as}
+use Rattle.idn2_output.specs.OutputLines.{Message}
+use Rattle.idn2_output.proofs.WrittenOutputLines.{emits_as}
 use Rattle.idn2_refusals.proofs.refusing.tell_message.Goals as goal
 
 pub returns-in-Some-clause-told : goal.returns-in-Some-clause-told

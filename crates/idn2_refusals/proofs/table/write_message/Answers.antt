@@ -1,7 +1,7 @@
 use Rattle.std.specs.Prelude.{◌≤◌, codes}
 use Rattle.std.proofs.Common.{arith, ◌∙◌}
-use Rattle.idn2_output.specs.Pieces.{Message}
-use Rattle.idn2_output.proofs.WrittenPieces.{emits_as}
+use Rattle.idn2_output.specs.OutputLines.{Message}
+use Rattle.idn2_output.proofs.WrittenOutputLines.{emits_as}
 use Rattle.idn2_refusals.specs.CauseRoom.{cause_room}
 use Rattle.idn2_refusals.proofs.CauseLemmas.{other_has_room}
 use Rattle.idn2_refusals.proofs.table.write_message.Goals as goal

@@ -1,7 +1,7 @@
 use Rattle.std.proofs.Common.{◌≡◌, sym, ◌∙◌}
-use Rattle.idn_class.specs.Hopeless.{hopeless}
-use Rattle.idn_class.proofs.HopelessTests.{hopeless-gives, hopeless-from}
-use Rattle.idn_class.proofs.HopelessShortest.{is_some-hopeless}
+use Rattle.idn_class.specs.DeadPrefixes.{hopeless}
+use Rattle.idn_class.proofs.DeadPrefixTests.{hopeless-gives, hopeless-from}
+use Rattle.idn_class.proofs.DeadPrefixShortest.{is_some-hopeless}
 use Rattle.idn_class.proofs.beginning.hopeless_by.Goals as goal
 
 pub returns-clause-test : goal.returns-clause-test

@@ -3,7 +3,7 @@ use Rattle.unicode.specs.GeneralCategory.{general_category}
 use Rattle.ucd_category.specs.declared.GeneralCategory.{GeneralCategory}
 use Rattle.ucd_category.specs.declared.GeneralCategory.TheVariants.{NonspacingMark as Mn, EnclosingMark as Me}
 use Rattle.idn_class.specs.BidiClass.{is_nonspacing, is_nonspacing_or_enclosing}
-use Rattle.idn_class.specs.Facts.{has_fact, is_so}
+use Rattle.idn_class.specs.Facts.{has_fact, fact_holds}
 use Rattle.idn_class.specs.LeadingMark.{is_mark, is_mark_category}
 use Rattle.idn_class.specs.declared.facts.Fact.TheVariants.{Mark}
 use Rattle.idn_class.proofs.bidi_class.is_nonspacing.Goals as goal
@@ -18,7 +18,7 @@ or_second true b h = absurd (let clash : true ≡ false = h in cc)
 or_second false b h = h
 
 no_mark : (c : ℕ) → has_fact Mark c ≡ false → is_nonspacing c ≡ false
-unfolding is_so is_mark is_nonspacing
+unfolding fact_holds is_mark is_nonspacing
 no_mark c none = no_mark_category (general_category c) (or_second _ _ none)
 
 pub returns-then-not-contains : goal.returns-then-not-contains

@@ -1,6 +1,6 @@
 use Rattle.std.proofs.Common.{refl}
 use Rattle.idn_class.specs.declared.properties.Properties.TheVariants.{Unicode}
-use Rattle.idn_class.specs.Hopeless.{hopeless}
+use Rattle.idn_class.specs.DeadPrefixes.{hopeless}
 use Rattle.idn_class.specs.StandardRows.{classes_by_standard}
 use Rattle.idn_class.proofs.ComputedLabels.{rules, in_table, HasClasses-rows_ok}
 use Rattle.idn_class.proofs.laws.standard_rows.Goals as goal
@@ -25,9 +25,9 @@ pub returns-clause-bidi_broken : goal.returns-clause-bidi_broken
 unfolding rules
 returns-clause-bidi_broken c = refl
 
-pub returns-clause-lost : goal.returns-clause-lost
+pub returns-clause-dead : goal.returns-clause-dead
 unfolding rules hopeless
-returns-clause-lost c = refl
+returns-clause-dead c = refl
 
 pub returns-clause-open : goal.returns-clause-open
 unfolding rules hopeless

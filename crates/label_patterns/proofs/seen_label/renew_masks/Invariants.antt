@@ -1,7 +1,7 @@
 use Rattle.std.proofs.Common.{◌≡◌, ℕ, ◌<◌, ◌≤◌, length}
 use Rattle.std.specs.Prelude.{[], slice_index, slice_index_or}
 use Rattle.label_patterns.specs.inner.Masks.{AreMasksTo}
-use Rattle.label_patterns.specs.KeptPlaces.{AreThePlacesBelow}
+use Rattle.label_patterns.specs.CachedPlaces.{AreThePlacesBelow}
 use Rattle.label_patterns.specs.Sets.{is_in}
 use Rattle.label_patterns.proofs.seen_label.renew_masks.Given as goal
 

@@ -9,13 +9,13 @@ use Rattle.valid_labels.proofs.cutting.reached_over.Goals.{then-has, then-has-2,
 
 pub loop-place-init : goal.loop-place-init
 loop-place-init g c =
-    let asks = g.A.Asking.asks c.args.asking.now in
+    let asks = g.A.SourcePredicate.asks c.args.predicate.now in
     found-start (StepIs asks c.args.table.now.entries (items_of c.args.sequences.now) c.args.label.now)
     (steps-on asks c.args.table.now.entries c.args.sequences.now c.args.label.now c.len-entries.ensures.well_formed c.requires.filled)
 
 pub loop-place-preserved : goal.loop-place-preserved
 loop-place-preserved g c =
-    let asks = g.A.Asking.asks c.args.asking.now in
+    let asks = g.A.SourcePredicate.asks c.args.predicate.now in
     let entries = c.args.table.now.entries in
     let sequences = items_of c.args.sequences.now in
     let label = c.args.label.now in
@@ -38,7 +38,7 @@ loop-place-preserved g c =
 
 pub returns : goal.returns
 returns g c =
-    let asks = g.A.Asking.asks c.args.asking.now in
+    let asks = g.A.SourcePredicate.asks c.args.predicate.now in
     let entries = c.args.table.now.entries in
     let sequences = items_of c.args.sequences.now in
     let label = c.args.label.now in

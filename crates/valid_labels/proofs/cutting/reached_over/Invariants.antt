@@ -5,4 +5,4 @@ use Rattle.valid_labels.proofs.cutting.reached_over.Given as goal
 
 -- the places that were found so far
 abbrev pub invariant-loop-place : goal.invariant-loop-place
-invariant-loop-place g l = IsFound (StepIs (g.A.Asking.asks l.asking) l.table.entries (map (λ v. v.items) l.sequences) l.label) l.place l.found
+invariant-loop-place g l = IsFound (StepIs (g.A.SourcePredicate.asks l.predicate) l.table.entries (map (λ v. v.items) l.sequences) l.label) l.place l.found

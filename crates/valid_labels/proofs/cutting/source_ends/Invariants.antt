@@ -3,4 +3,4 @@ use Rattle.valid_labels.proofs.cutting.source_ends.Given as goal
 
 -- the ends of the entries so far
 abbrev pub invariant-loop-entry : goal.invariant-loop-entry
-invariant-loop-entry g l = EntriesDone (g.A.Asking.asks l.asking) l.place l.initial.entry-iterator l.entry-iterator l.ends
+invariant-loop-entry g l = EntriesDone (g.A.SourcePredicate.asks l.predicate) l.place l.initial.entry-iterator l.entry-iterator l.ends

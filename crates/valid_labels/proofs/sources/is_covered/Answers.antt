@@ -1,6 +1,6 @@
 use Rattle.std.proofs.Common.{length}
 use Rattle.valid_labels.proofs.SourceLemmas.{covered-steps}
-use Rattle.valid_labels.specs.Pieces.{IsCovered}
+use Rattle.valid_labels.specs.Segments.{IsCovered}
 use Rattle.valid_labels.specs.Tests.{is_covered}
 use Rattle.valid_labels.proofs.LoneLemmas.{same-test}
 use Rattle.valid_labels.proofs.TestLemmas.{covered-agrees}

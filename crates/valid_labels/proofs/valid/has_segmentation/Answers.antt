@@ -1,5 +1,5 @@
 use Rattle.std.proofs.Common.{length}
-use Rattle.valid_labels.proofs.PieceSteps.{inside-segmentation}
+use Rattle.valid_labels.proofs.SegmentSteps.{inside-segmentation}
 use Rattle.valid_labels.proofs.valid.has_segmentation.Goals as goal
 
 pub returns : goal.returns

@@ -8,7 +8,7 @@ use Rattle.idn_label.proofs.RequirementLemmas.{MeetsRequirements-registrable}
 use Rattle.variant_list.specs.Steps.{IfDecided, Decides, SeeksOver, moved_over}
 use Rattle.variant_list.specs.declared.cursor.Outcome.{Outcome}
 use Rattle.variant_list.specs.declared.cursor.Outcome.TheVariants as outcome
-use Rattle.idn2_cli.specs.inner.KeptLines.{IsBegun}
+use Rattle.idn2_cli.specs.inner.CachedLines.{IsBegun}
 use Rattle.std.proofs.lemmas.Result.{err_from_is_err_and}
 use Rattle.variant_list.proofs.CallAnswers.{not_ok}
 use Rattle.variant_list.specs.Positions.{Position, tested_ahead}
@@ -23,10 +23,10 @@ use Rattle.idn2_answers.specs.Said.{Said, Listed, said_text}
 use Rattle.idn2_cli.specs.inner.Asked.{asked_line}
 use Rattle.idn2_cli.specs.inner.Dispositions.{Asked, field_by}
 use Rattle.idn2_cli.specs.inner.LineAnswers.{reaches}
-use Rattle.idn2_output.specs.Pieces.{Output}
+use Rattle.idn2_output.specs.OutputLines.{Output}
 use Rattle.idn2_cli.proofs.RuledFilters.{filter_by-IsSound}
 use Rattle.idn2_cli.proofs.ListingLemmas.{IsWritable}
-use Rattle.idn2_output.proofs.WrittenPieces.{stops_first, stops_after, emits_as, writes_as}
+use Rattle.idn2_output.proofs.WrittenOutputLines.{stops_first, stops_after, emits_as, writes_as}
 use Rattle.idn2_cli.proofs.ListingProgress.{listing-start, found-writable, spent-writable, halted-writable, listing-spent, listing-halted, listing-ended, listing-found, listing-broken, listing-reached, found-from, spent-from, halted-from, ended-from}
 use Rattle.idn2_cli.proofs.modes.block.write_block.Goals as goal
 
@@ -144,7 +144,7 @@ pub returns-in_err-seek-clause-written : goal.returns-in_err-seek-clause-written
 returns-in_err-seek-clause-written g c =
     let p = err_from_is_err_and c.from_residual-in_err-seek.result c.from_residual-in_err-seek.ensures.1 in
     let listing = c.variants.invariant.listing in
-    rw (p.1, p.2) (stops_after _ _ _ listing.so_far _ listing.split listing.pieces)
+    rw (p.1, p.2) (stops_after _ _ _ listing.so_far _ listing.split listing.output_lines)
 
 pub returns-in_err-seek-clause-begun : goal.returns-in_err-seek-clause-begun
 returns-in_err-seek-clause-begun g c = λ _. inr (λ none. not_ok c.in_err-seek.was (c.seek.ensures.no_memory (subst (λ (f : Filter). All NeedsNoMemory (tested_ahead f.hopeless c.variants.cursor)) (sym c.variants.invariant.same_filter) (c.variants.invariant.listing.no_memory none))))

@@ -3,7 +3,7 @@ use Rattle.std.proofs.lemmas.Bool.{eqb-true}
 use Rattle.idn_text.specs.Points.{utf8_of}
 use Rattle.idn_label.specs.ALabel.{a_label_of}
 use Rattle.idn2_answers.specs.Said.{variant_line}
-use Rattle.idn2_output.specs.Pieces.{Output}
+use Rattle.idn2_output.specs.OutputLines.{Output}
 use Rattle.idn2_output.specs.Writing.{Emits}
 use Rattle.idn_text.proofs.Utf8Lemmas.{length-utf8_of-le}
 use Rattle.idn_label.proofs.ALabels.{registrable_scalars}

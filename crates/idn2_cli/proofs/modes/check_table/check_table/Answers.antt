@@ -4,11 +4,11 @@ use Rattle.std.proofs.lemmas.Result.{err_from_is_err_and}
 use Rattle.variant_table.specs.Gaps.{pairs_of}
 use Rattle.idn2_cli.specs.inner.GapSequences.{HoldSequences}
 use Rattle.idn2_answers.specs.Said.{Counted, Gap, finding_text}
-use Rattle.idn2_output.specs.Pieces.{Output, outputs}
+use Rattle.idn2_output.specs.OutputLines.{Output, outputs}
 use Rattle.idn2_answers.specs.Transcript.{check_findings, status_if}
 use Rattle.idn2_output.specs.Writing.{Writes}
 use Rattle.idn2_cli.proofs.CheckLemmas.{gap_at, check-split, pairs_of-length}
-use Rattle.idn2_output.proofs.WrittenPieces.{emits_as, writes_as, writes_join, writes_nothing, stops_first, stops_between}
+use Rattle.idn2_output.proofs.WrittenOutputLines.{emits_as, writes_as, writes_join, writes_nothing, stops_first, stops_between}
 use Rattle.idn2_cli.proofs.modes.check_table.check_table.Goals as goal
 
 pub write_gaps-requires : goal.write_gaps-requires
@@ -37,12 +37,12 @@ returns-in_err-write_counts-clause-written g c =
     let table = c.args.table.now.entries in
     let pairs = pairs_of c.in_ok-gaps.gaps.items in
     let text = finding_text c.args.form in
-    let pieces = outputs text (map Gap pairs) in
+    let output_lines = outputs text (map Gap pairs) in
     let last = Output (text (Counted (length table) (length pairs))) ∷ [] in
     let count = ap length c.as_slice-pairs.ensures.value ∙ sym (pairs_of-length c.in_ok-gaps.gaps.items) in
     let line = ap (λ (n : ℕ). text (Counted n (length c.as_slice-pairs.result.now))) c.len-entries.ensures.count ∙ ap (λ (n : ℕ). text (Counted (length table) n)) count in
-    rw p.1 (stops_between _ _ _ (outputs text (check_findings table)) pieces last [] c.write_counts.result p.0
-    (check-split c.args.form table pairs c.in_ok-gaps.ensures.list ∙ ap (λ l. pieces ++ l) (sym (append-nil last))) (rw c.as_slice-pairs.ensures.value at c.in_ok-write_gaps.ensures.written)
+    rw p.1 (stops_between _ _ _ (outputs text (check_findings table)) output_lines last [] c.write_counts.result p.0
+    (check-split c.args.form table pairs c.in_ok-gaps.ensures.list ∙ ap (λ l. output_lines ++ l) (sym (append-nil last))) (rw c.as_slice-pairs.ensures.value at c.in_ok-write_gaps.ensures.written)
     (emits_as _ _ Output _ _ c.write_counts.result line c.write_counts.ensures.written) (c.in_err-write_counts.was ∙ ap Err (sym p.2)))
 
 pub returns-clause-written : goal.returns-clause-written
@@ -50,12 +50,12 @@ returns-clause-written g c =
     let table = c.args.table.now.entries in
     let pairs = pairs_of c.in_ok-gaps.gaps.items in
     let text = finding_text c.args.form in
-    let pieces = outputs text (map Gap pairs) in
+    let output_lines = outputs text (map Gap pairs) in
     let last = Output (text (Counted (length table) (length pairs))) ∷ [] in
     let count = ap length c.as_slice-pairs.ensures.value ∙ sym (pairs_of-length c.in_ok-gaps.gaps.items) in
     let line = ap (λ (n : ℕ). text (Counted n (length c.as_slice-pairs.result.now))) c.len-entries.ensures.count ∙ ap (λ (n : ℕ). text (Counted (length table) n)) count in
     subst (Writes _ _) (sym (check-split c.args.form table pairs c.in_ok-gaps.ensures.list))
-    (writes_join _ _ _ pieces last (rw c.as_slice-pairs.ensures.value at c.in_ok-write_gaps.ensures.written) (writes_as _ _ Output _ _ line c.in_ok-write_counts.ensures.written))
+    (writes_join _ _ _ output_lines last (rw c.as_slice-pairs.ensures.value at c.in_ok-write_gaps.ensures.written) (writes_as _ _ Output _ _ line c.in_ok-write_counts.ensures.written))
 
 pub returns-clause-status : goal.returns-clause-status
 returns-clause-status g c =

@@ -14,11 +14,11 @@ use Rattle.idn2_cli.proofs.RulingLemmas.{kept-shared}
 use Rattle.idn2_answers.specs.Said.{Said, Listed, said_text}
 use Rattle.idn2_cli.specs.inner.Asked.{asked_line}
 use Rattle.idn2_cli.specs.inner.Dispositions.{Asked, field_by}
-use Rattle.idn2_cli.specs.inner.KeptLines.{IsBegun}
+use Rattle.idn2_cli.specs.inner.CachedLines.{IsBegun}
 use Rattle.idn2_cli.specs.declared.modes.dispositions.Dispositions.{Dispositions}
 use Rattle.idn2_cli.specs.inner.LineAnswers.{reaches}
-use Rattle.idn2_output.specs.Pieces.{Output}
-use Rattle.idn2_output.proofs.WrittenPieces.{stops_first, emits_as, writes_as}
+use Rattle.idn2_output.specs.OutputLines.{Output}
+use Rattle.idn2_output.proofs.WrittenOutputLines.{stops_first, emits_as, writes_as}
 use Rattle.idn2_cli.proofs.CollisionSteps.{under_way-passed, under_way-start, under_way-ended, under_way-broken, under_way-registrable, under_way-found, under_way-reached}
 use Rattle.idn2_cli.proofs.modes.collisions.write_collisions.Goals as goal
 

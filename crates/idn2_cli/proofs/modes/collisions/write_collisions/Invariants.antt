@@ -1,7 +1,7 @@
 use Rattle.std.proofs.Common.{◌≡◌, length}
 use Rattle.registered_labels.specs.Collisions.{collisions_ahead}
 use Rattle.idn2_cli.specs.inner.Dispositions.{field_by}
-use Rattle.idn2_cli.specs.inner.KeptLines.{IsBegun}
+use Rattle.idn2_cli.specs.inner.CachedLines.{IsBegun}
 use Rattle.idn2_cli.specs.inner.Ruling.{KeepsOf, filter_by, ruling_in}
 use Rattle.idn2_answers.specs.Said.{said_text}
 use Rattle.idn2_cli.specs.inner.Asked.{asked_line}

@@ -5,7 +5,7 @@ use Rattle.variant_list.proofs.FromLemmas.{among_from-in_order}
 use Rattle.idn2_refusals.specs.Requests.{requested_label}
 use Rattle.idn2_cli.specs.inner.ServedLines.{result_of}
 use Rattle.idn2_cli.proofs.RefusedLines.{answered_memory, answered_none, emits_answered, kept_as_it_was, kept_if_answered, refused_is, replies_refusal}
-use Rattle.idn2_output.proofs.WrittenPieces.{stops_first}
+use Rattle.idn2_output.proofs.WrittenOutputLines.{stops_first}
 use Rattle.idn2_answers.proofs.AdmittedLabels.{admitted-made, admitted_answer, refused_answer, some-length}
 use Rattle.idn2_cli.proofs.modes.jumps.answer_least.Goals as goal
 

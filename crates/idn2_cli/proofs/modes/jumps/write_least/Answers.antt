@@ -5,10 +5,10 @@ use Rattle.variant_list.specs.Positions.{Built, Position}
 use Rattle.variant_list.specs.Jumps.{HasNoneFrom, IsCandidate, IsLeastFrom}
 use Rattle.variant_list.proofs.FromLemmas.{among_from-first, among_from-none}
 use Rattle.idn2_answers.specs.Said.{Least, said_text}
-use Rattle.idn2_output.specs.Pieces.{Output}
+use Rattle.idn2_output.specs.OutputLines.{Output}
 use Rattle.idn2_cli.specs.inner.Asked.{asked_line}
 use Rattle.idn2_output.specs.Writing.{Emits}
-use Rattle.idn2_output.proofs.WrittenPieces.{stops_first}
+use Rattle.idn2_output.proofs.WrittenOutputLines.{stops_first}
 use Rattle.idn2_cli.proofs.JumpAnswers.{jumped_to}
 use Rattle.idn2_cli.proofs.ListingLemmas.{candidate-writable}
 use Rattle.idn2_cli.proofs.modes.jumps.write_least.Goals as goal

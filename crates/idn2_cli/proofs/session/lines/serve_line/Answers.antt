@@ -5,12 +5,12 @@ use Rattle.idn2_answers.specs.Answers.{line_answer}
 use Rattle.idn2_refusals.specs.Explaining.{explained_by}
 use Rattle.idn2_cli.specs.inner.LineAnswers.{refusal_in}
 use Rattle.idn2_output.specs.declared.stop.Stop.TheVariants as stop
-use Rattle.idn2_cli.proofs.RefusedLines.{cause_needs_none, stopped_pieces}
+use Rattle.idn2_cli.proofs.RefusedLines.{cause_needs_none, stopped_output}
 use Rattle.idn2_cli.proofs.session.lines.serve_line.Goals as goal
 
 pub returns-in-Stopped-clause-written : goal.returns-in-Stopped-clause-written
 returns-in-Stopped-clause-written g c =
-    stopped_pieces c.in-Stopped.why _ _ c.args.form _ (line_at c.args.input.now) (line_answer (g.M.Answering.answer_of c.args.mode.now) (line_at c.args.input.now).body) c.in-Stopped.ensures.written
+    stopped_output c.in-Stopped.why _ _ c.args.form _ (line_at c.args.input.now) (line_answer (g.M.Answering.answer_of c.args.mode.now) (line_at c.args.input.now).body) c.in-Stopped.ensures.written
 
 pub returns-in_err-refuse-in-Refused-clause-no_memory : goal.returns-in_err-refuse-in-Refused-clause-no_memory
 returns-in_err-refuse-in-Refused-clause-no_memory g c = λ needs stopped.

@@ -13,7 +13,7 @@ use Rattle.idn2_output.specs.Writing.{Emits}
 use Rattle.idn2_options.specs.declared.command_line.form.Form.{Form}
 use Rattle.idn2_refusals.specs.Explained.{ByLabel, ByName, ByQuery, Explained, if_wanted}
 use Rattle.idn2_cli.specs.Memory.{DecodesLineWithoutMemory}
-use Rattle.idn2_answers.specs.Transcript.{IsReadAs, check_pieces, no_table}
+use Rattle.idn2_answers.specs.Transcript.{IsReadAs, check_output, no_table}
 use Rattle.idn2_refusals.specs.Explaining.{explained_by}
 use Rattle.idn2_cli.specs.Ends.{Job, lines_job}
 use Rattle.idn2_options.specs.declared.command_line.mode.Mode.TheVariants.{Lookup, Register, Decode}
@@ -68,8 +68,8 @@ returns-in-CheckTable g c =
     let mode = sym (ap (λ (v : Settings). v.mode) c.options.view_is) ∙ c.in-CheckTable.is in
     let k = c.serve_check.ensures in
     checked (keeping (option_copied c.args.registered) c.args.options.now) c.args.table.now k.0 _ _ _ c.serve_check.result mode (subst (λ (v : Settings). IsReadAs v.properties v.notation c.args.table.now k.0) c.options.view_is k.1) c.requires.unread
-    (subst (λ (f : Form). Emits c.args.console.now c.serve_check.new.console (check_pieces f (tells_causes c.args.options.now) k.0) c.serve_check.result) (ap (λ (v : Settings). v.form) c.options.view_is)
-    (subst (λ (b : Bool). Emits c.args.console.now c.serve_check.new.console (check_pieces c.options.inside.form b k.0) c.serve_check.result) c.tells_causes-in-CheckTable.ensures k.2)) k.3
+    (subst (λ (f : Form). Emits c.args.console.now c.serve_check.new.console (check_output f (tells_causes c.args.options.now) k.0) c.serve_check.result) (ap (λ (v : Settings). v.form) c.options.view_is)
+    (subst (λ (b : Bool). Emits c.args.console.now c.serve_check.new.console (check_output c.options.inside.form b k.0) c.serve_check.result) c.tells_causes-in-CheckTable.ensures k.2)) k.3
 
 pub returns-in-Jump : goal.returns-in-Jump
 returns-in-Jump g c =

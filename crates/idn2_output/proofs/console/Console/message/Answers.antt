@@ -1,4 +1,4 @@
-use Rattle.idn2_output.proofs.WrittenPieces.{writes_message, stops_message}
+use Rattle.idn2_output.proofs.WrittenOutputLines.{writes_message, stops_message}
 use Rattle.idn2_output.proofs.console.Console.message.Goals as goal
 use Rattle.idn2_output.proofs.console.Console.message.Goals.{in-Ok, in-Err}
 

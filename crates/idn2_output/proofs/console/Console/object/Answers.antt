@@ -1,5 +1,5 @@
-use Rattle.idn2_output.specs.Pieces.{Output}
-use Rattle.idn2_output.proofs.WrittenPieces.{emits_as, writes_output, stops_output}
+use Rattle.idn2_output.specs.OutputLines.{Output}
+use Rattle.idn2_output.proofs.WrittenOutputLines.{emits_as, writes_output, stops_output}
 use Rattle.idn2_output.proofs.console.Console.object.Goals as goal
 use Rattle.idn2_output.proofs.console.Console.object.Goals.{in-Ok, in-Err}
 

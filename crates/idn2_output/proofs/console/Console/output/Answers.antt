@@ -1,4 +1,4 @@
-use Rattle.idn2_output.proofs.WrittenPieces.{writes_output, stops_output}
+use Rattle.idn2_output.proofs.WrittenOutputLines.{writes_output, stops_output}
 use Rattle.idn2_output.proofs.console.Console.output.Goals as goal
 use Rattle.idn2_output.proofs.console.Console.output.Goals.{in-Ok, in-Err}
 

@@ -1,5 +1,5 @@
 use Rattle.std.proofs.Common.{◌≡◌, length, sym, subst, arith}
-use Rattle.idn_class.proofs.HopelessShortest.{HasKept, HasKept-none, HasKept-next, IsShortest-here, HasNone-all}
+use Rattle.idn_class.proofs.DeadPrefixShortest.{HasKept, HasKept-none, HasKept-next, IsShortest-here, HasNone-all}
 use Rattle.idn_class.proofs.direction.Direction.shortest_breaking.Goals as goal
 
 pub loop-index-init : goal.loop-index-init

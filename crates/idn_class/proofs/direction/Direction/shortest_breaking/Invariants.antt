@@ -1,4 +1,4 @@
-use Rattle.idn_class.proofs.HopelessShortest.{HasKept}
+use Rattle.idn_class.proofs.DeadPrefixShortest.{HasKept}
 use Rattle.idn_class.proofs.direction.Direction.shortest_breaking.Given as goal
 
 abbrev pub invariant-loop-index : goal.invariant-loop-index

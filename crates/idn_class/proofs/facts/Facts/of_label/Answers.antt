@@ -2,7 +2,7 @@ use Rattle.std.proofs.Common.{ap, ap₂, sym, take_all, ◌∙◌, ◌||◌, ◌
 use Rattle.std.specs.List.{list_any}
 use Rattle.std.proofs.lemmas.List.Folds.{list_any_at, list_any_more}
 use Rattle.std.proofs.lemmas.Nat.Bits.{bit_at-zero}
-use Rattle.idn_class.specs.Facts.{contains, has_fact, is_so, place_of}
+use Rattle.idn_class.specs.Facts.{contains, has_fact, fact_holds, place_of}
 use Rattle.idn_class.proofs.facts.Facts.of_label.Goals as goal
 
 pub loop-c-init : goal.loop-c-init
@@ -22,5 +22,5 @@ unfolding contains
 returns-then-c-ge-END c = λ fact.
     let label = c.args.label.now in
     let i = c.loop-c.c-index in
-    let past : has_fact fact (get_or label i 0) ≡ true = ap (λ b. b || is_so fact (get_or label i 0)) (le-leb 0x11_0000 (get_or label i 0) c.if-c-ge-END.true) in
+    let past : has_fact fact (get_or label i 0) ≡ true = ap (λ b. b || fact_holds fact (get_or label i 0)) (le-leb 0x11_0000 (get_or label i 0) c.if-c-ge-END.true) in
     ap (λ n. n == 0) (bit_at-zero (place_of fact)) ∙ sym (list_any_at (has_fact fact) label i 0 c.loop-c-test.true past)

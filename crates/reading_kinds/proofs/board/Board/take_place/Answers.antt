@@ -1,5 +1,5 @@
 use Rattle.std.proofs.Common.{◌≡◌, sym, subst, ◌+◌, arith, length}
-use Rattle.reading_kinds.specs.Readings.{Use, uses_at}
+use Rattle.reading_kinds.specs.Readings.{Substitution, substitutions_at}
 use Rattle.reading_kinds.specs.inner.Cuts.{Fits}
 use Rattle.reading_kinds.proofs.TakenLemmas.{TakenUpTo-add, TakenUpTo-skip, TakenUpTo-all, TakenUpTo-reached, TakenUpTo, Contains-slice_get, EndsWith-equal, EndsWith-unequal}
 use Rattle.reading_kinds.proofs.board.Board.take_place.Goals as goal
@@ -7,35 +7,35 @@ use Rattle.reading_kinds.proofs.board.Board.take_place.Goals.{then-eq, else-eq}
 
 pub overflow_add-to : goal.overflow_add-to
 overflow_add-to c =
-    let u : Use = record { covers = c.get-found.result.covers; kinds = c.get-found.result.kinds; points = c.get-found.result.points.now } in
-    let is : Fits c.args.uses.now c.args.place u = c.requires.uses c.args.place u (Contains-slice_get (uses_at c.args.uses.now c.args.place) c.loop-number.number u c.get-found.ensures) in
+    let u : Substitution = record { covers = c.get-found.result.covers; kinds = c.get-found.result.kinds; points = c.get-found.result.points.now } in
+    let is : Fits c.args.substitutions.now c.args.place u = c.requires.substitutions c.args.place u (Contains-slice_get (substitutions_at c.args.substitutions.now c.args.place) c.loop-number.number u c.get-found.ensures) in
     omega (arith, is.within, c.requires.wide)
 
 pub add_after-requires-clause-place : goal.add_after-requires-clause-place
 add_after-requires-clause-place c =
-    let u : Use = record { covers = c.get-found.result.covers; kinds = c.get-found.result.kinds; points = c.get-found.result.points.now } in
-    let is : Fits c.args.uses.now c.args.place u = c.requires.uses c.args.place u (Contains-slice_get (uses_at c.args.uses.now c.args.place) c.loop-number.number u c.get-found.ensures) in
+    let u : Substitution = record { covers = c.get-found.result.covers; kinds = c.get-found.result.kinds; points = c.get-found.result.points.now } in
+    let is : Fits c.args.substitutions.now c.args.place u = c.requires.substitutions c.args.place u (Contains-slice_get (substitutions_at c.args.substitutions.now c.args.place) c.loop-number.number u c.get-found.ensures) in
     omega (arith, is.within, c.requires.wide)
 
 pub add_after-requires-clause-reached : goal.add_after-requires-clause-reached
 add_after-requires-clause-reached c =
-    TakenUpTo-reached c.args.uses.now c.args.label.now c.args.self.now c.args.column c.args.count c.args.place c.requires.some c.requires.count c.requires.right c.requires.reached c.loop-number.self c.loop-number.number c.loop-number.invariant
+    TakenUpTo-reached c.args.substitutions.now c.args.label.now c.args.self.now c.args.column c.args.count c.args.place c.requires.some c.requires.count c.requires.right c.requires.reached c.loop-number.self c.loop-number.number c.loop-number.invariant
 
 pub loop-number-preserved : goal.loop-number-preserved
 loop-number-preserved c =
-    let u : Use = record { covers = c.get-found.result.covers; kinds = c.get-found.result.kinds; points = c.get-found.result.points.now } in
+    let u : Substitution = record { covers = c.get-found.result.covers; kinds = c.get-found.result.kinds; points = c.get-found.result.points.now } in
     elim c.if-eq.branch [
       | then-eq w ↦
           let stands = EndsWith-equal c.args.label.now u.points c.args.column c.args.count c.requires.count c.requires.within (sym w.if-eq.ensures) in
-          subst (λ x. TakenUpTo c.args.uses.now c.args.label.now c.args.self.now x c.args.column c.args.count c.args.place (c.loop-number.number + 1)) (sym w.self-is)
-          (TakenUpTo-add c.args.uses.now c.args.label.now c.args.self.now c.args.column c.args.count c.args.place c.requires.some c.requires.count c.requires.right c.requires.reached c.loop-number.self w.add_after.new.self c.loop-number.number u c.get-found.ensures stands.0 stands.1 w.add_after.ensures c.loop-number.invariant)
+          subst (λ x. TakenUpTo c.args.substitutions.now c.args.label.now c.args.self.now x c.args.column c.args.count c.args.place (c.loop-number.number + 1)) (sym w.self-is)
+          (TakenUpTo-add c.args.substitutions.now c.args.label.now c.args.self.now c.args.column c.args.count c.args.place c.requires.some c.requires.count c.requires.right c.requires.reached c.loop-number.self w.add_after.new.self c.loop-number.number u c.get-found.ensures stands.0 stands.1 w.add_after.ensures c.loop-number.invariant)
       | else-eq w ↦
-          subst (λ x. TakenUpTo c.args.uses.now c.args.label.now c.args.self.now x c.args.column c.args.count c.args.place (c.loop-number.number + 1)) (sym w.self-is)
-          (TakenUpTo-skip c.args.uses.now c.args.label.now c.args.self.now c.args.column c.args.count c.args.place c.requires.some c.requires.count c.requires.right c.requires.reached c.loop-number.self c.loop-number.number u c.get-found.ensures (EndsWith-unequal c.args.label.now u.points c.args.column c.args.count c.requires.count c.requires.within (sym w.if-eq.ensures)) c.loop-number.invariant)
+          subst (λ x. TakenUpTo c.args.substitutions.now c.args.label.now c.args.self.now x c.args.column c.args.count c.args.place (c.loop-number.number + 1)) (sym w.self-is)
+          (TakenUpTo-skip c.args.substitutions.now c.args.label.now c.args.self.now c.args.column c.args.count c.args.place c.requires.some c.requires.count c.requires.right c.requires.reached c.loop-number.self c.loop-number.number u c.get-found.ensures (EndsWith-unequal c.args.label.now u.points c.args.column c.args.count c.requires.count c.requires.within (sym w.if-eq.ensures)) c.loop-number.invariant)
     ]
 
 pub returns-clause-taken : goal.returns-clause-taken
 returns-clause-taken c u there counted =
-    let whole : c.loop-number.number ≡ length (uses_at c.args.uses.now c.args.place) = omega (arith, c.count_at-number-end.ensures, c.loop-number-test.false, c.loop-number.auto.number-end) in
-    TakenUpTo-all c.args.uses.now c.args.label.now c.args.self.now c.args.column c.args.count c.args.place c.requires.some c.requires.count c.requires.right c.requires.reached c.loop-number.self u
-    (subst (λ n. TakenUpTo c.args.uses.now c.args.label.now c.args.self.now c.loop-number.self c.args.column c.args.count c.args.place n) whole c.loop-number.invariant) there counted
+    let whole : c.loop-number.number ≡ length (substitutions_at c.args.substitutions.now c.args.place) = omega (arith, c.count_at-number-end.ensures, c.loop-number-test.false, c.loop-number.auto.number-end) in
+    TakenUpTo-all c.args.substitutions.now c.args.label.now c.args.self.now c.args.column c.args.count c.args.place c.requires.some c.requires.count c.requires.right c.requires.reached c.loop-number.self u
+    (subst (λ n. TakenUpTo c.args.substitutions.now c.args.label.now c.args.self.now c.loop-number.self c.args.column c.args.count c.args.place n) whole c.loop-number.invariant) there counted

@@ -3,4 +3,4 @@ use Rattle.reading_kinds.proofs.CutLemmas.{AllFit-of}
 use Rattle.reading_kinds.proofs.readings.Readings.new.Goals as goal
 
 pub invariant_of-result : goal.invariant_of-result
-invariant_of-result c = (c.requires.uses, c.requires.short, omega arith, c.begin.ensures c.args.uses _ (AllFit-of c.args.uses c.requires.uses))
+invariant_of-result c = (c.requires.substitutions, c.requires.short, omega arith, c.begin.ensures c.args.substitutions _ (AllFit-of c.args.substitutions c.requires.substitutions))

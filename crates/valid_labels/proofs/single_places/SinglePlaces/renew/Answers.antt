@@ -7,7 +7,7 @@ use Rattle.valid_labels.proofs.single_places.SinglePlaces.renew.Goals.{in-Some, 
 
 pub loop-place-init : goal.loop-place-init
 loop-place-init c = record {
-  singles = shared-singles c.args.points.now c.args.kept.now c.args.label.now c.args.shared c.args.self.now c.keep_first.new.self c.requires.same c.requires.singles c.keep_first.ensures.first;
+  singles = shared-singles c.args.points.now c.args.cached.now c.args.label.now c.args.shared c.args.self.now c.keep_first.new.self c.requires.same c.requires.singles c.keep_first.ensures.first;
   same = refl;
   room = c.keep_first.ensures.room;
 }

@@ -4,8 +4,8 @@ use Rattle.variant_list.proofs.filter.Filter.shortest_hopeless.Goals as goal
 
 pub returns-then-hopeless : goal.returns-then-hopeless
 returns-then-hopeless g c =
-    sym (shortest_hopeless-at (g.Self.Filter.lost c.args.self.now) c.args.label.now (c.loop-index.index + 1) (omega arith) (omega arith) (sym c.if-hopeless.ensures) (λ k low high. c.loop-index.invariant k low (omega arith)))
+    sym (shortest_hopeless-at (g.Self.Filter.dead c.args.self.now) c.args.label.now (c.loop-index.index + 1) (omega arith) (omega arith) (sym c.if-hopeless.ensures) (λ k low high. c.loop-index.invariant k low (omega arith)))
 
 pub returns : goal.returns
 returns g c =
-    sym (shortest_hopeless-none (g.Self.Filter.lost c.args.self.now) c.args.label.now (λ k low high. c.loop-index.invariant k low (omega arith)))
+    sym (shortest_hopeless-none (g.Self.Filter.dead c.args.self.now) c.args.label.now (λ k low high. c.loop-index.invariant k low (omega arith)))

@@ -3,7 +3,7 @@ use Rattle.idn_text.proofs.Utf8Lemmas.{points_from_utf8}
 use Rattle.idn2_output.specs.Writing.{StopsForMemory}
 use Rattle.idn2_cli.specs.inner.ServedLines.{result_of}
 use Rattle.idn2_cli.proofs.TextAnswers.{text_answer-not_utf8, text_answer-empty, text_answer-points}
-use Rattle.idn2_output.proofs.WrittenPieces.{writes_nothing}
+use Rattle.idn2_output.proofs.WrittenOutputLines.{writes_nothing}
 use Rattle.idn2_cli.proofs.modes.code_points.ByPointsAnswering.answer.Goals as goal
 
 pub returns-in-Err-clause-written : goal.returns-in-Err-clause-written

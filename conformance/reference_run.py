@@ -1,0 +1,397 @@
+"""A run of the program written a second time, from docs/idn2.1, docs/NOTATION.md and the README alone.
+
+Given the words, standard input and the files, it tells what stands on the output, on the messages and as the status.
+Where it does not know, since a code point is newer than the data here, or since a name is to be looked up, it says so by
+`Unknown`. It holds all labels that a label spells in a set, so it is for small tables and short labels.
+"""
+
+import functools
+import itertools
+import re
+import unicodedata
+
+import check
+import table_places
+from causes import Causes
+from notation import reading
+from notation.faults import TableFault
+from notation.ruleset import Entry, Mapped, Ruleset
+from registration import Registration, a_label
+from rules import ProfileProperties, UnicodeProperties
+from ruleset_labels import NOT_MADE_OF_ENTRIES, NOT_VALID, RulesetLabels, Unknown
+
+LINE_LIMIT, TEXT_LIMIT, LABEL_LIMIT = 1024, 1024, 63
+COUNT_LIMIT, TRIES = 1_000_000_000, 1_000_000
+
+TEXTS = {
+    1: "not UTF-8", 2: "line too long", 3: "empty", 4: "out of order", 10: "disallowed code point", 11: "unassigned code point",
+    12: "not in NFC", 13: "hyphen out of place", 14: "leading combining mark", 15: "joiner out of context",
+    16: "code point out of context", 17: "Bidi rule broken", 18: "label too long", 19: "not an A-label",
+    NOT_MADE_OF_ENTRIES: "not made of table entries", NOT_VALID: "not valid under the table", 50: "usage", 60: "read fault",
+}
+FAULTY_LINE = re.compile(r"idn2: table line (\d+): (\d+) .*")
+FLAGS = {"-l": "lookup", "--lookup": "lookup", "-r": "register", "--register": "register", "-d": "decode",
+         "--decode": "decode", "-N": "nontransitional", "--tr46nt": "nontransitional", "--quiet": "quiet", "--explain": "explain",
+         "--usestd3asciirules": "std3", "--standard": "standard", "--jump": "jump",
+         "-h": "show", "--help": "show", "-V": "show", "--version": "show"}
+LISTINGS, CHECKS = {"--variants", "--ruleset"}, {"--check-table", "--check-ruleset"}
+OF_A_LISTING = ("--after", "--limit", "--tries", "--steps", "--among")
+VALUES = LISTINGS | CHECKS | set(OF_A_LISTING)
+# The long names of flags that have another name here.
+LONG = {"nontransitional": "--tr46nt", "std3": "--usestd3asciirules"}
+MODES = {"lookup", "register", "decode"} | LISTINGS | CHECKS
+
+
+class Bad(Exception):
+    """The words can't be used, for this cause."""
+
+
+class Show(Exception):
+    """Help or version is asked for."""
+
+
+class RegisteredFault(Exception):
+    """The first line of the registered labels that is wrong, and its number of the refusal."""
+
+    def __str__(self):
+        line, refusal = self.args
+        return f"idn2: registered line {line}: {refusal} {TEXTS[refusal]}"
+
+
+class Options:
+    def __init__(self, words):
+        self.given, self.strings = {}, []
+        words = iter(words)
+        for word in words:
+            if word == "--":
+                self.strings += words
+            elif word.startswith("--"):
+                self.take_long(word, words)
+            elif word.startswith("-") and word != "-":
+                for letter in word[1:]:
+                    self.take_flag("-" + letter)
+            else:
+                self.strings.append(word)
+        self.obey_rules()
+
+    def take_long(self, word, words):
+        name, has_value, value = word.partition("=")
+        if name not in VALUES:
+            self.take_flag(word)
+            return
+        if not has_value:
+            value = next(words, None)
+            if value is None or (value.startswith("-") and value != "-"):
+                next_option = value if value is None or value.startswith("--") else value[:2]
+                raise Bad(unknown_option(next_option) or f"{name} takes a value")
+        self.take(name, value)
+
+    def take_flag(self, word):
+        if word not in FLAGS:
+            raise Bad(unknown_option(word) or word.partition("=")[0] + " takes no value")
+        if FLAGS[word] == "show":
+            raise Show
+        self.take(FLAGS[word], True)
+
+    def take(self, name, value):
+        if name in self.given:
+            raise Bad(LONG.get(name, "--" + name.removeprefix("--")) + " is given twice")
+        self.given[name] = value
+
+    def obey_rules(self):
+        modes = MODES & self.given.keys()
+        if len(modes) > 1:
+            raise Bad("two modes are named")
+        self.mode = modes.pop() if modes else "lookup"
+        self.obey_rules_of_variants()
+        self.limit, self.tries = self.count("--limit", None), self.count("--tries", TRIES)
+        self.steps = self.count("--steps", None, 19, 2, 10 ** 18)
+        self.after = self.given.get("--after", "")
+        if len(self.after.encode()) > TEXT_LIMIT:
+            raise Bad(f"--after takes at most {TEXT_LIMIT} bytes")
+        if self.mode in CHECKS and self.strings:
+            raise Bad("the check of a table takes no STRINGS")
+
+    def obey_rules_of_variants(self):
+        """Options of a listing need one, a jump needs a table and is no listing, and `--among` tries and passes over nothing."""
+        given_for_listing = [name for name in OF_A_LISTING if name in self.given]
+        is_jump = "jump" in self.given
+        if self.mode not in LISTINGS and (given_for_listing or is_jump):
+            raise Bad((given_for_listing + ["--jump"])[0] + " goes with --variants")
+        if is_jump and given_for_listing:
+            raise Bad(given_for_listing[0] + " doesn't go with --jump")
+        if "--among" in self.given:
+            for name in ("--tries", "--steps"):
+                if name in self.given:
+                    raise Bad(name + " doesn't go with --among")
+            if self.given["--among"] == self.given[self.mode]:
+                raise Bad("--among takes another file than the table")
+
+    def files(self):
+        """The names of the files that are read, in their order."""
+        return [self.given[name] for name in (*LISTINGS, *CHECKS, "--among") if name in self.given]
+
+    def count(self, name, default, digits=10, least=1, most=COUNT_LIMIT):
+        text = self.given.get(name)
+        if text is None:
+            return default
+        if not (1 <= len(text) <= digits and text.isascii() and text.isdigit() and least <= int(text) <= most):
+            raise Bad(f"{name} takes a number from {least} to {most}")
+        return int(text)
+
+
+class Reference:
+    """Answers by the profile or, with `--standard`, by the standards alone."""
+
+    def __init__(self, by_profile, by_standard=None):
+        self.by_profile, self.by_standard = by_profile, by_standard
+
+    @classmethod
+    def of(cls, classes):
+        whole = classes.whole()
+        by_profile = Run(Registration(classes, ProfileProperties()), classes)
+        return cls(by_profile, Run(Registration(whole, UnicodeProperties()), whole))
+
+    def answer(self, words, given, files):
+        """(output, messages, status); output is None where only its being there is known."""
+        try:
+            options = Options(words)
+        except Bad as fault:
+            return b"", ending(words, 50, str(fault)), 2
+        except Show:
+            return None, b"", 0
+        if options.strings:
+            given = "".join(string + "\n" for string in options.strings).encode()
+        for name in options.files():
+            if name not in files:
+                return b"", ending(words, 60, in_one_line(name) + ": no such file"), 3
+        run = self.by_standard if "standard" in options.given else self.by_profile
+        return run.serve(options, given, files)
+
+
+class Run:
+    """`registration` has the rules of labels, `classes` the classes of code points."""
+
+    def __init__(self, registration, classes):
+        self.registration, self.classes = registration, classes
+
+    @functools.cached_property
+    def causes(self):
+        """Made only where causes are told, since it reads more of Unicode's data."""
+        return Causes(self.registration, self.classes)
+
+    def serve(self, options, given, files):
+        if options.mode in CHECKS:
+            return self.check(options, files[options.given[options.mode]])
+        try:
+            registered, table = self.read_files(options, files)
+        except RegisteredFault as fault:
+            return b"", f"{fault}{self.tail_of_registered(options, files, *fault.args)}\n".encode(), 2
+        except TableFault as fault:
+            tail = self.tail_of_table(options, files[options.given[options.mode]], fault.line, fault.number)
+            return b"", f"{fault}{tail}\n".encode(), 2
+        output, messages = [], []
+        for number, body in enumerate(bodies(given), 1):
+            lines, refusal = self.answer_line(options, table, registered, body)
+            output += lines
+            if refusal is not None:
+                messages.append(f"idn2: line {number}: {refusal} {TEXTS[refusal]}{self.tail(options, table, body, refusal)}\n")
+        return ("".join(line + "\n" for line in output).encode(), "".join(messages).encode(), 1 if messages else 0)
+
+    def tail(self, options, table, body, refusal):
+        """What the message of a refused line goes on with."""
+        if "explain" not in options.given:
+            return ""
+        mode = "jump" if "jump" in options.given else options.mode
+        cause = self.causes.of_body(mode, body, refusal, table[0] if table else None)
+        return "" if cause is None else f": {cause}"
+
+    def tail_of_registered(self, options, files, number, refusal):
+        """The same of a wrong line of the registered labels."""
+        if "explain" not in options.given:
+            return ""
+        cause = self.causes.of_registered(list(bodies(files[options.given["--among"]])), number, refusal)
+        return "" if cause is None else f": {cause}"
+
+    def tail_of_table(self, options, text, number, fault):
+        """The same of a faulty line of a table or a ruleset."""
+        if "explain" not in options.given:
+            return ""
+        of_text = table_places.of_table if options.mode in ("--variants", "--check-table") else table_places.of_ruleset
+        place = of_text(text, number, fault, self.classes.may_stand)
+        return "" if place is None else f": {place}"
+
+    def read_files(self, options, files):
+        """The registered labels and the table, each None where the options name none. The labels are read first."""
+        registered = table = None
+        if "--among" in options.given:
+            registered = self.registered_labels(files[options.given["--among"]])
+        if options.mode in LISTINGS:
+            table = self.table(options.mode, files[options.given[options.mode]])
+        return registered, table
+
+    def table(self, mode, text):
+        """What the table or ruleset says of labels, and whether a listing has the third field."""
+        if mode == "--ruleset":
+            return RulesetLabels(reading.read(text, self.classes.may_stand)), True
+        table = check.read(text, self.classes)
+        return RulesetLabels(as_ruleset(table)), table.version == 2
+
+    def registered_labels(self, text):
+        """The labels of a file of less than 4 GiB: one on each line, each greater than the one before."""
+        labels = []
+        for number, body in enumerate(bodies(text), 1):
+            label, refusal = text_of(body)
+            if refusal is None:
+                refusal = self.registration.first_fault(self.known(label))
+            if refusal is None and labels and label <= labels[-1]:
+                refusal = 4
+            if refusal is not None:
+                raise RegisteredFault(number, refusal)
+            labels.append(label)
+        return set(labels)
+
+    def check(self, options, text):
+        lines, is_clean = (check.check if options.mode == "--check-table" else check.check_ruleset)(text, self.classes)
+        fault = FAULTY_LINE.fullmatch(lines[0])
+        if fault:
+            return b"", f"{lines[0]}{self.tail_of_table(options, text, *map(int, fault.groups()))}\n".encode(), 2
+        return "".join(line + "\n" for line in lines).encode(), b"", 0 if is_clean else 1
+
+    def answer_line(self, options, table, registered, body):
+        """The lines of output and no refusal, or none and the number of the refusal."""
+        text, refusal = text_of(body)
+        if refusal is None and not text:
+            refusal = 3
+        if refusal is not None:
+            return [], refusal
+        if options.mode == "lookup":
+            raise Unknown
+        if "jump" in options.given:
+            return self.jump(table, *parts_of(text))
+        if options.mode in LISTINGS:
+            return self.block(options, table, registered, text)
+        answer, refusal = getattr(self.registration, options.mode)(self.known(text))
+        return ([], refusal) if answer is None else ([answer], None)
+
+    def known(self, text):
+        for label in text.split("."):
+            coded = label[4:]
+            if label[:4].lower() == "xn--" and coded.isascii():
+                try:
+                    label += coded.encode().decode("punycode")
+                except (UnicodeError, ValueError, OverflowError):
+                    pass
+            if not self.registration.knows(label):
+                raise Unknown
+        return text
+
+    def jump(self, table, label, text):
+        candidates, refusal = self.candidates(table, label)
+        if refusal is not None:
+            return [], refusal
+        return [next((each for each in candidates if each >= text), "#end")], None
+
+    def block(self, options, table, registered, label):
+        candidates, refusal = self.candidates(table, label)
+        if refusal is not None:
+            return [], refusal
+        labels, has_third_field = table
+        after = [each for each in candidates if each > options.after]
+        variants = [each for each in after if self.is_variant(labels, each)]
+        tested = [each for each in after if self.dead_prefix(labels, each) is None]
+        visited = [each for last, each in zip([None, *after], after) if self.is_visited(labels, last, each)]
+        if registered is not None:
+            variants, tested, visited = [each for each in variants if each in registered], [], []
+        stops = tested[options.tries - 1:options.tries]
+        if options.steps is not None:
+            stops += visited[options.steps - 1:options.steps]
+        if options.limit is not None:
+            stops += variants[options.limit - 1:options.limit]
+        if stops:
+            variants = [each for each in variants if each <= min(stops)]
+        trailer = f"#stop {len(variants)} {min(stops)}" if stops else f"#end {len(variants)}"
+        allocatable = labels.allocatable(label) if has_third_field else set()
+        field = lambda each: "" if not has_third_field else "\tallocatable" if each in allocatable else "\tblocked"
+        return [f"{each}\t{a_label(each)}{field(each)}" for each in variants] + [trailer], None
+
+    def dead_prefix(self, labels, label):
+        """How many letters the shortest beginning of the label has that no variant begins with, or None."""
+        beginnings = (label[:count] for count in range(1, len(label) + 1))
+        is_dead = lambda each: self.registration.is_dead_prefix([ord(letter) for letter in each]) or labels.is_dead_prefix(each)
+        return next((len(each) for each in beginnings if is_dead(each)), None)
+
+    def is_visited(self, labels, last, label):
+        """A step comes to each label that is tested, and to one whose dead prefix the candidate before it hasn't."""
+        count = self.dead_prefix(labels, label)
+        return count is None or last is None or last[:count] != label[:count]
+
+    def is_variant(self, labels, label):
+        return self.registration.first_fault(self.known(label)) is None and labels.is_valid(label)
+
+    def candidates(self, table, label):
+        """The labels of at most 63 code points that a label spells, in order, and no refusal, or none and a number."""
+        labels, _ = table
+        fault = self.registration.first_fault(self.known(label)) or labels.refusal(label)
+        if fault:
+            return [], fault
+        return sorted(each for each in labels.spelled(label) if len(each) <= LABEL_LIMIT), None
+
+
+def as_ruleset(table):
+    """A table of version 1 or 2 as the ruleset that says the same."""
+    entries = {}
+    for source, variants in table.entries.items():
+        mapped = tuple(Mapped(variant, is_blocked) for variant, is_blocked in variants.items())
+        entries[source] = Entry(Mapped(source), mapped)
+    return Ruleset(entries=entries)
+
+
+def message(number):
+    return f"idn2: {number} {TEXTS[number]}\n".encode()
+
+
+def ending(words, number, cause):
+    """The message of what ends a run, with its cause if that is asked for among the words."""
+    if "--explain" not in itertools.takewhile(lambda word: word != "--", words):
+        return message(number)
+    return f"idn2: {number} {TEXTS[number]}: {cause}\n".encode()
+
+
+def unknown_option(word):
+    """That there is no option of the name that a word begins with; None if there is."""
+    name = word.partition("=")[0] if word and word.startswith("--") else word
+    if name in (None, "--") or name in FLAGS or name in VALUES:
+        return None
+    return f"unknown option '{in_one_line(name)}'"
+
+
+def in_one_line(text):
+    """Control characters and ends of lines as escapes."""
+    return "".join(f"\\u{{{ord(c):x}}}" if unicodedata.category(c) == "Cc" or c in "\u2028\u2029" else c for c in text)
+
+
+def text_of(body):
+    """The text of a line and no refusal, or the number of the refusal."""
+    if isinstance(body, int):
+        return None, body
+    try:
+        return body.decode(), None
+    except UnicodeDecodeError:
+        return None, 1
+
+
+def parts_of(text):
+    """The label of a jump, and the text from which on one is wanted."""
+    label, _, rest = text.partition("\t")
+    return label, rest
+
+
+def bodies(given):
+    """Each line, or 2 where it is too long. One carriage return at its end is dropped."""
+    lines = given.split(b"\n")
+    for line in lines if lines[-1] else lines[:-1]:
+        if len(line) > LINE_LIMIT:
+            yield 2
+        else:
+            yield line[:-1] if line.endswith(b"\r") else line
