@@ -5,15 +5,15 @@ use Rattle.std.specs.Int.{bit_at}
 use Rattle.std.proofs.lemmas.Slice.Eq.{bytes_eq-Decides}
 use Rattle.variant_table.specs.Entries.{TableValue}
 use Rattle.variant_table.specs.WellFormed.{IsWellFormed}
-use Rattle.reading_kinds.specs.Readings.{Use, SomeLacks, UsesSpell}
+use Rattle.reading_kinds.specs.Readings.{Substitution, SomeLacks, SubstitutionsSpell}
 use Rattle.variant_list.specs.Parts.{Part, part_of}
 use Rattle.variant_list.specs.Parts.Part.{Whole, Unblocked, Tagged}
 use Rattle.variant_list.specs.Spelling.{PartSpells}
-use Rattle.variant_list.specs.Uses.{substitutions_of}
+use Rattle.variant_list.specs.Substitutions.{substitutions_of}
 use Rattle.variant_list.proofs.HeldLemmas.{same_by}
 use Rattle.variant_list.proofs.KindLemmas.{kinds-tell_parts}
 use Rattle.variant_list.proofs.PartLemmas.{Spells-of_part}
-use Rattle.variant_list.proofs.UsesLemmas.{UsesSpell-label}
+use Rattle.variant_list.proofs.UsesLemmas.{SubstitutionsSpell-label}
 use Rattle.idn2_answers.specs.Answers.{IsSubTable, is_allocatable}
 use Rattle.idn2_answers.proofs.AllocatableLabels.{allocatable-test}
 use Rattle.idn2_cli.specs.inner.Dispositions.{IsOfSubTable}
@@ -52,7 +52,7 @@ small tags kind few (inl h) = omega (arith, h.1)
 small tags kind few (inr h) = omega (arith, h.1, few)
 
 -- a word that says which kinds some reading lacks, where v is spelled
-pub told-one : (table : TableValue) (label v : List ℕ) → IsWellFormed table.entries → (tags : ℕ) → tags ≤ 8 → tags ≡ length table.definitions.tags → (substitutions : List (List Use)) → substitutions ≡ substitutions_of Whole table label
+pub told-one : (table : TableValue) (label v : List ℕ) → IsWellFormed table.entries → (tags : ℕ) → tags ≤ 8 → tags ≡ length table.definitions.tags → (substitutions : List (List Substitution)) → substitutions ≡ substitutions_of Whole table label
     → (lacks : ℕ) → ((k : ℕ) → k < 64 → (bit_at lacks k ≡ 1) ↔ SomeLacks substitutions v k) → (told : Bool) → (told ≡ true) ↔ ((kind : ℕ) × IsOfSubTable tags kind × (bit_at lacks kind ≡ 1))
     → (told ≡ true) ↔ ((part : Part) × IsSubTable table part × PartSpells part table label v)
 told-one table label v formed tags few count substitutions same lacks bits told is =
@@ -64,8 +64,8 @@ told-one table label v formed tags few count substitutions same lacks bits told 
     )
 
 -- what isn't spelled is spelled under no part
-pub told-none : (table : TableValue) (label v : List ℕ) → IsWellFormed table.entries → (substitutions : List (List Use)) → substitutions ≡ substitutions_of Whole table label → ¬ UsesSpell substitutions v → ¬ ((part : Part) × IsSubTable table part × PartSpells part table label v)
-told-none table label v formed substitutions same none h = none (subst (λ us. UsesSpell us v) (sym same) ((UsesSpell-label Whole table label formed v).1 (Spells-of_part h.0 table label v h.2)))
+pub told-none : (table : TableValue) (label v : List ℕ) → IsWellFormed table.entries → (substitutions : List (List Substitution)) → substitutions ≡ substitutions_of Whole table label → ¬ SubstitutionsSpell substitutions v → ¬ ((part : Part) × IsSubTable table part × PartSpells part table label v)
+told-none table label v formed substitutions same none h = none (subst (λ us. SubstitutionsSpell us v) (sym same) ((SubstitutionsSpell-label Whole table label formed v).1 (Spells-of_part h.0 table label v h.2)))
 
 -- of another label than the one asked about
 pub told-other : (table : TableValue) (label v : List ℕ) → IsWellFormed table.entries → bytes_eq v label ≡ false → (told : Bool) → (told ≡ true) ↔ ((part : Part) × IsSubTable table part × PartSpells part table label v) → told ≡ is_allocatable table label v

@@ -28,7 +28,7 @@ impl<'l> Model for AllocationTest<'l> {
     ghost use Rattle.variant_table.specs.TableCodes.{table_code};
     ghost use Rattle.variant_table.specs.WellFormed.{IsWellFormed};
     ghost use Rattle.variant_list.specs.Parts.Part.{Whole};
-    ghost use Rattle.variant_list.specs.Uses.{substitutions_of};
+    ghost use Rattle.variant_list.specs.Substitutions.{substitutions_of};
     ghost use Rattle.idn2_cli.specs.inner.Dispositions.{Asked};
 
     ghost Value = { Asked };
