@@ -1,11 +1,11 @@
 -- The Bidi rule of a whole name: of its labels as they are decoded, and of its code points, octets and numbers.
-use Rattle.std.proofs.Common.{◌≡◌, ◌≢◌, ℕ, Bool, true, false, not, ◌&&◌, ◌||◌, ◌<◌, cond, List, [], ◌∷◌, map, chars, All, Option, Some, None, Result, Ok, Err, refl, sym, ap, ap₂, subst, ◌∙◌, inl, inr, eqb-true, arith}
-use Rattle.std.specs.Char.{to_ascii_lowercase}
+use Rattle.std.proofs.Common.{◌≡◌, ◌≢◌, ℕ, Bool, true, false, not, ◌&&◌, ◌||◌, ◌<◌, nat_lt, cond, List, [], ◌∷◌, map, chars, All, Option, Some, None, Result, Ok, Err, refl, sym, ap, ap₂, subst, ◌∙◌, inl, inr, eqb-true, arith}
+use Rattle.std.specs.Char.{encode_utf8, to_ascii_lowercase}
 use Rattle.std.specs.List.{AllByRecursion, list_any, list_all, onto_first}
 use Rattle.std.specs.Str.{IsAscii, IsUtf8, is_utf8}
-use Rattle.std.proofs.lemmas.Bool.{cases_Bool, cases_lt, cond-true, cond-false, not-true, or_parts}
+use Rattle.std.proofs.lemmas.Bool.{and_parts, cases_Bool, cases_lt, cond-true, cond-false, not-true, or_parts}
 use Rattle.std.proofs.lemmas.Bool.Decides.{nat_tests}
-use Rattle.std.proofs.lemmas.List.Folds.{list_any_none}
+use Rattle.std.proofs.lemmas.List.Folds.{list_all-append, list_any_none}
 use Rattle.std.proofs.lemmas.List.Elements.{All-head, All-weaker, All-from_recursion, recursion_from_All}
 use Rattle.ucd_bidi.specs.declared.BidiClass.TheVariants.{LeftToRight}
 use Rattle.ucd_bidi.specs.BidiClass.{bidi_class}
@@ -13,7 +13,7 @@ use Rattle.ucd_bidi.specs.BidiClassRows.{bidi_class_rows}
 use Rattle.ucd_bidi.proofs.BidiClassLemmas.{bidi_class_stepped}
 use Rattle.ucd_table.proofs.Computing.{tables}
 use Rattle.ucd_table.proofs.Facts.{Stepped-below}
-use Rattle.std.proofs.lemmas.Str.{IsUtf8-from_is_utf8}
+use Rattle.std.proofs.lemmas.Str.{IsUtf8-from_is_utf8, chars-encodes}
 use Rattle.std.proofs.lemmas.Str.Ascii.{All-from_ascii}
 use Rattle.idna.specs.BidiRule.{is_rtl, is_bidi_domain, passes_by_first, passes_bidi_rule}
 use Rattle.idna.specs.Labels.{is_full_stop, labels_of, join_labels}
@@ -22,7 +22,7 @@ use Rattle.idna.proofs.LabelsLemmas.{HasNoFullStop, HasNoFullStop-labels_of, All
 use Rattle.idn_text.specs.Points.{is_scalar_value, IsScalarValue, AreScalarValues, IsUtf8Of, utf8_of}
 use Rattle.idn_text.specs.declared.refusal.Refusal.{Refusal}
 use Rattle.idn_text.specs.declared.refusal.Refusal.TheVariants.{NotUtf8}
-use Rattle.idn_text.proofs.Utf8Lemmas.{IsUtf8-from_points, ascii_points, points_from_utf8}
+use Rattle.idn_text.proofs.Utf8Lemmas.{IsUtf8-from_points, ascii_points, encode_utf8-two, encode_utf8-three, encode_utf8-four, points_from_utf8}
 use Rattle.idn_class.specs.declared.properties.Properties.{Properties}
 use Rattle.idn_class.specs.declared.properties.Properties.TheVariants.{Profile, Unicode}
 use Rattle.idn_class.specs.BidiClass.{standard_bidi_class}
@@ -67,6 +67,33 @@ pub right-ascii : (name : List ℕ) → IsAscii name → list_any right (chars n
 right-ascii name ascii =
     ap (list_any right) (points_from_utf8 name name (ascii_points name ascii))
     ∙ list_any_none right name (All-weaker (λ c. c < 128) (λ c. right c ≡ false) (λ c few. right-before_hebrew c (omega arith)) name (All-from_ascii name ascii))
+
+-- nor does a text have one of which no octet is 0xD6 or more, since 0xD6 begins U+0580
+abbrev pub is_before : ℕ → Bool
+is_before octet = nat_lt octet 0xD6
+
+before-encoded : (c : ℕ) → list_all is_before (encode_utf8 c) ≡ true → c < 0x590
+before-encoded c all = elim (cases_lt c 0x80) [
+  | inl ascii ↦ omega (arith, ascii)
+  | inr more ↦ elim (cases_lt c 0x800) [
+    | inl two ↦ let parts = ap (list_all is_before) (sym (encode_utf8-two c more two)) ∙ all in grind (arith, nat_tests)
+    | inr other ↦ elim (cases_lt c 0x1_0000) [
+      | inl three ↦ let parts = ap (list_all is_before) (sym (encode_utf8-three c other three)) ∙ all in grind (arith, nat_tests)
+      | inr four ↦ let parts = ap (list_all is_before) (sym (encode_utf8-four c four)) ∙ all in grind (arith, nat_tests)
+    ]
+  ]
+]
+
+right-before_points : (points : List ℕ) → list_all is_before (utf8_of points) ≡ true → list_any right points ≡ false
+right-before_points [] all = refl
+right-before_points (c ∷ points) all =
+    let parts = and_parts _ _ (sym (list_all-append is_before (encode_utf8 c) (utf8_of points)) ∙ all) in
+    ap₂ (λ a b. a || b) (right-before_hebrew c (before-encoded c parts.0)) (right-before_points points parts.1)
+
+pub right-before_octets : (name : List ℕ) → IsUtf8 name → list_all is_before name ≡ true → list_any right (chars name) ≡ false
+right-before_octets name utf8 all =
+    ap (list_any right) (ap chars (sym utf8.1.1) ∙ chars-encodes utf8.0 utf8.1.0)
+    ∙ right-before_points utf8.0 (ap (list_all is_before) utf8.1.1 ∙ all)
 
 -- no code point that lacks the fact is R, AL or AN
 right-lacks : (label : List ℕ) → Lacks RightToLeft label → list_any right label ≡ false

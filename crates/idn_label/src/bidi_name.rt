@@ -71,6 +71,9 @@ pub(crate) fn holds_rtl_in_utf8(name: &[u8]) -> bool
     requires { IsUtf8 name.now }
     ensures { result ≡ list_any (λ c. is_rtl (bidi_class c)) (chars name.now) }
 {
+    if is_before_hebrew(name) {
+        return false;
+    }
     let mut at = 0;
     while at < name.len() {
         let Some((c, next)) = character_at(name, at) else {
@@ -82,6 +85,20 @@ pub(crate) fn holds_rtl_in_utf8(name: &[u8]) -> bool
         at = next;
     }
     false
+}
+
+/// Whether each character of a name in UTF-8 is before U+0580, as those of Latin, Greek and Cyrillic are: none of its
+/// octets is 0xD6 or more. It looks at each octet, which is faster than to stop at the first other one.
+#[inline]
+fn is_before_hebrew(name: &[u8]) -> bool
+    requires { IsUtf8 name.now }
+    ensures { IsTrue result → list_any (λ c. is_rtl (bidi_class c)) (chars name.now) ≡ false }
+{
+    let mut is_before = true;
+    for octet in name {
+        is_before &= *octet < 0xD6;
+    }
+    is_before
 }
 
 /// Whether each label of a name in UTF-8 meets the rule.
