@@ -29,10 +29,13 @@ applies properties c lines.IgnorableBlocks = is_in_ignorable_block c
 applies properties c lines.OldHangulJamo = is_old_hangul_jamo c
 applies properties c lines.NoLetterDigit = not (is_letter_or_digit (general_category c))
 
--- the lines of section 3 from Unstable on that bar, in its order; the last is its 'else'
+-- the lines of section 3 after Unstable that bar, in its order; the last is its 'else'
+abbrev pub lines_by_look_up : List BarringLine
+lines_by_look_up = lines.IgnorableProperties ∷ lines.IgnorableBlocks ∷ lines.OldHangulJamo ∷ lines.NoLetterDigit ∷ []
+
+-- those from Unstable on
 abbrev pub lines_of_properties : List BarringLine
-lines_of_properties =
-    lines.Unstable ∷ lines.IgnorableProperties ∷ lines.IgnorableBlocks ∷ lines.OldHangulJamo ∷ lines.NoLetterDigit ∷ []
+lines_of_properties = lines.Unstable ∷ lines_by_look_up
 
 -- the two lines that come first, and all lines of section 3 that bar, in its order
 abbrev pub barring_lines : List BarringLine

@@ -1,5 +1,5 @@
 -- Dead prefixes: no label that begins so may be registered (RFC 5891, section 4.2), whatever follows.
-use Rattle.std.specs.Prelude.{◌≡◌, ℕ, ◌≤◌, ◌<◌, Bool, true, false, not, ◌&&◌, ◌||◌, ◌==◌, IsTrue, List, length, map, take, Any, Contains, Some, slice_get, slice_index}
+use Rattle.std.specs.Prelude.{◌≡◌, ℕ, ◌≤◌, ◌<◌, Bool, true, false, not, ◌&&◌, ◌||◌, ◌==◌, IsTrue, List, length, map, take, Any, Contains, Option, Some, MatchOption, slice_get, slice_index}
 use Rattle.std.specs.List.{list_any}
 use Rattle.idn_class.specs.declared.bidi_class.BidiClass.{BidiClass}
 use Rattle.idn_class.specs.declared.bidi_class.BidiClass.TheVariants.{EN, AN}
@@ -8,7 +8,7 @@ use Rattle.idn_class.specs.BidiClass.{bidi_class}
 use Rattle.idn_class.specs.BidiRule.{IsRtl, is_rtl_class, is_allowed_in_rtl}
 use Rattle.idn_class.specs.ContextO.{is_arabic_digit, is_extended_arabic_digit}
 use Rattle.idn_class.specs.LeadingMark.{BeginsWithMark}
-use Rattle.idn_class.specs.Tests.{leading_mark, is_en, is_an, is_rtl}
+use Rattle.idn_class.specs.Tests.{leading_mark, has_both_numbers, is_rtl}
 
 -- what an RTL label may not hold
 abbrev pub is_barred_in_rtl : BidiClass → Bool
@@ -40,6 +40,10 @@ pub record IsShortestDeadPrefix (properties : Properties) (label : List ℕ) (n 
 abbrev pub HasNoDeadPrefix : Properties → List ℕ → Type 0
 HasNoDeadPrefix properties label = (k : ℕ) → ¬ IsDeadPrefix properties (take k label)
 
+-- the length of the shortest dead prefix of the label, if it has one
+abbrev pub TellsDeadPrefix : Properties → List ℕ → Option ℕ → Type 0
+TellsDeadPrefix properties label found = MatchOption found (HasNoDeadPrefix properties label) (IsShortestDeadPrefix properties label)
+
 -- ---- dead, as a test that computes. Digits of both kinds need no test of their own: one kind is AN and
 -- the other EN
 
@@ -51,7 +55,7 @@ has_hyphens_third_and_fourth w = (slice_index w 2 == 0x2D) && (slice_index w 3 =
 
 -- the classes break the Bidi rule for good: after a first that is R or AL, and after any other
 abbrev pub breaks_bidi : Bool → List BidiClass → Bool
-breaks_bidi true classes = list_any is_barred_in_rtl classes || (list_any is_en classes && list_any is_an classes)
+breaks_bidi true classes = list_any is_barred_in_rtl classes || has_both_numbers classes
 breaks_bidi false classes = list_any is_rtl_class classes
 
 unfoldable pub hopeless : Properties → List ℕ → Bool

@@ -119,6 +119,10 @@ abbrev pub is_an : BidiClass → Bool
 is_an AN = true
 is_an _ = false
 
+-- both European and Arabic numbers
+abbrev pub has_both_numbers : List BidiClass → Bool
+has_both_numbers classes = list_any is_en classes && list_any is_an classes
+
 abbrev pub is_nsm : BidiClass → Bool
 is_nsm NSM = true
 is_nsm _ = false
@@ -138,7 +142,7 @@ ends_in is_end (class ∷ classes) = ends_in is_end classes || is_end class && l
 
 abbrev pub rtl_passes : Bool → List BidiClass → Bool
 rtl_passes true classes =
-    list_all is_allowed_in_rtl classes && ends_in is_end_of_rtl classes && not (list_any is_en classes && list_any is_an classes)
+    list_all is_allowed_in_rtl classes && ends_in is_end_of_rtl classes && not (has_both_numbers classes)
 rtl_passes false classes = true
 
 abbrev pub ltr_passes : Bool → List BidiClass → Bool

@@ -1,8 +1,10 @@
 //! Which line of RFC 5892, section 3, bars a code point.
-ghost use Rattle.std.specs.Prelude.{◌≡◌, IfOk, [], ◌∷◌};
+ghost use Rattle.std.specs.Prelude.{◌≡◌, IfOk, ◌∷◌};
 ghost use Rattle.std.specs.List.{find};
-ghost use Rattle.idn_class.specs.Barring.{applies, barring_line, barring_lines, lines_of_properties};
-ghost use Rattle.idn_class.specs.Class.{is_left_out, is_outside_profile, is_disallowed_exception, is_unassigned, has_ignorable_property, is_in_ignorable_block, is_old_hangul_jamo, is_letter_or_digit};
+ghost use Rattle.idn_class.specs.Barring.{applies, barring_line, barring_lines, lines_by_look_up, lines_of_properties};
+ghost use Rattle.idn_class.specs.Class.{is_left_out, is_outside_profile, is_disallowed_exception};
+ghost use Rattle.idn_class.specs.Class.{is_unassigned, has_ignorable_property, is_in_ignorable_block};
+ghost use Rattle.idn_class.specs.Class.{is_old_hangul_jamo, is_letter_or_digit};
 
 use crate::class::{Class, class_of_by};
 use crate::properties::Properties;
@@ -106,8 +108,7 @@ fn line_of_properties(
 /// The first of the lines after Unstable, which look-ups tell.
 #[tactic(auto, unfolding(crate::specs::Barring::applies))]
 fn line_by_look_up(c: char, properties: Properties) -> Option<BarringLine>
-    ensures { result ≡ find (applies properties c)
-        (BarringLine.IgnorableProperties ∷ BarringLine.IgnorableBlocks ∷ BarringLine.OldHangulJamo ∷ BarringLine.NoLetterDigit ∷ []) }
+    ensures { result ≡ find (applies properties c) lines_by_look_up }
 {
     if has_ignorable_property(c) {
         return Some(BarringLine::IgnorableProperties);

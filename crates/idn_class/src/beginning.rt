@@ -1,7 +1,7 @@
 //! Dead prefixes: no label that begins so may be registered, whatever follows.
-ghost use Rattle.std.specs.Prelude.{◌≡◌, ◌↔◌, IsTrue, None, MatchOption};
-ghost use Rattle.idn_class.specs.DeadPrefixes.{has_hyphens_third_and_fourth, hopeless, IsDeadPrefix, IsShortestDeadPrefix, HasNoDeadPrefix};
-ghost use Rattle.idn_class.specs.Directions.{IsShortest, HasNone, breaks_at_first};
+ghost use Rattle.std.specs.Prelude.{◌≡◌, ◌↔◌, IsTrue, None};
+ghost use Rattle.idn_class.specs.DeadPrefixes.{has_hyphens_third_and_fourth, hopeless, IsDeadPrefix, TellsDeadPrefix};
+ghost use Rattle.idn_class.specs.Directions.{TellsShortest, breaks_at_first};
 
 use crate::direction::Direction;
 use crate::properties::Properties;
@@ -30,7 +30,7 @@ pub fn hopeless_by(label: &[u32], properties: Properties) -> bool
 /// How many code points the shortest dead prefix of a label has, by one pass over the label. `None` where
 /// the label has none. It says in one call what `CachedPrefixes` tells.
 pub fn shortest_hopeless(label: &[u32], properties: Properties) -> Option<usize>
-    ensures { MatchOption result (HasNoDeadPrefix properties label.now) (IsShortestDeadPrefix properties label.now) }
+    ensures { TellsDeadPrefix properties label.now result }
 {
     with_hyphens(label, shortest_breaking(label, properties), properties)
 }
@@ -42,8 +42,8 @@ pub(crate) fn with_hyphens(
     breaking: Option<usize>,
     properties: Properties,
 ) -> Option<usize>
-    requires { MatchOption breaking (HasNone (breaks_at_first properties) label.now) (IsShortest (breaks_at_first properties) label.now) }
-    ensures shortest { MatchOption result (HasNoDeadPrefix properties label.now) (IsShortestDeadPrefix properties label.now) }
+    requires { TellsShortest (breaks_at_first properties) label.now breaking }
+    ensures shortest { TellsDeadPrefix properties label.now result }
     ensures whole { result ≡ None → breaking ≡ None }
 {
     if has_hyphens_third_and_fourth(label) {
@@ -62,7 +62,7 @@ fn has_hyphens_third_and_fourth(label: &[u32]) -> bool
 /// How many code points the shortest beginning has that breaks a test of the first code point or the Bidi rule for
 /// good. The first code point gives a direction, and the others must keep it.
 fn shortest_breaking(label: &[u32], properties: Properties) -> Option<usize>
-    ensures { MatchOption result (HasNone (breaks_at_first properties) label.now) (IsShortest (breaks_at_first properties) label.now) }
+    ensures { TellsShortest (breaks_at_first properties) label.now result }
 {
     let [first, rest @ ..] = label else {
         return None;

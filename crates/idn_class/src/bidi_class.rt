@@ -1,6 +1,8 @@
 //! Bidi_Class: by the list of this profile, or by Unicode.
 ghost use Rattle.std.specs.Prelude.{◌≡◌};
-ghost use Rattle.idn_class.specs.BidiClass.{is_boundary_neutral, is_european_separator, is_european_number, is_arabic_number, is_nonspacing, is_right_to_left, is_arabic_letter, profile_bidi_class, bidi_class, named_class, standard_bidi_class};
+ghost use Rattle.idn_class.specs.BidiClass.{is_boundary_neutral, is_european_separator, is_european_number};
+ghost use Rattle.idn_class.specs.BidiClass.{is_arabic_number, is_nonspacing, is_right_to_left, is_arabic_letter};
+ghost use Rattle.idn_class.specs.BidiClass.{profile_bidi_class, bidi_class, named_class, standard_bidi_class};
 
 use crate::category::{bidi_class_of, category_of};
 use crate::facts::{Fact, Facts};

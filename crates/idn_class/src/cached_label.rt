@@ -1,8 +1,8 @@
 //! A label of which a beginning is cached.
 use std::marker::Model;
 
-/// The most octets of a label in the DNS (RFC 1035, section 2.3.4), and so the most code points of a label: the A-label of a
-/// longer one has more octets.
+/// The most octets of a label in the DNS (RFC 1035, section 2.3.4), and so the most code points of a label: the A-label
+/// of a longer one has more octets.
 pub const MAX_LABEL_LEN: usize = 63;
 
 /// A label of at most 63 code points, of which a beginning is cached for the next one. Unlike an `ArrayVec`, it leaves

@@ -29,12 +29,13 @@ impl Model for CachedPrefixes {
 }
 
 impl CachedPrefixes {
-    ghost use Rattle.std.specs.Prelude.{◌≡◌, ◌≤◌, ◌<◌, ◌+◌, ◌∷◌, [], ◌++◌, ℕ, List, true, length, take, None, MatchOption};
-    ghost use Rattle.idn_class.specs.DeadPrefixes.{IsShortestDeadPrefix, HasNoDeadPrefix};
+    ghost use Rattle.std.specs.Prelude.{◌≡◌, ◌≤◌, ◌<◌, ◌+◌, ◌∷◌, []};
+    ghost use Rattle.std.specs.Prelude.{◌++◌, ℕ, List, true, length, take, None, MatchOption};
+    ghost use Rattle.idn_class.specs.DeadPrefixes.{TellsDeadPrefix};
     ghost use Rattle.idn_class.specs.declared.properties.Properties.{Properties};
     ghost use Rattle.idn_class.specs.Facts.{AreFactsOf};
-    ghost use Rattle.idn_class.specs.Known.{IsKnown, AreKnown};
-    ghost use Rattle.idn_class.specs.Directions.{IsShortest, HasNone, breaks_at_first};
+    ghost use Rattle.idn_class.specs.Known.{IsKnown, AreKnown, TellsKnown};
+    ghost use Rattle.idn_class.specs.Directions.{TellsShortest, breaks_at_first};
 
     /// Nothing is known of any beginning.
     pub fn new() -> CachedPrefixes
@@ -60,7 +61,7 @@ impl CachedPrefixes {
     pub fn shortest_hopeless(&mut self, label: &[u32], properties: Properties) -> Option<usize>
         requires short { length label.now ≤ 63 }
         requires begun { AreKnown properties label.now self.old }
-        ensures shortest { MatchOption result (HasNoDeadPrefix properties label.now) (IsShortestDeadPrefix properties label.now) }
+        ensures shortest { TellsDeadPrefix properties label.now result }
         ensures known { AreKnown properties label.now self.new }
         ensures whole { result ≡ None → length self.new ≡ length label.now }
     {
@@ -70,7 +71,8 @@ impl CachedPrefixes {
 
     /// The facts that some code point has of the longest beginning of which something is known.
     pub fn facts(&self) -> Facts
-        ensures { (properties : Properties) (label : List ℕ) → AreKnown properties label self.now → AreFactsOf result (take (length self.now) label) }
+        ensures { (properties : Properties) (label : List ℕ) → AreKnown properties label self.now →
+            AreFactsOf result (take (length self.now) label) }
     {
         match self.last_known() {
             Some(known) => known.facts(),
@@ -80,7 +82,8 @@ impl CachedPrefixes {
 
     /// What is known of the longest beginning. `None` where nothing is.
     fn last_known(&self) -> Option<Known>
-        ensures { (properties : Properties) (label : List ℕ) → AreKnown properties label self.now → MatchOption result (self.now ≡ []) (IsKnown properties (take (length self.now) label)) }
+        ensures { (properties : Properties) (label : List ℕ) → AreKnown properties label self.now →
+            MatchOption result (self.now ≡ []) (IsKnown properties (take (length self.now) label)) }
     {
         if self.len == 0 {
             return None;
@@ -92,7 +95,7 @@ impl CachedPrefixes {
     fn lengthen_to(&mut self, label: &[u32], properties: Properties) -> Option<usize>
         requires short { length label.now ≤ 63 }
         requires begun { AreKnown properties label.now self.old }
-        ensures breaking { MatchOption result (HasNone (breaks_at_first properties) label.now) (IsShortest (breaks_at_first properties) label.now) }
+        ensures breaking { TellsShortest (breaks_at_first properties) label.now result }
         ensures known { AreKnown properties label.now self.new }
         ensures whole { result ≡ None → length self.new ≡ length label.now }
     {
@@ -107,8 +110,8 @@ impl CachedPrefixes {
 
     /// What is known once a code point follows. `None` where that breaks a test for good.
     fn lengthened(&self, c: u32, properties: Properties) -> Option<Known>
-        ensures { (label : List ℕ) → AreKnown properties label self.now → MatchOption result
-            (breaks_at_first properties (take (length self.now) label ++ c ∷ []) ≡ true) (IsKnown properties (take (length self.now) label ++ c ∷ [])) }
+        ensures { (label : List ℕ) → AreKnown properties label self.now →
+            TellsKnown properties (take (length self.now) label ++ c ∷ []) result }
     {
         match self.last_known() {
             Some(known) => known.lengthened(c, properties),

@@ -1,5 +1,5 @@
-//! Properties of numbers, by the kit's tables: the General_Category, the Script, and those that the rules of the joiners and the
-//! Bidi rule ask for.
+//! Properties of numbers, by the kit's tables: the General_Category, the Script, and those that the rules of the
+//! joiners and the Bidi rule ask for.
 ghost use Rattle.std.specs.Prelude.{◌≡◌, ◌<◌};
 ghost use Rattle.unicode.specs.GeneralCategory.{general_category};
 ghost use Rattle.unicode.specs.Script.{script};

@@ -27,7 +27,8 @@ pub fn contextj_ok_by(label: &[u32], properties: Properties) -> bool
 
 /// The place of the first joiner that does not meet its rule, from 0. `None` where each of them meets it.
 pub fn misplaced_joiner(label: &[u32], properties: Properties) -> Option<usize>
-    ensures rule { MatchOption result (PassesContextJ properties label.now) (IsFirstFailing label.now (JoinerPasses properties label.now)) }
+    ensures rule { MatchOption result (PassesContextJ properties label.now)
+        (IsFirstFailing label.now (JoinerPasses properties label.now)) }
     ensures test { result ≡ misplaced_joiner properties label.now }
 {
     for place in 0..label.len() {

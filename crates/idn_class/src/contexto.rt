@@ -1,7 +1,8 @@
 //! The context rules of the other code points that have one (RFC 5892, appendix A.3 to A.9).
 ghost use Rattle.std.specs.Prelude.{◌≡◌, ◌↔◌, ◌<◌, length, IsTrue, MatchOption, IsSomeAnd, Any};
 ghost use Rattle.unicode.specs.Script.{script};
-ghost use Rattle.idn_class.specs.ContextO.{is_arabic_digit, is_extended_arabic_digit, is_japanese, OtherPasses, PassesContextO};
+ghost use Rattle.idn_class.specs.ContextO.{is_arabic_digit, is_extended_arabic_digit};
+ghost use Rattle.idn_class.specs.ContextO.{is_japanese, OtherPasses, PassesContextO};
 ghost use Rattle.idn_class.specs.Tests.{contexto_ok};
 ghost use Rattle.idn_class.specs.Causes.{IsFirstFailing, misplaced_other};
 
@@ -18,8 +19,8 @@ pub fn contexto_ok(label: &[u32]) -> bool
     misplaced_other(label).is_none()
 }
 
-/// The place of the first code point that needs a context, is no joiner and does not meet its rule, from 0. `None` where each
-/// of them meets it.
+/// The place of the first code point that needs a context, is no joiner and does not meet its rule, from 0. `None`
+/// where each of them meets it.
 pub fn misplaced_other(label: &[u32]) -> Option<usize>
     ensures rule { MatchOption result (PassesContextO label.now) (IsFirstFailing label.now (OtherPasses label.now)) }
     ensures test { result ≡ misplaced_other label.now }

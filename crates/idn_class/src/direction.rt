@@ -1,6 +1,6 @@
 //! What may follow the first code points of a label under the Bidi rule.
-ghost use Rattle.std.specs.Prelude.{◌≡◌, MatchOption};
-ghost use Rattle.idn_class.specs.Directions.{IsShortest, HasNone, begun_in, lengthened, rtl_lengthened, breaks_after};
+ghost use Rattle.std.specs.Prelude.{◌≡◌};
+ghost use Rattle.idn_class.specs.Directions.{TellsShortest, begun_in, lengthened, rtl_lengthened, breaks_after};
 
 use crate::bidi::is_rtl_code_point;
 use crate::bidi_class::{BidiClass, bidi_class};
@@ -12,7 +12,8 @@ use crate::properties::Properties;
 pub(crate) enum Direction {
     /// The first is neither R nor AL: no R, AL and AN may follow.
     Ltr,
-    /// The first is R or AL: nothing that an RTL label may not hold may follow, and not both EN and AN. Neither is there yet.
+    /// The first is R or AL: nothing that an RTL label may not hold may follow, and not both EN and AN. Neither is
+    /// there yet.
     Rtl,
     /// The first is R or AL, and an EN is there: no AN may follow either.
     RtlEuropean,
@@ -41,7 +42,7 @@ impl Direction {
     /// How many code points have to follow until the Bidi rule is broken for good. `None` where all may
     /// follow.
     pub(crate) fn shortest_breaking(self, rest: &[u32], properties: Properties) -> Option<usize>
-        ensures { MatchOption result (HasNone (breaks_after properties self) rest.now) (IsShortest (breaks_after properties self) rest.now) }
+        ensures { TellsShortest (breaks_after properties self) rest.now result }
     {
         let mut direction = self;
         for index in 0..rest.len() {

@@ -1,6 +1,9 @@
-//! Joining_Type and the viramas, by the lists of this profile or by Unicode. The context rules of the joiners ask for them.
+//! Joining_Type and the viramas, by the lists of this profile or by Unicode. The context rules of the joiners ask for
+//! them.
 ghost use Rattle.std.specs.Prelude.{◌≡◌};
-ghost use Rattle.idn_class.specs.JoiningType.{is_profile_virama, is_right_joining, is_dual_joining, is_transparent, profile_joining_type, joining_type, is_virama, is_standard_virama, named_type, standard_joining_type};
+ghost use Rattle.idn_class.specs.JoiningType.{is_profile_virama, is_right_joining, is_dual_joining};
+ghost use Rattle.idn_class.specs.JoiningType.{is_transparent, profile_joining_type, joining_type};
+ghost use Rattle.idn_class.specs.JoiningType.{is_virama, is_standard_virama, named_type, standard_joining_type};
 
 use crate::category::{category_of, combining_class_of, joining_type_of};
 use crate::properties::Properties;

@@ -23,7 +23,8 @@ pub(crate) fn is_unstable(alloc: Global, c: char) -> Result<bool, AllocError>
 fn fold(alloc: Global, text: &[char]) -> Result<Vec<char>, AllocError>
     ensures { IfOk result (λ folded. folded.items ≡ default_case_fold text.now) }
 {
-    // A code point folds to three at most. `collect` and `extend` take memory ahead of need, and go on where that is refused.
+    // A code point folds to three at most. `collect` and `extend` take memory ahead of need, and go on where that is
+    // refused.
     let mut folded = Vec::with_capacity(alloc, text.len().saturating_mul(3))?;
     folded.extend(text.iter().copied().default_case_fold())?;
     Ok(folded)

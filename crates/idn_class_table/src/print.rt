@@ -38,10 +38,10 @@ pub(crate) fn print_tables(rt: &impl Print, classes: &Trie, facts: &Trie) -> io:
     )
 }
 
-/// The places of the blocks, in lines of decimal numbers.
+/// The places of the blocks, in decimal numbers: a line has those of 0x800 code points.
 fn print_index(rt: &impl Print, array: &str, index: &[u8]) -> io::Result<()> {
     print_head(rt, "The block of each 128 code points.", array, index.len())?;
-    for line in index.chunks(24) {
+    for line in index.chunks(16) {
         print_numbers(rt, line)?;
     }
     println!(rt; "];")

@@ -1,5 +1,5 @@
 -- Answers: a list of numbers, or a refusal.
-use Rattle.std.specs.Prelude.{◌≡◌, ◌≢◌, ℕ, List, Option, Some, None, Result, Ok, Err}
+use Rattle.std.specs.Prelude.{◌≡◌, ◌≢◌, ℕ, List, Option, Some, None, Result, Ok, Err, IfErr}
 use Rattle.idn_text.specs.declared.refusal.Refusal.{Refusal}
 use Rattle.idn_text.specs.declared.refusal.Refusal.TheVariants.{Memory}
 
@@ -20,3 +20,7 @@ and_then (Err refusal) f = Err refusal
 abbrev pub Gives : {T : Type 0} → (T → List ℕ) → Result T Refusal → Answer → Type 0
 Gives view (Ok value) answer = answer ≡ Ok (view value)
 Gives view (Err refusal) answer = refusal ≢ Memory → answer ≡ Err refusal
+
+-- unless memory was refused, a refusal is the fault
+abbrev pub RefusesBy : {T : Type 0} → Result T Refusal → Option Refusal → Type 0
+RefusesBy result fault = IfErr result (λ refusal. refusal ≢ Memory → fault ≡ Some refusal)

@@ -1,6 +1,5 @@
 -- The answer of decoding a name (RFC 5891 section 5.3).
-use Rattle.std.specs.Prelude.{ℕ, List, [], ◌∷◌, map, chars, Option, Some, None, Result, Ok, Err, if◌then◌else◌}
-use Rattle.std.specs.Char.{to_ascii_lowercase}
+use Rattle.std.specs.Prelude.{ℕ, List, [], ◌∷◌, chars, Option, Some, None, Result, Ok, Err, if◌then◌else◌}
 use Rattle.std.specs.Str.{is_utf8}
 use Rattle.idna.specs.Labels.{labels_of, join_labels}
 use Rattle.idna.specs.Validity.{has_ace_prefix, passes_bidi}
@@ -8,14 +7,14 @@ use Rattle.idn_text.specs.declared.refusal.Refusal.{Refusal}
 use Rattle.idn_text.specs.declared.refusal.Refusal.TheVariants.{Bidi, NotUtf8}
 use Rattle.idn_label.specs.Answers.{Answer, and_then, unless_fault}
 use Rattle.idn_label.specs.Register.{u_label_answer}
-use Rattle.idn_label.specs.Steps.{in_utf8}
+use Rattle.idn_label.specs.Steps.{in_utf8, lowercase}
 use Rattle.idn_class.specs.declared.properties.Properties.{Properties}
 use Rattle.idn_class.specs.declared.properties.Properties.TheVariants.{Profile, Unicode}
 
 -- a label that begins with "xn--" in any ASCII case is put into lower case and decoded, any other stays as it is
 unfoldable pub decoded_label : Properties → List ℕ → Answer
 decoded_label properties label =
-    let lower = map to_ascii_lowercase label in
+    let lower = lowercase label in
     if has_ace_prefix lower then u_label_answer properties lower else Ok label
 
 -- a decoded label and those after it, or the first refusal

@@ -1,6 +1,6 @@
 -- Labels that are tested, registered or decoded without memory, and names that are looked up so.
-use Rattle.std.specs.Prelude.{◌≡◌, ◌≢◌, ℕ, ◌≤◌, ◌⊎◌, Bool, true, false, not, List, length, map, drop, Some}
-use Rattle.std.specs.Char.{is_ascii_uppercase, to_ascii_lowercase}
+use Rattle.std.specs.Prelude.{◌≡◌, ◌≢◌, ℕ, ◌≤◌, ◌⊎◌, Bool, true, false, not, List, length, drop, Some}
+use Rattle.std.specs.Char.{is_ascii_uppercase}
 use Rattle.std.specs.List.{list_any, list_all}
 use Rattle.ucd_normal.specs.declared.forms.Form.TheVariants.{Nfc}
 use Rattle.ucd_normal.specs.declared.forms.QuickCheck.TheVariants.{Maybe}
@@ -14,7 +14,7 @@ use Rattle.idn_class.specs.Class.{is_left_open}
 use Rattle.idn_class.specs.Facts.{has_fact}
 use Rattle.idn_label.specs.LdhNames.{IsLdhName}
 use Rattle.idn_label.specs.Lookup.{deny_list}
-use Rattle.idn_label.specs.Steps.{begins_with_prefix}
+use Rattle.idn_label.specs.Steps.{begins_with_prefix, lowercase}
 
 -- look-ups give the class of each code point, and either none may compose, or there are at most 63 and the quick check of NFC
 -- (UAX 15 section 9) is not Maybe
@@ -33,7 +33,7 @@ NeedsNoMemoryDecoded given =
 -- a label of a name that is decoded: if it begins with "xn--" in any ASCII case, it is such an A-label in lower case
 abbrev pub DecodesWithoutMemory : List ℕ → Type 0
 DecodesWithoutMemory label =
-    begins_with_prefix label ≡ true → NeedsNoMemoryDecoded (map to_ascii_lowercase label)
+    begins_with_prefix label ≡ true → NeedsNoMemoryDecoded (lowercase label)
 
 -- a label that is registered: if it begins with "xn--", it is such an A-label without capitals, and else it needs none
 abbrev pub RegistersWithoutMemory : List ℕ → Type 0

@@ -13,6 +13,10 @@ is_ldh_point c = is_ascii_lowercase c || is_ascii_digit c || (c == 0x2D)
 abbrev pub in_utf8 : Answer → Answer
 in_utf8 answer = and_then answer (λ points. Ok (utf8_of points))
 
+-- with each ASCII capital put into lower case
+abbrev pub lowercase : List ℕ → List ℕ
+lowercase label = map to_ascii_lowercase label
+
 -- a label begins with "xn--" in any ASCII case
 abbrev pub begins_with_prefix : List ℕ → Bool
-begins_with_prefix label = has_ace_prefix (map to_ascii_lowercase label)
+begins_with_prefix label = has_ace_prefix (lowercase label)

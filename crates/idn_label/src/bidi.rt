@@ -2,7 +2,8 @@
 ghost use Rattle.std.specs.Prelude.{◌≡◌, map, if◌then◌else◌};
 ghost use Rattle.ucd_bidi.specs.BidiClass.{bidi_class, bidi_class_eq};
 ghost use Rattle.ucd_bidi.specs.declared.BidiClass.TheVariants.{LeftToRight};
-ghost use Rattle.idna.specs.BidiRule.{is_rtl, is_allowed_in_both, passes_as_ltr, passes_as_rtl, passes_bidi_rule};
+ghost use Rattle.idna.specs.BidiRule.{is_rtl, is_allowed_in_both, passes_bidi_rule};
+ghost use Rattle.idn_label.specs.inner.BidiNames.{passes_by_direction};
 
 use ucd_bidi::BidiClass;
 
@@ -23,7 +24,7 @@ pub(crate) fn passes_bidi_rule(label: &[char]) -> bool
 
 /// Conditions 2 to 4, of a label that begins right-to-left, or 5 and 6 of another.
 fn passes_by_direction(label: &[char], rtl: bool) -> bool
-    ensures { result ≡ (if rtl then passes_as_rtl (map bidi_class label.now) else passes_as_ltr (map bidi_class label.now)) }
+    ensures { result ≡ passes_by_direction rtl (map bidi_class label.now) }
 {
     // The class of the last code point that is no nonspacing mark.
     let mut end = BidiClass::NonspacingMark;

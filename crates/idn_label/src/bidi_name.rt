@@ -1,12 +1,13 @@
 //! The Bidi rule of a whole name (RFC 5893, section 2): if one of its labels holds R, AL or AN, all of them meet it.
-ghost use Rattle.std.specs.Prelude.{◌≡◌, ◌≤◌, ◌*◌, chars, true, false, length, map, IsTrue, IsUtf8};
-ghost use Rattle.std.specs.List.{AllByRecursion, list_all, list_any};
+ghost use Rattle.std.specs.Prelude.{◌≡◌, ◌≤◌, ◌*◌, chars, true, false, length, IsTrue, IsUtf8};
+ghost use Rattle.std.specs.List.{list_all, list_any};
 ghost use Rattle.ucd_bidi.specs.BidiClass.{bidi_class};
 ghost use Rattle.idna.specs.BidiRule.{is_rtl, passes_bidi_rule};
 ghost use Rattle.idna.specs.Labels.{labels_of};
 ghost use Rattle.idna.specs.Validity.{passes_bidi};
 ghost use Rattle.idn_label.specs.Decode.{name_fault};
-ghost use Rattle.idn_label.specs.inner.BidiNames.{PassesIfRtl, begins_rtl, is_lowercase, is_lowercase_or_digit, shown};
+ghost use Rattle.idn_label.specs.inner.BidiNames.{EachPassesIfRtl, PassesIfRtl, begins_rtl};
+ghost use Rattle.idn_label.specs.inner.BidiNames.{is_lowercase, is_lowercase_or_digit};
 
 use crate::bidi::passes_bidi_rule;
 use crate::full_stops::label_end;
@@ -32,7 +33,8 @@ pub(crate) fn utf8_name_fault(
 ) -> Option<Refusal>
     requires utf8 { IsUtf8 name.now }
     requires short { length name.now ≤ MAX_DECODED_LEN }
-    requires tested { properties ≡ Properties.Unicode → are_rtl_tested ≡ true → AllByRecursion PassesIfRtl (labels_of (chars name.now)) }
+    requires tested { properties ≡ Properties.Unicode → are_rtl_tested ≡ true →
+        EachPassesIfRtl (chars name.now) }
     ensures { result ≡ name_fault properties (labels_of (chars name.now)) }
 {
     match properties {
@@ -54,13 +56,13 @@ pub fn name_fault(name: &[u32], properties: Properties) -> Option<Refusal>
     }
 }
 
-/// Whether the labels of a name in UTF-8 pass together. Most names of which this is asked hold R, AL or AN, so each label
-/// is asked first.
+/// Whether the labels of a name in UTF-8 pass together. Most names of which this is asked hold R, AL or AN, so each
+/// label is asked first.
 #[inline(never)]
 fn passes_in_utf8(name: &[u8], are_rtl_tested: bool) -> bool
     requires utf8 { IsUtf8 name.now }
     requires short { length name.now ≤ MAX_DECODED_LEN }
-    requires tested { are_rtl_tested ≡ true → AllByRecursion PassesIfRtl (labels_of (chars name.now)) }
+    requires tested { are_rtl_tested ≡ true → EachPassesIfRtl (chars name.now) }
     ensures { result ≡ passes_bidi (labels_of (chars name.now)) }
 {
     each_utf8_label_passes(name, are_rtl_tested) || !holds_rtl_in_utf8(name)
@@ -105,7 +107,7 @@ fn is_before_hebrew(name: &[u8]) -> bool
 fn each_utf8_label_passes(name: &[u8], are_rtl_tested: bool) -> bool
     requires utf8 { IsUtf8 name.now }
     requires short { length name.now ≤ MAX_DECODED_LEN }
-    requires tested { are_rtl_tested ≡ true → AllByRecursion PassesIfRtl (labels_of (chars name.now)) }
+    requires tested { are_rtl_tested ≡ true → EachPassesIfRtl (chars name.now) }
     ensures { result ≡ list_all passes_bidi_rule (labels_of (chars name.now)) }
 {
     let mut start = 0;

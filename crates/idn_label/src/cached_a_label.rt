@@ -1,9 +1,10 @@
 //! The test of one label after another, which keeps the A-label, and of the Punycode what both labels share.
-ghost use Rattle.std.specs.Prelude.{◌≡◌, ◌≢◌, ◌≤◌, ℕ, List, [], min, length, take, true, Some, Err, IfErr, OnOk};
+ghost use Rattle.std.specs.Prelude.{◌≡◌, ◌≢◌, ◌≤◌, ℕ, List, [], min, length, take, true, Err, OnOk};
 ghost use Rattle.idna.specs.Validity.{is_all_ascii};
 ghost use Rattle.idn_class.specs.Facts.{AreFactsOf};
 ghost use Rattle.idn_punycode.specs.Cached.{IsTakenApart};
 ghost use Rattle.idn_label.specs.ALabel.{a_label_of};
+ghost use Rattle.idn_label.specs.Answers.{RefusesBy};
 ghost use Rattle.idn_label.specs.FirstFault.{first_fault, IsRegistrable};
 ghost use Rattle.idn_label.specs.Memory.{NeedsNoMemory};
 
@@ -55,7 +56,8 @@ impl CachedALabel {
     #[inline]
     pub fn keep(&mut self, count: usize)
         ensures count { self.new.apart ≡ min self.old.apart count }
-        ensures apart { (before label : List ℕ) → IsTakenApart before self.old → take count before ≡ take count label → IsTakenApart label self.new }
+        ensures apart { (before label : List ℕ) → IsTakenApart before self.old →
+            take count before ≡ take count label → IsTakenApart label self.new }
     {
         self.a_label.keep(count);
     }
@@ -76,7 +78,7 @@ impl CachedALabel {
         ensures apart { IsTakenApart label.now self.new }
         ensures registrable { OnOk result (IsRegistrable properties label.now) }
         ensures a_label { OnOk result (self.new.text ≡ a_label_of label.now) }
-        ensures fault { IfErr result (λ refusal. refusal ≢ Refusal.Memory → first_fault properties label.now ≡ Some refusal) }
+        ensures fault { RefusesBy result (first_fault properties label.now) }
         ensures no_memory { NeedsNoMemory label.now → result ≢ Err Refusal.Memory }
     {
         check_label(alloc, label, facts, properties)?;

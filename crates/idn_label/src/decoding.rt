@@ -1,13 +1,13 @@
 //! Decoding of the A-labels of a name (RFC 5891 section 5.3).
-ghost use Rattle.std.specs.Prelude.{◌≡◌, ◌≢◌, ◌<◌, ◌≤◌, ◌*◌, ◌∷◌, [], ℕ, true, false, List, chars, length, take, IsTrue, IsUtf8, IfOk, Ok, Err, All};
+ghost use Rattle.std.specs.Prelude.{◌≡◌, ◌≢◌, ◌<◌, ◌≤◌, ◌*◌, ℕ, true, false};
+ghost use Rattle.std.specs.Prelude.{List, chars, length, take, IsTrue, IsUtf8, IfOk, Ok, Err, All};
 ghost use Rattle.std.specs.Str.{IsAscii};
 ghost use Rattle.idna.specs.Labels.{labels_of};
-ghost use Rattle.idn_class.specs.Facts.{contains};
 ghost use Rattle.idn_label.specs.ALabel.{a_label_of};
 ghost use Rattle.idn_label.specs.Answers.{Gives};
 ghost use Rattle.idn_label.specs.Decode.{decode_answer, decode_utf8_answer, decoded_name};
 ghost use Rattle.idn_label.specs.FirstFault.{IsRegistrable};
-ghost use Rattle.idn_label.specs.inner.DecodedNames.{KeepsLeftToRight, decoded_utf8};
+ghost use Rattle.idn_label.specs.inner.DecodedNames.{TellsLeftToRight, decoded_utf8};
 ghost use Rattle.idn_label.specs.Memory.{DecodesWithoutMemory};
 
 use crate::bidi_name::{holds_rtl_in_utf8, name_fault, utf8_name_fault};
@@ -21,11 +21,11 @@ use std::alloc::Global;
 use std::str;
 
 /// Writes into `room` the UTF-8 (RFC 3629) of what `decode_name` makes of a name in UTF-8, and returns how many octets
-/// these are. Other bytes are refused as `NotUtf8`; where the name is refused, what is left in `room` says nothing. There
-/// must be room for four octets for each of the name. `u_label` is room for what an A-label stands for: what stood there
-/// before says nothing. A name without A-labels takes no memory, nor does an A-label in most cases: one of more than 63
-/// octets does, one of a label in ASCII, and one of a label with a code point of which no look-up says the class, or for
-/// which the quick check of NFC is Maybe.
+/// these are. Other bytes are refused as `NotUtf8`; where the name is refused, what is left in `room` says nothing.
+/// There must be room for four octets for each of the name. `u_label` is room for what an A-label stands for: what
+/// stood there before says nothing. A name without A-labels takes no memory, nor does an A-label in most cases: one of
+/// more than 63 octets does, one of a label in ASCII, and one of a label with a code point of which no look-up says the
+/// class, or for which the quick check of NFC is Maybe.
 // A full stop is one octet, and no octet of another code point: labels are cut, and copied, as octets.
 pub fn decode_utf8(
     alloc: Global,
@@ -62,8 +62,9 @@ pub fn decode_utf8(
 fn is_told_by_its_labels(name: &[u8], is_ascii: bool, facts: Facts, properties: Properties) -> bool
     requires utf8 { IsUtf8 name.now }
     requires ascii { is_ascii ≡ true → IsAscii name.now }
-    requires facts { contains facts Fact.RightToLeft ≡ false → KeepsLeftToRight properties (labels_of (chars name.now)) }
-    ensures { IsTrue result → (text : List ℕ) → decoded_utf8 properties name.now ≡ Ok text → decode_utf8_answer properties name.now ≡ Ok text }
+    requires facts { TellsLeftToRight properties facts (labels_of (chars name.now)) }
+    ensures { IsTrue result → (text : List ℕ) →
+        decoded_utf8 properties name.now ≡ Ok text → decode_utf8_answer properties name.now ≡ Ok text }
 {
     match properties {
         Properties::Profile => true,
@@ -86,7 +87,8 @@ fn decode_utf8_labels(
     requires short { length name.now ≤ MAX_LINE_LEN }
     requires room { 4 * length name.now ≤ length room.old }
     ensures answer { Gives (λ (len, _). take len room.new) result (decoded_utf8 properties name.now) }
-    ensures left_to_right { IfOk result (λ (_, facts). contains facts Fact.RightToLeft ≡ false → KeepsLeftToRight properties (labels_of (chars name.now))) }
+    ensures left_to_right { IfOk result (λ (_, facts).
+        TellsLeftToRight properties facts (labels_of (chars name.now))) }
     ensures short { IfOk result (λ (len, _). len ≤ 4 * length name.now) }
     ensures length { length room.new ≡ length room.old }
     ensures no_memory { All DecodesWithoutMemory (labels_of name.now) → result ≢ Err Refusal.Memory }
@@ -124,8 +126,8 @@ pub fn decode_name(alloc: Global, name: &[u32]) -> Result<Vec<u32>, Refusal>
     ensures shorter { IfOk result (λ decoded. length decoded.items ≤ length name.now) }
 
     // The A-label of a label that may be registered is decoded to that label.
-    ensures back { (registered : List ℕ) → IsRegistrable Properties.Profile registered → name.now ≡ a_label_of registered
-        → Gives (λ decoded. decoded.items) result (Ok registered) }
+    ensures back { (registered : List ℕ) → IsRegistrable Properties.Profile registered →
+        name.now ≡ a_label_of registered → Gives (λ decoded. decoded.items) result (Ok registered) }
 {
     decode_name_by(alloc, name, Properties::Profile)
 }
@@ -142,8 +144,8 @@ pub fn decode_name_by(
     ensures shorter { IfOk result (λ decoded. length decoded.items ≤ length name.now) }
 
     // The A-label of a label that may be registered is decoded to that label.
-    ensures back { (registered : List ℕ) → IsRegistrable properties registered → name.now ≡ a_label_of registered
-        → Gives (λ decoded. decoded.items) result (Ok registered) }
+    ensures back { (registered : List ℕ) → IsRegistrable properties registered →
+        name.now ≡ a_label_of registered → Gives (λ decoded. decoded.items) result (Ok registered) }
 {
     let decoded = decode_labels(alloc, name, properties)?;
     match name_fault(&decoded, properties) {
@@ -152,8 +154,8 @@ pub fn decode_name_by(
     }
 }
 
-/// The name with each A-label turned into what it stands for, or the first refusal of a label. The rule of the whole name is
-/// not asked.
+/// The name with each A-label turned into what it stands for, or the first refusal of a label. The rule of the whole
+/// name is not asked.
 pub fn decode_labels(
     alloc: Global,
     name: &[u32],

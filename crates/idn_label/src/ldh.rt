@@ -8,8 +8,8 @@ use crate::full_stops::CHUNK_LEN;
 use crate::unit::is_ldh_point;
 use std::simd::prelude::*;
 
-/// The place of the first octet from `start` on that is no lower-case letter, digit or hyphen of ASCII, or the text's end.
-/// Where that is can't be foretold, so octets are looked at in chunks, which takes few turns.
+/// The place of the first octet from `start` on that is no lower-case letter, digit or hyphen of ASCII, or the text's
+/// end. Where that is can't be foretold, so octets are looked at in chunks, which takes few turns.
 #[inline]
 pub fn ldh_end(text: &[u8], start: usize) -> usize
     requires { start ≤ length text.now }

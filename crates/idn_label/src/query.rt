@@ -46,11 +46,11 @@ pub fn lookup(alloc: Global, name: &[u32], std3: bool) -> Result<String, Refusal
     Ok(String::from_str(alloc, query)?)
 }
 
-/// Writes into `room` the octets that `lookup` answers of a name in UTF-8 (RFC 3629), and returns how many: at most 254.
-/// Other bytes are refused as `NotUtf8`; where the name is refused, what is left in `room` says nothing. A name in ASCII
-/// without capitals takes no memory where none of its labels begins with `xn--` and, with `std3`, it has only letters,
-/// digits, hyphens and full stops. Nor does one of at most 254 octets that has only these, capitals too. `buffers` are
-/// room for the work: what stood there before says nothing.
+/// Writes into `room` the octets that `lookup` answers of a name in UTF-8 (RFC 3629), and returns how many: at most
+/// 254. Other bytes are refused as `NotUtf8`; where the name is refused, what is left in `room` says nothing. A name in
+/// ASCII without capitals takes no memory where none of its labels begins with `xn--` and, with `std3`, it has only
+/// letters, digits, hyphens and full stops. Nor does one of at most 254 octets that has only these, capitals too.
+/// `buffers` are room for the work: what stood there before says nothing.
 pub fn lookup_utf8(
     alloc: Global,
     name: &[u8],

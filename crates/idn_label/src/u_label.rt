@@ -1,14 +1,16 @@
 //! What an A-label stands for (RFC 5891 section 5.3).
-ghost use Rattle.std.specs.Prelude.{◌≡◌, ◌≢◌, ◌<◌, ◌≤◌, ◌+◌, not, length, map, drop, true, Ok, Err, IfOk, IfErr, OnOk, IfSome, MatchOption};
-ghost use Rattle.std.specs.Char.{is_ascii_uppercase, to_ascii_lowercase};
+ghost use Rattle.std.specs.Prelude.{◌≡◌, ◌≢◌, ◌<◌, ◌≤◌, ◌+◌, not, length};
+ghost use Rattle.std.specs.Prelude.{drop, true, Ok, Err, IfOk, IfErr, OnOk, IfSome, MatchOption};
+ghost use Rattle.std.specs.Char.{is_ascii_uppercase};
 ghost use Rattle.std.specs.List.{list_all};
 ghost use Rattle.std.specs.Result.{IsErr, IsErrAnd};
-ghost use Rattle.idna.specs.Validity.{is_all_ascii, has_ace_prefix};
+ghost use Rattle.idna.specs.Validity.{is_all_ascii};
 ghost use Rattle.idn_text.specs.Points.{AreScalarValues};
 ghost use Rattle.idn_class.specs.Facts.{AreFactsOf};
 ghost use Rattle.idn_label.specs.Answers.{Gives};
 ghost use Rattle.idn_label.specs.Memory.{NeedsNoMemoryDecoded};
 ghost use Rattle.idn_label.specs.Register.{decoded_code, u_label_answer};
+ghost use Rattle.idn_label.specs.Steps.{begins_with_prefix, lowercase};
 
 use crate::a_label::ascii_text;
 use crate::code_points::points_of;
@@ -30,12 +32,12 @@ pub(crate) fn u_label_in_any_case<U: Unit>(
     label: &mut DecodedLabel,
     properties: Properties,
 ) -> Result<Facts, Refusal>
-    requires prefix { has_ace_prefix (map to_ascii_lowercase (U.codes given.now)) ≡ true }
+    requires prefix { begins_with_prefix (U.codes given.now) ≡ true }
     requires short { length given.now ≤ MAX_LINE_LEN }
-    ensures answer { Gives (λ _. label.new) result (u_label_answer properties (map to_ascii_lowercase (U.codes given.now))) }
+    ensures answer { Gives (λ _. label.new) result (u_label_answer properties (lowercase (U.codes given.now))) }
     ensures facts { IfOk result (λ facts. AreFactsOf facts label.new) }
     ensures shorter { OnOk result (length label.new < length given.now) }
-    ensures no_memory { NeedsNoMemoryDecoded (map to_ascii_lowercase (U.codes given.now)) → result ≢ Err Refusal.Memory }
+    ensures no_memory { NeedsNoMemoryDecoded (lowercase (U.codes given.now)) → result ≢ Err Refusal.Memory }
 {
     match tested_u_label(alloc, given, label, properties) {
         Ok(facts) => Ok(facts),
@@ -46,7 +48,8 @@ pub(crate) fn u_label_in_any_case<U: Unit>(
     }
 }
 
-/// Whether a label has no ASCII capital. It looks at each code point, which is faster than to stop at the first capital.
+/// Whether a label has no ASCII capital. It looks at each code point, which is faster than to stop at the first
+/// capital.
 pub(crate) fn has_no_capital<U: Unit>(label: &[U]) -> bool
     ensures { result ≡ list_all (λ c. not (is_ascii_uppercase c)) (U.codes label.now) }
 {
@@ -61,7 +64,7 @@ pub(crate) fn has_no_capital<U: Unit>(label: &[U]) -> bool
 pub fn lowercase_of<U: Unit>(label: &[U]) -> ArrayVec<u8, MAX_LINE_LEN>
     requires ascii { is_all_ascii (U.codes label.now) ≡ true }
     requires short { length label.now ≤ MAX_LINE_LEN }
-    ensures { result.items ≡ map to_ascii_lowercase (U.codes label.now) }
+    ensures { result.items ≡ lowercase (U.codes label.now) }
 {
     let mut lower = ArrayVec::new();
     for unit in label {
@@ -80,9 +83,9 @@ pub(crate) fn tested_u_label<U: Unit>(
     label: &mut DecodedLabel,
     properties: Properties,
 ) -> Result<Facts, Refusal>
-    requires prefix { has_ace_prefix (map to_ascii_lowercase (U.codes given.now)) ≡ true }
+    requires prefix { begins_with_prefix (U.codes given.now) ≡ true }
     requires short { length given.now ≤ MAX_LINE_LEN }
-    ensures passes { OnOk result (u_label_answer properties (map to_ascii_lowercase (U.codes given.now)) ≡ Ok label.new) }
+    ensures passes { OnOk result (u_label_answer properties (lowercase (U.codes given.now)) ≡ Ok label.new) }
     ensures facts { IfOk result (λ facts. AreFactsOf facts label.new) }
     ensures fault { IfErr result (λ refusal. list_all (λ c. not (is_ascii_uppercase c)) (U.codes given.now) ≡ true
         → refusal ≢ Refusal.Memory → u_label_answer properties (U.codes given.now) ≡ Err refusal) }
@@ -107,7 +110,7 @@ pub(crate) fn tested_u_label<U: Unit>(
 #[inline]
 #[tactic(auto, using(crate::proofs::LowerCase::past_prefix))]
 fn code_of<U: Unit>(given: &[U]) -> &[U]
-    requires { has_ace_prefix (map to_ascii_lowercase (U.codes given.now)) ≡ true }
+    requires { begins_with_prefix (U.codes given.now) ≡ true }
     ensures codes { U.codes result.now ≡ drop 4 (U.codes given.now) }
     ensures shorter { length result.now + 4 ≡ length given.now }
 {
@@ -122,10 +125,11 @@ pub(crate) fn refuse<U: Unit, T>(
     given: &[U],
     properties: Properties,
 ) -> Result<T, Refusal>
-    requires prefix { has_ace_prefix (map to_ascii_lowercase (U.codes given.now)) ≡ true }
+    requires prefix { begins_with_prefix (U.codes given.now) ≡ true }
     requires short { length given.now ≤ MAX_LINE_LEN }
     requires of_none { IsErr (u_label_answer properties (U.codes given.now)) }
-    ensures { IsErrAnd result (λ refusal. refusal ≢ Refusal.Memory → u_label_answer properties (U.codes given.now) ≡ Err refusal) }
+    ensures { IsErrAnd result (λ refusal. refusal ≢ Refusal.Memory →
+        u_label_answer properties (U.codes given.now) ≡ Err refusal) }
 {
     if let Some(label) = decoded_code(alloc, code_of(given))? {
         test_label_by(alloc, &label, properties)?;
@@ -133,8 +137,8 @@ pub(crate) fn refuse<U: Unit, T>(
     Err(Refusal::BadALabel)
 }
 
-/// What the code after the prefix stands for (RFC 3492 section 6.2). `None` where it is empty, not all ASCII or no Punycode.
-/// It takes memory.
+/// What the code after the prefix stands for (RFC 3492 section 6.2). `None` where it is empty, not all ASCII or no
+/// Punycode. It takes memory.
 #[tactic(auto, unfolding(crate::specs::Register::decoded_code))]
 pub fn decoded_code<U: Unit>(alloc: Global, code: &[U]) -> Result<Option<Vec<u32>>, AllocError>
     requires { length code.now ≤ MAX_LINE_LEN }

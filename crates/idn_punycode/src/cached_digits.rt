@@ -9,8 +9,8 @@ use idn_class::MAX_LABEL_LEN;
 use std::marker::Model;
 
 /// A text, as a rule the digits of a label without a code point of ASCII after the prefix of A-labels, with what it
-/// takes to go on after each key. Where the first keys of the next label are the same, so are their digits. Contracts see
-/// the text, and the keys of which it has the digits.
+/// takes to go on after each key. Where the first keys of the next label are the same, so are their digits. Contracts
+/// see the text, and the keys of which it has the digits.
 #[derive(Drop)]
 pub(crate) struct CachedDigits {
     text: ArrayString<63>,

@@ -1,5 +1,6 @@
 //! The Punycode of one label after another.
-ghost use Rattle.std.specs.Prelude.{◌≡◌, ◌<◌, ◌≤◌, ℕ, List, [], ◌++◌, codes, min, length, take, OnOk, OnErr};
+ghost use Rattle.std.specs.Prelude.{◌≡◌, ◌<◌, ◌≤◌, ℕ, List, []};
+ghost use Rattle.std.specs.Prelude.{◌++◌, codes, min, length, take, OnOk, OnErr};
 ghost use Rattle.idna.specs.Punycode.{encode};
 ghost use Rattle.idn_punycode.specs.Cached.{IsTakenApart};
 
@@ -11,8 +12,8 @@ use arrayvec::{ArrayString, CapacityError};
 use std::marker::Model;
 
 /// A text, as a rule the Punycode of the last label after the prefix of A-labels. Of the next label what both share at
-/// their start is not taken apart again; and where no code point is of ASCII, the digits of the first keys that both have
-/// stay. Contracts see the text, and what the first code points are taken apart into.
+/// their start is not taken apart again; and where no code point is of ASCII, the digits of the first keys that both
+/// have stay. Contracts see the text, and what the first code points are taken apart into.
 #[derive(Drop)]
 pub struct CachedPunycode {
     parts: Parts,
@@ -64,7 +65,8 @@ impl CachedPunycode {
     pub fn keep(&mut self, count: usize)
         ensures text { self.new.text ≡ self.old.text }
         ensures count { self.new.apart ≡ min self.old.apart count }
-        ensures apart { (before label : List ℕ) → IsTakenApart before self.old → take count before ≡ take count label → IsTakenApart label self.new }
+        ensures apart { (before label : List ℕ) → IsTakenApart before self.old →
+            take count before ≡ take count label → IsTakenApart label self.new }
     {
         if count < self.apart {
             self.parts.keep_before(count);
@@ -72,8 +74,9 @@ impl CachedPunycode {
         }
     }
 
-    /// Puts the Punycode of a label of at most 63 code points in place of the text, as `Encoder` appends it to the prefix
-    /// of A-labels. What is taken apart must be of this label. Where it does not fit, nothing is said of the text.
+    /// Puts the Punycode of a label of at most 63 code points in place of the text, as `Encoder` appends it to the
+    /// prefix of A-labels. What is taken apart must be of this label. Where it does not fit, nothing is said of the
+    /// text.
     pub fn encode(&mut self, label: &[u32]) -> Result<(), CapacityError>
         requires few { length label.now ≤ 63 }
         requires begun { IsTakenApart label.now self.old }

@@ -1,5 +1,5 @@
 -- The reader and the writer for tests: what each has, and when the reader fails.
-use Rattle.std.specs.Prelude.{ℕ, Bool, List, ◌==◌, ◌&&◌, nat_le, nat_lt, if◌then◌else◌}
+use Rattle.std.specs.Prelude.{◌≡◌, ℕ, ◌-◌, Bool, List, ◌==◌, ◌&&◌, min, nat_le, nat_lt, length, take, if◌then◌else◌}
 use Rattle.idn_text.specs.declared.hostile.StopReader.{StopReader}
 use Rattle.idn_text.specs.declared.hostile.StopWriter.{StopWriter}
 
@@ -24,8 +24,19 @@ abbrev pub calls_of : StopReader → ℕ
 calls_of reader = reader.calls
 
 -- whether the call of this number fails: the one at which to fail, from 1, and all later ones unless once
-abbrev pub fails_at : ℕ → Bool → ℕ → Bool
-fails_at fail_at once call = if once then call == fail_at else nat_lt 0 fail_at && nat_le fail_at call
+abbrev pub fails_at : StopReader → ℕ → Bool
+fails_at reader call =
+    if fails_once reader then call == fail_at_of reader else nat_lt 0 (fail_at_of reader) && nat_le (fail_at_of reader) call
+
+-- how many bytes it gives into room for so many
+abbrev pub given_into : StopReader → ℕ → ℕ
+given_into reader room = min (min room (given_at_once reader)) (length (rest_of reader))
+
+-- both give as many at once, and fail at the same calls
+pub record HasOneBehavior (old new : StopReader) : Type 0 where
+  pub given : given_at_once new ≡ given_at_once old
+  pub fail_at : fail_at_of new ≡ fail_at_of old
+  pub once : fails_once new ≡ fails_once old
 
 -- where the writer puts the bytes that it takes
 abbrev pub room_of : StopWriter → List ℕ
@@ -38,3 +49,11 @@ taken_of writer = writer.taken
 -- how many bytes it takes in a call at most
 abbrev pub taken_at_once : StopWriter → ℕ
 taken_at_once writer = writer.piece
+
+-- the bytes that it has taken
+abbrev pub contents_of : StopWriter → List ℕ
+contents_of writer = take (taken_of writer) (room_of writer)
+
+-- how many bytes it takes of so many
+abbrev pub taken_out_of : StopWriter → ℕ → ℕ
+taken_out_of writer count = min (min count (taken_at_once writer)) (length (room_of writer) - taken_of writer)

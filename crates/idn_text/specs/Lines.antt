@@ -22,6 +22,10 @@ ended_lines (c ∷ cs) = if c == 10 then [] ∷ ended_lines cs else onto_ended c
 abbrev pub HasNoFeed : List ℕ → Type 0
 HasNoFeed bytes = All (λ byte. byte ≢ 10) bytes
 
+-- the bytes are a line, its line feed, and a rest
+abbrev pub IsCutAtFeed : List ℕ → List ℕ → List ℕ → Type 0
+IsCutAtFeed bytes line rest = HasNoFeed line × (bytes ≡ line ++ 10 ∷ rest)
+
 -- the text is empty or ends in a line feed
 abbrev pub EndsInFeed : List ℕ → Type 0
 EndsInFeed [] = Unit {0}

@@ -1,5 +1,5 @@
 -- The numbered lines of what a reader gave.
-use Rattle.std.specs.Prelude.{◌≡◌, ◌≢◌, ℕ, ◌+◌, ◌^◌, ◌⊎◌, ◌<◌, ◌≤◌, List, [], ◌∷◌, length, take, Option, Some, None, Bool, true, false, Result, Ok, Err}
+use Rattle.std.specs.Prelude.{◌≡◌, ◌≢◌, ℕ, ◌+◌, ◌^◌, ◌⊎◌, ◌<◌, ◌≤◌, List, [], ◌∷◌, ◌++◌, length, take, Option, Some, None, Bool, true, false, Result, Ok, Err}
 use Rattle.std.specs.Io.KnownBytes.{Consumes}
 use Rattle.std.specs.Option.{option_map}
 use Rattle.std.specs.Str.Lines.{strip_carriage_return}
@@ -74,6 +74,11 @@ abbrev pub answered : Result Bool ReadFault → Reading → List Numbered
 answered (Ok true) new = line_at new ∷ []
 answered (Ok false) new = []
 answered (Err fault) new = []
+
+-- where lines were read of the bytes given so far, these were read next
+abbrev pub ReadsNext : Reading → Reading → List Numbered → Type 0
+ReadsNext old new next = (start : Reading) (given : List ℕ) (lines : List Numbered) → HasRead start old given lines →
+    (more : List ℕ) × HasRead start new (given ++ more) (lines ++ next)
 
 -- the state that such a call leaves
 abbrev pub IsLeftBy : Result Bool ReadFault → Reading → Type 0

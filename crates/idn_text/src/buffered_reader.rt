@@ -1,6 +1,8 @@
 //! A reader with a buffer, cut at line feeds.
 
-ghost use Rattle.std.specs.Prelude.{◌≡◌, ◌<◌, ◌≤◌, ◌+◌, ◌^◌, ◌↔◌, ℕ, List, [], ◌∷◌, ◌++◌, length, take, drop, OnErr, OnOk, IfOk, IfSome, Ok, Some, None, MatchOption, IsTrue, true, false, if◌then◌else◌};
+ghost use Rattle.std.specs.Prelude.{◌≡◌, ◌<◌, ◌≤◌, ◌+◌, ◌^◌, ◌↔◌, ℕ, List};
+ghost use Rattle.std.specs.Prelude.{[], ◌∷◌, ◌++◌, length, take, drop, OnErr, OnOk, IfOk, IfSome};
+ghost use Rattle.std.specs.Prelude.{Ok, Some, None, MatchOption, IsTrue, true, false, if◌then◌else◌};
 ghost use Rattle.std.specs.Io.KnownBytes.{Consumes, IsAtEnd, Keeps};
 ghost use Rattle.idn_text.specs.Lines.{HasNoFeed};
 ghost use Rattle.idn_text.specs.Taking as seen;
@@ -52,9 +54,15 @@ impl<R: Source> Model for BufferedReader<R> {
 
     ghost use Rattle.idn_text.specs.inner.TakenLines as inner;
 
-    ghost view = { λ i. record { held = slice_range i.buffer i.start i.end; line = inner.at_place i.buffer i.place; reader = R.state i.reader; reads = i.reads } };
+    ghost view = { λ i. record {
+      held = slice_range i.buffer i.start i.end;
+      line = inner.at_place i.buffer i.place;
+      reader = R.state i.reader;
+      reads = i.reads;
+    } };
 
-    ghost invariant = { λ i. (i.start ≤ i.end) × (i.end ≤ 16384) × (i.reads ≤ 2 ^ 40) × inner.IsPlaceOfLine i.place };
+    ghost invariant = { λ i. (i.start ≤ i.end) × (i.end ≤ 16384) × (i.reads ≤ 2 ^ 40)
+        × inner.IsPlaceOfLine i.place };
 }
 
 impl<R: Source> BufferedReader<R> {
@@ -100,10 +108,10 @@ impl<R: Source> BufferedReader<R> {
     /// line feed came.
     pub fn take_line(&mut self) -> Result<bool, ReadFault>
         ensures line { IfOk result (λ has_feed. (line : List ℕ) × (self.new.line ≡ inner.kept line)
-            × inner.TakesLine self.old self.new line (if has_feed then 10 ∷ [] else []) (if has_feed then 0 else 1)) }
+            × inner.TakesThrough self.old self.new line has_feed) }
         ensures no_fault { OnOk result (self.new.reader.faults ≡ self.old.reader.faults) }
         ensures ended { result ≡ Ok false → seen.HasEnded self.new }
-        ensures failed { OnErr result ((line : List ℕ) × inner.TakesLine self.old self.new line [] 1 × seen.HasFailed self.old self.new) }
+        ensures failed { OnErr result (inner.FailsInLine self.old self.new) }
     {
         // So many of the held bytes are known to have no line feed.
         let mut searched = 0;
@@ -139,7 +147,10 @@ impl<R: Source> BufferedReader<R> {
     /// Takes the first `len` bytes that are held as a line, and `end_len` bytes after them as its end.
     fn take(&mut self, len: usize, end_len: usize)
         requires { len + end_len ≤ length self.old.held }
-        ensures { self.new ≡ record self.old { held = drop (len + end_len) self.old.held; line = inner.kept (take len self.old.held) } }
+        ensures { self.new ≡ record self.old {
+          held = drop (len + end_len) self.old.held;
+          line = inner.kept (take len self.old.held);
+        } }
     {
         self.place = if len > MAX_LINE_LEN {
             LinePlace::TooLong
@@ -161,10 +172,10 @@ impl<R: Source> BufferedReader<R> {
         requires too_long { self.old.line ≡ None }
         ensures too_long { OnOk result (self.new.line ≡ None) }
         ensures rest { IfOk result (λ has_feed. (rest : List ℕ)
-            × inner.TakesLine self.old self.new rest (if has_feed then 10 ∷ [] else []) (if has_feed then 0 else 1)) }
+            × inner.TakesThrough self.old self.new rest has_feed) }
         ensures no_fault { OnOk result (self.new.reader.faults ≡ self.old.reader.faults) }
         ensures ended { result ≡ Ok false → seen.HasEnded self.new }
-        ensures failed { OnErr result ((rest : List ℕ) × inner.TakesLine self.old self.new rest [] 1 × seen.HasFailed self.old self.new) }
+        ensures failed { OnErr result (inner.FailsInLine self.old self.new) }
     {
         'reads: while self.fill()? {
             if self.skip_held() {
@@ -179,7 +190,8 @@ impl<R: Source> BufferedReader<R> {
     fn skip_held(&mut self) -> bool
         ensures same { self.new ≡ record self.old { held = self.new.held } }
         ensures rest { result ≡ false → self.new.held ≡ [] }
-        ensures taken { (line : List ℕ) × inner.TakesLine self.old self.new line (if result then 10 ∷ [] else []) 0 }
+        ensures taken { (line : List ℕ)
+            × inner.TakesLine self.old self.new line (if result then 10 ∷ [] else []) 0 }
     {
         match split_at_feed(self.held()) {
             Some((line, _)) => {

@@ -1,5 +1,6 @@
 //! Characters of a text in UTF-8 (RFC 3629), one after another.
-ghost use Rattle.std.specs.Prelude.{◌≡◌, ◌+◌, ◌<◌, ◌≤◌, ◌++◌, length, take, drop, slice_index, encode_utf8, IfSome, IfNone};
+ghost use Rattle.std.specs.Prelude.{◌≡◌, ◌+◌, ◌<◌, ◌≤◌, ◌++◌, length};
+ghost use Rattle.std.specs.Prelude.{take, drop, slice_index, encode_utf8, IfSome, IfNone};
 ghost use Rattle.std.specs.Int.{IsOutOfRange};
 ghost use Rattle.std.specs.Str.{StartsWithNoChar};
 ghost use Rattle.idn_text.specs.Points.{IsScalarValue};

@@ -1,7 +1,8 @@
 //! A reader and a writer over memory, for tests, which fail where a test wants it. Neither takes
 //! memory.
 
-ghost use Rattle.std.specs.Prelude.{◌≡◌, ◌<◌, ◌≤◌, ◌+◌, ◌-◌, ◌↔◌, Some, length, min, take, IsTrue, IsErr, IfOk};
+ghost use Rattle.std.specs.Prelude.{◌≡◌, ◌<◌, ◌≤◌, ◌+◌, ◌-◌};
+ghost use Rattle.std.specs.Prelude.{◌↔◌, Some, length, min, IsTrue, IsErr, IfOk};
 ghost use Rattle.std.specs.Io.{ReadsAtMost, WritesAtMost};
 ghost use Rattle.std.specs.Io.KnownBytes.{ReadConsumes, WriteAppends};
 
@@ -41,7 +42,7 @@ impl<'a> StopReader<'a> {
 }
 
 impl Read for StopReader<'_> {
-    ghost use Rattle.idn_text.specs.Hostile.{rest_of, given_at_once, fail_at_of, fails_once, calls_of, fails_at};
+    ghost use Rattle.idn_text.specs.Hostile.{rest_of, given_into, calls_of, fails_at, HasOneBehavior};
 
     ghost remaining = { λ s. Some (rest_of s) };
 
@@ -50,9 +51,9 @@ impl Read for StopReader<'_> {
         ensures bytes { ReadConsumes (Some (rest_of self.old)) (Some (rest_of self.new)) result buffer.new }
 
         ensures counted { calls_of self.new ≡ min (calls_of self.old + 1) u64.MAX }
-        ensures fails { IsErr result ↔ IsTrue (fails_at (fail_at_of self.old) (fails_once self.old) (calls_of self.new)) }
-        ensures piece { IfOk result (λ count. count ≡ min (min (length buffer.new) (given_at_once self.old)) (length (rest_of self.old))) }
-        ensures kept { (given_at_once self.new ≡ given_at_once self.old) × (fail_at_of self.new ≡ fail_at_of self.old) × (fails_once self.new ≡ fails_once self.old) }
+        ensures fails { IsErr result ↔ IsTrue (fails_at self.old (calls_of self.new)) }
+        ensures piece { IfOk result (λ count. count ≡ given_into self.old (length buffer.new)) }
+        ensures kept { HasOneBehavior self.old self.new }
     {
         self.calls = self.calls.saturating_add(1);
         let fails = if self.once {
@@ -106,16 +107,16 @@ impl<'a> StopWriter<'a> {
 }
 
 impl Write for StopWriter<'_> {
-    ghost use Rattle.idn_text.specs.Hostile.{room_of, taken_of, taken_at_once};
+    ghost use Rattle.idn_text.specs.Hostile.{room_of, taken_of, taken_at_once, contents_of, taken_out_of};
 
-    ghost contents = { λ s. Some (take (taken_of s) (room_of s)) };
+    ghost contents = { λ s. Some (contents_of s) };
 
     fn write(&mut self, text: &[u8]) -> Result<usize>
         ensures bound { WritesAtMost result text.now }
-        ensures bytes { WriteAppends (Some (take (taken_of self.old) (room_of self.old))) (Some (take (taken_of self.new) (room_of self.new))) result text.now }
+        ensures bytes { WriteAppends (Some (contents_of self.old)) (Some (contents_of self.new)) result text.now }
 
         ensures fails { IsErr result ↔ (taken_of self.old ≡ length (room_of self.old)) }
-        ensures piece { IfOk result (λ count. count ≡ min (min (length text.now) (taken_at_once self.old)) (length (room_of self.old) - taken_of self.old)) }
+        ensures piece { IfOk result (λ count. count ≡ taken_out_of self.old (length text.now)) }
         ensures room { length (room_of self.new) ≡ length (room_of self.old) }
         ensures kept { taken_at_once self.new ≡ taken_at_once self.old }
     {

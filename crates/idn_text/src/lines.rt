@@ -1,6 +1,7 @@
 //! The numbered lines of a reader.
 
-ghost use Rattle.std.specs.Prelude.{◌≡◌, ◌⊎◌, ◌≤◌, ℕ, List, ◌++◌, length, None, Some, Ok, IfOk, IfSome, OnErr, IsErr, MatchOption, false};
+ghost use Rattle.std.specs.Prelude.{◌≡◌, ◌⊎◌, ◌≤◌, length, None, Some};
+ghost use Rattle.std.specs.Prelude.{Ok, IfOk, IfSome, OnErr, IsErr, MatchOption, false};
 
 use crate::body::{Body, MAX_LINE_LEN};
 use crate::buffered_reader::{BufferedReader, ReadFault};
@@ -49,8 +50,8 @@ impl<R: Source> Model for Lines<R> {
 }
 
 impl<R: Source> Lines<R> {
-    ghost use Rattle.idn_text.specs.Lines.{Numbered};
-    ghost use Rattle.idn_text.specs.Reading.{Reading, HasRead, HasStopped, IsLeftBy, answered, has_line, line_at, numbered_line, unread};
+    ghost use Rattle.idn_text.specs.Reading.{ReadsNext, HasStopped, IsLeftBy, answered};
+    ghost use Rattle.idn_text.specs.Reading.{has_line, line_at, numbered_line, unread};
     ghost use Rattle.idn_text.specs.declared.lines.State.TheVariants.{Open, Ended, Stopped};
 
     /// The lines of what a reader gives from here on. This does not call the reader.
@@ -76,9 +77,7 @@ impl<R: Source> Lines<R> {
     /// fault, for good.
     #[inline(always)]
     pub fn advance(&mut self) -> Result<bool, ReadFault>
-        // Where lines were read of the bytes given so far, they are so with this answer too.
-        ensures lines { (start : Reading) (given : List ℕ) (lines : List Numbered) → HasRead start self.old given lines →
-            (more : List ℕ) × HasRead start self.new (given ++ more) (lines ++ answered result self.new) }
+        ensures lines { ReadsNext self.old self.new (answered result self.new) }
         ensures state { IsLeftBy result self.new }
 
         ensures cause { OnErr result ((self.old.state ≡ Stopped) ⊎ HasStopped self.old self.new) }
@@ -95,8 +94,7 @@ impl<R: Source> Lines<R> {
     /// Goes on to the next line, where neither the end nor a fault was met yet.
     fn advance_open(&mut self) -> Result<bool, ReadFault>
         requires { self.old.state ≡ Open }
-        ensures lines { (start : Reading) (given : List ℕ) (lines : List Numbered) → HasRead start self.old given lines →
-            (more : List ℕ) × HasRead start self.new (given ++ more) (lines ++ answered result self.new) }
+        ensures lines { ReadsNext self.old self.new (answered result self.new) }
         ensures state { IsLeftBy result self.new }
         ensures cause { OnErr result (HasStopped self.old self.new) }
     {
@@ -126,7 +124,8 @@ impl<R: Source> Lines<R> {
     /// return before it. It is `None` where the line has more than 1,024 bytes, a carriage return at its
     /// end counted. Where the last call went on to none, nothing is said of it.
     pub fn text(&self) -> Option<&[u8]>
-        ensures body { MatchOption result ((line_at self.now).body ≡ None) (λ text. (line_at self.now).body ≡ Some text.now) }
+        ensures body { MatchOption result ((line_at self.now).body ≡ None)
+            (λ text. (line_at self.now).body ≡ Some text.now) }
         ensures few { IfSome result (λ text. length text.now ≤ MAX_LINE_LEN) }
     {
         match self.input.line() {
@@ -138,8 +137,7 @@ impl<R: Source> Lines<R> {
     /// The next line, or `None` at the end, for good; a fault as `advance` tells it. Only tests call this: a run calls
     /// `advance` and `text`, and copies no line.
     pub fn next_line(&mut self) -> Result<Option<Line>, ReadFault>
-        ensures lines { (start : Reading) (given : List ℕ) (lines : List Numbered) → HasRead start self.old given lines →
-            (more : List ℕ) × HasRead start self.new (given ++ more) (lines ++ answered (has_line result) self.new) }
+        ensures lines { ReadsNext self.old self.new (answered (has_line result) self.new) }
         ensures line { IfOk result (λ next. IfSome next (λ line. numbered_line line ≡ line_at self.new)) }
         ensures state { IsLeftBy (has_line result) self.new }
 

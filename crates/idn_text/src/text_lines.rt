@@ -1,8 +1,8 @@
 //! The lines of a text in memory.
 
-ghost use Rattle.std.specs.Prelude.{◌≡◌, [], ◌∷◌, ◌++◌, MatchOption};
+ghost use Rattle.std.specs.Prelude.{◌≡◌, [], ◌∷◌, MatchOption};
 ghost use Rattle.std.specs.Str.Lines.{strip_carriage_return};
-ghost use Rattle.idn_text.specs.Lines.{HasNoFeed, raw_lines};
+ghost use Rattle.idn_text.specs.Lines.{HasNoFeed, IsCutAtFeed, raw_lines};
 
 use memchr::memchr;
 use std::marker::Model;
@@ -50,7 +50,8 @@ impl<'a> Iterator for TextLines<'a> {
 
 /// The first line of a text, and what follows its line feed, unless the text is empty.
 fn split_line(text: &[u8]) -> Option<(&[u8], &[u8])>
-    ensures { MatchOption result (raw_lines text.now ≡ []) (λ found. raw_lines text.now ≡ found.0.now ∷ raw_lines found.1.now) }
+    ensures { MatchOption result (raw_lines text.now ≡ [])
+        (λ found. raw_lines text.now ≡ found.0.now ∷ raw_lines found.1.now) }
 {
     match split_at_feed(text) {
         Some(parts) => Some(parts),
@@ -62,7 +63,7 @@ fn split_line(text: &[u8]) -> Option<(&[u8], &[u8])>
 /// What stands before the first line feed, and what follows it, if there is one.
 #[inline(always)]
 pub(crate) fn split_at_feed(bytes: &[u8]) -> Option<(&[u8], &[u8])>
-    ensures { MatchOption result (HasNoFeed bytes.now) (λ parts. HasNoFeed parts.0.now × (bytes.now ≡ parts.0.now ++ 10 ∷ parts.1.now)) }
+    ensures { MatchOption result (HasNoFeed bytes.now) (λ parts. IsCutAtFeed bytes.now parts.0.now parts.1.now) }
 {
     let place = memchr(b'\n', bytes)?;
     Some((&bytes[..place], &bytes[place + 1..]))

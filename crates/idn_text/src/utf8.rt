@@ -1,6 +1,7 @@
 //! Code points and their UTF-8.
 
-ghost use Rattle.std.specs.Prelude.{◌≡◌, ◌≤◌, ◌+◌, ◌*◌, ◌%◌, ◌++◌, ℕ, List, [], length, take, encode_utf8, OnOk, OnErr};
+ghost use Rattle.std.specs.Prelude.{◌≡◌, ◌≤◌, ◌+◌, ◌*◌, ◌%◌, ◌++◌};
+ghost use Rattle.std.specs.Prelude.{ℕ, List, [], length, take, encode_utf8, OnOk, OnErr};
 ghost use Rattle.idn_text.specs.Points.{AreScalarValues, IsScalarValue, IsUtf8Of, utf8_of};
 
 use crate::body::MAX_LINE_LEN;

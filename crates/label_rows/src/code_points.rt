@@ -34,8 +34,8 @@ fn classes(rt: HostRuntime) {
     }
 }
 
-/// What the profile leaves out has a class by Unicode: a point of Hebrew and letters of Adlam, Aramaic and Cypriot; a capital
-/// and two letters that are not stable; and a code point without a character.
+/// What the profile leaves out has a class by Unicode: a point of Hebrew and letters of Adlam, Aramaic and Cypriot; a
+/// capital and two letters that are not stable; and a code point without a character.
 #[test]
 fn classes_of_what_is_left_out(rt: HostRuntime) {
     let rows = [

@@ -1,5 +1,5 @@
-//! Tests of what is called from outside, of the crates of text, code points, labels and names: examples of each call that no
-//! run shows, readers that fail. Each file is named for what it shows.
+//! Tests of what is called from outside, of the crates of text, code points, labels and names: examples of each call
+//! that no run shows, readers that fail. Each file is named for what it shows.
 #![tactic(auto)]
 
 #[cfg(test)]

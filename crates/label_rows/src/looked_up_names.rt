@@ -1,5 +1,5 @@
-//! Lookup of names, on each way through the code, which gives the same by octets as by code points. The answers are those of
-//! libidn2's `idn2`.
+//! Lookup of names, on each way through the code, which gives the same by octets as by code points. The answers are
+//! those of libidn2's `idn2`.
 use crate::label_calls::{assert_text, points_of, shown};
 use idn_label::{LookupBuffers, lookup, lookup_utf8};
 use idn_text::Refusal;

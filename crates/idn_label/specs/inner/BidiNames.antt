@@ -1,12 +1,19 @@
 -- The Bidi rule of a name: numbers as characters, and labels that are known to meet it.
 use Rattle.std.specs.Prelude.{◌≡◌, ℕ, Bool, true, false, ◌&&◌, ◌||◌, nat_le, List, [], ◌∷◌, if◌then◌else◌}
+use Rattle.std.specs.List.{AllByRecursion}
 use Rattle.ucd_bidi.specs.BidiClass.{bidi_class}
-use Rattle.idna.specs.BidiRule.{is_rtl, passes_bidi_rule}
+use Rattle.ucd_bidi.specs.declared.BidiClass.{BidiClass}
+use Rattle.idna.specs.BidiRule.{is_rtl, passes_as_ltr, passes_as_rtl, passes_bidi_rule}
+use Rattle.idna.specs.Labels.{labels_of}
 use Rattle.idn_text.specs.Points.{is_scalar_value}
 
 -- a character as it is, and 'a' for a number that is none: both are L
 abbrev pub shown : ℕ → ℕ
 shown c = if is_scalar_value c then c else 0x61
+
+-- the conditions of a label that begins right-to-left, or of another
+abbrev pub passes_by_direction : Bool → List BidiClass → Bool
+passes_by_direction rtl classes = if rtl then passes_as_rtl classes else passes_as_ltr classes
 
 -- the first is R, AL or AN
 abbrev pub begins_rtl : List ℕ → Bool
@@ -16,6 +23,10 @@ begins_rtl (c ∷ label) = is_rtl (bidi_class c)
 -- a label that begins so meets the rule
 abbrev pub PassesIfRtl : List ℕ → Type 0
 PassesIfRtl label = begins_rtl label ≡ true → passes_bidi_rule label ≡ true
+
+-- each label of a name does
+abbrev pub EachPassesIfRtl : List ℕ → Type 0
+EachPassesIfRtl name = AllByRecursion PassesIfRtl (labels_of name)
 
 abbrev pub is_lowercase : ℕ → Bool
 is_lowercase octet = nat_le 0x61 octet && nat_le octet 0x7A

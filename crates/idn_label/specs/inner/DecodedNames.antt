@@ -3,7 +3,10 @@ use Rattle.std.specs.Prelude.{◌≡◌, ℕ, false, List, chars, Ok, Err, if◌
 use Rattle.std.specs.Str.{is_utf8}
 use Rattle.idna.specs.BidiRule.{is_bidi_domain}
 use Rattle.idn_text.specs.declared.refusal.Refusal.TheVariants.{NotUtf8}
+use Rattle.idn_class.specs.declared.facts.Fact.TheVariants.{RightToLeft}
+use Rattle.idn_class.specs.declared.facts.Facts.{Facts}
 use Rattle.idn_class.specs.declared.properties.Properties.{Properties}
+use Rattle.idn_class.specs.Facts.{contains}
 use Rattle.idn_label.specs.Answers.{Answer}
 use Rattle.idn_label.specs.Decode.{decoded_labels, decoded_name}
 use Rattle.idn_label.specs.Steps.{in_utf8}
@@ -16,3 +19,7 @@ decoded_utf8 properties bytes = if is_utf8 bytes then in_utf8 (decoded_name prop
 abbrev pub KeepsLeftToRight : Properties → List (List ℕ) → Type 0
 KeepsLeftToRight properties labels =
     is_bidi_domain labels ≡ false → (decoded : List (List ℕ)) → decoded_labels properties labels ≡ Ok decoded → is_bidi_domain decoded ≡ false
+
+-- these facts say so, if RightToLeft is none of them
+abbrev pub TellsLeftToRight : Properties → Facts → List (List ℕ) → Type 0
+TellsLeftToRight properties facts labels = contains facts RightToLeft ≡ false → KeepsLeftToRight properties labels

@@ -41,8 +41,8 @@ pub(crate) fn full_lookup(
     Ok(())
 }
 
-/// The ASCII characters that lookup refuses: with `std3` all but letters, digits, hyphens and full stops (UTS 46 section
-/// 4.1, UseSTD3ASCIIRules).
+/// The ASCII characters that lookup refuses: with `std3` all but letters, digits, hyphens and full stops (UTS 46
+/// section 4.1, UseSTD3ASCIIRules).
 pub fn deny_list(std3: bool) -> AsciiDenyList
     ensures { result ≡ deny_list std3 }
 {

@@ -1,6 +1,8 @@
 //! Names of letters, digits and hyphens of ASCII (LDH, RFC 5890 section 2.3.1). Most names are such, and their lookup
 //! takes no memory and one pass.
-ghost use Rattle.std.specs.Prelude.{◌≡◌, ◌≢◌, ◌<◌, ◌≤◌, ◌+◌, ◌-◌, ◌++◌, ◌↔◌, Bool, not, true, length, map, take, replicate, slice_range, Err, IfOk, IfSome, IsSome};
+ghost use Rattle.std.specs.Prelude.{◌≡◌, ◌≢◌, ◌<◌, ◌≤◌, ◌+◌, ◌-◌};
+ghost use Rattle.std.specs.Prelude.{◌++◌, ◌↔◌, Bool, not, true, length, map, take};
+ghost use Rattle.std.specs.Prelude.{replicate, slice_range, Err, IfOk, IfSome, IsSome};
 ghost use Rattle.std.specs.Char.{to_ascii_lowercase};
 ghost use Rattle.std.specs.List.{AllWithin};
 ghost use Rattle.std.specs.Simd.Lanes.{mask_l};
@@ -8,6 +10,7 @@ ghost use Rattle.idna.specs.Labels.{is_full_stop};
 ghost use Rattle.idn_label.specs.Answers.{Gives};
 ghost use Rattle.idn_label.specs.Lookup.{utf8_answer};
 ghost use Rattle.idn_label.specs.LdhNames.{IsLdhName, is_name_point};
+ghost use Rattle.idn_label.specs.Steps.{lowercase};
 
 use crate::full_stops::CHUNK_LEN;
 use crate::query::lengths::{MAX_QUERY_LEN, has_label_length, may_end};
@@ -24,7 +27,8 @@ const HALF_LEN: usize = 8;
 #[tactic(auto, using(crate::proofs::LdhNames::cut_nothing))]
 pub(crate) fn ldh_query(name: &[u8], room: &mut [u8]) -> Option<Result<usize, Refusal>>
     requires { MAX_QUERY_LEN ≤ length room.old }
-    ensures answer { IfSome result (λ answer. (std3 : Bool) → Gives (λ len. take len room.new) answer (utf8_answer name.now std3)) }
+    ensures answer { IfSome result (λ answer. (std3 : Bool) →
+        Gives (λ len. take len room.new) answer (utf8_answer name.now std3)) }
     ensures short { IfSome result (λ answer. IfOk answer (λ len. len ≤ 254)) }
     ensures no_memory { IfSome result (λ answer. answer ≢ Err Refusal.Memory) }
     ensures told { IsLdhName name.now → IsSome result }
@@ -76,10 +80,12 @@ fn lowercase_chunk(name: &[u8], at: usize, end: usize, room: &mut [u8]) -> Optio
     requires few { end ≤ at + CHUNK_LEN }
     requires room { length name.now ≤ length room.old }
     requires wide { CHUNK_LEN ≤ length room.old }
-    requires begun { take at room.old ≡ take at (map to_ascii_lowercase name.now) }
-    ensures lower { IfSome result (λ _. take end room.new ≡ take end (map to_ascii_lowercase name.now)) }
-    ensures stops { IfSome result (λ stops. stops ≡ mask_l (map is_full_stop (slice_range (map to_ascii_lowercase name.now) at end))) }
-    ensures points { IsSome result ↔ AllWithin (λ c. is_name_point (to_ascii_lowercase c) ≡ true) name.now (end - CHUNK_LEN) end }
+    requires begun { take at room.old ≡ take at (lowercase name.now) }
+    ensures lower { IfSome result (λ _. take end room.new ≡ take end (lowercase name.now)) }
+    ensures stops { IfSome result (λ stops.
+        stops ≡ mask_l (map is_full_stop (slice_range (lowercase name.now) at end))) }
+    ensures points { IsSome result
+        ↔ AllWithin (λ c. is_name_point (to_ascii_lowercase c) ≡ true) name.now (end - CHUNK_LEN) end }
 {
     let (lower, stops, others) = lowercase_lanes(lanes_before(name, end));
     if others != 0 {
@@ -116,8 +122,8 @@ fn lanes_before(name: &[u8], end: usize) -> u8x16
 /// if there are none of these, the octets in lower case: each but a capital has the bit that makes a letter lower-case.
 #[inline(always)]
 fn lowercase_lanes(octets: u8x16) -> (u8x16, u64, u64)
-    ensures lower { result.2 ≡ 0 → result.0 ≡ map to_ascii_lowercase octets }
-    ensures stops { result.1 ≡ mask_l (map is_full_stop (map to_ascii_lowercase octets)) }
+    ensures lower { result.2 ≡ 0 → result.0 ≡ lowercase octets }
+    ensures stops { result.1 ≡ mask_l (map is_full_stop (lowercase octets)) }
     ensures others { result.2 ≡ mask_l (map (λ c. not (is_name_point (to_ascii_lowercase c))) octets) }
 {
     let lower = octets | u8x16::splat(0x20);

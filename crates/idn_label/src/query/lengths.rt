@@ -20,8 +20,8 @@ pub(crate) fn has_label_length(start: usize, end: usize) -> bool
     start < end && end - start <= MAX_LABEL_LEN
 }
 
-/// Whether a name of `len` octets may end in the label that begins at `start`: in 1 to 63 octets, or after the full stop
-/// of another label, which is put aside.
+/// Whether a name of `len` octets may end in the label that begins at `start`: in 1 to 63 octets, or after the full
+/// stop of another label, which is put aside.
 #[inline]
 pub(crate) fn may_end(start: usize, len: usize) -> bool
     requires { start ≤ len }

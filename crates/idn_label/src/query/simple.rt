@@ -1,12 +1,13 @@
-//! Names of which UTS 46 keeps or maps each code point, and of which NFC changes nothing, by the facts of each. Most names
-//! past ASCII are such: their octets are read once, and their lookup takes neither memory nor a normalization.
-ghost use Rattle.std.specs.Prelude.{◌≡◌, ◌≤◌, ◌++◌, Bool, [], ◌∷◌, map, flat_map, chars, length, false, true, Some, OnSome, IfSome, IsTrue, IsUtf8, All};
+//! Names of which UTS 46 keeps or maps each code point, and of which NFC changes nothing, by the facts of each. Most
+//! names past ASCII are such: their octets are read once, and their lookup takes neither memory nor a normalization.
+ghost use Rattle.std.specs.Prelude.{◌≡◌, ◌≤◌, ◌++◌, Bool, [], ◌∷◌, map, flat_map};
+ghost use Rattle.std.specs.Prelude.{chars, length, false, true, Some, OnSome, IfSome, IsTrue, IsUtf8, All};
 ghost use Rattle.idna.specs.declared.options.Hyphens.TheVariants.{Allow};
 ghost use Rattle.idna.specs.declared.options.DnsLength.TheVariants.{Ignore};
 ghost use Rattle.idna.specs.Labels.{labels_of, join_labels};
 ghost use Rattle.idna.specs.Uts46.{map_char, to_ascii, verify_dns_length};
 ghost use Rattle.idna.specs.Validity.{begins_with_mark};
-ghost use Rattle.idn_class.specs.Facts.{contains, AreFactsOf};
+ghost use Rattle.idn_class.specs.Facts.{AreFactsOf};
 ghost use Rattle.idn_label.specs.ALabel.{a_label_of};
 ghost use Rattle.idn_label.specs.inner.SimpleNames.{AreAppended, Cover, IsTested};
 ghost use Rattle.idn_label.specs.Lookup.{deny_list};
@@ -23,13 +24,15 @@ use ucd_idna_map::{IdnaStatus, idna_mapping};
 use unicode_normalization::IsNormalized;
 use unicode_normalization::slice::is_nfc_quick;
 
-/// Leaves in `buffers.query` what ToASCII (UTS 46 section 4.2) gives of a name in UTF-8, where that has the lengths that
-/// the DNS allows. `None` says nothing of the name, and all of UTS 46 then gives the answer: the name is no UTF-8, a code
-/// point needs more tests, NFC may change the name, a label begins with `xn--`, or the Bidi rule or a length is not met.
+/// Leaves in `buffers.query` what ToASCII (UTS 46 section 4.2) gives of a name in UTF-8, where that has the lengths
+/// that the DNS allows. `None` says nothing of the name, and all of UTS 46 then gives the answer: the name is no UTF-8,
+/// a code point needs more tests, NFC may change the name, a label begins with `xn--`, or the Bidi rule or a length is
+/// not met.
 // Not inlined: it is long, and most names do not come here.
 #[inline(never)]
 pub(crate) fn simple_query(name: &[u8], buffers: &mut LookupBuffers) -> Option<()>
-    ensures answer { OnSome result ((std3 : Bool) → to_ascii (deny_list std3) Allow Ignore name.now ≡ Some buffers.new.query.items) }
+    ensures answer { OnSome result ((std3 : Bool) →
+        to_ascii (deny_list std3) Allow Ignore name.now ≡ Some buffers.new.query.items) }
     ensures lengths { OnSome result (verify_dns_length buffers.new.query.items true ≡ true) }
 {
     let LookupBuffers {
@@ -51,7 +54,8 @@ pub(crate) fn simple_query(name: &[u8], buffers: &mut LookupBuffers) -> Option<(
 #[inline]
 fn map_name(name: &[u8], mapped: &mut Mapped) -> Option<Facts>
     ensures utf8 { OnSome result (IsUtf8 name.now) }
-    ensures mapped { IfSome result (λ facts. AreAppended [] mapped.new.items (flat_map map_char (chars name.now)) facts) }
+    ensures mapped { IfSome result (λ facts.
+        AreAppended [] mapped.new.items (flat_map map_char (chars name.now)) facts) }
 {
     mapped.clear();
     let mut facts = Facts::none();
@@ -145,8 +149,8 @@ fn write_a_labels(
     }
 }
 
-/// Whether a label in NFC of which each code point passes is valid and not too long. One that begins with `xn--`, in ASCII
-/// or not, would have to be decoded first.
+/// Whether a label in NFC of which each code point passes is valid and not too long. One that begins with `xn--`, in
+/// ASCII or not, would have to be decoded first.
 #[inline]
 fn label_passes(label: &[char], facts: Facts) -> bool
     requires { Cover facts label.now }
