@@ -20,12 +20,13 @@ use Rattle.idn_cause.proofs.CauseLaws.{cause-is}
 use Rattle.ruleset_text.specs.Canonical.{point_text}
 use Rattle.ruleset_text.specs.EntryText.{sequence_text}
 use Rattle.variant_table.specs.Gaps.{gaps_of}
-use Rattle.table_cause.specs.FaultPlaces.{fault_place, faulty_line}
+use Rattle.table_cause.specs.FaultPlaces.{fault_place, line_place, place_at}
+use Rattle.variant_table.specs.FaultyLines.{FaultyLine, faulty_line}
 use Rattle.ruleset_text.specs.declared.fault.FaultPlace.{FaultPlace}
 use Rattle.idn2_refusals.specs.Explained.{ByRegisteredLine, bad_byte, body_cause, points_cause}
 use Rattle.idn2_laws.specs.ReadBack.{FindingsAreReadBack, IsReadBack, IsShortBody, RegisteredFaultsAreReadBack, TableFaultsAreReadBack, TellsFewOctetsIfAny}
 use Rattle.idn2_answers.specs.Said.{Counted, Gap, finding_object}
-use Rattle.idn2_refusals.specs.TableCauses.{begins_with_mark, cause_at, fault_cause, is_syntax_of_first, told_if}
+use Rattle.idn2_refusals.specs.TableCauses.{begins_with_mark, cause_at, fault_cause, is_syntax_of_first, line_cause, told_if}
 use Rattle.idn2_refusals.specs.WrongLines.{body_at, body_if_any, differs_at, points_at, points_in, told_of_wrong_line, wrong_line_cause}
 use Rattle.idn2_refusals.specs.declared.cause.LineCause.TheVariants.{OfLabel, ByteOrderMark}
 use Rattle.idn2_laws.proofs.ReadBackCauses.{cause_fits, points-length, taken}
@@ -81,13 +82,18 @@ pub table_faults_read_back : TableFaultsAreReadBack
 table_faults_read_back properties wanted notation bytes fault line refusal small within =
     table_fault_good line small refusal (told_if wanted (fault_cause properties notation bytes fault)) (by_wanted wanted (by_mark (begins_with_mark bytes && is_syntax_of_first fault)))
   where
-    by_place : (place : Option FaultPlace) → fault_place properties notation bytes fault ≡ place → IsFittingIfTold (option_map (cause_at (faulty_line bytes fault)) place)
-    by_place None e = tt
-    by_place (Some place) e = within place e
+    by_place : (line : List ℕ) (told : Option FaultPlace) → ((place : FaultPlace) → told ≡ Some place → byte_of place < 2 ^ 63) → IsFittingIfTold (option_map (cause_at line) told)
+    by_place line None small = tt
+    by_place line (Some place) small = small place refl
 
-    by_mark : (b : Bool) → IsFittingIfTold (cond b (Some ByteOrderMark) (option_map (cause_at (faulty_line bytes fault)) (fault_place properties notation bytes fault)))
+    by_line : (line : Option FaultyLine) → ((place : FaultPlace) → place_at fault line ≡ Some place → byte_of place < 2 ^ 63) → IsFittingIfTold (line_cause fault line)
+    by_line None small = tt
+    by_line (Some f) small = by_place f.line (line_place f.version f.definitions fault f.line) small
+
+    by_mark : (b : Bool) → IsFittingIfTold (cond b (Some ByteOrderMark) (line_cause fault (faulty_line properties notation bytes)))
+    unfolding fault_place
     by_mark true = tt
-    by_mark false = by_place (fault_place properties notation bytes fault) refl
+    by_mark false = by_line (faulty_line properties notation bytes) within
 
     by_wanted : (b : Bool) → IsFittingIfTold (fault_cause properties notation bytes fault) → IsFittingIfTold (told_if b (fault_cause properties notation bytes fault))
     by_wanted true h = h

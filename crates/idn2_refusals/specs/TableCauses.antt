@@ -8,7 +8,8 @@ use Rattle.variant_table.specs.declared.fault.TableFault.TheVariants.{Syntax}
 use Rattle.ruleset_text.specs.declared.fault.FaultPlace.{FaultPlace}
 use Rattle.ruleset_text.specs.declared.fault.FaultPlace.TheVariants.{Lexeme}
 use Rattle.variant_table.specs.declared.version.Notation.{Notation}
-use Rattle.table_cause.specs.FaultPlaces.{fault_place, faulty_line}
+use Rattle.table_cause.specs.FaultPlaces.{line_place}
+use Rattle.variant_table.specs.FaultyLines.{FaultyLine, faulty_line}
 use Rattle.idn2_refusals.specs.declared.cause.LineCause.{LineCause}
 use Rattle.idn2_refusals.specs.declared.cause.LineCause.TheVariants.{OfTable, ByteOrderMark}
 
@@ -25,12 +26,11 @@ abbrev pub quoted : List ℕ → List ℕ
 quoted lexeme = if may_be_quoted lexeme then lexeme else []
 
 -- what is quoted of the line of a fault: the lexeme that can't stand there
-abbrev pub quoted_at : Option (List ℕ) → FaultPlace → List ℕ
-quoted_at None place = []
-quoted_at (Some line) (Lexeme place len) = quoted (take len (drop place line))
-quoted_at (Some line) _ = []
+abbrev pub quoted_at : List ℕ → FaultPlace → List ℕ
+quoted_at line (Lexeme place len) = quoted (take len (drop place line))
+quoted_at line _ = []
 
-abbrev pub cause_at : Option (List ℕ) → FaultPlace → LineCause
+abbrev pub cause_at : List ℕ → FaultPlace → LineCause
 cause_at line place = OfTable place (record { items = quoted_at line place })
 
 -- U+FEFF stands at the head of a text (RFC 3629, section 6)
@@ -42,12 +42,18 @@ abbrev pub is_syntax_of_first : TableFault → Bool
 is_syntax_of_first (Syntax line) = line == 1
 is_syntax_of_first fault = false
 
--- the cause of the fault of a text: a byte order mark, or the place, if one is told
+-- the place on the line, if one is told
+abbrev pub line_cause : TableFault → Option FaultyLine → Option LineCause
+line_cause fault None = None
+line_cause fault (Some f) = option_map (cause_at f.line) (line_place f.version f.definitions fault f.line)
+
+-- the cause of the fault of a text, whose first faulty line this is: a byte order mark, or the place
+abbrev pub refusal_cause : List ℕ → TableFault → Option FaultyLine → Option LineCause
+refusal_cause text fault line = if begins_with_mark text && is_syntax_of_first fault then Some ByteOrderMark else line_cause fault line
+
+-- that of a text
 abbrev pub fault_cause : Properties → Notation → List ℕ → TableFault → Option LineCause
-fault_cause properties notation text fault =
-    if begins_with_mark text && is_syntax_of_first fault
-    then Some ByteOrderMark
-    else option_map (cause_at (faulty_line text fault)) (fault_place properties notation text fault)
+fault_cause properties notation text fault = refusal_cause text fault (faulty_line properties notation text)
 
 -- a cause, if causes are wanted
 abbrev pub told_if : Bool → Option LineCause → Option LineCause

@@ -1,18 +1,17 @@
 //! The cause of the fault of a table. It is looked for only once the fault is told, and only if causes are wanted.
 ghost use Rattle.std.specs.Prelude.{◌≡◌, ◌≤◌, IfOk, IfSome, drop, false, take};
 ghost use Rattle.std.specs.List.{list_all};
-ghost use Rattle.std.specs.Option.{option_copied};
 ghost use Rattle.std.specs.Result.{IsOk};
-ghost use Rattle.idn2_refusals.specs.TableCauses.{begins_with_mark, fault_cause, is_syntax_of_first, is_visible as is_visible_byte, may_be_quoted as may_be_quoted_text, quoted as quoted_of, quoted_at as quoted_in, told_if};
+ghost use Rattle.idn2_refusals.specs.TableCauses.{begins_with_mark, is_syntax_of_first, is_visible as is_visible_byte, may_be_quoted as may_be_quoted_text, quoted as quoted_of, quoted_at as quoted_in, refusal_cause, told_if};
+ghost use Rattle.variant_table.specs.FaultyLines.{faulty_line_of};
 ghost use Rattle.idn2_refusals.specs.CauseRoom.{cause_room};
 
 use crate::cause::{LineCause, Quoted};
-use idn_class::Properties;
 use idn2_output::append;
 use ruleset_text::FaultPlace;
 use std::alloc::{AllocError, Global};
-use table_cause::{fault_place, faulty_line};
-use variant_table::{Notation, TableFault};
+use table_cause::fault_place;
+use variant_table::{TableFault, TableRefusal};
 
 /// The most bytes of a lexeme that is quoted.
 const MAX_QUOTED: usize = 32;
@@ -21,41 +20,37 @@ const MAX_QUOTED: usize = 32;
 pub(crate) fn fault_cause_if_wanted(
     alloc: Global,
     wanted: bool,
-    notation: Notation,
     text: &[u8],
-    fault: TableFault,
-    properties: Properties,
+    refusal: &TableRefusal<'_>,
 ) -> Result<Option<LineCause>, AllocError>
-    ensures cause { IfOk result (λ cause. cause ≡ told_if wanted (fault_cause properties notation text.now fault)) }
+    ensures cause { IfOk result (λ cause. cause ≡ told_if wanted (refusal_cause text.now refusal.now.fault (faulty_line_of refusal.now.line))) }
     ensures unwanted { wanted ≡ false → IsOk result }
     ensures short { IfOk result (λ cause. IfSome cause (λ cause. cause_room cause ≤ 72)) }
 {
     if wanted {
-        cause_of_fault(alloc, notation, text, fault, properties)
+        cause_of_refusal(alloc, text, refusal)
     } else {
         Ok(None)
     }
 }
 
 /// The cause of the fault of a text, if one is told.
-fn cause_of_fault(
+fn cause_of_refusal(
     alloc: Global,
-    notation: Notation,
     text: &[u8],
-    fault: TableFault,
-    properties: Properties,
+    refusal: &TableRefusal<'_>,
 ) -> Result<Option<LineCause>, AllocError>
-    ensures cause { IfOk result (λ cause. cause ≡ fault_cause properties notation text.now fault) }
+    ensures cause { IfOk result (λ cause. cause ≡ refusal_cause text.now refusal.now.fault (faulty_line_of refusal.now.line)) }
     ensures short { IfOk result (λ cause. IfSome cause (λ cause. cause_room cause ≤ 72)) }
 {
-    if begins_with_mark(text) && is_syntax_of_first(fault) {
+    if begins_with_mark(text) && is_syntax_of_first(refusal.fault) {
         return Ok(Some(LineCause::ByteOrderMark));
     }
-    match fault_place(alloc, notation, text, fault, properties)? {
-        Some(place) => {
-            let quoted = quoted_at(faulty_line(text, fault), place);
-            Ok(Some(LineCause::OfTable(place, quoted)))
-        }
+    let Some(faulty) = &refusal.line else {
+        return Ok(None);
+    };
+    match fault_place(alloc, faulty, refusal.fault)? {
+        Some(place) => Ok(Some(LineCause::OfTable(place, quoted_at(faulty.line, place)))),
         None => Ok(None),
     }
 }
@@ -78,11 +73,11 @@ fn is_syntax_of_first(fault: TableFault) -> bool
 }
 
 /// What is quoted of the line of a fault: the lexeme that can't stand there.
-fn quoted_at(line: Option<&[u8]>, place: FaultPlace) -> Quoted
-    ensures { result.items ≡ quoted_in (option_copied line.entry) place }
+fn quoted_at(line: &[u8], place: FaultPlace) -> Quoted
+    ensures { result.items ≡ quoted_in line.now place }
 {
-    match (line, place) {
-        (Some(line), FaultPlace::Lexeme(place, len)) => quoted(lexeme_at(line, place, len)),
+    match place {
+        FaultPlace::Lexeme(place, len) => quoted(lexeme_at(line, place, len)),
         _ => Quoted::new(),
     }
 }

@@ -9,6 +9,9 @@ ghost use Rattle.idn2_refusals.specs.Messages.{fault_piece, table_message as tab
 ghost use Rattle.idn2_refusals.specs.CauseRoom.{cause_room};
 ghost use Rattle.idn2_output.specs.Writing.{Emits};
 ghost use Rattle.idn2_refusals.specs.TableFaults.{told_of};
+ghost use Rattle.idn_class.specs.declared.properties.Properties.{Properties};
+ghost use Rattle.variant_table.specs.FaultyLines.{IsRefusalOf};
+ghost use Rattle.variant_table.specs.declared.version.Notation.{Notation};
 ghost use Rattle.idn2_output.specs.declared.status.Status.TheVariants as statuses;
 ghost use Rattle.idn2_output.specs.declared.stop.Stop.TheVariants as stop;
 
@@ -16,12 +19,11 @@ use crate::cause::LineCause;
 use crate::details::details_of_refusal;
 use crate::fault_cause::fault_cause_if_wanted;
 use crate::message::{explained_message, table_message};
-use idn_class::Properties;
 use idn_text::{Refusal, Sink};
 use idn2_options::Form;
 use idn2_output::{Console, Object, Status, Stop};
 use std::alloc::Global;
-use variant_table::{Notation, TableFault};
+use variant_table::{TableFault, TableRefusal};
 
 /// Tells the fault of the table that a text is to spell, with its cause, if causes are wanted, and gives the status of the
 /// run. Lack of memory is no fault of the table: nothing is reported, and the run stops. A cause may take memory.
@@ -29,21 +31,20 @@ pub fn refuse_table<W: Sink, E: Sink>(
     alloc: Global,
     form: Form,
     wanted: bool,
-    notation: Notation,
     text: &[u8],
-    fault: TableFault,
-    properties: Properties,
+    refusal: &TableRefusal<'_>,
     console: &mut Console<'_, '_, W, E>,
 ) -> Result<Status, Stop>
-    ensures told { MatchOption (told_of fault) ((result ≡ Err stop.Memory) × (console.new ≡ console.old))
-        (λ told. Emits console.old console.new (fault_piece form told.0 told.1 (told_if wanted (fault_cause properties notation text.now fault)) ∷ []) result) }
+    ensures told { (properties : Properties) (notation : Notation) → IsRefusalOf properties notation text.now refusal.now →
+        MatchOption (told_of refusal.now.fault) ((result ≡ Err stop.Memory) × (console.new ≡ console.old))
+        (λ told. Emits console.old console.new (fault_piece form told.0 told.1 (told_if wanted (fault_cause properties notation text.now refusal.now.fault)) ∷ []) result) }
     ensures status { IfOk result (λ status. status ≡ statuses.Unusable) }
 {
-    let Some((line, refusal)) = told_of(fault) else {
+    let Some((line, told)) = told_of(refusal.fault) else {
         return Err(Stop::Memory);
     };
-    let cause = fault_cause_if_wanted(alloc, wanted, notation, text, fault, properties)?;
-    write_fault(form, line, refusal, cause.as_ref(), console)?;
+    let cause = fault_cause_if_wanted(alloc, wanted, text, refusal)?;
+    write_fault(form, line, told, cause.as_ref(), console)?;
     Ok(Status::Unusable)
 }
 

@@ -1,12 +1,12 @@
 //! What the lines of a ruleset define.
-ghost use Rattle.std.specs.Prelude.{◌≡◌, ◌+◌, ◌<◌, ◌≤◌, ◌^◌, ◌||◌, length, map, IfOk, OnOk, OnErr};
+ghost use Rattle.std.specs.Prelude.{◌≡◌, ◌+◌, ◌-◌, ◌<◌, ◌≤◌, ◌^◌, ◌||◌, length, map, IfOk, OnOk, OnErr};
 ghost use Rattle.std.specs.List.{AllByRecursion};
 ghost use Rattle.label_patterns.specs.Matches.{HasItsSets};
 ghost use Rattle.label_patterns.specs.Trees.{pattern};
 ghost use Rattle.ruleset_text.specs.Canonical.{definition_text};
 ghost use Rattle.ruleset_text.specs.Definition as definition;
 ghost use Rattle.ruleset_text.specs.Definitions as words;
-ghost use Rattle.ruleset_text.specs.Definitions.{added, canonical_size, defined, nothing_defined, rule_name as name_of_rule, with_words};
+ghost use Rattle.ruleset_text.specs.Definitions.{added, all_atoms, canonical_size, defined, nothing_defined, rule_name as name_of_rule, with_words};
 ghost use Rattle.ruleset_text.specs.DefinitionTrees as trees;
 ghost use Rattle.ruleset_text.specs.DemandTrees.{demand};
 ghost use Rattle.ruleset_text.specs.inner.DefinitionSteps.{Leaves};
@@ -171,6 +171,13 @@ impl Definitions {
         ensures known { AllByRecursion (λ d. HasItsSets (length self.now.sets) d.pattern) self.now.demands }
     {
         &self.demands
+    }
+
+    /// How many atoms further patterns may have.
+    pub fn atoms_left(&self) -> usize
+        ensures { result ≡ 4096 - all_atoms self.now }
+    {
+        self.atoms_left
     }
 
     /// How many bytes the canonical lines have, each with its line feed.

@@ -3,14 +3,12 @@ mod ShapeLemmas
 mod DefinitionLineLemmas
 -- Where the pattern of a line goes past a limit.
 pub mod PastLimitLemmas
--- What is counted on the lines before it.
-pub mod CountedLimitLemmas
+-- Whether a definition is one too many.
+pub mod DefinitionLimitLemmas
 -- The first lexeme on a line that names what is not known.
 pub mod LineNameLaws
 -- The first of a list that a test is true of.
 pub mod FindLemmas
--- What the lines before a faulty line define.
-pub mod PlaceNameLemmas
 -- The places that are told are those that are defined.
 pub mod PlaceLawLemmas
 -- What is told of a line that defines something, and past which limit.
@@ -19,8 +17,6 @@ pub mod WholeLimitLemmas
 pub mod FormPointLemmas
 -- A place is told of an entry where reading refuses it.
 pub mod RefusedPlaceLemmas
--- The names that the lines before define are those of the table.
-pub mod DefinedNameLemmas
 -- A place is told of a definition where reading refuses it.
 pub mod DefinitionPointLemmas
 -- A place is told of a variant that is given again where reading refuses it.

@@ -1,7 +1,7 @@
 -- The first lexeme on a line that names what is not known is the one that is told.
 use Rattle.std.proofs.Common.{◌≡◌, ◌↔◌, ℕ, Bool, true, false, cond, List, [], ◌∷◌, ◌++◌, Option, Some, None, refl, sym, ap, ◌∙◌}
 use Rattle.std.specs.List.{AllByRecursion}
-use Rattle.table_cause.specs.declared.entry_place.WrongPlace.{WrongPlace}
+use Rattle.ruleset_text.specs.declared.fault.FaultPlace.{FaultPlace}
 use Rattle.table_cause.specs.declared.expected.Expected.{Expected}
 use Rattle.table_cause.specs.declared.expected.Expected.TheVariants.{Nothing}
 use Rattle.table_cause.specs.ExpectedNames.{expected_next}
@@ -13,8 +13,8 @@ module _ (sets : List (List ℕ)) where
   abbrev test : List ℕ → Bool
   test lexeme = is_unknown sets (set_name lexeme)
 
-  set_found : (ws : List Placed) (place : WrongPlace) → unknown_set sets ws ≡ Some place → IsFirstLexeme test ws place
-  set_found [] place e = absurd (let clash : (let o : Option WrongPlace = None in o) ≡ Some place = e in cc)
+  set_found : (ws : List Placed) (place : FaultPlace) → unknown_set sets ws ≡ Some place → IsFirstLexeme test ws place
+  set_found [] place e = absurd (let clash : (let o : Option FaultPlace = None in o) ≡ Some place = e in cc)
   set_found (w ∷ ws) place e = by (test w.lexeme) refl (set_found ws place) e
     where
       by : (b : Bool) → test w.lexeme ≡ b → (unknown_set sets ws ≡ Some place → IsFirstLexeme test ws place) → cond b (Some (place_of w)) (unknown_set sets ws) ≡ Some place → IsFirstLexeme test (w ∷ ws) place
@@ -27,15 +27,15 @@ module _ (sets : List (List ℕ)) where
   set_first (v ∷ before) after w earlier is =
       ap (λ b. cond b (Some (place_of v)) (unknown_set sets (before ++ w ∷ after))) earlier.0 ∙ set_first before after w earlier.1 is
 
-pub set_told : (sets : List (List ℕ)) (ws : List Placed) (place : WrongPlace) → (unknown_set sets ws ≡ Some place) ↔ IsFirstLexeme (λ lexeme. is_unknown sets (set_name lexeme)) ws place
+pub set_told : (sets : List (List ℕ)) (ws : List Placed) (place : FaultPlace) → (unknown_set sets ws ≡ Some place) ↔ IsFirstLexeme (λ lexeme. is_unknown sets (set_name lexeme)) ws place
 set_told sets ws place = (
   set_found sets ws place,
-  λ first. ap (unknown_set sets) first.cut ∙ set_first sets first.before first.after first.w first.earlier first.is ∙ ap (λ p. let o : Option WrongPlace = Some p in o) (sym first.told),
+  λ first. ap (unknown_set sets) first.cut ∙ set_first sets first.before first.after first.w first.earlier first.is ∙ ap (λ p. let o : Option FaultPlace = Some p in o) (sym first.told),
 )
 
 module _ (tags rules : List (List ℕ)) where
-  name_found : (ws : List Placed) (e : Expected) (place : WrongPlace) → unknown_name_from tags rules e ws ≡ Some place → IsFirstUnknown tags rules e ws place
-  name_found [] e place h = absurd (let clash : (let o : Option WrongPlace = None in o) ≡ Some place = h in cc)
+  name_found : (ws : List Placed) (e : Expected) (place : FaultPlace) → unknown_name_from tags rules e ws ≡ Some place → IsFirstUnknown tags rules e ws place
+  name_found [] e place h = absurd (let clash : (let o : Option FaultPlace = None in o) ≡ Some place = h in cc)
   name_found (w ∷ ws) e place h = by (is_unexpected tags rules e w.lexeme) refl (name_found ws (expected_next e w.lexeme) place) h
     where
       by : (b : Bool) → is_unexpected tags rules e w.lexeme ≡ b → (unknown_name_from tags rules (expected_next e w.lexeme) ws ≡ Some place → IsFirstUnknown tags rules (expected_next e w.lexeme) ws place)
@@ -51,8 +51,8 @@ module _ (tags rules : List (List ℕ)) where
       ap (λ b. cond b (Some (place_of v)) (unknown_name_from tags rules (expected_next e v.lexeme) (before ++ w ∷ after))) earlier.0
       ∙ name_first before after w (expected_next e v.lexeme) earlier.1 is
 
-pub name_told : (tags rules : List (List ℕ)) (ws : List Placed) (place : WrongPlace) → (unknown_name tags rules ws ≡ Some place) ↔ IsFirstUnknown tags rules Nothing ws place
+pub name_told : (tags rules : List (List ℕ)) (ws : List Placed) (place : FaultPlace) → (unknown_name tags rules ws ≡ Some place) ↔ IsFirstUnknown tags rules Nothing ws place
 name_told tags rules ws place = (
   name_found tags rules ws Nothing place,
-  λ first. ap (unknown_name tags rules) first.cut ∙ name_first tags rules first.before first.after first.w Nothing first.earlier first.unknown ∙ ap (λ p. let o : Option WrongPlace = Some p in o) (sym first.told),
+  λ first. ap (unknown_name tags rules) first.cut ∙ name_first tags rules first.before first.after first.w Nothing first.earlier first.unknown ∙ ap (λ p. let o : Option FaultPlace = Some p in o) (sym first.told),
 )

@@ -7,7 +7,7 @@ use Rattle.label_patterns.specs.declared.span.Span.{Span}
 use Rattle.label_patterns.specs.Patterns.{Pattern, Point, Set, Any, Start, End, Anchor, Group, Optional, Many, Then, Either}
 use Rattle.ruleset_text.specs.declared.definition.DemandKind.{DemandKind}
 use Rattle.ruleset_text.specs.declared.definition.DemandKind.TheVariants as demand
-use Rattle.table_cause.specs.declared.entry_place.WrongPlace.{WrongPlace}
+use Rattle.ruleset_text.specs.declared.fault.FaultPlace.{FaultPlace}
 use Rattle.ruleset_text.specs.declared.keyword.Keyword.{Keyword}
 use Rattle.ruleset_text.specs.declared.keyword.Keyword.TheVariants as keyword
 use Rattle.ruleset_text.specs.Signs as sign
@@ -15,7 +15,6 @@ use Rattle.ruleset_text.specs.declared.token.Token.{Token}
 use Rattle.ruleset_text.specs.declared.token.Token.TheVariants as token
 use Rattle.ruleset_text.specs.Definition as words
 use Rattle.ruleset_text.specs.Definition.{Definition, keyword_of, tag_in, set_in, rule_in, demand_in, contexts_in, if_such}
-use Rattle.ruleset_text.specs.Definitions.{definition_atoms}
 use Rattle.ruleset_text.specs.Grammar.{Is, Sort, Atom, Item, Branch, Whole, tokens}
 use Rattle.ruleset_text.specs.Lexemes.{lexemes}
 use Rattle.ruleset_text.specs.Limits.{IsWithin, atoms, groups, stars}
@@ -382,7 +381,7 @@ passes left n t low few = ap (λ b. b || is_counted t && (left == 0)) low ∙ by
     by true few = grind (arith, nat_tests)
     by false few = refl
 
-record Past (left : ℕ) (n : Nesting) (ws : List Placed) (place : WrongPlace) : Type 0 where
+record Past (left : ℕ) (n : Nesting) (ws : List Placed) (place : FaultPlace) : Type 0 where
   before : List Placed
   w : Placed
   rest : List Placed
@@ -398,7 +397,7 @@ less_none left = omega arith
 less_both : (left a b : ℕ) → left - a - b ≡ left - (a + b)
 less_both left a b = omega arith
 
-found : (ws : List Placed) (left : ℕ) (n : Nesting) (place : WrongPlace) → past_from left n ws ≡ Some place → Past left n ws place
+found : (ws : List Placed) (left : ℕ) (n : Nesting) (place : FaultPlace) → past_from left n ws ≡ Some place → Past left n ws place
 found [] left n place e = absurd (none_some ⊥ place e)
 found (w ∷ ws) left n place e = by (is_past left n (token_of [] w.lexeme)) refl (found ws (left - atoms_at (token_of [] w.lexeme)) (with_token n (token_of [] w.lexeme)) place) e
   where
@@ -486,7 +485,7 @@ module _ (left : ℕ) (ws : List Placed) (p : Pattern) (spells : pattern_of (tok
       passes (left - atoms_among before) (after no_nesting (named [] before)) (token_of [] w.lexeme) (shallow_second (named [] before) (named [] (w ∷ [])) no_nesting all).0
       (omega (arith, both, fit.0))
 
-  past_found : (place : WrongPlace) → first_past left ws ≡ Some place → IsFirstPast left ws place
+  past_found : (place : FaultPlace) → first_past left ws ≡ Some place → IsFirstPast left ws place
   past_found place e =
       let r = found ws left no_nesting place e in record {
         before = r.before;
@@ -498,12 +497,12 @@ module _ (left : ℕ) (ws : List Placed) (p : Pattern) (spells : pattern_of (tok
         told = r.told;
       }
 
-  found_past : (place : WrongPlace) → IsFirstPast left ws place → first_past left ws ≡ Some place
+  found_past : (place : FaultPlace) → IsFirstPast left ws place → first_past left ws ≡ Some place
   found_past place f =
       let low = shallow_fit f.before f.fits in
       ap (first_past left) f.cut
       ∙ first f.before f.after f.w left no_nesting low f.fits.0 (by (is_past (left - atoms_among f.before) (after no_nesting (named [] f.before)) (token_of [] f.w.lexeme)) (fits_on f.before f.after f.w f.cut low f.fits.0))
-      ∙ ap (λ q. let o : Option WrongPlace = Some q in o) (sym f.told)
+      ∙ ap (λ q. let o : Option FaultPlace = Some q in o) (sym f.told)
     where
       by : (b : Bool) → (b ≡ false → Fit left (f.before ++ f.w ∷ [])) → b ≡ true
       by true other = refl
@@ -588,19 +587,19 @@ nothing_cut : (before rest : List Placed) (w : Placed) → [] ≡ before ++ w �
 nothing_cut [] rest w e = cc
 nothing_cut (v ∷ before) rest w e = cc
 
-nothing_told : (left : ℕ) (ws : List Placed) (place : WrongPlace) → ws ≡ [] → (first_past left ws ≡ Some place) ↔ IsFirstPast left ws place
+nothing_told : (left : ℕ) (ws : List Placed) (place : FaultPlace) → ws ≡ [] → (first_past left ws ≡ Some place) ↔ IsFirstPast left ws place
 nothing_told left ws place none = (
   λ e. absurd (none_some ⊥ place (sym (ap (first_past left) none) ∙ e)),
   λ f. absurd (nothing_cut f.before f.after f.w (sym none ∙ f.cut)),
 )
 
-pattern_told : (left : ℕ) (ws : List Placed) (place : WrongPlace) (x : Definition) → IsPatternOf [] ws x → (first_past left ws ≡ Some place) ↔ IsFirstPast left ws place
+pattern_told : (left : ℕ) (ws : List Placed) (place : FaultPlace) (x : Definition) → IsPatternOf [] ws x → (first_past left ws ≡ Some place) ↔ IsFirstPast left ws place
 pattern_told left ws place (words.Tag name) is = nothing_told left ws place is
 pattern_told left ws place (words.Set name spans) is = nothing_told left ws place is
 pattern_told left ws place (words.Rule name contexts) is = (past_found left ws contexts is place, found_past left ws contexts is place)
 pattern_told left ws place (words.Demand kind p) is = (past_found left ws p is place, found_past left ws p is place)
 
-pub past_told : (left : ℕ) (line : List ℕ) (place : WrongPlace) → Define (lexemes line)
+pub past_told : (left : ℕ) (line : List ℕ) (place : FaultPlace) → Define (lexemes line)
     → (first_past left (pattern_in (placed_lexemes line)) ≡ Some place) ↔ IsFirstPast left (pattern_in (placed_lexemes line)) place
 past_told left line place d = pattern_told left (pattern_in (placed_lexemes line)) place d.0 (of_line [] line d.0 d.1)
 
@@ -640,7 +639,7 @@ whole_past names left ws p e = by (first_past left ws) refl (is_pattern_past lef
             below : (k m : ℕ) → nat_lt k m ≡ false → m ≤ k
             below k m e = grind (arith, nat_tests)
 
-    by : (o : Option WrongPlace) → first_past left ws ≡ o → (b : Bool) → is_pattern_past left p ≡ b → is_some o ≡ b
+    by : (o : Option FaultPlace) → first_past left ws ≡ o → (b : Bool) → is_pattern_past left p ≡ b → is_some o ≡ b
     by (Some place) at true is = refl
     by None at false is = refl
     by (Some place) at false is =
@@ -661,12 +660,3 @@ definition_past names left ws (words.Demand kind p) is = whole_past names left w
 pub some_past : (names : List (List ℕ)) (line : List ℕ) (left : ℕ) (x : Definition) → definition_in names (lexemes line) ≡ Some x
     → is_some (first_past left (pattern_in (placed_lexemes line))) ≡ is_definition_past left x
 some_past names line left x e = definition_past names left (pattern_in (placed_lexemes line)) x (of_line names line x e)
-
-definition_counted : (names : List (List ℕ)) (ws : List Placed) (x : Definition) → IsPatternOf names ws x → atoms_among ws ≡ definition_atoms x
-definition_counted names ws (words.Tag name) is = ap atoms_among is
-definition_counted names ws (words.Set name spans) is = ap atoms_among is
-definition_counted names ws (words.Rule name contexts) is = counted_named names ws ∙ ap counted (tokens_spelled names ws contexts is).1 ∙ counted_whole contexts
-definition_counted names ws (words.Demand kind p) is = counted_named names ws ∙ ap counted (tokens_spelled names ws p is).1 ∙ counted_whole p
-
-pub atoms_counted : (names : List (List ℕ)) (line : List ℕ) (x : Definition) → definition_in names (lexemes line) ≡ Some x → atoms_among (pattern_in (placed_lexemes line)) ≡ definition_atoms x
-atoms_counted names line x e = definition_counted names (pattern_in (placed_lexemes line)) x (of_line names line x e)

@@ -8,9 +8,10 @@ use Rattle.ruleset_text.specs.EntrySteps.{entry_read}
 use Rattle.table_cause.specs.declared.line_point.LinePoint.{LinePoint}
 use Rattle.ruleset_text.specs.declared.fault.FaultPlace.{FaultPlace}
 use Rattle.ruleset_text.specs.declared.fault.FaultPlace.TheVariants.{InRange, Point}
-use Rattle.table_cause.specs.FaultPlaces.{fault_place, is_bad_point}
+use Rattle.table_cause.specs.FaultPlaces.{is_bad_point}
+use Rattle.table_cause.specs.PlaceExamples.{told}
 use Rattle.variant_table.specs.declared.fault.TableFault.TheVariants as tables
-use Rattle.variant_table.specs.declared.version.Notation.TheVariants.{Ruleset, Table}
+use Rattle.variant_table.specs.declared.version.Version.TheVariants.{One, Two, Three}
 use Rattle.variant_table.specs.WellFormed.{is_table_class}
 use Rattle.idn_class.specs.declared.properties.Properties.TheVariants.{Profile}
 
@@ -36,19 +37,19 @@ at_point p = Point p.place p.point
 abbrev bad_at : LinePoint → Bool
 bad_at p = is_bad_point Profile p.point
 
-pub range_told : fault_place Profile Table (codes "%version 2" ++ 10 ∷ codes "007A..007C") (tables.BadClass 2) ≡ Some (InRange 0 0x7B)
-unfolding point_of_hex entry_read fault_place
+pub range_told : told Two (tables.BadClass 1) (codes "007A..007C") ≡ Some (InRange 0 0x7B)
+unfolding point_of_hex entry_read
 range_told = second_told (is_bad_point Profile) (InRange 0) 0x7A 0x7B (0x7C ∷ []) good-7A bad-7B
 
-pub point_told : fault_place Profile Table (codes "0061|007B:0041") (tables.BadClass 1) ≡ Some (Point 5 0x7B)
-unfolding point_of_hex entry_read fault_place
+pub point_told : told One (tables.BadClass 1) (codes "0061|007B:0041") ≡ Some (Point 5 0x7B)
+unfolding point_of_hex entry_read
 point_told =
     let first : LinePoint = record { place = 0; point = 0x61; sequence = 0; index = 0 } in
     let second : LinePoint = record { place = 5; point = 0x7B; sequence = 1; index = 0 } in
     let third : LinePoint = record { place = 10; point = 0x41; sequence = 2; index = 0 } in second_told bad_at at_point first second (third ∷ []) good-61 bad-7B
 
-pub set_told : fault_place Profile Ruleset (codes "%version 3" ++ 10 ∷ codes "%set FB1D 0061 007B") (tables.BadClass 2) ≡ Some (Point 15 0x7B)
-unfolding point_of_hex entry_read fault_place
+pub set_told : told Three (tables.BadClass 1) (codes "%set FB1D 0061 007B") ≡ Some (Point 15 0x7B)
+unfolding point_of_hex entry_read
 set_told =
     let first : LinePoint = record { place = 10; point = 0x61; sequence = 0; index = 0 } in
     let second : LinePoint = record { place = 15; point = 0x7B; sequence = 0; index = 1 } in second_told bad_at at_point first second [] good-61 bad-7B

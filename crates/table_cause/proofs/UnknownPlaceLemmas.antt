@@ -5,7 +5,6 @@ use Rattle.std.specs.List.{AllByRecursion, list_all, list_any}
 use Rattle.label_patterns.specs.declared.condition.ConditionKind.{ConditionKind}
 use Rattle.label_patterns.specs.declared.condition.ConditionKind.TheVariants as condition
 use Rattle.ruleset_text.specs.declared.entry_form.NamedCondition.{NamedCondition}
-use Rattle.ruleset_text.specs.declared.keyword.Keyword.TheVariants as keyword
 use Rattle.ruleset_text.specs.Definitions.{Definitions}
 use Rattle.ruleset_text.specs.Entries.{Mapped, EntryForm}
 use Rattle.ruleset_text.specs.EntrySteps.{entry_in}
@@ -15,24 +14,15 @@ use Rattle.ruleset_text.specs.EntryWords.{Word, IsWord, AreWords, mark_words, se
 use Rattle.ruleset_text.specs.Lexemes.{lexemes}
 use Rattle.ruleset_text.specs.Names.{is_one_of}
 use Rattle.ruleset_text.proofs.EntrySpelledLemmas.{read_words}
-use Rattle.table_cause.specs.declared.entry_place.WrongPlace.{WrongPlace}
+use Rattle.ruleset_text.specs.declared.fault.FaultPlace.{FaultPlace}
 use Rattle.table_cause.specs.declared.expected.Expected.{Expected}
 use Rattle.table_cause.specs.declared.expected.Expected.TheVariants as expected
-use Rattle.table_cause.specs.DefinitionPlaces.{names_defined}
 use Rattle.table_cause.specs.FaultPlaces.{unknown_place}
 use Rattle.table_cause.specs.LineNames.{place_of, unknown_name, unknown_name_from}
 use Rattle.ruleset_text.specs.PlacedLexemes.{Placed, placed_lexemes, unplaced}
-use Rattle.table_cause.proofs.DefinedNameLemmas.{names_are}
 use Rattle.table_cause.proofs.FormPointLemmas.{IsNoName, after_word, next_word}
 use Rattle.ruleset_text.proofs.PlacedLemmas.{unplaced-from}
-use Rattle.table_cause.proofs.WholeLimitLemmas.{some_mapped}
-use Rattle.variant_table.specs.declared.version.Notation.TheVariants.{Ruleset}
-use Rattle.variant_table.specs.declared.version.Version.TheVariants.{Three}
-use Rattle.variant_table.specs.Entries.{TableValue, empty_table}
 use Rattle.variant_table.specs.Forms.{knows_all, knows_names, knows_rule}
-use Rattle.variant_table.specs.Texts.{LinesSpell}
-use Rattle.variant_table.specs.Versions.{is_version_line}
-use Rattle.idn_class.specs.declared.properties.Properties.{Properties}
 
 -- ---- unknown names among words
 
@@ -69,7 +59,7 @@ named_word words.As w is at = absurd is
 named_word words.When w is at = absurd is
 named_word words.Unless w is at = absurd is
 
-either_told : (b : Bool) (p : WrongPlace) (o : Option WrongPlace) (rest : Bool) → is_some o ≡ rest → is_some (cond b (Some p) o) ≡ (b || rest)
+either_told : (b : Bool) (p : FaultPlace) (o : Option FaultPlace) (rest : Bool) → is_some o ≡ rest → is_some (cond b (Some p) o) ≡ (b || rest)
 either_told true p o rest e = refl
 either_told false p o rest e = e
 
@@ -200,16 +190,8 @@ module _ (d : Definitions) where
   form_has (m ∷ []) (Some last) is = alone_has m (Some last) is.0
   form_has (m ∷ n ∷ ms) (Some last) is = absurd is
 
-module _ (properties : Properties) where
-  pub unknown_refused : (head : List ℕ) (before : List (List ℕ)) (table : TableValue) (line : List ℕ) (form : EntryForm) → is_version_line Ruleset head ≡ true → LinesSpell (empty_table properties Three) before table
-      → entry_in (lexemes line) ≡ Some form → is_some (unknown_place (head ∷ before) line) ≡ not (knows_all table.definitions form.mapped)
-  unknown_refused head before table line form is spelled e =
-      let d = table.definitions in
-      let names = names_are properties head before table is spelled in
-      let read = read_words form (lexemes line) e in
-      let has = form_has d form.mapped form.last read.0 in
-      let are = subst (AreWords (entry_words form.mapped form.last)) (sym (unplaced-from 0 line)) read.1 in
-      some_mapped (unknown_name (names_defined keyword.Tag (head ∷ before)) (names_defined keyword.Rule (head ∷ before)) (placed_lexemes line))
-      ∙ ap (λ tags. is_some (unknown_name tags (names_defined keyword.Rule (head ∷ before)) (placed_lexemes line))) names.0
-      ∙ ap (λ rules. is_some (unknown_name d.tags rules (placed_lexemes line))) names.2
-      ∙ unknown_spelled d (placed_lexemes line) expected.Nothing (entry_words form.mapped form.last) has.0 are ∙ has.1
+pub unknown_refused : (d : Definitions) (line : List ℕ) (form : EntryForm) → entry_in (lexemes line) ≡ Some form → is_some (unknown_place d line) ≡ not (knows_all d form.mapped)
+unknown_refused d line form e =
+    let read = read_words form (lexemes line) e in
+    let has = form_has d form.mapped form.last read.0 in
+    unknown_spelled d (placed_lexemes line) expected.Nothing (entry_words form.mapped form.last) has.0 (subst (AreWords (entry_words form.mapped form.last)) (sym (unplaced-from 0 line)) read.1) ∙ has.1

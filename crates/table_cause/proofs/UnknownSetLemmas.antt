@@ -1,11 +1,12 @@
 -- A place is told of an unknown set exactly where reading refuses the definition for it.
 use Rattle.std.proofs.Common.{◌≡◌, ℕ, suc, ◌+◌, nat_lt, ◌==◌, Bool, true, false, cond, not, ◌||◌, ◌&&◌, List, [], ◌∷◌, ◌++◌, length, Option, Some, None, refl, sym, ap, ◌∙◌, inl, inr, append_assoc, append-nil, arith}
-use Rattle.std.specs.Prelude.{bytes_eq, drop, is_some, map}
+use Rattle.std.specs.Prelude.{bytes_eq, codes, drop, is_some, map}
 use Rattle.std.specs.List.{list_any}
 use Rattle.std.specs.Option.{option_map}
 use Rattle.std.proofs.Math.Bool.{and-false}
 use Rattle.std.proofs.lemmas.Bool.Decides.{nat_tests}
 use Rattle.std.proofs.lemmas.List.Folds.{list_any-append}
+use Rattle.std.proofs.lemmas.Slice.Eq.{bytes_eq-Decides}
 use Rattle.label_patterns.specs.declared.span.Span.{Span}
 use Rattle.label_patterns.specs.Patterns.{Pattern, Point, Set, Any, Start, End, Anchor, Group, Optional, Many, Then, Either}
 use Rattle.ruleset_text.specs.declared.definition.DemandKind.{DemandKind}
@@ -16,7 +17,8 @@ use Rattle.ruleset_text.specs.declared.token.Token.{Token}
 use Rattle.ruleset_text.specs.declared.token.Token.TheVariants as token
 use Rattle.ruleset_text.specs.Definition as definition
 use Rattle.ruleset_text.specs.Definition.{Definition, contexts_in, demand_in, keyword_of, rule_in, set_in, tag_in}
-use Rattle.ruleset_text.specs.Definitions.{has_known_sets}
+use Rattle.ruleset_text.specs.Definitions.{Definitions, has_known_sets}
+use Rattle.ruleset_text.specs.WellFormed.{AreDefinitions}
 use Rattle.ruleset_text.specs.EntryWords.{point_of}
 use Rattle.ruleset_text.specs.Grammar.{tokens}
 use Rattle.ruleset_text.specs.Lexemes.{lexemes}
@@ -30,25 +32,15 @@ use Rattle.ruleset_text.specs.SpanWords.{SpellSpans, SpellsSpan}
 use Rattle.ruleset_text.specs.Tokens.{mark_token, point_token, token_of, tokens_in, word_token}
 use Rattle.ruleset_text.proofs.PatternLemmas.{read_spelled}
 use Rattle.ruleset_text.proofs.SpanExactLemmas.{set_spelled}
-use Rattle.table_cause.specs.DefinitionPlaces.{names_defined}
 use Rattle.table_cause.specs.FaultPlaces.{definition_place}
 use Rattle.table_cause.specs.LineNames.{is_unknown, place_of, unknown_set}
 use Rattle.ruleset_text.specs.PlacedLexemes.{Placed, placed_lexemes, unplaced}
 use Rattle.table_cause.specs.LineDefinitions.{definition_by, definition_in}
-use Rattle.table_cause.proofs.CountedLimitLemmas.{spelled_sound}
-use Rattle.table_cause.proofs.DefinedNameLemmas.{keyword_text, names_are, text_of}
 use Rattle.table_cause.proofs.DefinitionPointLemmas.{at_none, is_at, mapped_found, such_found}
 use Rattle.ruleset_text.proofs.PlacedLemmas.{unplaced-from}
 use Rattle.table_cause.proofs.RefusedPlaceLemmas.{or_false}
-use Rattle.table_cause.proofs.WholeLimitLemmas.{some_mapped}
 use Rattle.ruleset_text.proofs.EntryStopLemmas.{none_some}
 use Rattle.variant_table.specs.declared.fault.TableFault.TheVariants as tables
-use Rattle.variant_table.specs.declared.version.Notation.TheVariants.{Ruleset}
-use Rattle.variant_table.specs.declared.version.Version.TheVariants.{Three}
-use Rattle.variant_table.specs.Entries.{TableValue, empty_table}
-use Rattle.variant_table.specs.Texts.{LinesSpell}
-use Rattle.variant_table.specs.Versions.{is_version_line}
-use Rattle.idn_class.specs.declared.properties.Properties.{Properties}
 
 -- ---- the number of a name
 
@@ -207,6 +199,29 @@ module _ (names : List (List ℕ)) where
   spans_told ws (s ∷ spans) (first, rest, cut, is, more) =
       ap (list_any (unknown names)) cut ∙ list_any-append (unknown names) first rest ∙ ap (λ b. b || list_any (unknown names) rest) (span_told s first is) ∙ spans_told rest spans more
 
+-- ---- the lexemes of a keyword
+
+abbrev text_of : Keyword → List ℕ
+text_of keyword.Tag = codes "%tag"
+text_of keyword.Set = codes "%set"
+text_of keyword.Rule = codes "%rule"
+text_of keyword.Never = codes "%never"
+text_of keyword.Always = codes "%always"
+
+one_tested : (word text : List ℕ) (j k : Keyword) (o : Option Keyword) → text ≡ text_of j → (o ≡ Some k → word ≡ text_of k) → cond (bytes_eq word text) (Some j) o ≡ Some k → word ≡ text_of k
+one_tested word text j k o is rest e = by (bytes_eq word text) refl e
+  where
+    by : (b : Bool) → bytes_eq word text ≡ b → cond b (Some j) o ≡ Some k → word ≡ text_of k
+    by true h f = let same : j ≡ k = cc in (bytes_eq-Decides word text).0 h ∙ is ∙ ap text_of same
+    by false h f = rest f
+
+keyword_text : (word : List ℕ) (k : Keyword) → keyword_of word ≡ Some k → word ≡ text_of k
+keyword_text word k e =
+    one_tested word (codes "%tag") keyword.Tag k _ refl
+    (one_tested word (codes "%set") keyword.Set k _ refl
+    (one_tested word (codes "%rule") keyword.Rule k _ refl
+    (one_tested word (codes "%never") keyword.Never k _ refl (one_tested word (codes "%always") keyword.Always k None refl (none_some (word ≡ text_of k) k))))) e
+
 -- ---- a definition
 
 named_if : {X : Type 0} (b : Bool) (f : X → Definition) (o : Option X) (x : Definition) → cond b (option_map f o) None ≡ Some x → (b ≡ true) × ((y : X) × (o ≡ Some y) × (f y ≡ x))
@@ -282,13 +297,8 @@ any_told names (w ∷ ws) = by (unknown names w.lexeme) (any_told names ws)
     by true rest = refl
     by false rest = rest
 
-module _ (properties : Properties) where
-  pub set_refused : (head : List ℕ) (before : List (List ℕ)) (table : TableValue) (number : ℕ) (line : List ℕ) (x : Definition) → is_version_line Ruleset head ≡ true → LinesSpell (empty_table properties Three) before table
-      → definition_in (names_on table.definitions.set_names (drop 1 (lexemes line))) (lexemes line) ≡ Some x
-      → is_some (definition_place properties (head ∷ before) (tables.NoSuchName number) line) ≡ not (has_known_sets (length table.definitions.sets) x)
-  set_refused head before table number line x is spelled e =
-      let names = table.definitions.set_names in
-      some_mapped (unknown_set (names_defined keyword.Set (head ∷ before)) (placed_lexemes line))
-      ∙ ap (λ sets. is_some (unknown_set sets (placed_lexemes line))) (names_are properties head before table is spelled).1
-      ∙ any_told names (placed_lexemes line) ∙ ap (list_any (unknown names)) (unplaced-from 0 line) ∙ line_told names (lexemes line) x e
-      ∙ ap (λ n. not (has_known_sets n x)) (spelled_sound properties before table spelled).named_sets
+pub set_refused : (d : Definitions) (number : ℕ) (line : List ℕ) (x : Definition) → AreDefinitions d → definition_in (names_on d.set_names (drop 1 (lexemes line))) (lexemes line) ≡ Some x
+    → is_some (definition_place d (tables.NoSuchName number) line) ≡ not (has_known_sets (length d.sets) x)
+set_refused d number line x are e =
+    any_told d.set_names (placed_lexemes line) ∙ ap (list_any (unknown d.set_names)) (unplaced-from 0 line) ∙ line_told d.set_names (lexemes line) x e
+    ∙ ap (λ n. not (has_known_sets n x)) are.named_sets

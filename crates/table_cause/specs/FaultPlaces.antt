@@ -1,16 +1,13 @@
 -- Where a line of a table has its fault. Places are bytes of the line, counted from 0.
-use Rattle.std.specs.Prelude.{ℕ, ◌-◌, nat_lt, ◌==◌, Bool, true, false, ◌||◌, ◌&&◌, not, Option, Some, None, List, [], ◌∷◌, ◌++◌, length, take, find, bytes_eq, slice_get, if◌then◌else◌}
+use Rattle.std.specs.Prelude.{ℕ, nat_lt, ◌==◌, Bool, true, false, ◌||◌, ◌&&◌, not, Option, Some, None, List, [], ◌∷◌, ◌++◌, length, find, bytes_eq, if◌then◌else◌}
 use Rattle.std.specs.List.{range_with_len}
 use Rattle.std.specs.Option.{option_map}
 use Rattle.std.specs.Result.{result_err, result_ok}
 use Rattle.std.specs.Str.Lines.{strip_carriage_return}
 use Rattle.idn_class.specs.Class.{class_of}
-use Rattle.idn_text.specs.Lines.{raw_lines}
-use Rattle.table_cause.specs.declared.entry_place.WrongPlace.{WrongPlace}
-use Rattle.table_cause.specs.declared.entry_place.WrongPlace.TheVariants as wrong
 use Rattle.table_cause.specs.declared.line_point.LinePoint.{LinePoint}
 use Rattle.ruleset_text.specs.declared.entry_form.NamedCondition.{NamedCondition}
-use Rattle.ruleset_text.specs.declared.keyword.Keyword.TheVariants as keyword
+use Rattle.ruleset_text.specs.Definitions.{Definitions}
 use Rattle.ruleset_text.specs.Entries.{EntryForm, Mapped}
 use Rattle.ruleset_text.specs.DefinitionReading.{line_read}
 use Rattle.ruleset_text.specs.EntrySteps.{entry_read}
@@ -23,14 +20,14 @@ use Rattle.variant_table.specs.declared.fault.TableFault.TheVariants as tables
 use Rattle.ruleset_text.specs.declared.fault.FaultPlace.{FaultPlace}
 use Rattle.ruleset_text.specs.declared.fault.FaultPlace.TheVariants.{Lexeme, End, Point, InRange, Variant, Source, Byte, NinthPoint, SeventeenthVariant}
 use Rattle.variant_table.specs.Conditions.{is_same_kind}
-use Rattle.table_cause.specs.DefinitionPlaces.{definition_limit, names_defined}
+use Rattle.table_cause.specs.DefinitionPlaces.{definition_limit}
 use Rattle.variant_table.specs.declared.version.Notation.{Notation}
 use Rattle.variant_table.specs.declared.version.Version.{Version}
 use Rattle.variant_table.specs.declared.version.Version.TheVariants.{One, Two, Three}
+use Rattle.variant_table.specs.FaultyLines.{FaultyLine, faulty_line}
 use Rattle.variant_table.specs.Forms.{parts_of}
 use Rattle.variant_table.specs.Limits.{line_limit}
 use Rattle.variant_table.specs.Ranges.{range_size}
-use Rattle.variant_table.specs.Versions.{version_of}
 use Rattle.variant_table.specs.WellFormed.{is_table_class}
 use Rattle.idn_class.specs.declared.properties.Properties.{Properties}
 
@@ -46,10 +43,6 @@ abbrev pub defines : Version → List ℕ → Bool
 defines One line = false
 defines Two line = false
 defines Three line = begins_in_percent line
-
-abbrev pub as_fault : WrongPlace → FaultPlace
-as_fault (wrong.Lexeme place len) = Lexeme place len
-as_fault (wrong.End place) = End place
 
 -- where a line stops defining something; its sets may be any
 unfoldable pub definition_stop : List ℕ → Option FaultPlace
@@ -141,70 +134,42 @@ form_place properties tables.Memory (Some form) points = None
 abbrev pub entry_place : Properties → Version → TableFault → List ℕ → Option FaultPlace
 entry_place properties version fault line = form_place properties fault (result_ok (entry_read (parts_of version) line)) (line_points line)
 
--- a tag or a rule of an entry that none of the lines before defines
-abbrev pub unknown_place : List (List ℕ) → List ℕ → Option FaultPlace
-unknown_place before line =
-    option_map as_fault (unknown_name (names_defined keyword.Tag before) (names_defined keyword.Rule before) (placed_lexemes line))
+-- a tag or a rule of an entry that is none of those defined
+abbrev pub unknown_place : Definitions → List ℕ → Option FaultPlace
+unknown_place d line = unknown_name d.tags d.rule_names (placed_lexemes line)
 
 -- what is past a limit in a line, unless it defines nothing: then the limit is that of the text
-abbrev pub limit_if_whole : Option FaultPlace → List (List ℕ) → List ℕ → Option WrongPlace
-limit_if_whole (Some stop) before line = None
-limit_if_whole None before line = definition_limit before line
+abbrev pub limit_if_whole : Option FaultPlace → Definitions → List ℕ → Option FaultPlace
+limit_if_whole (Some stop) d line = None
+limit_if_whole None d line = definition_limit d line
 
--- of a line that is to define something: the name that none of the lines before has, or that one has; the first code point that is
--- bad; what is past a limit
-abbrev pub definition_place : Properties → List (List ℕ) → TableFault → List ℕ → Option FaultPlace
-definition_place properties before (tables.NoSuchName number) line = option_map as_fault (unknown_set (names_defined keyword.Set before) (placed_lexemes line))
-definition_place properties before (tables.SameName number) line = option_map as_fault (second_place (placed_lexemes line))
-definition_place properties before (tables.BadClass number) line = point_place properties (definition_points line)
-definition_place properties before (tables.Limit number) line = option_map as_fault (limit_if_whole (definition_stop line) before line)
-definition_place properties before fault line = None
+-- of a line that is to define something: the name that is none of those defined, or one of them; the first code point that is bad;
+-- what is past a limit
+abbrev pub definition_place : Definitions → TableFault → List ℕ → Option FaultPlace
+definition_place d (tables.NoSuchName number) line = unknown_set d.set_names (placed_lexemes line)
+definition_place d (tables.SameName number) line = second_place (placed_lexemes line)
+definition_place d (tables.BadClass number) line = point_place d.properties (definition_points line)
+definition_place d (tables.Limit number) line = limit_if_whole (definition_stop line) d line
+definition_place d fault line = None
 
 -- of an entry or a range
-abbrev pub other_place : Properties → Version → List (List ℕ) → TableFault → List ℕ → Option FaultPlace
-other_place properties version before (tables.NoSuchName number) line = unknown_place before line
-other_place properties version before fault line = entry_place properties version fault line
+abbrev pub other_place : Version → Definitions → TableFault → List ℕ → Option FaultPlace
+other_place version d (tables.NoSuchName number) line = unknown_place d line
+other_place version d fault line = entry_place d.properties version fault line
 
-abbrev pub body_place : Properties → Version → List (List ℕ) → TableFault → List ℕ → Option FaultPlace
-body_place properties version before (tables.Syntax number) line = syntax_place version line
-body_place properties version before fault line = if defines version line then definition_place properties before fault line else other_place properties version before fault line
+abbrev pub body_place : Version → Definitions → TableFault → List ℕ → Option FaultPlace
+body_place version d (tables.Syntax number) line = syntax_place version line
+body_place version d fault line = if defines version line then definition_place d fault line else other_place version d fault line
 
 -- of a line as it stands in the text: the first byte past its limit, or what is within it, less one carriage return at its end
-abbrev pub line_place : Properties → Version → List (List ℕ) → TableFault → List ℕ → Option FaultPlace
-line_place properties version before fault line =
-    if nat_lt (line_limit version) (length line) then Some (Byte (line_limit version)) else body_place properties version before fault (strip_carriage_return line)
+abbrev pub line_place : Version → Definitions → TableFault → List ℕ → Option FaultPlace
+line_place version d fault line =
+    if nat_lt (line_limit version) (length line) then Some (Byte (line_limit version)) else body_place version d fault (strip_carriage_return line)
 
--- the line of a fault, from 1
-abbrev pub line_number : TableFault → Option ℕ
-line_number (tables.Syntax line) = Some line
-line_number (tables.SameSource line) = Some line
-line_number (tables.SameVariant line) = Some line
-line_number (tables.BadClass line) = Some line
-line_number (tables.Limit line) = Some line
-line_number (tables.NoSuchName line) = Some line
-line_number (tables.SameName line) = Some line
-line_number tables.Memory = None
+abbrev pub place_at : TableFault → Option FaultyLine → Option FaultPlace
+place_at fault None = None
+place_at fault (Some f) = line_place f.version f.definitions fault f.line
 
--- the line of this number
-abbrev pub line_at : List (List ℕ) → Option ℕ → Option (List ℕ)
-line_at lines None = None
-line_at lines (Some number) = slice_get lines (number - 1)
-
--- that of a fault, as it stands in the text
-abbrev pub faulty_line : List ℕ → TableFault → Option (List ℕ)
-faulty_line text fault = line_at (raw_lines text) (line_number fault)
-
--- the lines before the one of this number
-abbrev pub lines_before : List (List ℕ) → Option ℕ → List (List ℕ)
-lines_before lines None = []
-lines_before lines (Some number) = take (number - 1) lines
-
--- none of a text that lacks its version
-abbrev pub place_in : Properties → Option Version → List (List ℕ) → Option (List ℕ) → TableFault → Option FaultPlace
-place_in properties None before line fault = None
-place_in properties (Some version) before None fault = None
-place_in properties (Some version) before (Some line) fault = line_place properties version before fault line
-
--- where the line of the fault has it, if a place is told
+-- where the first faulty line of a text has the fault, if a place is told
 unfoldable pub fault_place : Properties → Notation → List ℕ → TableFault → Option FaultPlace
-fault_place properties notation text fault = place_in properties (version_of notation (raw_lines text)) (lines_before (raw_lines text) (line_number fault)) (faulty_line text fault) fault
+fault_place properties notation text fault = place_at fault (faulty_line properties notation text)

@@ -1,8 +1,8 @@
 -- The names on a line, and where what a definition may not have stands on its line. Places are bytes, counted from 0.
 use Rattle.std.specs.Prelude.{◌≡◌, ℕ, Bool, true, false, not, Option, Some, None, List, [], ◌∷◌, ◌++◌, length, if◌then◌else◌}
 use Rattle.std.specs.List.{AllByRecursion}
-use Rattle.table_cause.specs.declared.entry_place.WrongPlace.{WrongPlace}
-use Rattle.table_cause.specs.declared.entry_place.WrongPlace.TheVariants.{Lexeme}
+use Rattle.ruleset_text.specs.declared.fault.FaultPlace.{FaultPlace}
+use Rattle.ruleset_text.specs.declared.fault.FaultPlace.TheVariants.{Lexeme}
 use Rattle.ruleset_text.specs.declared.keyword.Keyword.{Keyword}
 use Rattle.ruleset_text.specs.declared.keyword.Keyword.TheVariants as keyword
 use Rattle.table_cause.specs.declared.expected.Expected.{Expected}
@@ -15,29 +15,15 @@ use Rattle.ruleset_text.specs.Names.{is_one_of}
 use Rattle.ruleset_text.specs.PlacedLexemes.{Placed, placed_lexemes}
 use Rattle.ruleset_text.specs.SetNames.{set_name}
 
--- there is a keyword, and it is this one
-abbrev pub is_keyword : Option Keyword → Keyword → Bool
-is_keyword (Some keyword.Tag) keyword.Tag = true
-is_keyword (Some keyword.Set) keyword.Set = true
-is_keyword (Some keyword.Rule) keyword.Rule = true
-is_keyword (Some keyword.Never) keyword.Never = true
-is_keyword (Some keyword.Always) keyword.Always = true
-is_keyword other k = false
-
--- the name that a line defines by this keyword
-abbrev pub defined_name : Keyword → List (List ℕ) → Option (List ℕ)
-defined_name k (word ∷ name ∷ words) = if is_keyword (keyword_of word) k then Some name else None
-defined_name k words = None
-
-abbrev pub place_of : Placed → WrongPlace
+abbrev pub place_of : Placed → FaultPlace
 place_of w = Lexeme w.place (length w.lexeme)
 
 -- the keyword, and the name after it
-abbrev pub first_place : List Placed → Option WrongPlace
+abbrev pub first_place : List Placed → Option FaultPlace
 first_place [] = None
 first_place (w ∷ ws) = Some (place_of w)
 
-abbrev pub second_place : List Placed → Option WrongPlace
+abbrev pub second_place : List Placed → Option FaultPlace
 second_place [] = None
 second_place (w ∷ ws) = first_place ws
 
@@ -48,7 +34,7 @@ abbrev pub is_unknown : List (List ℕ) → Option (List ℕ) → Bool
 is_unknown sets None = false
 is_unknown sets (Some name) = not (is_one_of sets name)
 
-abbrev pub unknown_set : List (List ℕ) → List Placed → Option WrongPlace
+abbrev pub unknown_set : List (List ℕ) → List Placed → Option FaultPlace
 unknown_set sets [] = None
 unknown_set sets (w ∷ ws) = if is_unknown sets (set_name w.lexeme) then Some (place_of w) else unknown_set sets ws
 
@@ -58,18 +44,18 @@ is_unexpected tags rules expected.Nothing w = false
 is_unexpected tags rules expected.Tag w = not (is_one_of tags w)
 is_unexpected tags rules expected.Rule w = not (is_one_of rules w)
 
-abbrev pub unknown_name_from : List (List ℕ) → List (List ℕ) → Expected → List Placed → Option WrongPlace
+abbrev pub unknown_name_from : List (List ℕ) → List (List ℕ) → Expected → List Placed → Option FaultPlace
 unknown_name_from tags rules e [] = None
 unknown_name_from tags rules e (w ∷ ws) =
     if is_unexpected tags rules e w.lexeme then Some (place_of w) else unknown_name_from tags rules (expected_next e w.lexeme) ws
 
-abbrev pub unknown_name : List (List ℕ) → List (List ℕ) → List Placed → Option WrongPlace
+abbrev pub unknown_name : List (List ℕ) → List (List ℕ) → List Placed → Option FaultPlace
 unknown_name tags rules ws = unknown_name_from tags rules expected.Nothing ws
 
 -- ---- the same by what they have to be
 
 -- a lexeme of which this is true, and of none before it
-pub record IsFirstLexeme (test : List ℕ → Bool) (ws : List Placed) (place : WrongPlace) : Type 0 where
+pub record IsFirstLexeme (test : List ℕ → Bool) (ws : List Placed) (place : FaultPlace) : Type 0 where
   pub before : List Placed
   pub w : Placed
   pub after : List Placed
@@ -89,7 +75,7 @@ AreKnown tags rules e [] = Unit {0}
 AreKnown tags rules e (w ∷ ws) = (is_unexpected tags rules e w.lexeme ≡ false) × AreKnown tags rules (expected_next e w.lexeme) ws
 
 -- a lexeme that names a tag or a rule that is not known, after those that name none such
-pub record IsFirstUnknown (tags rules : List (List ℕ)) (e : Expected) (ws : List Placed) (place : WrongPlace) : Type 0 where
+pub record IsFirstUnknown (tags rules : List (List ℕ)) (e : Expected) (ws : List Placed) (place : FaultPlace) : Type 0 where
   pub before : List Placed
   pub w : Placed
   pub after : List Placed

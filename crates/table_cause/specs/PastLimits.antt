@@ -1,7 +1,7 @@
 -- Which lexeme of a pattern goes past a limit, by the patterns that begin so.
 use Rattle.std.specs.Prelude.{◌≡◌, ◌≤◌, ℕ, nat_lt, Bool, false, ◌||◌, List, [], ◌∷◌, ◌++◌}
 use Rattle.label_patterns.specs.Patterns.{Pattern}
-use Rattle.table_cause.specs.declared.entry_place.WrongPlace.{WrongPlace}
+use Rattle.ruleset_text.specs.declared.fault.FaultPlace.{FaultPlace}
 use Rattle.ruleset_text.specs.declared.token.Token.{Token}
 use Rattle.ruleset_text.specs.Definition as definition
 use Rattle.ruleset_text.specs.Definition.{Definition}
@@ -21,7 +21,7 @@ abbrev pub Fit : ℕ → List Placed → Type 0
 Fit left ws = (atoms_among ws ≤ left) × BeginsWithin (tokens_in [] (unplaced ws))
 
 -- a lexeme with which they go past a limit, and those before it don't
-pub record IsFirstPast (left : ℕ) (ws : List Placed) (place : WrongPlace) : Type 0 where
+pub record IsFirstPast (left : ℕ) (ws : List Placed) (place : FaultPlace) : Type 0 where
   pub before : List Placed
   pub w : Placed
   pub after : List Placed

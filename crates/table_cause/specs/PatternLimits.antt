@@ -1,6 +1,6 @@
 -- Where the pattern of a rule or a demand goes past a limit. Places are bytes of the line, counted from 0.
 use Rattle.std.specs.Prelude.{ℕ, ◌+◌, ◌-◌, nat_le, ◌==◌, max, Bool, true, false, ◌||◌, ◌&&◌, Option, Some, None, List, [], ◌∷◌, length, if◌then◌else◌}
-use Rattle.table_cause.specs.declared.entry_place.WrongPlace.{WrongPlace}
+use Rattle.ruleset_text.specs.declared.fault.FaultPlace.{FaultPlace}
 use Rattle.ruleset_text.specs.declared.keyword.Keyword.{Keyword}
 use Rattle.ruleset_text.specs.declared.keyword.Keyword.TheVariants as keyword
 use Rattle.ruleset_text.specs.declared.token.Token.{Token}
@@ -79,12 +79,12 @@ abbrev pub is_past : ℕ → Nesting → Token → Bool
 is_past left n t = is_too_deep n t || is_counted t && (left == 0)
 
 -- the first such lexeme
-abbrev pub past_from : ℕ → Nesting → List Placed → Option WrongPlace
+abbrev pub past_from : ℕ → Nesting → List Placed → Option FaultPlace
 past_from left n [] = None
 past_from left n (w ∷ ws) =
     if is_past left n (token_of [] w.lexeme) then Some (place_of w) else
     past_from (left - atoms_at (token_of [] w.lexeme)) (with_token n (token_of [] w.lexeme)) ws
 
 -- that of a pattern that may have so many atoms
-abbrev pub first_past : ℕ → List Placed → Option WrongPlace
+abbrev pub first_past : ℕ → List Placed → Option FaultPlace
 first_past left ws = past_from left no_nesting ws

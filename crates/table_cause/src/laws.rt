@@ -5,15 +5,14 @@ ghost use Rattle.ruleset_text.specs.Entries.{EntryForm};
 ghost use Rattle.std.specs.List.{list_any};
 ghost use Rattle.ruleset_text.specs.Definition.{Definition};
 ghost use Rattle.ruleset_text.specs.Definitions as defined;
-ghost use Rattle.ruleset_text.specs.Definitions.{Definitions, definition_atoms, has_known_sets, is_one_too_many};
+ghost use Rattle.ruleset_text.specs.Definitions.{Definitions, has_known_sets, is_one_too_many};
+ghost use Rattle.ruleset_text.specs.WellFormed.{AreDefinitions};
 ghost use Rattle.ruleset_text.specs.EntrySteps.{entry_in};
 ghost use Rattle.ruleset_text.specs.Lexemes.{lexemes};
-ghost use Rattle.ruleset_text.specs.declared.keyword.Keyword.TheVariants as keywords;
 ghost use Rattle.ruleset_text.specs.SetNames.{names_on, set_name};
-ghost use Rattle.table_cause.specs.DefinitionPlaces.{definition_limit, names_defined};
 ghost use Rattle.table_cause.specs.LineNames.{definition_points, IsFirstLexeme, IsFirstUnknown, is_unknown, unknown_name, unknown_set};
 ghost use Rattle.table_cause.specs.PastLimits.{IsFirstPast, is_definition_past};
-ghost use Rattle.table_cause.specs.PatternLimits.{atoms_among, first_past, pattern_in};
+ghost use Rattle.table_cause.specs.PatternLimits.{first_past, pattern_in};
 ghost use Rattle.ruleset_text.specs.PlacedLexemes.{Placed, placed_lexemes};
 ghost use Rattle.table_cause.specs.LineDefinitions.{Define, definition_in};
 ghost use Rattle.ruleset_text.specs.EntryStops.{FitsNames};
@@ -22,17 +21,11 @@ ghost use Rattle.table_cause.specs.FaultPlaces.{class_place, definition_place, l
 ghost use Rattle.idn_class.specs.declared.properties.Properties.{Properties};
 ghost use Rattle.table_cause.specs.LinePoints.{line_points};
 ghost use Rattle.variant_table.specs.declared.fault.TableFault.TheVariants as tables;
-ghost use Rattle.variant_table.specs.declared.version.Notation.TheVariants.{Ruleset};
-ghost use Rattle.variant_table.specs.declared.version.Version.TheVariants.{Three};
-ghost use Rattle.variant_table.specs.Entries.{TableValue, empty_table};
 ghost use Rattle.variant_table.specs.Conditions.{has_bad_class, has_repeat, is_too_large};
 ghost use Rattle.variant_table.specs.Forms.{entries_of, knows_all, parts_of, written_out};
-ghost use Rattle.variant_table.specs.Texts.{LinesSpell};
-ghost use Rattle.variant_table.specs.Versions.{is_version_line};
 ghost use Rattle.table_cause.specs.PlaceExamples.{ExamplesOfPlaces};
 ghost use Rattle.table_cause.specs.ToldPlaces.{IsFirstBad, IsSyntaxPlace};
 
-use crate::entry_place::WrongPlace;
 use ruleset_text::FaultPlace;
 use variant_table::Version;
 
@@ -51,62 +44,41 @@ pub fn definitions_compute_the_places()
 
 /// The place that is told of a name is that of the first lexeme that names a set, a tag or a rule that is none of those given.
 pub fn unknown_names_are_told()
-    ensures sets { (sets : List (List ℕ)) (ws : List Placed) (place : WrongPlace) →
+    ensures sets { (sets : List (List ℕ)) (ws : List Placed) (place : FaultPlace) →
         (unknown_set sets ws ≡ Some place) ↔ IsFirstLexeme (λ lexeme. is_unknown sets (set_name lexeme)) ws place }
-    ensures names { (tags rules : List (List ℕ)) (ws : List Placed) (place : WrongPlace) →
+    ensures names { (tags rules : List (List ℕ)) (ws : List Placed) (place : FaultPlace) →
         (unknown_name tags rules ws ≡ Some place) ↔ IsFirstUnknown tags rules Nothing ws place }
 {}
 
 /// The lexeme that is told of a pattern past a limit is the first with which no pattern within the limits begins, or which is an
-/// atom too many. One is told of a definition exactly if its pattern is past a limit. The atoms that are counted on a line are
-/// those of what it defines, however its sets are numbered.
+/// atom too many. One is told of a definition exactly if its pattern is past a limit.
 pub fn patterns_past_limits_are_told()
-    ensures place { (left : ℕ) (line : List ℕ) (place : WrongPlace) → Define (lexemes line) →
+    ensures place { (left : ℕ) (line : List ℕ) (place : FaultPlace) → Define (lexemes line) →
         (first_past left (pattern_in (placed_lexemes line)) ≡ Some place) ↔ IsFirstPast left (pattern_in (placed_lexemes line)) place }
     ensures whole { (names : List (List ℕ)) (line : List ℕ) (left : ℕ) (definition : Definition) → definition_in names (lexemes line) ≡ Some definition →
         is_some (first_past left (pattern_in (placed_lexemes line))) ≡ is_definition_past left definition }
-    ensures atoms { (names : List (List ℕ)) (line : List ℕ) (definition : Definition) → definition_in names (lexemes line) ≡ Some definition →
-        atoms_among (pattern_in (placed_lexemes line)) ≡ definition_atoms definition }
 {}
 
-/// A place is told of a definition past a limit exactly if it is one too many for the table that the lines before it spell, after
-/// their version line: if it is one of its kind too many, or its pattern has too many groups or `*` within each other, or too many
-/// atoms. So what is counted on the lines before is what reading has kept of them.
-pub fn definitions_past_limits_are_told()
-    ensures { (properties : Properties) (head : List ℕ) (before : List (List ℕ)) (table : TableValue) (names : List (List ℕ)) (line : List ℕ) (definition : Definition) →
-        is_version_line Ruleset head ≡ true → LinesSpell (empty_table properties Three) before table → definition_in names (lexemes line) ≡ Some definition →
-        is_some (definition_limit (head ∷ before) line) ≡ is_one_too_many table.definitions definition }
-{}
-
-/// Past a limit a place is told only of a line that defines something, and then exactly if that is one too many for the table that
-/// the lines before it spell. Where a line defines nothing, the limit is that of the text, and no part of the line is told.
+/// Past a limit a place is told only of a line that defines something, and then exactly if that is one too many: one of its kind too
+/// many, or its pattern has too many groups or `*` within each other, or too many atoms. Where a line defines nothing, the limit is
+/// that of the text, and no part of the line is told.
 pub fn limits_are_told_of_definitions()
-    ensures nothing { (properties : Properties) (before : List (List ℕ)) (number : ℕ) (names : List (List ℕ)) (line : List ℕ) → definition_in names (lexemes line) ≡ None →
-        definition_place properties before (tables.Limit number) line ≡ None }
-    ensures one_too_many { (properties : Properties) (head : List ℕ) (before : List (List ℕ)) (table : TableValue) (number : ℕ) (names : List (List ℕ)) (line : List ℕ) (definition : Definition) →
-        is_version_line Ruleset head ≡ true → LinesSpell (empty_table properties Three) before table → definition_in names (lexemes line) ≡ Some definition →
-        is_some (definition_place properties (head ∷ before) (tables.Limit number) line) ≡ is_one_too_many table.definitions definition }
+    ensures nothing { (d : Definitions) (number : ℕ) (names : List (List ℕ)) (line : List ℕ) → definition_in names (lexemes line) ≡ None →
+        definition_place d (tables.Limit number) line ≡ None }
+    ensures one_too_many { (d : Definitions) (number : ℕ) (names : List (List ℕ)) (line : List ℕ) (definition : Definition) → AreDefinitions d →
+        definition_in names (lexemes line) ≡ Some definition → is_some (definition_place d (tables.Limit number) line) ≡ is_one_too_many d definition }
 {}
 
-/// The names that the lines before define, after their version line, are those of the table that they spell. A place is told of an
-/// entry or of a range exactly where reading refuses it: for a name, if that table lacks a tag or a rule that it names; past a limit,
-/// if it has too many variants or too long a sequence; for a class, if some code point of its entries may not be held, whatever is
-/// defined; and for a variant that is given again, if its names are defined, which reading tests before. One is told of a set or of a
+/// A place is told of an entry or of a range exactly where reading refuses it: for a name, if a tag or a rule that it names isn't
+/// defined; past a limit, if it has too many variants or too long a sequence; for a class, if some code point of its entries may not
+/// be held; and for a variant that is given again, if its names are defined, which reading tests before. One is told of a set or of a
 /// code point of a definition exactly if reading refuses the definition for one.
 pub fn places_are_told_where_reading_refuses()
-    ensures tags { (properties : Properties) (head : List ℕ) (before : List (List ℕ)) (table : TableValue) → is_version_line Ruleset head ≡ true → LinesSpell (empty_table properties Three) before table →
-        names_defined keywords.Tag (head ∷ before) ≡ table.definitions.tags }
-    ensures sets { (properties : Properties) (head : List ℕ) (before : List (List ℕ)) (table : TableValue) → is_version_line Ruleset head ≡ true → LinesSpell (empty_table properties Three) before table →
-        names_defined keywords.Set (head ∷ before) ≡ table.definitions.set_names }
-    ensures rules { (properties : Properties) (head : List ℕ) (before : List (List ℕ)) (table : TableValue) → is_version_line Ruleset head ≡ true → LinesSpell (empty_table properties Three) before table →
-        names_defined keywords.Rule (head ∷ before) ≡ table.definitions.rule_names }
-    ensures unknown { (properties : Properties) (head : List ℕ) (before : List (List ℕ)) (table : TableValue) (line : List ℕ) (form : EntryForm) →
-        is_version_line Ruleset head ≡ true → LinesSpell (empty_table properties Three) before table → entry_in (lexemes line) ≡ Some form →
-        is_some (unknown_place (head ∷ before) line) ≡ not (knows_all table.definitions form.mapped) }
-    ensures unknown_set { (properties : Properties) (head : List ℕ) (before : List (List ℕ)) (table : TableValue) (number : ℕ) (line : List ℕ) (definition : Definition) →
-        is_version_line Ruleset head ≡ true → LinesSpell (empty_table properties Three) before table →
-        definition_in (names_on table.definitions.set_names (drop 1 (lexemes line))) (lexemes line) ≡ Some definition →
-        is_some (definition_place properties (head ∷ before) (tables.NoSuchName number) line) ≡ not (has_known_sets (length table.definitions.sets) definition) }
+    ensures unknown { (d : Definitions) (line : List ℕ) (form : EntryForm) → entry_in (lexemes line) ≡ Some form →
+        is_some (unknown_place d line) ≡ not (knows_all d form.mapped) }
+    ensures unknown_set { (d : Definitions) (number : ℕ) (line : List ℕ) (definition : Definition) → AreDefinitions d →
+        definition_in (names_on d.set_names (drop 1 (lexemes line))) (lexemes line) ≡ Some definition →
+        is_some (definition_place d (tables.NoSuchName number) line) ≡ not (has_known_sets (length d.sets) definition) }
     ensures limit { (line : List ℕ) (form : EntryForm) → entry_in (lexemes line) ≡ Some form →
         is_some (limit_place (line_points line)) ≡ list_any is_too_large (written_out form) }
     ensures class { (properties : Properties) (definitions : Definitions) (line : List ℕ) (form : EntryForm) → entry_in (lexemes line) ≡ Some form →

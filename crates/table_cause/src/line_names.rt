@@ -2,54 +2,39 @@
 //! known to be faulty.
 ghost use Rattle.std.specs.Prelude.{◌≡◌};
 ghost use Rattle.std.specs.Option.{option_copied};
-ghost use Rattle.ruleset_text.specs.Lexemes.{lexemes};
 ghost use Rattle.table_cause.specs.LineNames as lines;
 ghost use Rattle.ruleset_text.specs.PlacedLexemes.{placed_lexemes};
 ghost use Rattle.ruleset_text.specs.SetNames.{set_name as set_name_of};
 
-use crate::entry_place::WrongPlace;
 use crate::expected::{Expected, expected_next};
-use ruleset_text::{Keyword, Name, PlacedLexemes, is_one_of, keyword_of, next_lexeme, set_name};
-
-/// The name that a line defines by a keyword, if it begins with it.
-pub fn defined_name(keyword: Keyword, line: &[u8]) -> Option<&[u8]>
-    ensures { option_copied result ≡ lines.defined_name keyword (lexemes line.now) }
-{
-    let (word, rest) = next_lexeme(line)?;
-    let (name, _) = next_lexeme(rest)?;
-    if keyword_of(word) == Some(keyword) {
-        Some(name)
-    } else {
-        None
-    }
-}
+use ruleset_text::{FaultPlace, Name, PlacedLexemes, is_one_of, set_name};
 
 /// Where the first lexeme of a line stands: that of a definition is its keyword.
-pub fn keyword_place(line: &[u8]) -> Option<WrongPlace>
+pub fn keyword_place(line: &[u8]) -> Option<FaultPlace>
     ensures { result ≡ lines.first_place (placed_lexemes line.now) }
 {
     let (place, lexeme) = PlacedLexemes::new(line).next()?;
-    Some(WrongPlace::Lexeme(place, lexeme.len()))
+    Some(FaultPlace::Lexeme(place, lexeme.len()))
 }
 
 /// Where the second lexeme of a line stands: that of a tag, a set or a rule is its name.
-pub fn name_place(line: &[u8]) -> Option<WrongPlace>
+pub fn name_place(line: &[u8]) -> Option<FaultPlace>
     ensures { result ≡ lines.second_place (placed_lexemes line.now) }
 {
     let mut lexemes = PlacedLexemes::new(line);
     lexemes.next()?;
     let (place, lexeme) = lexemes.next()?;
-    Some(WrongPlace::Lexeme(place, lexeme.len()))
+    Some(FaultPlace::Lexeme(place, lexeme.len()))
 }
 
 /// Where a line first names a set by `@` and a name that is none of these.
-pub fn unknown_set(sets: &[Name], line: &[u8]) -> Option<WrongPlace>
+pub fn unknown_set(sets: &[Name], line: &[u8]) -> Option<FaultPlace>
     ensures { result ≡ lines.unknown_set sets.now (placed_lexemes line.now) }
 {
     let mut lexemes = PlacedLexemes::new(line);
     while let Some((place, lexeme)) = lexemes.next() {
         if is_unknown(sets, set_name(lexeme)) {
-            return Some(WrongPlace::Lexeme(place, lexeme.len()));
+            return Some(FaultPlace::Lexeme(place, lexeme.len()));
         }
     }
     None
@@ -65,14 +50,14 @@ fn is_unknown(sets: &[Name], name: Option<&[u8]>) -> bool
 }
 
 /// Where an entry first names a tag or a rule that is none of these.
-pub fn unknown_name(tags: &[Name], rules: &[Name], line: &[u8]) -> Option<WrongPlace>
+pub fn unknown_name(tags: &[Name], rules: &[Name], line: &[u8]) -> Option<FaultPlace>
     ensures { result ≡ lines.unknown_name tags.now rules.now (placed_lexemes line.now) }
 {
     let mut expected = Expected::Nothing;
     let mut lexemes = PlacedLexemes::new(line);
     while let Some((place, lexeme)) = lexemes.next() {
         if is_unexpected(tags, rules, expected, lexeme) {
-            return Some(WrongPlace::Lexeme(place, lexeme.len()));
+            return Some(FaultPlace::Lexeme(place, lexeme.len()));
         }
         expected = expected_next(expected, lexeme);
     }

@@ -5,9 +5,10 @@ ghost use Rattle.table_cause.specs.PatternLimits.{is_too_deep as too_deep, no_ne
 ghost use Rattle.ruleset_text.specs.PlacedLexemes.{placed_lexemes};
 ghost use Rattle.table_cause.specs.inner.NestingSteps.{nesting_of};
 
-use crate::entry_place::WrongPlace;
 use arrayvec::ArrayVec;
-use ruleset_text::{GROUP_LIMIT, Keyword, PlacedLexemes, STAR_LIMIT, Token, keyword_of, token_of};
+use ruleset_text::{
+    FaultPlace, GROUP_LIMIT, Keyword, PlacedLexemes, STAR_LIMIT, Token, keyword_of, token_of,
+};
 
 /// How many `*` stand within each other in a pattern, as far as it was read.
 #[derive(Drop)]
@@ -22,7 +23,7 @@ struct Nesting {
 
 /// The first lexeme with which the pattern of a line goes past a limit, if it may have so many atoms: a group within eight
 /// others, a `*` after an atom in which two stand within each other, or an atom too many. It takes no memory.
-pub fn first_past(atoms: usize, line: &[u8]) -> Option<WrongPlace>
+pub fn first_past(atoms: usize, line: &[u8]) -> Option<FaultPlace>
     ensures { result ≡ limits.first_past atoms (limits.pattern_in (placed_lexemes line.now)) }
 {
     let mut lexemes = pattern_lexemes(line)?;
@@ -31,26 +32,12 @@ pub fn first_past(atoms: usize, line: &[u8]) -> Option<WrongPlace>
     while let Some((place, lexeme)) = lexemes.next() {
         let token = token_of(&[], lexeme);
         if nesting.is_too_deep(token) || is_counted(token) && left == 0 {
-            return Some(WrongPlace::Lexeme(place, lexeme.len()));
+            return Some(FaultPlace::Lexeme(place, lexeme.len()));
         }
         left = without_atom(left, token);
         nesting.read(token);
     }
     None
-}
-
-/// How many of so many atoms are left by the pattern of a line, if it has one.
-pub fn atoms_left(atoms: usize, line: &[u8]) -> usize
-    ensures { result ≡ atoms - limits.atoms_among (limits.pattern_in (placed_lexemes line.now)) }
-{
-    let Some(mut lexemes) = pattern_lexemes(line) else {
-        return atoms;
-    };
-    let mut left = atoms;
-    while let Some((_, lexeme)) = lexemes.next() {
-        left = without_atom(left, token_of(&[], lexeme));
-    }
-    left
 }
 
 /// The lexemes of the pattern of a line, if it is to define a rule or a demand.

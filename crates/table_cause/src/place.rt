@@ -1,140 +1,63 @@
-//! Where a line of a table has its fault. It is looked for only once the fault is told, and reading knows nothing of it.
+//! Where a line of a table has its fault.
 ghost use Rattle.std.specs.Prelude.{◌≡◌, ◌<◌, ◌&&◌, true, [], IfOk, Some, None, length, take, find, bytes_eq, slice_index_or, if◌then◌else◌};
 ghost use Rattle.std.specs.List.{range_with_len};
-ghost use Rattle.std.specs.Option.{option_copied, option_map};
 ghost use Rattle.ruleset_text.specs.Entries.{Mapped as Form};
 ghost use Rattle.ruleset_text.specs.EntryForms.{entry_form, mapped as form_of};
-ghost use Rattle.idn_text.specs.Lines.{raw_lines};
 ghost use Rattle.variant_table.specs.Conditions.{is_same_kind};
 ghost use Rattle.table_cause.specs.FaultPlaces as places;
-ghost use Rattle.table_cause.specs.FaultPlaces.{is_bad_point as is_bad, line_at as line_of};
+ghost use Rattle.table_cause.specs.FaultPlaces.{is_bad_point as is_bad};
 ghost use Rattle.variant_table.specs.Ranges.{range_size};
-ghost use Rattle.table_cause.specs.inner.PlaceSteps.{forms_of, lines_of};
+ghost use Rattle.table_cause.specs.inner.PlaceSteps.{forms_of};
 
-use crate::entry_place::WrongPlace;
+use crate::definition_limits::definition_limit;
 use crate::line_names::{name_place, unknown_name, unknown_set};
 use crate::line_point::{LinePoint, definition_points, line_points};
-use crate::lines_before::LinesBefore;
 use idn_class::{Class, Properties, class_of_by};
-use idn_text::{TextLines, without_carriage_return};
+use idn_text::without_carriage_return;
 use ruleset_text::{
-    EntryForm, FaultPlace, Keyword, Mapped, NamedCondition, ReadError, definition_on, read_entry,
-    without_blanks,
+    Definitions, EntryForm, FaultPlace, Mapped, NamedCondition, ReadError, definition_on,
+    read_entry, without_blanks,
 };
 use std::alloc::{AllocError, Global};
-use variant_table::{Notation, REPLACEMENT_LIMIT, SEQUENCE_LIMIT, TableFault, Version, head_of};
+use variant_table::{FaultyLine, REPLACEMENT_LIMIT, SEQUENCE_LIMIT, TableFault, Version};
 
-/// Where the line of a fault of this text has it, if a place is told: none in a text that lacks its version, and where no part of
-/// the line goes past a limit, as of an entry too many or of a text that is too long.
-#[tactic(auto, unfolding(crate::specs::FaultPlaces::fault_place))]
+/// Where a line has this fault, if a place is told: none past a limit of the whole text, as of its entries or its canonical text.
 pub fn fault_place(
     alloc: Global,
-    notation: Notation,
-    text: &[u8],
+    faulty: &FaultyLine<'_>,
     fault: TableFault,
-    properties: Properties,
 ) -> Result<Option<FaultPlace>, AllocError>
-    ensures { IfOk result (λ place. place ≡ places.fault_place properties notation text.now fault) }
+    ensures { IfOk result (λ place. place ≡ places.line_place faulty.now.version faulty.now.definitions fault faulty.now.line.now) }
 {
-    let Some(head) = head_of(notation, text) else {
-        return Ok(None);
-    };
-    match faulty_line(text, fault) {
-        Some(line) => line_place(
-            alloc,
-            head.version,
-            &before_fault(text, fault),
-            fault,
-            line,
-            properties,
-        ),
-        None => Ok(None),
-    }
-}
-
-/// The line of a fault, as it stands in the text.
-pub fn faulty_line(text: &[u8], fault: TableFault) -> Option<&[u8]>
-    ensures { option_copied result ≡ places.faulty_line text.now fault }
-{
-    line_at(text, line_number(fault))
-}
-
-/// The number of the line of a fault.
-fn line_number(fault: TableFault) -> Option<u64>
-    ensures { result ≡ places.line_number fault }
-{
-    match fault {
-        TableFault::Syntax { line }
-        | TableFault::SameSource { line }
-        | TableFault::SameVariant { line }
-        | TableFault::BadClass { line }
-        | TableFault::Limit { line }
-        | TableFault::NoSuchName { line }
-        | TableFault::SameName { line } => Some(line),
-        TableFault::Memory => None,
-    }
-}
-
-/// The line of this number, from 1.
-fn line_at(text: &[u8], number: Option<u64>) -> Option<&[u8]>
-    ensures { option_copied result ≡ line_of (raw_lines text.now) number }
-{
-    let number = number?;
-    TextLines::new(text).nth(number.saturating_sub(1) as usize)
-}
-
-/// The lines before that of a fault.
-fn before_fault(text: &[u8], fault: TableFault) -> LinesBefore<'_>
-    ensures { lines_of result ≡ places.lines_before (raw_lines text.now) (places.line_number fault) }
-{
-    let count = match line_number(fault) {
-        Some(number) => number.saturating_sub(1),
-        None => 0,
-    };
-    LinesBefore { text, count }
-}
-
-/// The place in a line as it stands in the text.
-fn line_place(
-    alloc: Global,
-    version: Version,
-    before: &LinesBefore<'_>,
-    fault: TableFault,
-    line: &[u8],
-    properties: Properties,
-) -> Result<Option<FaultPlace>, AllocError>
-    ensures { IfOk result (λ place. place ≡ places.line_place properties version (lines_of before.now) fault line.now) }
-{
-    if line.len() > version.line_limit() {
+    let version = faulty.version;
+    if faulty.line.len() > version.line_limit() {
         return Ok(Some(FaultPlace::Byte(version.line_limit())));
     }
     body_place(
         alloc,
         version,
-        before,
+        &faulty.definitions,
         fault,
-        without_carriage_return(line),
-        properties,
+        without_carriage_return(faulty.line),
     )
 }
 
 fn body_place(
     alloc: Global,
     version: Version,
-    before: &LinesBefore<'_>,
+    definitions: &Definitions,
     fault: TableFault,
     line: &[u8],
-    properties: Properties,
 ) -> Result<Option<FaultPlace>, AllocError>
-    ensures { IfOk result (λ place. place ≡ places.body_place properties version (lines_of before.now) fault line.now) }
+    ensures { IfOk result (λ place. place ≡ places.body_place version definitions.now fault line.now) }
 {
     match fault {
         TableFault::Syntax { line: _ } => syntax_place(alloc, version, line),
         _ => {
             if defines(version, line) {
-                definition_place(alloc, before, fault, line, properties)
+                definition_place(alloc, definitions, fault, line)
             } else {
-                other_place(alloc, version, before, fault, line, properties)
+                other_place(alloc, version, definitions, fault, line)
             }
         }
     }
@@ -170,32 +93,28 @@ fn definition_stop(alloc: Global, line: &[u8]) -> Result<Option<FaultPlace>, All
     }
 }
 
-/// The place in a line that is to define something: the name that none of the lines before has, or that one has; the first code
-/// point that no table may hold; what is past a limit.
+/// The place in a line that is to define something: the name that is none of those defined, or one of them; the first code point
+/// that no table may hold; what is past a limit.
 fn definition_place(
     alloc: Global,
-    before: &LinesBefore<'_>,
+    definitions: &Definitions,
     fault: TableFault,
     line: &[u8],
-    properties: Properties,
 ) -> Result<Option<FaultPlace>, AllocError>
-    ensures { IfOk result (λ place. place ≡ places.definition_place properties (lines_of before.now) fault line.now) }
+    ensures { IfOk result (λ place. place ≡ places.definition_place definitions.now fault line.now) }
 {
     match fault {
-        TableFault::NoSuchName { line: _ } => {
-            let sets = before.names_defined(alloc, Keyword::Set)?;
-            Ok(as_fault(unknown_set(&sets, line)))
-        }
-        TableFault::SameName { line: _ } => Ok(as_fault(name_place(line))),
+        TableFault::NoSuchName { line: _ } => { Ok(unknown_set(definitions.set_names(), line)) }
+        TableFault::SameName { line: _ } => Ok(name_place(line)),
         TableFault::BadClass { line: _ } => point_place(
             alloc,
             &definition_points(alloc, line)?,
-            properties,
+            definitions.properties(),
         ),
         TableFault::Limit { line: _ } => match definition_stop(alloc, line)? {
             // The line defines nothing: the limit is that of the text.
             Some(_) => Ok(None),
-            None => Ok(as_fault(before.limit_place(line))),
+            None => Ok(definition_limit(definitions, line)),
         },
         _ => Ok(None),
     }
@@ -205,30 +124,18 @@ fn definition_place(
 fn other_place(
     alloc: Global,
     version: Version,
-    before: &LinesBefore<'_>,
+    definitions: &Definitions,
     fault: TableFault,
     line: &[u8],
-    properties: Properties,
 ) -> Result<Option<FaultPlace>, AllocError>
-    ensures { IfOk result (λ place. place ≡ places.other_place properties version (lines_of before.now) fault line.now) }
+    ensures { IfOk result (λ place. place ≡ places.other_place version definitions.now fault line.now) }
 {
     match fault {
         TableFault::NoSuchName { line: _ } => {
-            let tags = before.names_defined(alloc, Keyword::Tag)?;
-            let rules = before.names_defined(alloc, Keyword::Rule)?;
-            Ok(as_fault(unknown_name(&tags, &rules, line)))
+            let (tags, rules) = (definitions.tags(), definitions.rule_names());
+            Ok(unknown_name(tags, rules, line))
         }
-        _ => entry_place(alloc, version, fault, line, properties),
-    }
-}
-
-fn as_fault(place: Option<WrongPlace>) -> Option<FaultPlace>
-    ensures { result ≡ option_map places.as_fault place }
-{
-    match place {
-        Some(WrongPlace::Lexeme(place, len)) => Some(FaultPlace::Lexeme(place, len)),
-        Some(WrongPlace::End(place)) => Some(FaultPlace::End(place)),
-        None => None,
+        _ => entry_place(alloc, version, fault, line, definitions.properties()),
     }
 }
 

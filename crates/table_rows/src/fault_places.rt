@@ -81,13 +81,6 @@ fn lines_that_are_too_long(rt: HostRuntime) -> Result<(), Fail> {
 
 /// Where the first fault of a text stands in its line; none of a table without a fault.
 fn place(rt: &HostRuntime, notation: Notation, text: &str) -> Option<FaultPlace> {
-    let fault = Table::read(rt.alloc(), notation, text.as_bytes()).err()?;
-    fault_place(
-        rt.alloc(),
-        notation,
-        text.as_bytes(),
-        fault,
-        Properties::Profile,
-    )
-    .unwrap_or(None)
+    let refusal = Table::read_by(rt.alloc(), notation, text.as_bytes(), Properties::Profile).err()?;
+    fault_place(rt.alloc(), &refusal.line?, refusal.fault).unwrap_or(None)
 }

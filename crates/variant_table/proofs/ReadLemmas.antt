@@ -1,6 +1,8 @@
 -- Reading line by line.
-use Rattle.std.proofs.Common.{◌≡◌, inl, inr, ℕ, ◌+◌, ◌≤◌, List, [], ◌∷◌, length, Some, None, Result, Ok, Err, refl, sym, ap, ◌∙◌, add_assoc, arith}
+use Rattle.std.proofs.Common.{◌≡◌, ◌⊎◌, inl, inr, ℕ, ◌+◌, ◌≤◌, List, [], ◌∷◌, length, Option, Some, None, Result, Ok, Err, refl, sym, ap, ◌∙◌, add_assoc, arith}
 use Rattle.ruleset_text.specs.Definitions.{Definitions, nothing_defined}
+use Rattle.idn_text.specs.Lines.{raw_lines}
+use Rattle.variant_table.specs.FaultyLines.{FaultyLine, at_line, faulty_after, faulty_line, first_faulty, or_after}
 use Rattle.variant_table.specs.Faults.{LineFault, Limit, Syntax, BadClass, SameVariant, SameSource, NoSuchName, SameName}
 use Rattle.variant_table.specs.declared.fault.TableFault.{TableFault}
 use Rattle.variant_table.specs.declared.fault.TableFault.TheVariants as tables
@@ -28,6 +30,31 @@ module _ (n b : ℕ) (t : TableValue) (line : List ℕ) (lines rest : List (List
   pub lines_step : (u : TableValue) → with_raw_line b t line ≡ Ok u → with_lines (n + 1) (b + (length line + 1)) u lines ≡ total
   unfolding with_lines
   lines_step u e = ap (λ k. with_lines (n + 1) k u lines) (sym (add_assoc b (length line) 1)) ∙ sym (ap (further n b line lines) e) ∙ begun
+
+  -- the line is the first faulty one
+  pub line_faulty : (fault : TableFault) (whole : Option FaultyLine) → first_faulty b t rest ≡ whole → Fails n fault (with_raw_line b t line) → (fault ≡ tables.Memory) ⊎ (Some (at_line t line) ≡ whole)
+  unfolding first_faulty
+  line_faulty fault whole same h = by fault h
+    where
+      here : (kind : LineFault) → with_raw_line b t line ≡ Err kind → Some (at_line t line) ≡ whole
+      here kind e = sym (ap (or_after (at_line t line) (λ u. first_faulty (b + length line + 1) u lines)) e) ∙ sym (ap (first_faulty b t) cut) ∙ same
+
+      by : (fault : TableFault) → Fails n fault (with_raw_line b t line) → (fault ≡ tables.Memory) ⊎ (Some (at_line t line) ≡ whole)
+      by tables.Memory h = inl refl
+      by (tables.Limit k) h = inr (here Limit h.1)
+      by (tables.Syntax k) h = inr (here Syntax h.1)
+      by (tables.BadClass k) h = inr (here BadClass h.1)
+      by (tables.SameVariant k) h = inr (here SameVariant h.1)
+      by (tables.SameSource k) h = inr (here SameSource h.1)
+      by (tables.NoSuchName k) h = inr (here NoSuchName h.1)
+      by (tables.SameName k) h = inr (here SameName h.1)
+
+  -- none is found before the next line
+  pub faulty_later : (u : TableValue) (whole : Option FaultyLine) → first_faulty b t rest ≡ whole → with_raw_line b t line ≡ Ok u → first_faulty (b + (length line + 1)) u lines ≡ whole
+  unfolding first_faulty
+  faulty_later u whole same e =
+      ap (λ k. first_faulty k u lines) (sym (add_assoc b (length line) 1))
+      ∙ sym (ap (or_after (at_line t line) (λ v. first_faulty (b + length line + 1) v lines)) e) ∙ sym (ap (first_faulty b t) cut) ∙ same
 
   failed : (kind : LineFault) → with_raw_line b t line ≡ Err kind → total ≡ Err (n, kind)
   failed kind e = sym begun ∙ ap (further n b line lines) e
@@ -59,6 +86,20 @@ lines_begin properties m lines v n b d t rest e f g k h i =
 -- a text that lacks its version is refused in its first line
 pub lines_lack : (properties : Properties) (m : Notation) (lines : List (List ℕ)) → version_of m lines ≡ None → FailsIn (tables.Syntax 1) (table_of_lines properties m lines)
 lines_lack properties m lines e = inr (1, Syntax, refl, read_by properties m lines None e)
+
+-- so does the search for the first faulty line
+pub faulty_begins : (properties : Properties) (m : Notation) (text : List ℕ) (v : Version) (b : ℕ) (d : Definitions) (t : List Entry) (rest : List (List ℕ)) → version_of m (raw_lines text) ≡ Some v → b ≡ size_of (head_of m (raw_lines text))
+    → d ≡ nothing_defined properties → t ≡ [] → rest ≡ body_of m (raw_lines text) → first_faulty b (table_of v d t) rest ≡ faulty_line properties m text
+unfolding faulty_line
+faulty_begins properties m text v b d t rest e g k h i =
+    let head = head_of m (raw_lines text) in
+    ap (λ x. first_faulty x (table_of v d t) rest) g ∙ ap (λ x. first_faulty (size_of head) (table_of v x t) rest) k
+    ∙ ap (λ x. first_faulty (size_of head) (table_of v (nothing_defined properties) x) rest) h ∙ ap (first_faulty (size_of head) (empty_table properties v)) i
+    ∙ sym (ap (λ o. faulty_after properties o head (body_of m (raw_lines text))) e)
+
+pub faulty_lacks : (properties : Properties) (m : Notation) (text : List ℕ) → version_of m (raw_lines text) ≡ None → None ≡ faulty_line properties m text
+unfolding faulty_line
+faulty_lacks properties m text e = sym (ap (λ o. faulty_after properties o (head_of m (raw_lines text)) (body_of m (raw_lines text))) e)
 
 pub lines_counted : (lines : List (List ℕ)) → length lines ≤ size_of lines
 lines_counted [] = omega arith

@@ -14,6 +14,7 @@ pub mod Places
 pub mod Singles
 pub mod Reading
 pub mod Faults
+pub mod FaultyLines
 pub mod Gaps
 pub mod Segmentations
 pub mod ExampleTables

@@ -2,6 +2,8 @@
 ghost use Rattle.std.specs.Prelude.{◌≡◌};
 ghost use Rattle.variant_table.specs.declared.fault.TableFault.TheVariants.{Memory};
 
+use crate::version::Version;
+use ruleset_text::Definitions;
 use std::alloc::{AllocError, AllocFailed};
 use thiserror::Error;
 
@@ -52,4 +54,20 @@ impl<T: Drop> From<AllocFailed<T>> for TableFault {
     fn from(_: AllocFailed<T>) -> Self {
         TableFault::Memory
     }
+}
+
+/// Why a text is not read as a table, and the line of the fault with what was read before it.
+#[derive(Drop)]
+pub struct TableRefusal<'a> {
+    pub fault: TableFault,
+    /// None in a text that lacks its version.
+    pub line: Option<FaultyLine<'a>>,
+}
+
+/// A faulty line as it stands in a text of this version, and what the lines before it define.
+#[derive(Drop)]
+pub struct FaultyLine<'a> {
+    pub version: Version,
+    pub definitions: Definitions,
+    pub line: &'a [u8],
 }

@@ -1,5 +1,5 @@
 //! Reading the definitions and entries of a text, line by line.
-ghost use Rattle.std.specs.Prelude.{◌≡◌, ◌+◌, ◌<◌, ◌≤◌, ◌^◌, [], Some, None, length, map, OnOk};
+ghost use Rattle.std.specs.Prelude.{◌≡◌, ◌+◌, ◌<◌, ◌≤◌, ◌^◌, [], Some, None, length, map, IfErr, OnErr, OnOk};
 ghost use Rattle.variant_table.specs.inner.Held.{IsCounted};
 ghost use Rattle.ruleset_text.specs.EntryForms.{mapped as form_of};
 ghost use Rattle.ruleset_text.specs.EntryText.{IsForm};
@@ -10,11 +10,12 @@ ghost use Rattle.ruleset_text.specs.Lexemes.{lexemes};
 ghost use Rattle.variant_table.specs.declared.version.Version.TheVariants.{Three};
 ghost use Rattle.variant_table.specs.Entries.{entry_from, source_of};
 ghost use Rattle.variant_table.specs.Reading.{with_definition, with_line, with_raw_line, table_of_text, is_skipped as is_skipped_line};
+ghost use Rattle.variant_table.specs.FaultyLines.{IsRefusalOf, at_line, faulty_line_of};
 ghost use Rattle.variant_table.specs.inner.ReadingSteps.{Leaves, Reads, with_points_of};
 
 use crate::checks::{has_bad_class, has_bad_class_in, has_repeat, is_too_large};
 use crate::definition_lines::{fault_in, keyword_in};
-use crate::fault::TableFault;
+use crate::fault::{FaultyLine, TableFault, TableRefusal};
 use crate::forms::take_sequences;
 use crate::lengths::{left_after_entry, left_after_range};
 use crate::ordered_entries::OrderedEntries;
@@ -35,23 +36,29 @@ pub struct ReadText {
 
 /// The version of a text, the definitions and the entries that it spells.
 #[tactic(auto, unfolding(crate::specs::Reading::table_of_lines))]
-pub fn read_text(
+pub fn read_text<'a>(
     alloc: Global,
     notation: Notation,
-    text: &[u8],
+    text: &'a [u8],
     properties: Properties,
-) -> Result<ReadText, TableFault>
-    ensures { Reads result (table_of_text properties notation text.now) }
+) -> Result<ReadText, TableRefusal<'a>>
+    ensures read { Reads result (table_of_text properties notation text.now) }
+    ensures line { IfErr result (IsRefusalOf properties notation text.now) }
 {
     let Some(head) = head_of(notation, text) else {
-        return Err(TableFault::Syntax { line: 1 });
+        return Err(TableRefusal {
+            fault: TableFault::Syntax { line: 1 },
+            line: None,
+        });
     };
     let mut reader = Reader::new(alloc, head.version, properties);
     let mut number = head.lines;
     let mut bytes = head.bytes;
     for line in head.body {
         number += 1;
-        reader.add_raw_line(number, bytes, line)?;
+        if let Err(fault) = reader.add_raw_line(number, bytes, line) {
+            return Err(reader.refusal(fault, line));
+        }
         bytes += line.len() + 1;
     }
     Ok(ReadText {
@@ -94,6 +101,21 @@ impl Reader {
         }
     }
 
+    /// What is told of a line with a fault.
+    fn refusal(self, fault: TableFault, line: &[u8]) -> TableRefusal<'_>
+        ensures fault { result.fault ≡ fault }
+        ensures line { faulty_line_of result.line ≡ Some (at_line (so_far self) line.now) }
+    {
+        TableRefusal {
+            fault,
+            line: Some(FaultyLine {
+                version: self.version,
+                definitions: self.definitions,
+                line,
+            }),
+        }
+    }
+
     /// Adds what the line of this number says, as it stands in a text after `bytes` bytes.
     #[tactic(auto, unfolding(crate::specs::Reading::with_raw_line))]
     fn add_raw_line(&mut self, number: u64, bytes: usize, line: &[u8]) -> Result<(), TableFault>
@@ -103,6 +125,7 @@ impl Reader {
         ensures within { OnOk result (bytes + length line.now + 1 ≤ text_limit self.old.version) }
         ensures counted { OnOk result (IsCountedIn self.new) }
         ensures version { self.new.version ≡ self.old.version }
+        ensures definitions { OnErr result (self.new.definitions ≡ self.old.definitions) }
     {
         let version = self.version;
         if line.len() > version.line_limit() || bytes + line.len() + 1 > version.text_limit() {
@@ -118,6 +141,7 @@ impl Reader {
         ensures read { Leaves number result (so_far self.new) (with_line (so_far self.old) line.now) }
         ensures counted { OnOk result (IsCountedIn self.new) }
         ensures version { self.new.version ≡ self.old.version }
+        ensures definitions { OnErr result (self.new.definitions ≡ self.old.definitions) }
     {
         if is_skipped(line) {
             return Ok(());
@@ -141,6 +165,7 @@ impl Reader {
         ensures read { Leaves number result (so_far self.new) (with_definition (so_far self.old) keyword (lexemes after.now)) }
         ensures counted { OnOk result (IsCountedIn self.new) }
         ensures version { self.new.version ≡ self.old.version }
+        ensures definitions { OnErr result (self.new.definitions ≡ self.old.definitions) }
     {
         // The canonical text has a limit: what is left of it, and what the definitions already take.
         let room = self.left + self.definitions.canonical_len();

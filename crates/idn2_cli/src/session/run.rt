@@ -29,7 +29,7 @@ use idn2_output::{Console, Status, Stop};
 use idn2_refusals::{Explaining, refuse_table, report};
 use registered_labels::RegisteredLabels;
 use std::alloc::Global;
-use variant_table::{Notation, Table, TableFault};
+use variant_table::{Notation, Table};
 
 /// Runs a mode over its input, of which no line was read yet. Where nothing fails, the output lines of the transcript
 /// are written, and the status says whether something was refused. A fault of a reader, of a writer or of memory ends
@@ -191,30 +191,13 @@ fn serve_variants<R: Source, W: Sink, E: Sink>(
 {
     let table = match Table::read_by(alloc, options.notation, text, options.properties) {
         Ok(table) => table,
-        Err(fault) => {
-            return refuse_table(
-                alloc,
-                options.form,
-                options.tells_causes(),
-                options.notation,
-                text,
-                fault,
-                options.properties,
-                console,
-            );
+        Err(refusal) => {
+            let wanted = options.tells_causes();
+            return refuse_table(alloc, options.form, wanted, text, &refusal, console);
         }
     };
     let Ok(ruling) = ruling_of_table(alloc, &table) else {
-        return refuse_table(
-            alloc,
-            options.form,
-            options.tells_causes(),
-            options.notation,
-            text,
-            TableFault::Memory,
-            options.properties,
-            console,
-        );
+        return Err(Stop::Memory);
     };
     let dispositions = Dispositions::of_table(&table);
     let mode = Variants {
@@ -246,31 +229,13 @@ fn serve_jumps<R: Source, W: Sink, E: Sink>(
 {
     let table = match Table::read_by(alloc, options.notation, text, options.properties) {
         Ok(table) => table,
-        Err(fault) => {
+        Err(refusal) => {
             let wanted = options.tells_causes();
-            return refuse_table(
-                alloc,
-                options.form,
-                wanted,
-                options.notation,
-                text,
-                fault,
-                options.properties,
-                console,
-            );
+            return refuse_table(alloc, options.form, wanted, text, &refusal, console);
         }
     };
     let Ok(ruling) = ruling_of_table(alloc, &table) else {
-        return refuse_table(
-            alloc,
-            options.form,
-            options.tells_causes(),
-            options.notation,
-            text,
-            TableFault::Memory,
-            options.properties,
-            console,
-        );
+        return Err(Stop::Memory);
     };
     let mode = Jumps {
         table: &table,
@@ -300,9 +265,7 @@ fn serve_check<W: Sink, E: Sink>(
 {
     match Table::read_by(alloc, notation, text, properties) {
         Ok(table) => check_table(alloc, form, &table, console),
-        Err(fault) => refuse_table(
-            alloc, form, wanted, notation, text, fault, properties, console,
-        ),
+        Err(refusal) => refuse_table(alloc, form, wanted, text, &refusal, console),
     }
 }
 

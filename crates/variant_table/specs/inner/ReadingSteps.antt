@@ -5,6 +5,7 @@ use Rattle.ruleset_text.specs.declared.fault.DefinitionFault.{DefinitionFault}
 use Rattle.ruleset_text.specs.declared.fault.DefinitionFault.TheVariants as definitions
 use Rattle.variant_table.specs.declared.fault.TableFault.{TableFault}
 use Rattle.variant_table.specs.declared.fault.TableFault.TheVariants as tables
+use Rattle.variant_table.specs.declared.fault.TableRefusal.{TableRefusal}
 use Rattle.variant_table.specs.Faults.{LineFault, Limit, Syntax, BadClass, SameVariant, SameSource, NoSuchName, SameName, table_fault}
 use Rattle.variant_table.specs.declared.reading.ReadText.{ReadText}
 use Rattle.variant_table.specs.Entries.{Variant, Entry, TableValue, table_of}
@@ -46,9 +47,9 @@ abbrev pub FailsIn : {Y : Type 0} → TableFault → Result Y (ℕ × LineFault)
 FailsIn {Y} fault read = (fault ≡ tables.Memory) ⊎ ((line : ℕ) × (kind : LineFault) × (fault ≡ table_fault line kind) × (read ≡ Err (line, kind)))
 
 -- the answer is that of the function, unless memory was refused
-abbrev pub Reads : Result ReadText TableFault → Result TableValue (ℕ × LineFault) → Type 0
+abbrev pub Reads : Result ReadText TableRefusal → Result TableValue (ℕ × LineFault) → Type 0
 Reads (Ok s) read = read ≡ Ok (table_of s.version s.definitions s.entries)
-Reads (Err fault) read = FailsIn fault read
+Reads (Err refusal) read = FailsIn refusal.fault read
 
 -- the fault of a table, by the number of its line and the fault of the definition on it
 abbrev pub told_in : ℕ → DefinitionFault → TableFault

@@ -1,12 +1,14 @@
 use Rattle.std.proofs.Common.{refl}
 use Rattle.idn_text.specs.Points.{point_of_hex}
+use Rattle.ruleset_text.specs.Definitions.{all_atoms}
 use Rattle.ruleset_text.specs.EntrySteps.{entry_read}
 use Rattle.table_cause.specs.FaultPlaces.{definition_stop, fault_place}
+use Rattle.variant_table.specs.FaultyLines.{faulty_line}
 use Rattle.table_cause.proofs.PlaceExampleLemmas.{point_told, range_told, set_told}
 use Rattle.table_cause.proofs.laws.definitions_compute_the_places.Goals as goal
 
 pub returns : goal.returns
-unfolding point_of_hex entry_read definition_stop fault_place
+unfolding point_of_hex entry_read definition_stop all_atoms fault_place faulty_line
 returns c = record {
   bar = refl;
   ends = refl;

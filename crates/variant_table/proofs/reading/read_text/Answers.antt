@@ -1,15 +1,18 @@
-use Rattle.std.proofs.Common.{◌≡◌, rules, arith, ◌+◌, ◌≤◌, ℕ, List, length, Some, sym, ap, subst, ◌∙◌}
+use Rattle.std.proofs.Common.{◌≡◌, ◌⊎◌, Option, inl, inr, rules, arith, ◌+◌, ◌≤◌, ℕ, List, length, Some, sym, ap, subst, ◌∙◌}
 use Rattle.idn_text.specs.Lines.{raw_lines}
 use Rattle.variant_table.specs.declared.version.Notation.{Notation}
 use Rattle.variant_table.specs.declared.version.Version.{Version}
 use Rattle.variant_table.specs.Entries.{TableValue}
+use Rattle.variant_table.specs.FaultyLines.{FaultyLine, IsRefusalOf, at_line, faulty_line}
+use Rattle.variant_table.specs.declared.fault.TableFault.TheVariants.{Memory}
+use Rattle.variant_table.specs.declared.reading.Reader.{Reader}
 use Rattle.variant_table.specs.inner.Readers.{so_far}
 use Rattle.variant_table.specs.Limits.{text_limit}
 use Rattle.variant_table.specs.Versions.{version_of, head_of}
 use Rattle.variant_table.specs.Reading.{table_of_text}
 use Rattle.variant_table.specs.inner.ReadingSteps.{FailsIn}
 use Rattle.variant_table.proofs.FaultlessLemmas.{head_within}
-use Rattle.variant_table.proofs.ReadLemmas.{lines_begin, lines_lack, lines_counted, lines_step, lines_fail, lines_end}
+use Rattle.variant_table.proofs.ReadLemmas.{faulty_begins, faulty_later, faulty_lacks, line_faulty, lines_begin, lines_lack, lines_counted, lines_step, lines_fail, lines_end}
 use Rattle.variant_table.proofs.reading.read_text.Goals as goal
 
 -- the reader's version is that of the text
@@ -20,6 +23,9 @@ pub loop-line-init : goal.loop-line-init
 loop-line-init c =
     let lines : List (List ℕ) = raw_lines c.args.text.now in
     record {
+      faulty = faulty_begins c.args.properties c.args.notation c.args.text.now c.new-reader.result.version c.in-Some.head.bytes c.new-reader.result.definitions c.new-reader.result.entries _
+          (named c.args.notation lines c.in-Some.head.version c.new-reader.result.version c.in-Some.ensures.version c.new-reader.ensures.version) c.in-Some.ensures.bytes
+          c.new-reader.ensures.definitions c.new-reader.ensures.entries (search rules);
       same = lines_begin c.args.properties c.args.notation lines c.new-reader.result.version c.in-Some.head.lines c.in-Some.head.bytes c.new-reader.result.definitions c.new-reader.result.entries _
           (named c.args.notation lines c.in-Some.head.version c.new-reader.result.version c.in-Some.ensures.version c.new-reader.ensures.version) c.in-Some.ensures.lines c.in-Some.ensures.bytes
           c.new-reader.ensures.definitions c.new-reader.ensures.entries (search rules);
@@ -28,30 +34,63 @@ loop-line-init c =
       left = c.new-reader.ensures.counted;
     }
 
-pub returns-in_err-add_raw_line : goal.returns-in_err-add_raw_line
-returns-in_err-add_raw_line c =
+pub returns-in-Err-clause-read : goal.returns-in-Err-clause-read
+returns-in-Err-clause-read c =
     let t : TableValue = so_far c.loop-line.reader in
-    let fails : FailsIn c.in_err-add_raw_line.field-0.0 (table_of_text c.args.properties c.args.notation c.args.text.now) =
+    let fails : FailsIn c.in-Err.fault (table_of_text c.args.properties c.args.notation c.args.text.now) =
     lines_fail (c.loop-line.number + 1) c.loop-line.bytes t c.in-Some-line.line.now c.next.new.self c.loop-line.line-iterator (table_of_text c.args.properties c.args.notation c.args.text.now)
-    c.in-Some-line.ensures.steps c.loop-line.invariant.same c.in_err-add_raw_line.field-0.0 c.in_err-add_raw_line.ensures.read in search rules
+    c.in-Some-line.ensures.steps c.loop-line.invariant.same c.in-Err.fault c.in-Err.ensures.read in
+    subst (λ f. FailsIn f (table_of_text c.args.properties c.args.notation c.args.text.now)) (sym c.refusal.ensures.fault) fails
+
+pub returns-in-Err-clause-line : goal.returns-in-Err-clause-line
+returns-in-Err-clause-line c = by told
+  where
+    old : Reader
+    old = c.loop-line.reader
+
+    new : Reader
+    new = c.add_raw_line.new.self
+
+    line : List ℕ
+    line = c.in-Some-line.line.now
+
+    whole : Option FaultyLine
+    whole = faulty_line c.args.properties c.args.notation c.args.text.now
+
+    kept : at_line (so_far new) line ≡ at_line (so_far old) line
+    kept = ap (λ v. record { version = v; definitions = new.definitions; line = line }) c.add_raw_line.ensures.version ∙ ap (λ d. record { version = old.version; definitions = d; line = line }) c.in-Err.ensures.definitions
+
+    told : (c.in-Err.fault ≡ Memory) ⊎ (Some (at_line (so_far old) line) ≡ whole)
+    told =
+        line_faulty (c.loop-line.number + 1) c.loop-line.bytes (so_far old) line c.next.new.self c.loop-line.line-iterator (table_of_text c.args.properties c.args.notation c.args.text.now)
+        c.in-Some-line.ensures.steps c.loop-line.invariant.same c.in-Err.fault whole c.loop-line.invariant.faulty c.in-Err.ensures.read
+
+    by : (c.in-Err.fault ≡ Memory) ⊎ (Some (at_line (so_far old) line) ≡ whole) → IsRefusalOf c.args.properties c.args.notation c.args.text.now c.refusal.result
+    by (inl memory) = inl (c.refusal.ensures.fault ∙ memory)
+    by (inr is) = inr (c.refusal.ensures.line ∙ ap (λ f. Some f) kept ∙ is)
 
 pub loop-line-preserved : goal.loop-line-preserved
 loop-line-preserved c =
-    let version = c.in_ok-add_raw_line.ensures.version in
+    let version = c.in_default-add_raw_line.ensures.version in
     let t : TableValue = so_far c.loop-line.reader in
     let u : TableValue = so_far c.add_raw_line.new.self in
     record {
       same = lines_step (c.loop-line.number + 1) c.loop-line.bytes t c.in-Some-line.line.now c.next.new.self c.loop-line.line-iterator (table_of_text c.args.properties c.args.notation c.args.text.now)
-          c.in-Some-line.ensures.steps c.loop-line.invariant.same u c.in_ok-add_raw_line.ensures.read;
-      within = subst (λ v. c.loop-line.bytes + (length c.in-Some-line.line.now + 1) ≤ text_limit v) (sym version) (omega (arith, c.in_ok-add_raw_line.ensures.within));
+          c.in-Some-line.ensures.steps c.loop-line.invariant.same u c.in_default-add_raw_line.ensures.read;
+      faulty = faulty_later (c.loop-line.number + 1) c.loop-line.bytes t c.in-Some-line.line.now c.next.new.self c.loop-line.line-iterator (table_of_text c.args.properties c.args.notation c.args.text.now)
+          c.in-Some-line.ensures.steps c.loop-line.invariant.same u (faulty_line c.args.properties c.args.notation c.args.text.now) c.loop-line.invariant.faulty c.in_default-add_raw_line.ensures.read;
+      within = subst (λ v. c.loop-line.bytes + (length c.in-Some-line.line.now + 1) ≤ text_limit v) (sym version) (omega (arith, c.in_default-add_raw_line.ensures.within));
       counted = omega (arith, c.loop-line.invariant.counted);
-      left = c.in_ok-add_raw_line.ensures.counted;
+      left = c.in_default-add_raw_line.ensures.counted;
     }
 
-pub returns : goal.returns
-returns c =
+pub returns-clause-read : goal.returns-clause-read
+returns-clause-read c =
     lines_end (c.loop-line.number + 1) c.loop-line.bytes (so_far c.loop-line.reader) c.loop-line.line-iterator
     (table_of_text c.args.properties c.args.notation c.args.text.now) c.in-None.ensures.steps.0 c.loop-line.invariant.same
 
-pub returns-in_default : goal.returns-in_default
-returns-in_default c = lines_lack c.args.properties c.args.notation (raw_lines c.args.text.now) c.in_default.ensures.version
+pub returns-in_default-clause-read : goal.returns-in_default-clause-read
+returns-in_default-clause-read c = lines_lack c.args.properties c.args.notation (raw_lines c.args.text.now) c.in_default.ensures.version
+
+pub returns-in_default-clause-line : goal.returns-in_default-clause-line
+returns-in_default-clause-line c = inr (faulty_lacks c.args.properties c.args.notation c.args.text.now c.in_default.ensures.version)

@@ -1,4 +1,5 @@
 use Rattle.std.proofs.Common.{◌≡◌, ◌+◌, ◌≤◌}
+use Rattle.variant_table.specs.FaultyLines.{faulty_line, first_faulty}
 use Rattle.variant_table.specs.inner.Readers.{so_far, IsCountedIn}
 use Rattle.variant_table.specs.Limits.{text_limit}
 use Rattle.variant_table.specs.Reading.{with_lines, table_of_text}
@@ -8,6 +9,7 @@ use Rattle.variant_table.proofs.reading.read_text.Given as goal
 abbrev pub invariant-loop-line : goal.invariant-loop-line
 invariant-loop-line l = record {
   same : with_lines (l.number + 1) l.bytes (so_far l.reader) l.line-iterator ≡ table_of_text l.fn.properties l.fn.notation l.text;
+  faulty : first_faulty l.bytes (so_far l.reader) l.line-iterator ≡ faulty_line l.fn.properties l.fn.notation l.text;
   within : l.bytes ≤ text_limit l.reader.version;
   counted : l.number ≤ l.bytes;
   left : IsCountedIn l.reader;

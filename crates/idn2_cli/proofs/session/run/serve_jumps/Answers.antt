@@ -1,4 +1,4 @@
-use Rattle.std.proofs.Common.{inl, refl, subst, Ok, ap, chars, true, ◌∙◌}
+use Rattle.std.proofs.Common.{inl, Err, refl, subst, Ok, ap, chars, true, ◌∙◌}
 use Rattle.idn2_refusals.specs.Explained.{Explained, ByRequest, if_wanted}
 use Rattle.idn2_options.specs.declared.command_line.form.Form.{Form}
 use Rattle.idn_class.specs.declared.properties.Properties.{Properties}
@@ -6,6 +6,7 @@ use Rattle.idn2_options.specs.Settings.{Settings}
 use Rattle.idn2_options.specs.declared.command_line.mode.Mode.TheVariants.{Jump}
 use Rattle.variant_table.specs.Texts.{IsTextOf, IsToldOf}
 use Rattle.variant_table.specs.declared.fault.TableFault.TheVariants.{Memory}
+use Rattle.idn2_output.specs.declared.stop.Stop.TheVariants as stop
 use Rattle.idn2_answers.specs.Answers.{jump_answer}
 use Rattle.idn2_refusals.specs.Requests.{requested_label}
 use Rattle.idn2_cli.specs.Ends.{Job, lines_job}
@@ -16,8 +17,8 @@ use Rattle.idn2_cli.proofs.session.run.serve_jumps.Goals as goal
 
 pub returns-in-Err : goal.returns-in-Err
 returns-in-Err g c =
-    refused_lines c.args.options.now Jump (jumps_by_table c.args.options.now c.requires.mode) c.args.text.now _ c.in-Err.fault _ _ c.refuse_table.result c.requires.unread (subst (λ (v : Settings). IsToldOf v.properties v.notation c.args.text.now c.in-Err.fault) c.options.view_is c.in-Err.ensures.fault)
-    (in_form c.args.options.now.properties c.args.text.now c.in-Err.fault _ _ _ _ _ _ _ _ _ c.refuse_table.result (ap (λ (v : Settings). v.form) c.options.view_is) c.tells_causes-wanted.ensures (ap (λ (v : Settings). v.notation) c.options.view_is) (ap (λ (v : Settings). v.properties) c.options.view_is) c.refuse_table.ensures.told) c.refuse_table.ensures.status
+    refused_lines c.args.options.now Jump (jumps_by_table c.args.options.now c.requires.mode) c.args.text.now _ c.in-Err.refusal.fault _ _ c.refuse_table.result c.requires.unread (subst (λ (v : Settings). IsToldOf v.properties v.notation c.args.text.now c.in-Err.refusal.fault) c.options.view_is c.in-Err.ensures.fault)
+    (in_form c.args.options.now.properties c.args.text.now c.in-Err.refusal.fault _ _ _ _ _ _ _ _ _ c.refuse_table.result (ap (λ (v : Settings). v.form) c.options.view_is) c.tells_causes-wanted.ensures (ap (λ (v : Settings). v.notation) c.options.view_is) (ap (λ (v : Settings). v.properties) c.options.view_is) (c.refuse_table.ensures.told _ _ c.in-Err.ensures.line)) c.refuse_table.ensures.status
 
 pub returns : goal.returns
 returns g c =
@@ -32,5 +33,4 @@ returns g c =
 
 pub returns-in_default : goal.returns-in_default
 returns-in_default g c =
-    refused_lines c.args.options.now Jump (jumps_by_table c.args.options.now c.requires.mode) c.args.text.now _ Memory _ _ c.refuse_table-in_default.result c.requires.unread (inl refl)
-    (in_form c.args.options.now.properties c.args.text.now Memory _ _ _ _ _ _ _ _ _ c.refuse_table-in_default.result (ap (λ (v : Settings). v.form) c.options.view_is) c.tells_causes.ensures (ap (λ (v : Settings). v.notation) c.options.view_is) (ap (λ (v : Settings). v.properties) c.options.view_is) c.refuse_table-in_default.ensures.told) c.refuse_table-in_default.ensures.status
+    refused_lines c.args.options.now Jump (jumps_by_table c.args.options.now c.requires.mode) c.args.text.now _ Memory _ _ (Err stop.Memory) c.requires.unread (inl refl) (refl, refl) tt

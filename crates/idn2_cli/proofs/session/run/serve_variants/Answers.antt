@@ -1,4 +1,4 @@
-use Rattle.std.proofs.Common.{inl, refl, subst, All, Ok, ap, chars, true, ◌∙◌}
+use Rattle.std.proofs.Common.{inl, Err, refl, subst, All, Ok, ap, chars, true, ◌∙◌}
 use Rattle.std.specs.Option.{option_copied}
 use Rattle.idn_class.specs.declared.properties.Properties.{Properties}
 use Rattle.idn_label.specs.Memory.{NeedsNoMemory}
@@ -7,6 +7,7 @@ use Rattle.variant_list.specs.Spelled.{spelled}
 use Rattle.idn2_options.specs.Settings.{Settings, keeping}
 use Rattle.variant_table.specs.Texts.{IsTextOf, IsToldOf}
 use Rattle.variant_table.specs.declared.fault.TableFault.TheVariants.{Memory}
+use Rattle.idn2_output.specs.declared.stop.Stop.TheVariants as stop
 use Rattle.idn2_answers.specs.Answers.{filter_of, tested_after, variants_answer}
 use Rattle.idn2_refusals.specs.Explained.{ByTable, if_wanted}
 use Rattle.idn2_cli.specs.Memory.{IsRefusedWithoutMemory}
@@ -18,8 +19,8 @@ use Rattle.idn2_cli.proofs.session.run.serve_variants.Goals as goal
 
 pub returns-in-Err : goal.returns-in-Err
 returns-in-Err g c =
-    refused_lines (keeping (option_copied c.args.registered) c.args.options.now) Variants (lists_by_table (keeping (option_copied c.args.registered) c.args.options.now) c.requires.mode) c.args.text.now _ c.in-Err.fault _ _ c.refuse_table.result c.requires.unread (subst (λ (v : Settings). IsToldOf v.properties v.notation c.args.text.now c.in-Err.fault) c.options.view_is c.in-Err.ensures.fault)
-    (in_form c.args.options.now.properties c.args.text.now c.in-Err.fault _ _ _ _ _ _ _ _ _ c.refuse_table.result (ap (λ (v : Settings). v.form) c.options.view_is) c.tells_causes.ensures (ap (λ (v : Settings). v.notation) c.options.view_is) (ap (λ (v : Settings). v.properties) c.options.view_is) c.refuse_table.ensures.told) c.refuse_table.ensures.status
+    refused_lines (keeping (option_copied c.args.registered) c.args.options.now) Variants (lists_by_table (keeping (option_copied c.args.registered) c.args.options.now) c.requires.mode) c.args.text.now _ c.in-Err.refusal.fault _ _ c.refuse_table.result c.requires.unread (subst (λ (v : Settings). IsToldOf v.properties v.notation c.args.text.now c.in-Err.refusal.fault) c.options.view_is c.in-Err.ensures.fault)
+    (in_form c.args.options.now.properties c.args.text.now c.in-Err.refusal.fault _ _ _ _ _ _ _ _ _ c.refuse_table.result (ap (λ (v : Settings). v.form) c.options.view_is) c.tells_causes-wanted.ensures (ap (λ (v : Settings). v.notation) c.options.view_is) (ap (λ (v : Settings). v.properties) c.options.view_is) (c.refuse_table.ensures.told _ _ c.in-Err.ensures.line)) c.refuse_table.ensures.status
 
 pub returns : goal.returns
 returns g c =
@@ -34,5 +35,4 @@ returns g c =
 
 pub returns-in_default : goal.returns-in_default
 returns-in_default g c =
-    refused_lines (keeping (option_copied c.args.registered) c.args.options.now) Variants (lists_by_table (keeping (option_copied c.args.registered) c.args.options.now) c.requires.mode) c.args.text.now _ Memory _ _ c.refuse_table-in_default.result c.requires.unread (inl refl)
-    (in_form c.args.options.now.properties c.args.text.now Memory _ _ _ _ _ _ _ _ _ c.refuse_table-in_default.result (ap (λ (v : Settings). v.form) c.options.view_is) c.tells_causes-in_default.ensures (ap (λ (v : Settings). v.notation) c.options.view_is) (ap (λ (v : Settings). v.properties) c.options.view_is) c.refuse_table-in_default.ensures.told) c.refuse_table-in_default.ensures.status
+    refused_lines (keeping (option_copied c.args.registered) c.args.options.now) Variants (lists_by_table (keeping (option_copied c.args.registered) c.args.options.now) c.requires.mode) c.args.text.now _ Memory _ _ (Err stop.Memory) c.requires.unread (inl refl) (refl, refl) tt
