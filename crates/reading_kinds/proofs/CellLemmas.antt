@@ -1,5 +1,5 @@
 -- One cell of a board.
-use Rattle.std.proofs.Common.{◌≡◌, ◌≢◌, ℕ, ◌+◌, ◌*◌, ◌%◌, ◌^◌, ◌<◌, ◌⊎◌, ◌↔◌, inl, inr, length, get_or, set, sym, ap, ◌∙◌, arith, subst, refl, get_or-set_same, get_or-set_other, bit_or}
+use Rattle.std.proofs.Common.{◌≡◌, ◌≢◌, ℕ, ◌+◌, ◌*◌, ◌%◌, ◌^◌, ◌<◌, ◌≤◌, ◌⊎◌, ◌↔◌, inl, inr, length, get_or, set, sym, ap, ◌∙◌, arith, subst, refl, get_or-set_same, get_or-set_other, bit_or}
 use Rattle.std.specs.Prelude.{IsTrue, not, nat_eq, bit_and}
 use Rattle.std.proofs.lemmas.Bool.Decides.{nat_tests}
 use Rattle.std.proofs.Math.Pow.{pow_pos}
@@ -89,20 +89,20 @@ Clears-set cells column cl sized c p m = (
 
 -- where the words of a cell stand
 abbrev pub cell_of : ℕ → ℕ → ℕ
-cell_of column place = column * 64 + place
+cell_of column place = place * 64 + column
 
-pub cell_below : (column place : ℕ) → column < 64 → place < 64 → cell_of column place < 4096
-cell_below column place cl pl = omega arith
+pub cell_below : (column place room : ℕ) → column < 64 → (place + 1) * 64 ≤ room → cell_of column place < room
+cell_below column place room cl enough = omega (arith, cl, enough)
 
 -- another cell has its words elsewhere
-pub other_cell : (c p column place : ℕ) → p < 64 → place < 64 → ((c ≡ column) × (p ≡ place) → ⊥) → cell_of c p ≢ cell_of column place
-other_cell c p column place l pl differ e = differ (same_from_place c p column place 64 l pl e)
+pub other_cell : (c p column place : ℕ) → c < 64 → column < 64 → ((c ≡ column) × (p ≡ place) → ⊥) → cell_of c p ≢ cell_of column place
+other_cell c p column place l cl differ e = let same = same_from_place p c place column 64 l cl e in differ (same.1, same.0)
 
 -- new is old with these words added to a cell
 pub record IsAdded (old new : Cells) (column place has lacks : ℕ) : Type 0 where
   pub others_reached : (c p : ℕ) → p < 64 → ((c ≡ column) × (p ≡ place) → ⊥) → bit_at (get_or new.reached c 0) p ≡ bit_at (get_or old.reached c 0) p
-  pub others_has : (c p : ℕ) → p < 64 → ((c ≡ column) × (p ≡ place) → ⊥) → get_or new.has (cell_of c p) 0 ≡ get_or old.has (cell_of c p) 0
-  pub others_lacks : (c p : ℕ) → p < 64 → ((c ≡ column) × (p ≡ place) → ⊥) → get_or new.lacks (cell_of c p) 0 ≡ get_or old.lacks (cell_of c p) 0
+  pub others_has : (c p : ℕ) → c < 64 → ((c ≡ column) × (p ≡ place) → ⊥) → get_or new.has (cell_of c p) 0 ≡ get_or old.has (cell_of c p) 0
+  pub others_lacks : (c p : ℕ) → c < 64 → ((c ≡ column) × (p ≡ place) → ⊥) → get_or new.lacks (cell_of c p) 0 ≡ get_or old.lacks (cell_of c p) 0
   pub reached : bit_at (get_or new.reached column 0) place ≡ 1
   pub here : (m : Mark) → InWords (get_or new.has (cell_of column place) 0) (get_or new.lacks (cell_of column place) 0) m ↔ (Tells old column place m ⊎ InWords has lacks m)
 
@@ -130,14 +130,14 @@ module _ (old new : Cells) (column place has lacks : ℕ) (cl : column < 64) (pl
       column_in_range = h.column_in_range;
       place_in_range = h.place_in_range;
       reached = sym (is.others_reached c p h.place_in_range differ) ∙ h.reached;
-      words = InWords-same _ _ _ _ m (is.others_has c p h.place_in_range differ) (is.others_lacks c p h.place_in_range differ) h.words;
+      words = InWords-same _ _ _ _ m (is.others_has c p h.column_in_range differ) (is.others_lacks c p h.column_in_range differ) h.words;
     }),
     λ h. elim h [
       | inl o ↦ record {
         column_in_range = o.column_in_range;
         place_in_range = o.place_in_range;
         reached = is.others_reached c p o.place_in_range differ ∙ o.reached;
-        words = InWords-same _ _ _ _ m (sym (is.others_has c p o.place_in_range differ)) (sym (is.others_lacks c p o.place_in_range differ)) o.words;
+        words = InWords-same _ _ _ _ m (sym (is.others_has c p o.column_in_range differ)) (sym (is.others_lacks c p o.column_in_range differ)) o.words;
       }
       | inr w ↦ absurd (differ (w.0, w.1))
     ],
@@ -153,19 +153,19 @@ module _ (old new : Cells) (column place has lacks : ℕ) (cl : column < 64) (pl
     | inr nc ↦ other_adds c p m (λ e. nc e.0)
   ]
 
-module _ (old : Cells) (column place has lacks bits : ℕ) (cl : column < 64) (pl : place < 64) (sized_has : length old.has ≡ 4096) (sized_lacks : length old.lacks ≡ 4096) (sized_reached : length old.reached ≡ 64) (read : bits ≡ get_or old.reached column 0) where
+module _ (old : Cells) (column place has lacks bits : ℕ) (cl : column < 64) (pl : place < 64) (enough : (place + 1) * 64 ≤ length old.has) (sized_lacks : length old.lacks ≡ length old.has) (sized_reached : length old.reached ≡ 64) (read : bits ≡ get_or old.reached column 0) where
   -- the cell was reached
   pub Adds-more : (was_has was_lacks : ℕ) → was_has ≡ get_or old.has (cell_of column place) 0 → was_lacks ≡ get_or old.lacks (cell_of column place) 0 → IsTrue (not (nat_eq (bit_and bits (1 * 2 ^ place % 2 ^ 64)) 0)) → Adds old (record { has = set old.has (cell_of column place) (bit_or was_has has); lacks = set old.lacks (cell_of column place) (bit_or was_lacks lacks); reached = old.reached }) column place has lacks
   Adds-more was_has was_lacks read_has read_lacks test =
       let new : Cells = record { has = set old.has (cell_of column place) (bit_or was_has has); lacks = set old.lacks (cell_of column place) (bit_or was_lacks lacks); reached = old.reached } in
       let at : bit_at (get_or old.reached column 0) place ≡ 1 = ap (λ w. bit_at w place) (sym read) ∙ (bit_test bits place pl).0 test in
-      let below = cell_below column place cl pl in
-      let is_has : get_or new.has (cell_of column place) 0 ≡ bit_or was_has has = get_or-set_same old.has (cell_of column place) _ 0 (omega arith) in
-      let is_lacks : get_or new.lacks (cell_of column place) 0 ≡ bit_or was_lacks lacks = get_or-set_same old.lacks (cell_of column place) _ 0 (omega arith) in
+      let below = cell_below column place (length old.has) cl enough in
+      let is_has : get_or new.has (cell_of column place) 0 ≡ bit_or was_has has = get_or-set_same old.has (cell_of column place) _ 0 below in
+      let is_lacks : get_or new.lacks (cell_of column place) 0 ≡ bit_or was_lacks lacks = get_or-set_same old.lacks (cell_of column place) _ 0 (omega (arith, below, sized_lacks)) in
       Adds-by old new column place has lacks cl pl (record {
         others_reached = λ c p l differ. refl;
-        others_has = λ c p l differ. get_or-set_other old.has (cell_of column place) (cell_of c p) _ 0 (other_cell c p column place l pl differ);
-        others_lacks = λ c p l differ. get_or-set_other old.lacks (cell_of column place) (cell_of c p) _ 0 (other_cell c p column place l pl differ);
+        others_has = λ c p l differ. get_or-set_other old.has (cell_of column place) (cell_of c p) _ 0 (other_cell c p column place l cl differ);
+        others_lacks = λ c p l differ. get_or-set_other old.lacks (cell_of column place) (cell_of c p) _ 0 (other_cell c p column place l cl differ);
         reached = at;
         here = λ m. (
           λ h. elim ((InWords-or was_has has was_lacks lacks m).0 (InWords-same _ _ _ _ m is_has is_lacks h)) [
@@ -183,9 +183,9 @@ module _ (old : Cells) (column place has lacks bits : ℕ) (cl : column < 64) (p
   pub Adds-first : (IsTrue (not (nat_eq (bit_and bits (1 * 2 ^ place % 2 ^ 64)) 0)) → ⊥) → Adds old (record { has = set old.has (cell_of column place) has; lacks = set old.lacks (cell_of column place) lacks; reached = set old.reached column (bit_or bits (1 * 2 ^ place % 2 ^ 64)) }) column place has lacks
   Adds-first test =
       let new : Cells = record { has = set old.has (cell_of column place) has; lacks = set old.lacks (cell_of column place) lacks; reached = set old.reached column (bit_or bits (1 * 2 ^ place % 2 ^ 64)) } in
-      let below = cell_below column place cl pl in
-      let is_has : get_or new.has (cell_of column place) 0 ≡ has = get_or-set_same old.has (cell_of column place) _ 0 (omega arith) in
-      let is_lacks : get_or new.lacks (cell_of column place) 0 ≡ lacks = get_or-set_same old.lacks (cell_of column place) _ 0 (omega arith) in
+      let below = cell_below column place (length old.has) cl enough in
+      let is_has : get_or new.has (cell_of column place) 0 ≡ has = get_or-set_same old.has (cell_of column place) _ 0 below in
+      let is_lacks : get_or new.lacks (cell_of column place) 0 ≡ lacks = get_or-set_same old.lacks (cell_of column place) _ 0 (omega (arith, below, sized_lacks)) in
       let is_reached : get_or new.reached column 0 ≡ bit_or bits (1 * 2 ^ place % 2 ^ 64) = get_or-set_same old.reached column _ 0 (omega arith) in
       Adds-by old new column place has lacks cl pl (record {
         others_reached = λ c p l differ. elim (same_or_not c column) [
@@ -194,8 +194,8 @@ module _ (old : Cells) (column place has lacks bits : ℕ) (cl : column < 64) (p
               ∙ ap (λ w. bit_at w p) read ∙ ap (λ x. bit_at (get_or old.reached x 0) p) (sym ec)
           | inr nc ↦ ap (λ w. bit_at w p) (get_or-set_other old.reached column c _ 0 nc)
         ];
-        others_has = λ c p l differ. get_or-set_other old.has (cell_of column place) (cell_of c p) _ 0 (other_cell c p column place l pl differ);
-        others_lacks = λ c p l differ. get_or-set_other old.lacks (cell_of column place) (cell_of c p) _ 0 (other_cell c p column place l pl differ);
+        others_has = λ c p l differ. get_or-set_other old.has (cell_of column place) (cell_of c p) _ 0 (other_cell c p column place l cl differ);
+        others_lacks = λ c p l differ. get_or-set_other old.lacks (cell_of column place) (cell_of c p) _ 0 (other_cell c p column place l cl differ);
         reached = ap (λ w. bit_at w place) is_reached ∙ bit_at_set_same w64 bits place pl;
         here = λ m. (
           λ h. inr (InWords-same _ _ _ _ m is_has is_lacks h),

@@ -52,7 +52,7 @@ module _ (substitutions : List (List Substitution)) (are : AllFit substitutions)
   )
 
   module _ (at : Tells cells (length w) (length substitutions) Reached) where
-    pub SomeHas-last : (word k : ℕ) → word ≡ get_or cells.has (length w * 64 + length substitutions) 0 → k < 64 → (bit_at word k ≡ 1) ↔ SomeHas substitutions w k
+    pub SomeHas-last : (word k : ℕ) → word ≡ get_or cells.has (length substitutions * 64 + length w) 0 → k < 64 → (bit_at word k ≡ 1) ↔ SomeHas substitutions w k
     SomeHas-last word k e l = (
       λ h.
           let r = (last_tells (Has k)).0 (record { column_in_range = at.column_in_range; place_in_range = at.place_in_range; reached = at.reached; words = (l, ap (λ x. bit_at x k) (sym e) ∙ h) }) in
@@ -60,7 +60,7 @@ module _ (substitutions : List (List Substitution)) (are : AllFit substitutions)
       λ h. ap (λ x. bit_at x k) e ∙ (((last_tells (Has k)).1 (h.0, h.1, (l, h.2))).words).1,
     )
 
-    pub SomeLacks-last : (word k : ℕ) → word ≡ get_or cells.lacks (length w * 64 + length substitutions) 0 → k < 64 → (bit_at word k ≡ 1) ↔ SomeLacks substitutions w k
+    pub SomeLacks-last : (word k : ℕ) → word ≡ get_or cells.lacks (length substitutions * 64 + length w) 0 → k < 64 → (bit_at word k ≡ 1) ↔ SomeLacks substitutions w k
     SomeLacks-last word k e l = (
       λ h.
           let r = (last_tells (Lacks k)).0 (record { column_in_range = at.column_in_range; place_in_range = at.place_in_range; reached = at.reached; words = (l, ap (λ x. bit_at x k) (sym e) ∙ h) }) in

@@ -1,5 +1,5 @@
 //! The cells of a board: what is kept of the beginnings of readings.
-ghost use Rattle.std.specs.Prelude.{◌≡◌, ◌+◌, ◌*◌, ◌<◌, ◌↔◌, slice_index, vec_len, IsTrue};
+ghost use Rattle.std.specs.Prelude.{◌≡◌, ◌+◌, ◌*◌, ◌<◌, ◌≤◌, ◌↔◌, length, slice_index, vec_len, IsTrue, IfOk};
 ghost use Rattle.std.specs.Int.{bit_at};
 ghost use Rattle.reading_kinds.specs.inner.Cells.{Cells, Tells};
 ghost use Rattle.reading_kinds.specs.inner.Cells.Mark.{Reached};
@@ -8,7 +8,7 @@ ghost use Rattle.reading_kinds.specs.inner.Columns.{Clears, Adds};
 use std::alloc::{AllocError, Global};
 use std::marker::Model;
 
-/// How many columns there are: one for each length of a label, from none on. A column has as many cells.
+/// How many columns there are: one for each length of a label, from none on.
 pub(crate) const COLUMNS: usize = 64;
 
 /// Which kinds some reading has, and which some reading lacks: bit k tells of kind k.
@@ -42,15 +42,18 @@ impl Model for Board {
 
     ghost view = { λ board. record { has = board.has.items; lacks = board.lacks.items; reached = board.reached.items } };
 
-    ghost invariant = { λ board. (vec_len board.has ≡ 4096) × (vec_len board.lacks ≡ 4096) × (vec_len board.reached ≡ 64) };
+    ghost invariant = { λ board. (vec_len board.lacks ≡ vec_len board.has) × (vec_len board.reached ≡ 64) };
 }
 
 impl Board {
-    /// Room for all columns, which is taken once for all labels.
-    pub(crate) fn new(alloc: Global) -> Result<Board, AllocError> {
+    /// Room for so many places in all columns, which is taken once for all labels.
+    pub(crate) fn new(alloc: Global, places: usize) -> Result<Board, AllocError>
+        requires { places ≤ 64 }
+        ensures { IfOk result (λ board. length board.has ≡ places * 64) }
+    {
         Ok(Board {
-            has: vec![in alloc; 0; COLUMNS * COLUMNS]?,
-            lacks: vec![in alloc; 0; COLUMNS * COLUMNS]?,
+            has: vec![in alloc; 0; places * COLUMNS]?,
+            lacks: vec![in alloc; 0; places * COLUMNS]?,
             reached: vec![in alloc; 0; COLUMNS]?,
         })
     }
@@ -76,10 +79,11 @@ impl Board {
     pub(crate) fn words_at(&self, column: usize, place: usize) -> Words
         requires column { column < 64 }
         requires place { place < 64 }
-        ensures has { result.has ≡ slice_index self.now.has (column * 64 + place) }
-        ensures lacks { result.lacks ≡ slice_index self.now.lacks (column * 64 + place) }
+        requires room { (place + 1) * 64 ≤ length self.now.has }
+        ensures has { result.has ≡ slice_index self.now.has (place * 64 + column) }
+        ensures lacks { result.lacks ≡ slice_index self.now.lacks (place * 64 + column) }
     {
-        let index = column * COLUMNS + place;
+        let index = place * COLUMNS + column;
         Words {
             has: self.has[index],
             lacks: self.lacks[index],
@@ -89,7 +93,8 @@ impl Board {
     /// Makes all cells of a column unreached.
     pub(crate) fn clear(&mut self, column: usize)
         requires { column < 64 }
-        ensures { Clears self.old self.new column }
+        ensures clears { Clears self.old self.new column }
+        ensures room { length self.new.has ≡ length self.old.has }
     {
         self.reached[column] = 0;
     }
@@ -98,9 +103,11 @@ impl Board {
     pub(crate) fn add(&mut self, column: usize, place: usize, words: Words)
         requires column { column < 64 }
         requires place { place < 64 }
-        ensures { Adds self.old self.new column place words.has words.lacks }
+        requires room { (place + 1) * 64 ≤ length self.old.has }
+        ensures adds { Adds self.old self.new column place words.has words.lacks }
+        ensures room { length self.new.has ≡ length self.old.has }
     {
-        let index = column * COLUMNS + place;
+        let index = place * COLUMNS + column;
         let bits = self.reached[column];
         if bits & (1 << place) != 0 {
             self.has[index] |= words.has;

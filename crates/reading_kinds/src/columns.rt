@@ -1,5 +1,5 @@
 //! Filling a board, column by column.
-ghost use Rattle.std.specs.Prelude.{◌≡◌, ℕ, ◌+◌, ◌-◌, ◌<◌, ◌≤◌, ◌↔◌, List, length, Contains, IsSome, IfSome};
+ghost use Rattle.std.specs.Prelude.{◌≡◌, ℕ, ◌+◌, ◌-◌, ◌*◌, ◌<◌, ◌≤◌, ◌↔◌, List, length, Contains, IsSome, IfSome};
 ghost use Rattle.std.specs.Int.{bit_at};
 ghost use Rattle.reading_kinds.specs.Readings.{Substitution, substitutions_at, SubstitutionsSpell, SomeHas, SomeLacks};
 ghost use Rattle.reading_kinds.specs.inner.Cells.{Tells, IsRight};
@@ -22,8 +22,11 @@ impl Board {
     fn add_after(&mut self, from: Cell, to: Cell, kinds: u64)
         requires column { to.column < 64 }
         requires place { to.place < 64 }
+        requires from { (from.place + 1) * 64 ≤ length self.old.has }
+        requires to { (to.place + 1) * 64 ≤ length self.old.has }
         requires reached { Tells self.old from.column from.place Reached }
-        ensures { AddsAfter self.old self.new from.column from.place kinds to.column to.place }
+        ensures adds { AddsAfter self.old self.new from.column from.place kinds to.column to.place }
+        ensures room { length self.new.has ≡ length self.old.has }
     {
         let before = self.words_at(from.column, from.place);
         let words = Words {
@@ -44,6 +47,7 @@ impl Board {
     )
         requires substitutions { AllFit substitutions.now }
         requires wide { length substitutions.now ≤ 63 }
+        requires room { length self.old.has ≡ (length substitutions.now + 1) * 64 }
         requires column { column ≤ 63 }
         requires within { column ≤ length label.now }
         requires some { 1 ≤ count }
@@ -83,6 +87,7 @@ impl Board {
     )
         requires substitutions { AllFit substitutions.now }
         requires wide { length substitutions.now ≤ 63 }
+        requires room { length self.old.has ≡ (length substitutions.now + 1) * 64 }
         requires column { column ≤ 63 }
         requires within { column ≤ length label.now }
         requires some { 1 ≤ count }
@@ -114,12 +119,14 @@ impl Board {
     )
         requires substitutions { AllFit substitutions.now }
         requires wide { length substitutions.now ≤ 63 }
+        requires room { length self.old.has ≡ (length substitutions.now + 1) * 64 }
         requires longest { (p : ℕ) (u : Substitution) → Contains (substitutions_at substitutions.now p) u → length u.points ≤ longest }
         requires column { column ≤ 63 }
         requires within { column ≤ length label.now }
         requires some { 1 ≤ column }
         requires right { IsRight substitutions.now label.now self.old (column - 1) }
-        ensures { IsRight substitutions.now label.now self.new column }
+        ensures right { IsRight substitutions.now label.now self.new column }
+        ensures room { length self.new.has ≡ length self.old.has }
     {
         self.clear(column);
         for count in 1..longest.min(column) + 1 {
@@ -137,11 +144,13 @@ impl Board {
     )
         requires substitutions { AllFit substitutions.now }
         requires wide { length substitutions.now ≤ 63 }
+        requires room { length self.old.has ≡ (length substitutions.now + 1) * 64 }
         requires longest { (p : ℕ) (u : Substitution) → Contains (substitutions_at substitutions.now p) u → length u.points ≤ longest }
         requires long { length label.now ≤ 63 }
         requires kept { kept ≤ length label.now }
         requires right { IsRight substitutions.now label.now self.old kept }
-        ensures { IsRight substitutions.now label.now self.new (length label.now) }
+        ensures right { IsRight substitutions.now label.now self.new (length label.now) }
+        ensures room { length self.new.has ≡ length self.old.has }
     {
         for column in kept + 1..label.len() + 1 {
             self.fill_column(substitutions, label, column, longest);
@@ -151,7 +160,9 @@ impl Board {
     /// Fills the first column: nothing is spelled yet, and no kind is there. The board is of the empty label then, for any
     /// substitutions.
     pub(crate) fn begin(&mut self)
-        ensures { (substitutions : List (List Substitution)) (label : List ℕ) → AllFit substitutions → IsRight substitutions label self.new 0 }
+        requires { 64 ≤ length self.old.has }
+        ensures right { (substitutions : List (List Substitution)) (label : List ℕ) → AllFit substitutions → IsRight substitutions label self.new 0 }
+        ensures room { length self.new.has ≡ length self.old.has }
     {
         self.clear(0);
         let words = Words {
@@ -166,6 +177,7 @@ impl Board {
         requires substitutions { AllFit substitutions.now }
         requires wide { length substitutions.now ≤ 63 }
         requires long { length label.now ≤ 63 }
+        requires room { length self.now.has ≡ (length substitutions.now + 1) * 64 }
         requires right { IsRight substitutions.now label.now self.now (length label.now) }
         ensures spelled { IsSome result ↔ SubstitutionsSpell substitutions.now label.now }
         ensures has { IfSome result (λ words. (k : ℕ) → k < 64 → (bit_at words.has k ≡ 1) ↔ SomeHas substitutions.now label.now k) }

@@ -23,7 +23,7 @@ pub struct Readings {
 }
 
 impl Model for Readings {
-    ghost use Rattle.std.specs.Prelude.{◌≤◌, List, length, take};
+    ghost use Rattle.std.specs.Prelude.{◌≡◌, ◌+◌, ◌*◌, ◌≤◌, List, length, take};
     ghost use Rattle.reading_kinds.specs.Readings.{Substitution, AreSubstitutions};
     ghost use Rattle.reading_kinds.specs.inner.Cells.{IsRight};
 
@@ -31,7 +31,7 @@ impl Model for Readings {
 
     ghost view = { λ r. r.substitutions };
 
-    ghost invariant = { λ r. AreSubstitutions r.substitutions × (length r.substitutions ≤ 63) × (r.count ≤ 63) × IsRight r.substitutions (take r.count r.label) r.board r.count };
+    ghost invariant = { λ r. AreSubstitutions r.substitutions × (length r.substitutions ≤ 63) × (r.count ≤ 63) × IsRight r.substitutions (take r.count r.label) r.board r.count × (length r.board.has ≡ (length r.substitutions + 1) * 64) };
 }
 
 impl Readings {
@@ -42,7 +42,7 @@ impl Readings {
         requires short { length substitutions ≤ 63 }
         ensures { IfOk result (λ readings. readings ≡ substitutions) }
     {
-        let mut board = Board::new(alloc)?;
+        let mut board = Board::new(alloc, substitutions.len() + 1)?;
         board.begin();
         Ok(Readings {
             substitutions,

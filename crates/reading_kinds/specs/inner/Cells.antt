@@ -1,9 +1,9 @@
 -- What the cells of a board say of the readings of a label: a column for each length of what is spelled, a cell in it for each place of the label.
-use Rattle.std.specs.Prelude.{◌≡◌, ℕ, ◌+◌, ◌*◌, ◌<◌, ◌≤◌, ◌↔◌, List, [], ◌∷◌, ◌++◌, length, take, slice_index, Contains}
+use Rattle.std.specs.Prelude.{◌≡◌, ℕ, ◌+◌, ◌*◌, ◌<◌, ◌≤◌, ◌↔◌, List, [], ◌∷◌, ◌++◌, take, slice_index, Contains}
 use Rattle.std.specs.Int.{bit_at}
 use Rattle.reading_kinds.specs.Readings.{Substitution, substitutions_at, HasKind}
 
--- the words of each cell, column by column, 64 in each; of each column, which cells are reached
+-- the words of each cell, place by place, 64 for each; of each column, which cells are reached
 pub record Cells : Type 0 where
   pub has : List ℕ
   pub lacks : List ℕ
@@ -25,7 +25,7 @@ pub record Tells (cells : Cells) (column place : ℕ) (m : Mark) : Type 0 where
   pub column_in_range : column < 64
   pub place_in_range : place < 64
   pub reached : bit_at (slice_index cells.reached column) place ≡ 1
-  pub words : InWords (slice_index cells.has (column * 64 + place)) (slice_index cells.lacks (column * 64 + place)) m
+  pub words : InWords (slice_index cells.has (place * 64 + column)) (slice_index cells.lacks (place * 64 + column)) m
 
 -- ---- beginnings of readings
 

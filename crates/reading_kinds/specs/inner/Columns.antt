@@ -22,6 +22,7 @@ IsSoundAt substitutions w cells column = (p : ℕ) (m : Mark) → Tells cells co
 pub record Grows (old new : Cells) (column : ℕ) : Type 0 where
   pub others : (c : ℕ) → c ≢ column → (p : ℕ) (m : Mark) → Tells new c p m ↔ Tells old c p m
   pub more : (p : ℕ) (m : Mark) → Tells old column p m → Tells new column p m
+  pub room : length new.has ≡ length old.has
 
 -- what a cell tells after a substitution from this cell
 abbrev pub TellsAfter : Cells → ℕ → ℕ → ℕ → Mark → Type 0

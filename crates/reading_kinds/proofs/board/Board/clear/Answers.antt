@@ -5,8 +5,8 @@ use Rattle.std.proofs.Common.{set}
 use Rattle.reading_kinds.proofs.CellLemmas.{Clears-set}
 use Rattle.reading_kinds.proofs.board.Board.clear.Goals as goal
 
-pub returns : goal.returns
-returns c =
+pub returns-clause-clears : goal.returns-clause-clears
+returns-clause-clears c =
     let cells : Cells = record { has = c.self.inside.has.items; lacks = c.self.inside.lacks.items; reached = c.self.inside.reached.items } in
     subst (λ v. Clears v (record cells { reached = set cells.reached c.args.column 0 }) c.args.column) c.self.view_is
     (Clears-set cells c.args.column c.requires (search rules))

@@ -1,4 +1,4 @@
-use Rattle.std.proofs.Common.{◌≡◌, ◌+◌, arith}
+use Rattle.std.proofs.Common.{◌≡◌, ◌+◌, ◌∙◌, arith}
 use Rattle.std.specs.Prelude.{min}
 use Rattle.reading_kinds.proofs.ColumnLemmas.{IsRight-grows, IsRight-step}
 use Rattle.reading_kinds.proofs.TakenLemmas.{CountsTaken-start, CountsTaken-count, CountsTaken-all, IsSoundAt-cleared, IsRight-cleared}
@@ -7,22 +7,28 @@ use Rattle.reading_kinds.proofs.board.Board.fill_column.Goals as goal
 pub loop-count-init : goal.loop-count-init
 loop-count-init c =
     CountsTaken-start c.args.substitutions.now c.args.label.now c.clear.new.self c.args.column c.requires.substitutions
-    (IsSoundAt-cleared c.args.substitutions.now c.args.label.now c.args.self.now c.clear.new.self c.args.column c.clear.ensures)
+    (IsSoundAt-cleared c.args.substitutions.now c.args.label.now c.args.self.now c.clear.new.self c.args.column c.clear.ensures.clears)
 
 pub take_count-requires-clause-right : goal.take_count-requires-clause-right
 take_count-requires-clause-right c =
     IsRight-grows c.args.substitutions.now c.args.label.now c.clear.new.self c.loop-count.self c.args.column c.requires.some c.loop-count.invariant.grows
-    (IsRight-cleared c.args.substitutions.now c.args.label.now c.args.self.now c.clear.new.self c.args.column c.clear.ensures c.requires.some c.requires.right)
+    (IsRight-cleared c.args.substitutions.now c.args.label.now c.args.self.now c.clear.new.self c.args.column c.clear.ensures.clears c.requires.some c.requires.right)
 
 pub loop-count-preserved : goal.loop-count-preserved
 loop-count-preserved c =
     CountsTaken-count c.args.substitutions.now c.args.label.now c.clear.new.self c.args.column c.requires.substitutions c.loop-count.self c.take_count.new.self c.loop-count.count
     c.take_count.ensures.grows c.take_count.ensures.sound c.take_count.ensures.taken c.loop-count.invariant
 
-pub returns : goal.returns
-returns c =
+pub take_count-requires-clause-room : goal.take_count-requires-clause-room
+take_count-requires-clause-room c = c.loop-count.invariant.grows.room ∙ c.clear.ensures.room ∙ c.requires.room
+
+pub returns-clause-room : goal.returns-clause-room
+returns-clause-room c = c.loop-count.invariant.grows.room ∙ c.clear.ensures.room
+
+pub returns-clause-right : goal.returns-clause-right
+returns-clause-right c =
     let upto : c.loop-count.count ≡ min c.args.longest c.args.column + 1 = omega (arith, c.min-count-end.ensures, c.loop-count-test.false, c.loop-count.auto.count-end, c.loop-count.auto.count) in
     let right = IsRight-grows c.args.substitutions.now c.args.label.now c.clear.new.self c.loop-count.self c.args.column c.requires.some c.loop-count.invariant.grows
-    (IsRight-cleared c.args.substitutions.now c.args.label.now c.args.self.now c.clear.new.self c.args.column c.clear.ensures c.requires.some c.requires.right) in
+    (IsRight-cleared c.args.substitutions.now c.args.label.now c.args.self.now c.clear.new.self c.args.column c.clear.ensures.clears c.requires.some c.requires.right) in
     IsRight-step c.args.substitutions.now c.args.label.now c.loop-count.self c.args.column c.requires.substitutions c.requires.some c.requires.within right c.loop-count.invariant.sound
     (CountsTaken-all c.args.substitutions.now c.args.label.now c.clear.new.self c.args.column c.requires.substitutions c.loop-count.self c.args.longest c.loop-count.count upto c.requires.longest c.loop-count.invariant)

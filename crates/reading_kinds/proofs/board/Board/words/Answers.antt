@@ -22,10 +22,10 @@ pub returns-clause-has : goal.returns-clause-has
 returns-clause-has c k l =
     let at : Tells c.args.self.now (length c.args.label.now) (length c.args.substitutions.now) Reached = subst (λ n. Tells c.args.self.now (length c.args.label.now) n Reached) c.len.ensures (c.if-not-reaches.ensures.0 (search rules)) in
     SomeHas-last c.args.substitutions.now c.requires.substitutions c.args.label.now c.args.self.now c.requires.right at c.words_at.result.has k
-    (c.words_at.ensures.has ∙ ap (λ n. get_or c.args.self.now.has (length c.args.label.now * 64 + n) 0) c.len-2.ensures) l
+    (c.words_at.ensures.has ∙ ap (λ n. get_or c.args.self.now.has (n * 64 + length c.args.label.now) 0) c.len-2.ensures) l
 
 pub returns-clause-lacks : goal.returns-clause-lacks
 returns-clause-lacks c k l =
     let at : Tells c.args.self.now (length c.args.label.now) (length c.args.substitutions.now) Reached = subst (λ n. Tells c.args.self.now (length c.args.label.now) n Reached) c.len.ensures (c.if-not-reaches.ensures.0 (search rules)) in
     SomeLacks-last c.args.substitutions.now c.requires.substitutions c.args.label.now c.args.self.now c.requires.right at c.words_at.result.lacks k
-    (c.words_at.ensures.lacks ∙ ap (λ n. get_or c.args.self.now.lacks (length c.args.label.now * 64 + n) 0) c.len-2.ensures) l
+    (c.words_at.ensures.lacks ∙ ap (λ n. get_or c.args.self.now.lacks (n * 64 + length c.args.label.now) 0) c.len-2.ensures) l

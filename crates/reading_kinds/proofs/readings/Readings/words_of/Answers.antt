@@ -1,4 +1,4 @@
-use Rattle.std.proofs.Common.{rules, ◌≡◌, ◌≤◌, length, take, arith}
+use Rattle.std.proofs.Common.{rules, ◌≡◌, ◌≤◌, length, take, arith, ◌∙◌}
 use Rattle.std.proofs.lemmas.Grind.{common_steps}
 use Rattle.reading_kinds.proofs.CutLemmas.{AllFit-of}
 use Rattle.reading_kinds.proofs.WordsLemmas.{IsRight-kept, IsRight-stored}
@@ -17,4 +17,4 @@ fill-requires-clause-right c =
     IsRight-kept c.self.inside.substitutions c.self.inside.label c.args.label.now c.self.inside.board c.self.inside.count c.shared_len-kept.result c.self.invariant.3 within same
 
 pub invariant_of-self : goal.invariant_of-self
-invariant_of-self c = (c.self.invariant.0, c.self.invariant.1, c.requires, IsRight-stored c.self.inside.substitutions c.args.label.now c.copy_from_slice.new.self _ c.fill.new.self (search rules) c.fill.ensures)
+invariant_of-self c = (c.self.invariant.0, c.self.invariant.1, c.requires, IsRight-stored c.self.inside.substitutions c.args.label.now c.copy_from_slice.new.self _ c.fill.new.self (search rules) c.fill.ensures.right, c.fill.ensures.room ∙ c.self.invariant.4)
