@@ -64,10 +64,12 @@ wrong-bodies:
 	RT=$(RT) LANES=$(LANES) IS_PROVED=1 python3 tests/planted.py wrong-bodies $(CRATES)
 
 # The program, its manual page, its completions for bash, zsh and fish, and its tables, below $(DESTDIR)$(PREFIX), each under
-# PROGRAM_NAME. And idn2-registry, one file that Python runs, with its page and completions.
+# PROGRAM_NAME. And idn2-registry, one file that Python runs, with its page, its completions and its units for systemd.
 BIN = $(DESTDIR)$(PREFIX)/bin/$(PROGRAM_NAME)
 SHARE = $(DESTDIR)$(PREFIX)/share
 PAGE = $(SHARE)/man/man1/$(PROGRAM_NAME).1
+# Where the unit finds the program.
+UNIT_PREFIX = $(abspath $(PREFIX))
 FOR_BASH = $(SHARE)/bash-completion/completions/$(PROGRAM_NAME)
 FOR_ZSH = $(SHARE)/zsh/site-functions/_$(PROGRAM_NAME)
 FOR_FISH = $(SHARE)/fish/vendor_completions.d/$(PROGRAM_NAME).fish
@@ -84,6 +86,8 @@ install: program-name all
 	install -D -m 644 completions/idn2-registry.bash $(SHARE)/bash-completion/completions/idn2-registry
 	install -D -m 644 completions/idn2-registry.zsh $(SHARE)/zsh/site-functions/_idn2-registry
 	install -D -m 644 completions/idn2-registry.fish $(SHARE)/fish/vendor_completions.d/idn2-registry.fish
+	install -D -m 644 -t $(DESTDIR)$(PREFIX)/lib/systemd/system registry/systemd/idn2-registry.service registry/systemd/idn2-registry.socket
+	sed -i -e 's|=/usr/local/bin/|=$(UNIT_PREFIX)/bin/|' $(DESTDIR)$(PREFIX)/lib/systemd/system/idn2-registry.service
 	sed -i -e 's/^\(complete .*\) idn2$$/\1 $(PROGRAM_NAME)/' $(FOR_BASH)
 	sed -i -e 's/^#compdef idn2$$/#compdef $(PROGRAM_NAME)/' $(FOR_ZSH)
 	sed -i -e 's/^\( *complete -c\) idn2 /\1 $(PROGRAM_NAME) /' $(FOR_FISH)
@@ -106,12 +110,13 @@ PACKED := idn2-$(VERSION)
 C_LIBRARY = $(shell sed -n 's/.*GNU C library, version \([0-9.]*\) or later.*/\1/p' README.md)
 dist:
 	rm -rf $(DIST)/$(PACKED)
-	$(MAKE) --no-print-directory install DESTDIR= PREFIX=$(abspath $(DIST))/$(PACKED)
+	$(MAKE) --no-print-directory install DESTDIR= PREFIX=$(abspath $(DIST))/$(PACKED) UNIT_PREFIX=/usr/local
 	@grep -ao 'GLIBC_[0-9][0-9.]*' $(PROGRAM) | sort -uV | tail -n 1 | grep -Fqx 'GLIBC_$(C_LIBRARY)' || \
 	    { echo 'the program needs another C library than the README says: objdump -T $(PROGRAM)' >&2; exit 1; }
 	find tables -name '*.txt' -o -name '*.py' | xargs -I % install -D -m 644 % $(DIST)/$(PACKED)/%
 	install -D -m 644 -t $(DIST)/$(PACKED)/docs docs/GUIDE.md docs/CONVERSION.md docs/LIBIDN2.md docs/JSON.md docs/answers.schema.json docs/NOTATION.md \
 	    docs/PROFILE.md docs/GLOSSARY.md docs/idn2.1 docs/idn2-registry.1
+	install -D -m 644 -t $(DIST)/$(PACKED)/docs/pictures docs/pictures/*.png
 	install -m 644 -t $(DIST)/$(PACKED) CHANGELOG.md $(wildcard LICENSE* LICENCE* COPYING*)
 	cd $(DIST)/$(PACKED) && find . -type f ! -name SHA256SUMS -printf '%P\n' | LC_ALL=C sort | xargs sha256sum > SHA256SUMS
 	cd $(DIST) && tar --sort=name --mtime=@0 --owner=0 --group=0 --numeric-owner -cf - $(PACKED) | gzip -n > $(PACKED).tar.gz
@@ -124,21 +129,23 @@ check-tables: all
 	for ruleset in tables/rulesets/*.txt; do $(PROGRAM) --check-ruleset $$ruleset || exit 1; done
 
 # Times the program against libidn2's, and prints one table of ratios. Then what a million registered labels take, and
-# what one of what a limit bounds takes at worst.
+# what one of what a limit bounds takes at worst, and what idn2-registry and its service take.
 bench: all
 	python3 bench/bench.py
 	python3 bench/collisions.py
 	python3 bench/limits.py
 	python3 bench/rulesets.py
 	python3 bench/registry.py
+	python3 bench/service.py --python /usr/bin/python3
 
 # Compares the program with libidn2, with a reference implementation of the rules and of the table notation, and with Unicode's
-# IDNA test file where IDNA_TEST_FILE names it.
+# IDNA test file where IDNA_TEST_FILE names it; and publishes six thousand tables and reads them back.
 conformance: all
 	python3 conformance/compare.py
 	python3 conformance/worked_rows.py
 	python3 conformance/check_tables.py
 	python3 conformance/idna_test.py
+	python3 conformance/published.py --jobs $(LANES)
 
 # Converts the rulesets of a folder, and compares what the program lists under them with the answers of another evaluator of
 # RFC 7940, which the folder has in answers.txt: make evaluator RULESETS=FOLDER

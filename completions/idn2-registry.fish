@@ -6,11 +6,12 @@ function __idn2_registry_of
 end
 
 complete -c idn2-registry -f
-set -l jobs check register release variants tables-of load dump audit change join convert ask check-config
+set -l jobs check register release variants tables-of load dump audit change compare join publish convert ask serve check-config
 set -l meanings 'Tell which labels are available' 'Register labels that are available' 'Release registered labels' \
     'List the variants of labels' 'Tell which tables admit a label' 'Put labels into the register' \
     'Write the registered labels' 'Tell which registered labels are invalid or collide' 'Tell what a new table changes' \
-    'Write the table of the zone' 'Make a table from a published ruleset' 'Answer requests' 'Check the configuration'
+    'Tell what two tables say otherwise' 'Write the table of the zone' 'Write a table as others read it' \
+    'Make a table from a published ruleset' 'Answer requests' 'Answer over HTTP' 'Check the configuration'
 for number in (seq (count $jobs))
     complete -c idn2-registry -n "not __fish_seen_subcommand_from $jobs" -a $jobs[$number] -d $meanings[$number]
 end
@@ -26,8 +27,11 @@ __idn2_registry_of variants -l page -x -d 'At most so many'
 __idn2_registry_of variants -l after -x -d 'Only those after a text'
 __idn2_registry_of 'load audit change' -l resume -d 'Go on where a run was stopped'
 __idn2_registry_of 'load audit change' -l scheduler -x -d 'Let a cluster do it'
+__idn2_registry_of audit -l since -r -F -d 'Tell only what is new'
 __idn2_registry_of load -l rest -d 'Load the others'
-__idn2_registry_of 'load change join convert' -F
+__idn2_registry_of 'load change compare join publish convert' -F
+__idn2_registry_of publish -l as -x -a 'xml rfc4290 html' -d 'In which form'
+__idn2_registry_of publish -l meta -r -F -d 'The metadata'
 __idn2_registry_of convert -l version -x -a '1 2 3' -d 'Of the notation'
 __idn2_registry_of convert -l untyped -x -a 'blocked allocatable' -d 'What variants without a type are'
 __idn2_registry_of convert -l close-gaps -d 'Add missing pairs'

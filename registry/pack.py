@@ -13,6 +13,7 @@ TABLES = HERE.parent / "tables"
 # The converter, with the evaluator that verifies it, and what it stands on.
 PACKAGES = (HERE / "idn2_registry", TABLES / "lgr", TABLES / "rfc7940", TABLES / "notation")
 MODULES = (TABLES / "unicode_data.py",)
+SUFFIXES = (".py", ".typed", ".txt", ".css", ".js")
 NAME_FILE = "idn2_registry/program_name.txt"
 START = """import sys
 
@@ -31,9 +32,9 @@ def files(program_name: str) -> Iterator[tuple[str, bytes]]:
     """The names and the texts of what is packed."""
     yield "__main__.py", START.encode()
     for package in PACKAGES:
-        for path in sorted(package.iterdir()):
-            if path.suffix in (".py", ".typed", ".txt"):
-                name = f"{package.name}/{path.name}"
+        for path in sorted(package.rglob("*")):
+            if path.suffix in SUFFIXES:
+                name = f"{package.name}/{path.relative_to(package)}"
                 yield name, f"{program_name}\n".encode() if name == NAME_FILE else path.read_bytes()
     for path in MODULES:
         yield path.name, path.read_bytes()

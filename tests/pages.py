@@ -363,7 +363,10 @@ def installs_under_another_name(folder):
              f"share/fish/vendor_completions.d/{OTHER_NAME}.fish": f"complete -c {OTHER_NAME} -f\n"}
     tables = {os.path.join(share, os.path.relpath(path, ROOT)) for path in glob.glob(f"{TABLES}/**/*.txt", recursive=True)}
     registry = {"bin/idn2-registry", *(file.replace(OTHER_NAME, "idn2-registry") for file in (page, *heads))}
-    assert files == {f"bin/{OTHER_NAME}", page, *heads, *tables, *registry}, files
+    units = {f"lib/systemd/system/idn2-registry.{kind}" for kind in ("service", "socket")}
+    assert files == {f"bin/{OTHER_NAME}", page, *heads, *tables, *registry, *units}, files
+    with open(os.path.join(prefix, "lib/systemd/system/idn2-registry.service"), encoding="utf-8") as file:
+        assert f"ExecStart={prefix}/bin/idn2-registry serve " in file.read()
     expect_well_formed(os.path.join(prefix, page))
     for path, head in heads.items():
         with open(os.path.join(prefix, path), encoding="utf-8") as file:

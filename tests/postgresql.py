@@ -39,3 +39,11 @@ def server():
             run(control, "-D", data, "-m", "immediate", "stop")
     finally:
         shutil.rmtree(folder)
+
+
+def restart(folder):
+    """Starts the server in a folder again. Those who are connected lose their connections."""
+    control = os.path.join(os.path.dirname(sorted(glob.glob(INITDB))[-1]), "pg_ctl")
+    as_user = ["runuser", "-u", "postgres", "--"] if os.geteuid() == 0 else []
+    subprocess.run([*as_user, control, "-D", os.path.join(folder, "data"), "-w", "-m", "fast", "restart"], check=True, cwd=folder,
+                   stdin=subprocess.DEVNULL, stdout=subprocess.DEVNULL, stderr=subprocess.DEVNULL, timeout=LIMIT)

@@ -13,7 +13,7 @@ from program import ROOT, is_installed, is_there, python_with, run_tests
 
 PACKAGE = os.path.join(ROOT, "registry")
 # What some of the tests import, too.
-MODULES = ("pytest", "psycopg", "distributed")
+MODULES = ("pytest", "psycopg", "distributed", "aiohttp")
 LIMIT = 300
 
 
@@ -55,8 +55,8 @@ def does_what_its_tests_say(folder):
 
 
 def has_types(folder):
-    if is_installed("mypy"):
-        python = python_with("psycopg") or sys.executable
+    python = python_with("psycopg, aiohttp")
+    if is_installed("mypy") and is_there("python3-aiohttp", python):
         words = ["mypy", f"--python-executable={python}", f"--cache-dir={folder}", "idn2_registry"]
         done = subprocess.run(words, cwd=PACKAGE, capture_output=True, text=True, timeout=LIMIT)
         assert done.returncode == 0, done.stdout

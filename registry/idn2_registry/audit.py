@@ -4,7 +4,7 @@ import json
 from collections.abc import Iterable, Sequence
 from dataclasses import dataclass
 from functools import cached_property
-from typing import Any
+from typing import Any, TypeVar
 
 from .answers import ExitStatus, Refusal
 from .collisions import Collisions, found_in_audit, refusals_in
@@ -12,18 +12,15 @@ from .configuration import Configuration
 from .faults import Unknown
 from .holdings import Holdings
 from .output import Output
-from .program import HeldFile, Program
+from .program import HeldFile, Program, WrongRegistered
+from .since import Earlier
 from .tables import Table, read_table
 from .words import counted, registered_words, shown
-from .work import Means, parts_of, results
+from .work import Means, Task, parts_of, results
 
 Pairs = list[tuple[str, str]]
 Refused = dict[str, dict[str, Any]]
-
-
-def refused_lines(output: bytes, labels: Sequence[str]) -> Refused:
-    """The refusals of a run, by the labels that it was asked."""
-    return {labels[told["line"] - 1]: told["refusal"] for told in refusals_in(output)}
+Each = TypeVar("Each", bound=Any)
 
 
 @dataclass(frozen=True)
@@ -34,18 +31,36 @@ class TestTask:
 
     def done(self, part: bytes) -> bytes:
         """Their refusals."""
-        output = self.program.answered(["--register"], part)
-        if output.count(b"\n") != part.count(b"\n"):
-            raise Unknown("the program didn't answer each label")
-        return json.dumps(refused_lines(output, part.decode().split("\n"))).encode()
+        output, refused = self.program.plain(["--register"], part)
+        check_answered(output.count(b"\n") + len(refused), part.count(b"\n"))
+        return json.dumps(causes(self.program, (["--register"], []), labels_at(part, refused))).encode()
+
+
+@dataclass(frozen=True)
+class AdmissionTask:
+    """Which labels no table admits."""
+
+    program: Program
+    admitting: tuple[Table, ...]
+
+    def done(self, part: bytes) -> bytes:
+        """The refusals by the last table of what all others refuse, too."""
+        labels = part.split(b"\n")[:-1]
+        for table in self.admitting:
+            words, files = admission_words(table)
+            output, refused = self.program.plain(words, part, files)
+            # No label has a number sign, with which the last line of each answer begins.
+            check_answered(output.count(b"#") + len(refused), len(labels))
+            labels = labels_at(part, refused)
+            part = lines_of(labels)
+        return json.dumps(causes(self.program, (words, files), labels)).encode()
 
 
 @dataclass(frozen=True)
 class AuditTask:
-    """Which labels no table admits, and which registered labels the labels of a part collide with."""
+    """Which labels the table of the zone refuses, and which registered labels the labels of a part collide with."""
 
     program: Program
-    admitting: tuple[Table, ...]
     zone: Table
     registered: bytes
 
@@ -58,28 +73,45 @@ class AuditTask:
         return {name: value for name, value in self.__dict__.items() if name != "held"}
 
     def done(self, part: bytes) -> bytes:
-        """The refusals, and the pairs that collide."""
+        """The labels that are refused, and the pairs that collide."""
         words, files = Collisions(self.zone).audit_words(self.held)
-        answered, pairs, refused = found_in_audit(self.program.answered(words, part, files))
-        if answered != part.count(b"\n"):
-            raise Unknown("the program didn't answer each label")
-        labels = part.decode().split("\n")
-        if self.admitting == (self.zone,):
-            invalid = {labels[told["line"] - 1]: told["refusal"] for told in refused}
-        else:
-            invalid = self.not_admitted(labels[:-1])
-        return json.dumps({"invalid": invalid, "pairs": pairs}).encode()
+        output, refused = self.program.plain(words, part, files)
+        answered, pairs = found_in_audit(output, part, refused)
+        check_answered(answered + len(refused), part.count(b"\n"))
+        return json.dumps({"refused": [label.decode() for label in labels_at(part, refused)], "pairs": pairs}).encode()
 
-    def not_admitted(self, labels: Sequence[str]) -> Refused:
-        """The labels that no table admits."""
-        refused: Refused = {}
-        for table in self.admitting:
-            option, _ = table.kind.value
-            words = [option, table.held.path, "--limit", "1", "--tries", "1"]
-            request = "".join(f"{label}\n" for label in labels).encode()
-            refused = refused_lines(self.program.answered(words, request, [table.held.descriptor]), labels)
-            labels = [label for label in labels if label in refused]
-        return refused
+
+def admission_words(table: Table) -> tuple[list[str], list[int]]:
+    """The words and the files of a run that tells which labels a table admits, and little else of them."""
+    option, _ = table.kind.value
+    return [option, table.held.path, "--limit", "1", "--tries", "1"], [table.held.descriptor]
+
+
+def lines_of(labels: Iterable[bytes]) -> bytes:
+    """Labels, each on a line."""
+    return b"".join(label + b"\n" for label in labels)
+
+
+def labels_at(part: bytes, numbers: Sequence[int]) -> list[bytes]:
+    """The labels of some lines of a part."""
+    lines = part.split(b"\n") if numbers else []
+    return [lines[number - 1] for number in numbers]
+
+
+def check_answered(count: int, lines: int) -> None:
+    """As many lines are answered as there are."""
+    if count != lines:
+        raise Unknown("the program didn't answer each label")
+
+
+def causes(program: Program, run: tuple[list[str], list[int]], labels: Sequence[bytes]) -> Refused:
+    """The refusals of labels that a run refuses, with their causes. Most labels aren't refused, so that these alone are asked
+    for objects."""
+    if not labels:
+        return {}
+    told = refusals_in(program.answered(run[0], lines_of(labels), run[1]))
+    check_answered(len(told), len(labels))
+    return {label.decode(): each["refusal"] for label, each in zip(labels, told, strict=True)}
 
 
 @dataclass(frozen=True)
@@ -94,9 +126,9 @@ class Findings:
         return groups_of(self.pairs)
 
 
-def groups_of(pairs: Iterable[tuple[str, str]]) -> list[list[str]]:
-    """Groups of labels that pairs connect, each in label order, and by their first labels."""
-    joined: dict[str, list[str]] = {}
+def groups_of(pairs: Iterable[tuple[Each, Each]]) -> list[list[Each]]:
+    """Groups of labels, or of sequences, that pairs connect, each in order, and by their first ones."""
+    joined: dict[Each, list[Each]] = {}
     for pair in pairs:
         groups = {id(group): group for group in (joined.get(label, [label]) for label in pair)}
         whole = max(groups.values(), key=len)
@@ -109,37 +141,61 @@ def groups_of(pairs: Iterable[tuple[str, str]]) -> list[list[str]]:
 
 
 def findings(program: Program, admitting: Sequence[Table], zone: Table, holdings: Holdings, means: Means, name: str) -> Findings:
-    """All that is wrong with the labels of a register under some tables."""
-    tested = results(means, f"{name}-test", TestTask(program), parts_of(holdings.lines), [program.state])
-    invalid: Refused = {}
-    for result in tested:
-        invalid |= json.loads(result)
-    lines = [label.encode() for label in holdings.labels if label not in invalid] if invalid else holdings.lines
-    parts = parts_of(lines)
-    task = AuditTask(program, tuple(admitting), zone, b"".join(parts))
-    state = [program.state, zone.data, *(table.data for table in admitting)]
-    pairs: Pairs = []
-    for result in results(means, name, task, parts, state):
-        told = json.loads(result)
-        invalid |= told["invalid"]
-        pairs += [(first, second) for first, second in told["pairs"]]
-    return Findings(invalid, pairs)
+    """All that is wrong with the labels of a register under some tables. The program reads no registered labels with one that
+    may not be registered. Only where it says so, each label is tested alone."""
+    try:
+        return findings_among(program, admitting, zone, holdings.lines, means, name)
+    except WrongRegistered:
+        invalid = refusals(TestTask(program), holdings.lines, means, f"{name}-test", [program.state])
+    lines = [label.encode() for label in holdings.labels if label not in invalid]
+    found = findings_among(program, admitting, zone, lines, means, f"{name}-rest")
+    return Findings(invalid | found.invalid, found.pairs)
 
 
-def audit(configuration: Configuration, program: Program, holdings: Holdings, means: Means, output: Output) -> None:
-    """Tells of each label that no table admits any more, of each group that collides, and how many there are."""
+def findings_among(program: Program, admitting: Sequence[Table], zone: Table, lines: Sequence[bytes], means: Means,
+                   name: str) -> Findings:
+    """The same of labels that may be registered."""
+    parts = parts_of(lines, means.lines_of_a_part(len(lines)))
+    told = [json.loads(result) for result in
+            results(means, name, AuditTask(program, zone, b"".join(parts)), parts, [program.state, zone.data])]
+    pairs = [(first, second) for each in told for first, second in each["pairs"]]
+    if list(admitting) == [zone]:
+        refused = [label.encode() for each in told for label in each["refused"]]
+        return Findings(causes(program, admission_words(zone), refused), pairs)
+    state = [program.state, *(table.data for table in admitting)]
+    return Findings(refusals(AdmissionTask(program, tuple(admitting)), lines, means, f"{name}-tables", state), pairs)
+
+
+def refusals(task: Task, lines: Sequence[bytes], means: Means, name: str, state: Sequence[bytes]) -> Refused:
+    """What a task refuses."""
+    found: Refused = {}
+    for result in results(means, name, task, parts_of(lines), state):
+        found |= json.loads(result)
+    return found
+
+
+def audit(configuration: Configuration, program: Program, holdings: Holdings, means: Means, since: str | None,
+          output: Output) -> None:
+    """Tells of each label that no table admits any more, of each group that collides, and how many there are. With the output
+    of an earlier audit it tells only what that doesn't have."""
+    earlier = Earlier.read(since)
     tables = {name: read_table(name, path, program) for name, path in configuration.tables.items()}
     admitting = [tables[name] for name in configuration.admitting]
     found = findings(program, admitting, tables[configuration.zone], holdings, means, "audit")
     groups = found.groups()
-    named = holdings.named([*found.invalid, *(label for group in groups for label in group)], program)
-    for label in sorted(found.invalid):
+    new_labels = [label for label in sorted(found.invalid) if not earlier.knows(label)]
+    new_groups = [group for group in groups if not earlier.knows_group(group)]
+    named = holdings.named([*new_labels, *(label for group in new_groups for label in group)], program)
+    for label in new_labels:
         refusal = Refusal.read(found.invalid[label])
         told = {**named[label].object(), "refusal": refusal.object()}
         output.fact(told, f"{registered_words(named[label])}: no longer valid: {shown(str(refusal))}", ExitStatus.NO)
-    for group in groups:
+    for group in new_groups:
         together = {"collide": [named[label].object() for label in group]}
         output.fact(together, "collide: " + ", ".join(registered_words(named[label]) for label in group), ExitStatus.NO)
     counts = {"labels": len(holdings.labels), "invalid": len(found.invalid), "groups": len(groups)}
     words = f"{counted(len(holdings.labels), 'label')}, {len(found.invalid)} invalid, {counted(len(groups), 'group')}"
-    output.fact(counts, words, ExitStatus.YES)
+    if since is not None:
+        counts["new"] = len(new_labels) + len(new_groups)
+        words += f", {counts['new']} new"
+    output.end(counts, words)

@@ -3,25 +3,17 @@
 import json
 import signal
 import sys
-from collections.abc import Callable
 from dataclasses import dataclass
 from typing import Any
 
-from .answers import Answer, Object
+from .answers import Object
 from .faults import Unusable
 from .output import Output, complain, text_of
+from .requests import Request
 from .zone import Zone
 
 # Of a request, its line feed among them.
 MOST_BYTES = 65_536
-JOBS: dict[str, tuple[str, ...]] = {
-    "check": ("holder", "variants"),
-    "register": ("holder",),
-    "release": (),
-    "variants": ("table", "page", "after"),
-    "tables-of": (),
-}
-TYPES: dict[str, type] = {"holder": str, "variants": bool, "table": str, "page": int, "after": str}
 
 
 @dataclass
@@ -60,23 +52,7 @@ class CoProcess:
             return {"fault": f"more than {MOST_BYTES} bytes"}
         try:
             request = json.loads(line)
-            told = self._asked(request).object()
+            told = Request.read(request).answer(self.zone).object()
         except (ValueError, RecursionError) as error:
             told = {"fault": str(error)}
         return {"id": request["id"], **told} if isinstance(request, dict) and "id" in request else told
-
-    def _asked(self, request: Any) -> Answer:
-        """What a request asks for."""
-        if not isinstance(request, dict) or not isinstance(request.get("label"), str):
-            raise ValueError("a request is an object with label, and with job")
-        job = request.get("job")
-        if not isinstance(job, str) or job not in JOBS:
-            raise ValueError(f"job is one of {', '.join(JOBS)}")
-        given = {name: value for name, value in request.items() if name not in ("id", "job", "label")}
-        for name, value in given.items():
-            if name not in JOBS[job]:
-                raise ValueError(f"{job} takes no {name}")
-            if value is not None and type(value) is not TYPES[name]:
-                raise ValueError(f"{name} is of another type")
-        call: Callable[..., Answer] = getattr(self.zone, job.replace("-", "_"))
-        return call(request["label"], **given)

@@ -2,7 +2,7 @@
 
 import json
 import re
-from collections.abc import Callable
+from collections.abc import Callable, Sequence
 
 from .answers import Object, Refusal
 from .faults import Unknown
@@ -12,10 +12,9 @@ from .tables import Table
 
 ALLOCATABLE = "allocatable"
 NOT_ADMITTED, NOT_VALID = 40, 41
-# How an object ends that ends a block, and that of a label which collides with another than itself. No text of an object
-# has such an end, since it has no quote that isn't escaped.
-END = b',"complete":true}\n'
-COLLIDING = re.compile(rb',"count":(?!1,)(\d+),"complete":true\}\n')
+# The line that ends a block, and that of a label which collides with another than itself.
+END = b"#end "
+COLLIDING = re.compile(rb"#end (?!1\n)(\d+)\n")
 
 
 class Collisions:
@@ -79,20 +78,30 @@ class Collisions:
         return words, [self._table.held.descriptor, registered.descriptor]
 
 
-def found_in_audit(output: bytes) -> tuple[int, list[tuple[str, str]], list[Object]]:
-    """What a run with `audit_words` says: how many lines it answered, the pairs that collide, and the objects with
-    refusals. Labels without another collision than with themselves, which are most, aren't looked at one by one."""
-    refused = refusals_in(output)
-    pairs = []
+def found_in_audit(output: bytes, part: bytes, refused: Sequence[int]) -> tuple[int, list[tuple[str, str]]]:
+    """What a run with `audit_words` says of the lines of a part that it didn't refuse: how many it answered, and the pairs that
+    collide. Labels without another collision than with themselves, which are most, aren't looked at one by one."""
+    pairs: list[tuple[str, str]] = []
+    labels: list[bytes] = []
+    number, before = 0, 0
     for end in COLLIDING.finditer(output):
-        start = output.rfind(b"\n", 0, end.start()) + 1
-        label = json.loads(output[start:end.end()])["input"]
-        for _ in range(int(end[1])):
-            start, line_end = output.rfind(b"\n", 0, start - 1) + 1, start
-            other = json.loads(output[start:line_end])["ulabel"]
-            if other != label:
-                pairs.append((label, other))
-    return output.count(END) + len(refused), pairs[::-1], refused
+        labels = labels or accepted(part, refused)
+        # No label has a number sign or a blank.
+        number += output.count(END, before, end.start())
+        start = output.rfind(END, before, end.start())
+        first = before if start < 0 else output.index(b"\n", start) + 1
+        others = [line.partition(b"\t")[0] for line in output[first:end.start()].split(b"\n")[:-1]]
+        if len(others) != int(end[1]) or number >= len(labels):
+            raise Unknown("the program gave another answer than it should")
+        pairs += [(labels[number].decode(), other.decode()) for other in others if other != labels[number]]
+        number, before = number + 1, end.end()
+    return output.count(END), pairs
+
+
+def accepted(part: bytes, refused: Sequence[int]) -> list[bytes]:
+    """The lines of a part that weren't refused."""
+    numbers = set(refused)
+    return [line for number, line in enumerate(part.split(b"\n")[:-1], 1) if number not in numbers]
 
 
 def refusals_in(output: bytes) -> list[Object]:

@@ -5,22 +5,28 @@ import contextlib
 import os
 import sys
 from collections.abc import Callable, Iterator, Sequence
+from pathlib import Path
 
 from .answers import Answer, ExitStatus
 from .audit import audit as audit_all
 from .change import change as change_all
 from .co_process import CoProcess
+from .compare import Comparison
 from .configuration import DEFAULT_PATH, Configuration, read_configuration
 from .convert import convert as convert_file
-from .faults import Unknown, Unusable
+from .faults import Unknown, Unsayable, Unusable
 from .holdings import Holdings
 from .join import join as joined
 from .load import dump as dump_register
 from .load import load as load_file
 from .output import Output, complain
+from .parsed_table import ParsedTable
 from .program import Program
+from .publish import Form
+from .publish import publish as published
 from .register import open_register
 from .check_config import check_configuration
+from .tables import Table, read_tables
 from .work import Means
 from .zone import Zone
 
@@ -85,6 +91,17 @@ def ask(words: Words, output: Output) -> None:
         CoProcess(zone).run()
 
 
+def serve(words: Words, output: Output) -> None:
+    """Answers over HTTP, with pages for people, until a signal ends it."""
+    try:
+        from .service.start import serve as serve_zone
+    except ImportError as error:
+        raise Unusable(f"{sys.executable} has no aiohttp, which serve needs: apt-get install python3-aiohttp is for "
+                       "/usr/bin/python3, and pip install aiohttp for any other") from error
+    with opened(words) as zone:
+        serve_zone(zone)
+
+
 def check_config(words: Words, output: Output) -> None:
     """Checks the configuration, its tables and its register."""
     configuration = read_configuration(words.config)
@@ -126,7 +143,7 @@ def audit(words: Words, output: Output) -> None:
     """Tells which registered labels are no longer valid, and which collide."""
     configuration = read_configuration(words.config)
     asked = program(words, configuration)
-    audit_all(configuration, asked, holdings(configuration), means(words, configuration), output)
+    audit_all(configuration, asked, holdings(configuration), means(words, configuration), words.since, output)
 
 
 def change(words: Words, output: Output) -> None:
@@ -136,11 +153,34 @@ def change(words: Words, output: Output) -> None:
     change_all(configuration, asked, holdings(configuration), means(words, configuration), words.new, output)
 
 
+def found_configuration(words: Words) -> Configuration | None:
+    """The configuration, for a job that does without one."""
+    return read_configuration(words.config) if os.path.exists(words.config) else None
+
+
+def named_tables(words: Words, names: Sequence[str]) -> tuple[list[Table], Program]:
+    """Tables by their names in the configuration, or by their paths; and the program that has checked them."""
+    configuration = found_configuration(words)
+    asked = program(words, configuration)
+    return read_tables(configuration.tables if configuration else {}, names, asked), asked
+
+
 def join(words: Words, output: Output) -> None:
     """Writes the table of the zone, joined from others by their names in the configuration, or by their paths."""
-    configuration = read_configuration(words.config) if os.path.exists(words.config) else None
-    sys.stdout.buffer.write(joined(configuration, words.names, program(words, configuration)))
-    sys.stdout.buffer.flush()
+    output.text(joined(*named_tables(words, words.names)))
+
+
+def publish(words: Words, output: Output) -> None:
+    """Writes a table as others read it: XML of RFC 7940, or lines of RFC 4290."""
+    [table], asked = named_tables(words, [words.table])
+    output.text(published(table, Form(words.form), words.meta, asked))
+
+
+def compare(words: Words, output: Output) -> None:
+    """Tells what two tables say otherwise, and whether they are identical, contained, overlapping or apart."""
+    tables, _ = named_tables(words, [words.first, words.second])
+    one, other = map(ParsedTable.read, tables)
+    Comparison.of(one, other).tell(output)
 
 
 def convert(words: Words, output: Output) -> None:
@@ -179,13 +219,25 @@ def parser() -> argparse.ArgumentParser:
         long.add_argument("--scheduler", metavar="ADDRESS", help="let a cluster of Dask do it")
     jobs.choices["load"].add_argument("file", metavar="FILE")
     jobs.choices["load"].add_argument("--rest", action="store_true", help="load the others if lines are refused")
+    jobs.choices["audit"].add_argument("--since", metavar="FILE", help="tell only what an earlier output of it doesn't have")
     jobs.choices["change"].add_argument("new", metavar="NAME=FILE", help="a name in the configuration, and its new table")
     add("dump", dump, has_labels=False)
-    add("join", join, has_labels=False).add_argument("names", metavar="NAME", nargs="+")
-    add("convert", convert, has_labels=False)
-    add("ask", ask, has_labels=False)
-    add("check-config", check_config, has_labels=False)
+    add_jobs_on_tables(add)
+    for name, job in (("convert", convert), ("ask", ask), ("serve", serve), ("check-config", check_config)):
+        add(name, job, has_labels=False)
     return whole
+
+
+def add_jobs_on_tables(add: Callable[[str, Job, bool], argparse.ArgumentParser]) -> None:
+    """The options of jobs on tables alone."""
+    add("join", join, False).add_argument("names", metavar="NAME", nargs="+")
+    publishing = add("publish", publish, False)
+    publishing.add_argument("table", metavar="TABLE", help="a name in the configuration, or a path")
+    publishing.add_argument("--as", dest="form", required=True, choices=[form.value for form in Form], help="in which form")
+    publishing.add_argument("--meta", metavar="FILE", type=Path, help="the metadata [default: the TOML beside the table]")
+    comparing = add("compare", compare, False)
+    for name, words in (("first", "a name in the configuration, or a path"), ("second", "another one")):
+        comparing.add_argument(name, metavar="TABLE", help=words)
 
 
 def main(given: Sequence[str] | None = None) -> int:
@@ -208,6 +260,9 @@ def guarded(job: Callable[[], int]) -> int:
     """The exit status of a job; 75 with one line that says why, if it can't be done."""
     try:
         return job()
+    except Unsayable as error:
+        complain(str(error))
+        return ExitStatus.NO.value
     except (Unusable, Unknown) as error:
         complain(str(error))
     except (ValueError, OSError) as error:

@@ -1,9 +1,10 @@
 """`registry.toml`: what a zone is."""
 
+import ipaddress
 import os
 import re
 import tomllib
-from dataclasses import dataclass, fields
+from dataclasses import dataclass, field, fields
 from enum import Enum
 from pathlib import Path
 from typing import Any
@@ -12,7 +13,8 @@ from .faults import Unusable
 
 DEFAULT_PATH = "registry.toml"
 REGISTERS = ("sqlite:", "postgresql://")
-KEYS = ("register", "zone", "labels", "processes", "tables", "limits")
+KEYS = ("register", "zone", "labels", "processes", "tables", "limits", "service")
+UNIX = "unix:"
 
 
 class LabelRules(Enum):
@@ -32,9 +34,20 @@ class Limits:
     seconds: float = 5
 
 
+@dataclass(frozen=True)
+class Service:
+    """What `serve` is told. It listens in a Unix socket, or at an address of this machine alone. Only with a file of the token
+    that callers show are labels registered and released there."""
+
+    listen: Path | tuple[str, int] = ("127.0.0.1", 8053)
+    token: Path | None = None
+    connections: int = 256
+
+
 LEAST = {"tries": 1, "steps": 2, "limit": 1}
 MOST = {"tries": 10**9, "steps": 10**18, "limit": 10**9, "seconds": 3600}
 MOST_PROCESSES = 1024
+MOST_CONNECTIONS = 100_000
 
 
 @dataclass(frozen=True)
@@ -48,6 +61,7 @@ class Configuration:
     limits: Limits
     processes: int
     labels: LabelRules = LabelRules.PROFILE
+    service: Service = field(default_factory=Service)
 
     @property
     def admitting(self) -> tuple[str, ...]:
@@ -107,7 +121,7 @@ class Reader:
                 raise self.fault(key, f"nothing has this name: write one of {', '.join(KEYS)}")
         register, tables = self.register(), self.tables()
         zone, limits, processes = self.zone(tables), self.limits(), self.processes()
-        return Configuration(self.path, register, tables, zone, limits, processes, self.labels())
+        return Configuration(self.path, register, tables, zone, limits, processes, self.labels(), self.service())
 
     def register(self) -> str:
         """Where the register is; a file's path is made whole from the folder of the configuration."""
@@ -170,6 +184,42 @@ class Reader:
     def processes(self) -> int:
         """How many requests the program answers at once."""
         processes = self.values.get("processes", os.cpu_count() or 1)
-        if not isinstance(processes, int) or isinstance(processes, bool) or not 1 <= processes <= MOST_PROCESSES:
-            raise self.fault("processes", f"write a number from 1 to {MOST_PROCESSES}")
-        return processes
+        return self.whole_number("processes", processes, MOST_PROCESSES)
+
+    def whole_number(self, key: str, value: object, most: int, section: str = "") -> int:
+        """A number from 1 to the most."""
+        if not isinstance(value, int) or isinstance(value, bool) or not 1 <= value <= most:
+            raise self.fault(key, f"write a number from 1 to {most}", section)
+        return value
+
+    def service(self) -> Service:
+        """What the service is told."""
+        told = self.section("service")
+        known = [field.name for field in fields(Service)]
+        for name in told:
+            if name not in known:
+                raise self.fault(name, f"nothing has this name: write one of {', '.join(known)}", "service")
+        given: dict[str, Any] = {}
+        if "listen" in told:
+            given["listen"] = self.listen(told["listen"])
+        if "token" in told:
+            if not isinstance(told["token"], str) or not told["token"] or "\0" in told["token"]:
+                raise self.fault("token", 'not a path: write token = "FILE"', "service")
+            given["token"] = self.path.parent / told["token"]
+        if "connections" in told:
+            given["connections"] = self.whole_number("connections", told["connections"], MOST_CONNECTIONS, "service")
+        return Service(**given)
+
+    def listen(self, told: object) -> Path | tuple[str, int]:
+        """Where the service listens."""
+        text = told if isinstance(told, str) else ""
+        if text.startswith(UNIX) and text != UNIX and "\0" not in text:
+            return self.path.parent / text.removeprefix(UNIX)
+        host, _, port = text.rpartition(":")
+        try:
+            if ipaddress.ip_address(host.strip("[]")).is_loopback and 0 <= int(port) <= 65_535:
+                return host.strip("[]"), int(port)
+        except ValueError:
+            pass
+        raise self.fault("listen", 'no address of this machine alone: write "127.0.0.1:8053" or "unix:FILE", and let a web '
+                         "server pass on what comes from others", "service")

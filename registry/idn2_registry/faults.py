@@ -1,4 +1,4 @@
-"""What goes wrong, apart from refusals: nothing can be answered, or one request has no answer."""
+"""What goes wrong, apart from refusals of labels: nothing can be answered, one request has no answer, or the answer is no."""
 
 
 class Unusable(Exception):
@@ -7,3 +7,7 @@ class Unusable(Exception):
 
 class Unknown(Exception):
     """This request has no answer, which says nothing about its label. The text names the cause."""
+
+
+class Unsayable(Exception):
+    """What was asked for can't be said, or contradicts itself: a no. The text names where and why."""

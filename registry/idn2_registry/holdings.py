@@ -27,7 +27,7 @@ class Holdings:
     @cached_property
     def lines(self) -> list[bytes]:
         """The labels as lines."""
-        return [label.encode() for label in self.labels]
+        return "\n".join(self.labels).encode().split(b"\n") if self.labels else []
 
     def named(self, labels: Iterable[str], program: Program) -> dict[str, RegisteredLabel]:
         """Labels with their A-labels and holders."""

@@ -114,7 +114,7 @@ def load(configuration: Configuration, program: Program, means: Means, path: str
         register.close()
     counts = {"lines": len(lines), "loaded": len(loading.new) if is_loaded else 0, "refused": len(loading.refused)}
     words = f"{counted(counts['lines'], 'line')}, {counts['loaded']} loaded, {counts['refused']} refused"
-    output.fact(counts, words, ExitStatus.YES)
+    output.end(counts, words)
 
 
 def dump(holdings: Holdings, program: Program, as_json: bool) -> None:

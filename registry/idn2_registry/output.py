@@ -2,6 +2,8 @@
 
 import json
 import sys
+import time
+from datetime import datetime, timezone
 
 from .answers import Answer, ExitStatus, Object
 from .words import shown, words_of
@@ -13,6 +15,7 @@ class Output:
     def __init__(self, as_json: bool) -> None:
         self._as_json = as_json
         self.status = ExitStatus.YES
+        self._start = time.monotonic()
 
     def answer(self, answer: Answer) -> None:
         """An answer."""
@@ -23,6 +26,17 @@ class Output:
         """What isn't an answer to a label."""
         self.status = self.status.joined(status)
         self.line(text_of(told) if self._as_json else words)
+
+    def end(self, counts: Object, words: str) -> None:
+        """The counts of long work, which end what it says; the object also has the time of the end, and how long it took."""
+        now = datetime.now(timezone.utc).isoformat(timespec="seconds").replace("+00:00", "Z")
+        self.fact({**counts, "at": now, "seconds": round(time.monotonic() - self._start, 3)}, words, ExitStatus.YES)
+
+    @staticmethod
+    def text(text: bytes) -> None:
+        """A whole text."""
+        sys.stdout.buffer.write(text)
+        sys.stdout.buffer.flush()
 
     @staticmethod
     def line(text: str) -> None:

@@ -15,6 +15,9 @@ from .faults import Unknown, Unusable
 # Under which name the program is installed beside this one; `make install` writes another name here if it has one.
 NAME_FILE = "program_name.txt"
 ANSWERED = (0, 1)
+# The messages of a line that is refused, and of registered labels that are.
+REFUSED = re.compile(rb"^idn2: line (\d+): \d+ .*\n", re.MULTILINE)
+WRONG_REGISTERED = b"idn2: registered line "
 OPTIONS: dict[LabelRules, tuple[str, ...]] = {LabelRules.PROFILE: (), LabelRules.STANDARD: ("--standard",)}
 
 
@@ -74,6 +77,22 @@ class Program:
         if done.returncode not in ANSWERED:
             raise Unknown(ended(done.returncode, done.stderr))
         return done.stdout
+
+
+    def plain(self, words: Sequence[str], given: bytes, files: Sequence[int] = ()) -> tuple[bytes, list[int]]:
+        """The output, without objects, of a run that answered each line, and the numbers of the lines that it refused. Raises
+        WrongRegistered where it refuses the registered labels, and Unknown for any other."""
+        done = self.run(words, given, files, None)
+        if done.stderr.startswith(WRONG_REGISTERED):
+            raise WrongRegistered(ended(done.returncode, done.stderr))
+        refused = [int(line) for line in REFUSED.findall(done.stderr)]
+        if done.returncode not in ANSWERED or len(refused) != done.stderr.count(b"\n"):
+            raise Unknown(ended(done.returncode, done.stderr))
+        return done.stdout, refused
+
+
+class WrongRegistered(Unknown):
+    """A label of the registered ones may not be registered, so that no line was answered."""
 
 
 def ended(status: int, messages: bytes) -> str:

@@ -2,6 +2,7 @@
 
 import json
 import re
+from collections.abc import Iterable, Mapping
 from dataclasses import dataclass, field
 from enum import Enum
 from pathlib import Path
@@ -11,7 +12,7 @@ from .faults import Unknown, Unusable
 from .program import HeldFile, Program, ended
 
 MOST_BYTES = 67_108_864
-VERSION_3 = b"%version 3"
+VERSION_LINES = {b"%version 2": 2, b"%version 3": 3}
 # What hides collisions (docs/NOTATION.md): a condition of a variant; or a sequence of several code points beside a condition
 # of a source, or an outside source.
 VARIANT_CONDITION = re.compile(rb"[|:].*[ \t](when|unless)[ \t]")
@@ -48,10 +49,14 @@ class Table:
         return held
 
     @property
+    def version(self) -> int:
+        """The version of its notation."""
+        return VERSION_LINES.get(self.data.split(b"\n", 1)[0].removesuffix(b"\r"), 1)
+
+    @property
     def kind(self) -> Kind:
         """Whether it is a ruleset."""
-        first = self.data.split(b"\n", 1)[0].removesuffix(b"\r")
-        return Kind.RULESET if first == VERSION_3 else Kind.TABLE
+        return Kind.RULESET if self.version == 3 else Kind.TABLE
 
     @property
     def doubt(self) -> str | None:
@@ -73,10 +78,16 @@ def read_table(name: str, path: Path, program: Program) -> Table:
         with open(path, "rb") as file:
             data = file.read(MOST_BYTES + 1)
     except OSError as error:
-        raise Unusable(f"{path}: {error.strerror}: mend the path of {name} in [tables]") from error
+        remedy = "name a table of the configuration, or a file" if name == str(path) else f"mend the path of {name} in [tables]"
+        raise Unusable(f"{path}: {error.strerror}: {remedy}") from error
     if len(data) > MOST_BYTES:
         raise Unusable(f"{path}: more than {MOST_BYTES:,} bytes: a table has at most 1,048,576")
     return checked(Table(name, path, data), program)
+
+
+def read_tables(paths: Mapping[str, Path], names: Iterable[str], program: Program) -> list[Table]:
+    """Tables by their names in a configuration, or by their paths."""
+    return [read_table(name, paths.get(name, Path(name)), program) for name in names]
 
 
 def checked(table: Table, program: Program) -> Table:

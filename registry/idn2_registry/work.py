@@ -12,9 +12,12 @@ from pathlib import Path
 from typing import Protocol
 
 from .faults import Unusable
+from .program import WrongRegistered
 
-# Each part has so many lines. A part reads all registered labels, so that it shouldn't be small.
+# Each part has so many lines.
 PART_LINES = 100_000
+# Of an audit, in which a part reads and tests all registered labels, so many at least.
+LEAST_AUDITED = 1_000_000
 BAR = 30
 
 
@@ -34,6 +37,10 @@ class Means:
     processes: int
     scheduler: str | None = None
     must_resume: bool = False
+
+    def lines_of_a_part(self, count: int) -> int:
+        """How many lines a part of an audit has. Of a cluster it isn't known how many parts it does at once."""
+        return PART_LINES if self.scheduler else max(LEAST_AUDITED, -(-count // self.processes))
 
 
 def parts_of(lines: Sequence[bytes], size: int = PART_LINES) -> list[bytes]:
@@ -113,6 +120,10 @@ def results(means: Means, name: str, task: Task, parts: Sequence[bytes], state: 
             kept.keep(number, result)
             found[number] = result
             progress.add(parts[number].count(b"\n"))
+    except WrongRegistered:
+        # It is done in another way.
+        kept.remove()
+        raise
     finally:
         progress.close()
     kept.remove()

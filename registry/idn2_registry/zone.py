@@ -26,6 +26,7 @@ class Tables:
         self.limits = configuration.limits
         self.program = program
         tables = {name: read_table(name, path, program) for name, path in configuration.tables.items()}
+        self.by_name = tables
         self.admitting = {name: tables[name] for name in configuration.admitting}
         self._asked = {name: Collisions(table) for name, table in tables.items()}
         self.collisions = self._asked[configuration.zone]
@@ -146,7 +147,7 @@ class Zone:
         if one is faulty; then the old tables stay."""
         configuration = read_configuration(self.configuration.path)
         if fixed(configuration) != fixed(self.configuration):
-            raise Unusable(f"{configuration.path}: line 1: register, labels or processes changed: start again")
+            raise Unusable(f"{configuration.path}: line 1: register, labels, processes or service changed: start again")
         new = Tables(configuration, self.program)
         with self._lock:
             old, self._tables, self.configuration = self._tables, new, configuration
@@ -255,7 +256,7 @@ class Zone:
 
 def fixed(configuration: Configuration) -> tuple[object, ...]:
     """What a zone that was opened keeps."""
-    return configuration.register, configuration.labels, configuration.processes
+    return configuration.register, configuration.labels, configuration.processes, configuration.service
 
 
 def is_text(text: str) -> bool:

@@ -38,7 +38,9 @@ def written(table: Sets, chance: random.Random) -> str:
         return (space + "-").join(f"{prefix}{ord(letter):04x}" for letter in text)
 
     for source, variants in table.items():
-        others = f"{space}:".join(chance.choice(("", mark)) + points(each) for each in variants)
+        # A pair is blocked or allocatable in each table that has it.
+        marks = (random.Random(f"{source} {each}").choice(("", mark)) for each in variants)
+        others = f"{space}:".join(own + points(each) for own, each in zip(marks, variants, strict=True))
         lines.append(points(source) + (f"{space}|{others}" if others else ""))
     return line_end.join(lines) + line_end
 
@@ -151,6 +153,21 @@ def test_joins_rulesets(bare: Place) -> None:
     lines.update((each, each) for each in ("0064", "0065", "0065-0066"))
     wanted = "%version 2\n" + "".join(lines[each] + "\n" for each in sorted(lines))
     bare.expect(["join", "ruleset.txt", "other.txt"], wanted, 0)
+
+
+def test_joins_no_tables_that_disagree_in_a_disposition(bare: Place) -> None:
+    """Both lines are named, and the remedy. Version 1 says nothing of dispositions, and no label has an outside source."""
+    bare.write("one.txt", "%version 2\n0061\n0062|0063\n0063|0062\n")
+    bare.write("two.txt", "%version 3\n%rule end _ $\n0062 unless end|!0063\n0063|0062\n")
+    bare.write("both.txt", "%version 3\n%rule end _ $\n0063|0062 when end:!0062 unless end\n0062|0063\n")
+    bare.write("first.txt", "0062|0063\n")
+    bare.write("outside.txt", "%version 3\n0063|0062\n!0062|!0063\n")
+    told = "one.txt: line 3: 0062|0063 is allocatable, and in two.txt: line 3 it is blocked: make both the same"
+    bare.expect(["join", "one.txt", "two.txt"], "", 75, told)
+    told = "one.txt: line 4: 0063|0062 is allocatable, and in both.txt: line 3 it is both by conditions: make both the same"
+    bare.expect(["join", "first.txt", "one.txt", "both.txt"], "", 75, told)
+    for names in (["one.txt", "first.txt", "outside.txt"], ["two.txt", "first.txt"]):
+        assert bare.run("join", *names).returncode == 0, names
 
 
 def test_joins_the_tables_that_come_with_the_program(bare: Place) -> None:

@@ -5,7 +5,9 @@ import json
 import os
 import pty
 import random
+import re
 import signal
+import sqlite3
 import subprocess
 import sys
 import time
@@ -17,6 +19,7 @@ from conftest import LIMIT, PROGRAM, TABLES, Place
 
 from idn2_registry import work
 from idn2_registry.audit import groups_of
+from idn2_registry.program import Program
 
 GERMAN = (TABLES / "german.txt").read_text("utf-8")
 WITH_AE = GERMAN.replace("\n00E4\n", "\n") + "0061-0065|00E4\n00E4|0061-0065\n"
@@ -24,14 +27,19 @@ WITH_AE = GERMAN.replace("\n00E4\n", "\n") + "0061-0065|00E4\n00E4|0061-0065\n"
 
 def objects(done: "subprocess.CompletedProcess[bytes]") -> list[dict[str, object]]:
     """What a run says."""
-    return [json.loads(line) for line in done.stdout.splitlines()]
+    told = [json.loads(line) for line in done.stdout.splitlines()]
+    if told and "at" in told[-1]:
+        # The times of the end are others each time.
+        at, seconds = told[-1].pop("at"), told[-1].pop("seconds")
+        assert re.fullmatch(r"\d{4}-\d\d-\d\dT\d\d:\d\d:\d\dZ", at) and 0 <= seconds < LIMIT, (at, seconds)
+    return told
 
 
 def small_parts(monkeypatch: pytest.MonkeyPatch, lines: int) -> None:
     """Parts of so many lines."""
     whole = work.parts_of
     for module in ("audit", "change", "load"):
-        monkeypatch.setattr(f"idn2_registry.{module}.parts_of", lambda given: whole(given, lines))
+        monkeypatch.setattr(f"idn2_registry.{module}.parts_of", lambda given, *_: whole(given, lines))
 
 
 def test_audit_tells_invalid_labels_and_groups(place: Place, monkeypatch: pytest.MonkeyPatch) -> None:
@@ -47,6 +55,30 @@ def test_audit_tells_invalid_labels_and_groups(place: Place, monkeypatch: pytest
         {"labels": 6, "invalid": 1, "groups": 1}]
     place.expect(["audit"], "中国 (xn--fiqs8s, held by H3): no longer valid: 40 not made of table entries: U+4E2D at place 1\n"
                  "collide: sss, held by H1, sß (xn--s-qfa, held by H2), ßs (xn--s-pfa)\n6 labels, 1 invalid, 1 group\n", 1)
+
+
+def test_audit_tells_labels_that_may_not_be_registered(place: Place, monkeypatch: pytest.MonkeyPatch) -> None:
+    """The program reads no registered labels with such a one, so that each is tested alone, and the rest is asked."""
+    place.load("haus", "sss\tH1", "sß\tH2", "zoo")
+    with sqlite3.connect(place.folder / "register.db") as database:
+        database.execute("insert into registered (label) values ('Maus')")
+    for lines in (2, 100):
+        small_parts(monkeypatch, lines)
+        place.expect(["audit"], "Maus: no longer valid: 10 disallowed code point: U+004D at place 1 (RFC 5892 2.2)\n"
+                     "collide: sss, held by H1, sß (xn--s-qfa, held by H2)\n5 labels, 1 invalid, 1 group\n", 1)
+    assert not list(place.folder.glob("registry.toml.*")), "what was kept is gone"
+
+
+def test_audit_takes_no_other_answer(place: Place, monkeypatch: pytest.MonkeyPatch) -> None:
+    """Of a program that answers too few or too many lines, or lists otherwise than it says, nothing is known."""
+    place.load("haus", "strasse", "straße")
+    plain = Program.plain
+    for change in (lambda text: text[:-8], lambda text: text + b"#end 1\n", lambda text: text.replace(b"#end 2\n", b"#end 3\n", 1),
+                   lambda text: b"#end 0\n" * 4):
+        monkeypatch.setattr(Program, "plain", lambda self, *words, change=change: (
+            change(plain(self, *words)[0]), plain(self, *words)[1]))
+        done = place.run("audit")
+        assert done.returncode == 75 and not done.stdout and len(done.stderr.splitlines()) == 1, done
 
 
 def test_audit_finds_what_is_hidden_from_one_side(bare: Place) -> None:
@@ -69,6 +101,29 @@ def test_audit_asks_all_tables(bare: Place) -> None:
     bare.load("abc", "абв", "abв")
     told = objects(bare.run("audit", "--json"))
     assert [each.get("ulabel") for each in told] == ["abв", None] and told[1] == {"labels": 3, "invalid": 1, "groups": 0}
+
+
+def test_audit_since_tells_what_is_new(place: Place) -> None:
+    place.load("sss", "sß", "中国")
+    before = place.run("audit", "--json").stdout
+    place.write("before.json", before)
+    done = place.run("audit", "--json", "--since", "before.json")
+    assert objects(done) == [{"labels": 3, "invalid": 1, "groups": 1, "new": 0}] and done.returncode == 0
+    place.write("after.json", done.stdout)
+    place.load("ßs", "日本", "ass", "aß")
+    done = place.run("audit", "--json", "--since", "before.json")
+    found = objects(done)
+    assert [each.get("ulabel") for each in found] == ["日本", None, None, None] and done.returncode == 1
+    assert [len(each["collide"]) for each in found[1:3]] == [2, 3]  # type: ignore[arg-type]
+    assert found[3] == {"labels": 7, "invalid": 2, "groups": 2, "new": 3}
+    assert place.run("audit", "--since", "before.json").stdout.endswith(b"\n7 labels, 2 invalid, 2 groups, 3 new\n")
+    # What isn't whole is refused: what it lacks would seem new.
+    for text in (before[:before.rindex(b"\n", 0, -1) + 1], before.replace("中国".encode(), "日本".encode(), 1)[before.index(b"\n") + 1:], b"",
+                 b"[]\n", b"{}\n", b"\xff\n", (place.folder / "after.json").read_bytes()):
+        place.write("part.json", text)
+        done = place.run("audit", "--since", "part.json")
+        assert done.returncode == 75 and not done.stdout and b"part.json: no" in done.stderr, (text, done)
+    assert b"none.json: No such file" in place.run("audit", "--since", "none.json").stderr
 
 
 def test_audit_of_nothing_wrong(place: Place) -> None:
@@ -191,7 +246,7 @@ def test_shows_progress_on_a_terminal_alone(place: Place) -> None:
     os.close(master)
     assert process.returncode == 0 and "audit [####" in shown and "2 of 2" in shown and "s left" in shown, shown
     # It is there before the first part is done.
-    assert shown.startswith(f"\raudit-test [{' ' * work.BAR}] 0 of 2 \r"), shown
+    assert shown.startswith(f"\raudit [{' ' * work.BAR}] 0 of 2 \r"), shown
 
 
 def test_what_was_done_before_has_no_part_in_the_rate(monkeypatch: pytest.MonkeyPatch) -> None:
@@ -250,7 +305,7 @@ def test_a_cluster_does_the_same(place: Place, cluster: tuple[str, list["subproc
 
     monkeypatch.setattr(work.Kept, "keep", kill_one)
     together = place.run("audit", "--json", "--scheduler", address)
-    assert killed and (together.stdout, together.returncode) == (alone.stdout, 1), together.stderr
+    assert killed and (objects(together), together.returncode) == (objects(alone), 1), together.stderr
     monkeypatch.setattr("idn2_registry.cluster.SECONDS", 1)
     away = place.run("audit", "--scheduler", "tcp://127.0.0.1:1")
     assert away.returncode == 75 and not away.stdout, away

@@ -98,6 +98,21 @@ def test_the_page_is_well_formed() -> None:
     assert done.stdout == b"", done.stdout.decode()
 
 
+def test_the_units_are_well_formed(tmp_path: Path) -> None:
+    """What systemd says of them; the program in the unit is one that is there."""
+    if not shutil.which("systemd-analyze"):
+        pytest.skip("systemd")
+    for path in (PACKAGE / "systemd").iterdir():
+        (tmp_path / path.name).write_text(path.read_text("utf-8").replace("/usr/local/bin/idn2-registry", "/bin/true"), "utf-8")
+    units = [str(path) for path in tmp_path.iterdir()]
+    done = subprocess.run(["systemd-analyze", "verify", "--man=no", *units], capture_output=True, timeout=LIMIT, check=False)
+    assert len(units) == 2 and (done.returncode, done.stderr) == (0, b""), done
+    # What it may do is at most this, of 100.
+    words = ["systemd-analyze", "security", "--offline=true", "--threshold=15", str(tmp_path / "idn2-registry.service")]
+    done = subprocess.run(words, capture_output=True, timeout=LIMIT, check=False)
+    assert done.returncode == 0, done
+
+
 def test_bash_completes_words(tmp_path: Path) -> None:
     script = f"""source {ROOT}/completions/idn2-registry.bash
 COMP_WORDS=(idn2-registry "$@"); COMP_CWORD=$#

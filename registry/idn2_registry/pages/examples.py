@@ -1,0 +1,199 @@
+"""Labels that a rule or a demand admits and refuses. They are drawn from the table, and the program is asked what it says of
+each: nothing here knows which of them are valid."""
+
+import itertools
+import json
+import unicodedata
+from collections.abc import Iterable, Iterator
+from dataclasses import dataclass
+from typing import Any
+
+from ..answers import Object
+from ..collisions import refusals_in
+from ..faults import Unknown
+from ..parsed_table import ParsedTable, Points
+from ..program import Program
+from ..tables import Table
+from .patterns import ANY, has_edge, samples
+
+# So many labels are asked of a table in all, and of each rule; so many sources with a condition are tried of each rule.
+MOST, MOST_OF_RULE, SOURCES, FILLERS, LONGEST = 20_000, 300, 4, 3, 12
+# A label of which variants are asked has few; so many are listed, and tested.
+LISTED, TRIES = 64, 2_000
+SECONDS = 10.0
+HYPHEN = (0x2D,)
+
+
+@dataclass(frozen=True)
+class Example:
+    """The shortest label that was found of each kind."""
+
+    admitted: str | None = None
+    refused: str | None = None
+
+
+@dataclass(frozen=True)
+class VariantExample:
+    """The shortest label with a variant that has a condition, and that variant with its disposition; and the shortest label
+    without such a variant, or with another disposition of it."""
+
+    label: str | None = None
+    variant: str | None = None
+    disposition: str | None = None
+    without: str | None = None
+
+
+@dataclass
+class Drawn:
+    """The labels that are drawn for one rule or demand, and which refusal is its own."""
+
+    labels: list[str]
+    sources: list[str]
+
+    def example(self, told: dict[str, Object | None], **own: object) -> Example:
+        """The shortest labels that the program admits, with a source that has the condition in it; and that it refuses."""
+        known = [label for label in self.labels if label in told]
+        refused = [label for label in known if (refusal := told[label]) and own.items() <= refusal.items()]
+        admitted = [label for label in known if told[label] is None and any(source in label for source in self.sources)]
+        return Example(shortest(admitted), shortest(refused))
+
+
+def shortest(labels: list[str]) -> str | None:
+    """The shortest of some labels; of several the first."""
+    return min(labels, key=len) if labels else None
+
+
+class Examples:
+    """Examples of all rules and demands of a table, by one run of the program."""
+
+    def __init__(self, parsed: ParsedTable, program: Program) -> None:
+        self._ruleset = parsed.ruleset
+        self._fillers = fillers(parsed)
+        self.beside: list[Points] = [(), *((filler,) for filler in self._fillers)]
+        self.rules = {name: self.of_rule(name) for name in self._ruleset.rules}
+        self.demands = [self.of_demand(demand) for demand in self._ruleset.demands]
+        drawn = [*self.rules.values(), *self.demands]
+        told = told_of(parsed.table, program, itertools.chain(*(each.labels for each in drawn)))
+        self.variants = {name: list(itertools.islice(self.of_variants(name), MOST_OF_RULE)) for name in self._ruleset.rules}
+        listed = listed_of(parsed.table, program, (label for each in self.variants.values() for label, _, _ in each))
+        # Else the program didn't answer in time, and another time it may.
+        self.are_whole = told is not None and listed is not None
+        self._told, self._listed = told or {}, listed or {}
+
+    def of(self, rule: str) -> Example:
+        """Of a rule that sources ask."""
+        return self.rules[rule].example(self._told, number=41, rule=rule)
+
+    def of_variant(self, rule: str) -> VariantExample:
+        """Of a rule that variants ask."""
+        known = [(label, variant, disposition) for label, variant, disposition in self.variants[rule] if label in self._listed]
+        having = [each for each in known if self._listed[each[0]].get(each[1]) == each[2]]
+        without = shortest([each[0] for each in known if each not in having])
+        first = min(having, key=lambda each: len(each[0])) if having else None
+        return VariantExample(*first, without) if first else VariantExample(without=without)
+
+    def of_number(self, demand: int) -> Example:
+        """Of a demand by its number."""
+        return self.demands[demand - 1].example(self._told, number=41, demand=demand)
+
+    def of_rule(self, name: str) -> Drawn:
+        """Labels with sources that have a condition with this rule: where it holds, and elsewhere."""
+        sources = [entry.source.points for entry in self._ruleset.entries.values()
+                   if entry.source.condition and entry.source.condition.rule == name][:SOURCES]
+        labels = (text for source in sources for text in self.around(source, self._ruleset.rules[name]))
+        return Drawn(list(itertools.islice(dict.fromkeys(labels), MOST_OF_RULE)), [spelled(source) for source in sources])
+
+    def of_variants(self, name: str) -> Iterator[tuple[str, str, str]]:
+        """Labels with a source of which a variant has a condition with this rule, each with what it is with that variant, and
+        with the disposition of this."""
+        pairs = [(entry.source.points, variant) for entry in self._ruleset.entries.values() for variant in entry.variants
+                 if variant.condition and variant.condition.rule == name]
+        # Those of one word, so that the examples say one thing.
+        words = [variant.condition.word for _, variant in pairs]
+        for source, variant in [each for each, word in zip(pairs, words, strict=True) if word == max(words)][:SOURCES]:
+            old, new = spelled(source), spelled(variant.points)
+            disposition = "blocked" if variant.is_marked else "allocatable"
+            around = self.around(source, self._ruleset.rules[name])
+            yield from ((label, label.replace(old, new), disposition) for label in around if label.count(old) == 1)
+
+    def around(self, source: Points, contexts: Any) -> Iterator[str]:
+        """Labels with a source in the contexts of a rule, and out of them."""
+        beside = self.beside
+        yield from (spelled((*first, *source, *last)) for first in beside for last in beside)
+        yield spelled((*source, *source))
+        for before, after in contexts:
+            firsts = beside[:1] if has_edge(before, "START") else beside
+            lasts = beside[:1] if has_edge(after, "END") else beside
+            for left, right in itertools.product(samples(before, self._ruleset.sets), samples(after, self._ruleset.sets)):
+                for first, last in itertools.product(firsts, lasts):
+                    yield spelled(self.filled((*first, *left, *source, *right, *last)))
+
+    def filled(self, sample: Iterable[int | None]) -> Points:
+        """A sample with a letter where any code point may be."""
+        return tuple(point for each in sample for point in (self._fillers[:1] if each is ANY else [each]) if point is not None)
+
+    def of_demand(self, demand: Any) -> Drawn:
+        """Labels that match its pattern, and others."""
+        matched = [self.filled(sample) for branch in demand.pattern for sample in samples(branch, self._ruleset.sets)]
+        beside = self.beside
+        labels = [spelled((*first, *points, *last)) for points in matched for first in beside for last in beside]
+        # One code point less, or one of them alone: so near to the pattern some are admitted.
+        near = [spelled(points[:place] + points[place + 1:]) for points in matched for place in range(len(points))]
+        alone = [spelled(part * 2) for part in beside] + [chr(point) * 2 for points in matched for point in points]
+        return Drawn(list(dict.fromkeys([*alone, *near, *labels]))[:MOST_OF_RULE], [""])
+
+
+def spelled(points: Iterable[int]) -> str:
+    """A sequence as a text."""
+    return "".join(map(chr, points))
+
+
+def fillers(parsed: ParsedTable) -> list[int]:
+    """Some letters and digits that may stand nearly anywhere, as far as the table tells: one of each kind, letters first."""
+    found: dict[tuple[bool, bool], int] = {}
+    for entry in parsed.entries:
+        source, condition = entry.source, entry.source.condition
+        is_fixed = entry.is_outside or condition and condition.word == "when"
+        if len(source.points) == 1 and source.points != HYPHEN and not is_fixed:
+            found.setdefault((not is_letter(source.points[0]), condition is not None), source.points[0])
+    return [point for _, point in sorted(found.items())][:FILLERS]
+
+
+def is_letter(point: int) -> bool:
+    """Whether it is a letter."""
+    return unicodedata.category(chr(point)).startswith("L")
+
+
+def told_of(table: Table, program: Program, labels: Iterable[str]) -> dict[str, Object | None] | None:
+    """What the program says of labels under a table: None of one that it admits, else its refusal. None if it doesn't answer."""
+    asked = [label for label in dict.fromkeys(labels) if label and len(label) <= LONGEST][:MOST]
+    option, _ = table.kind.value
+    words = [option, table.held.path, "--limit", "1", "--tries", "1"]
+    try:
+        output = program.answered(words, "".join(f"{label}\n" for label in asked).encode(), [table.held.descriptor], SECONDS)
+    except Unknown:
+        return None
+    refused = {told["line"]: told["refusal"] for told in refusals_in(output)}
+    return {label: refused.get(line) for line, label in enumerate(asked, 1)} if asked else {}
+
+
+def listed_of(table: Table, program: Program, labels: Iterable[str]) -> dict[str, dict[str, str]] | None:
+    """The variants of labels under a table, with their dispositions. Labels that are refused, or whose listing isn't complete,
+    aren't there. None if the program doesn't answer."""
+    asked = [label for label in dict.fromkeys(labels) if label and len(label) <= LONGEST][:MOST]
+    option, _ = table.kind.value
+    words = [option, table.held.path, "--limit", str(LISTED), "--tries", str(TRIES)]
+    try:
+        output = program.answered(words, "".join(f"{label}\n" for label in asked).encode(), [table.held.descriptor], SECONDS)
+    except Unknown:
+        return None
+    listed: dict[str, dict[str, str]] = {}
+    variants: dict[str, str] = {}
+    for told in map(json.loads, output.splitlines() if asked else ()):
+        if "input" not in told:
+            variants[told["ulabel"]] = told.get("disposition", "")
+            continue
+        if told.get("complete"):
+            listed[told["input"]] = variants
+        variants = {}
+    return listed

@@ -1,0 +1,307 @@
+"""A table as people read it: its letters, which of them are variants of each other, its rules in words, and its gaps."""
+
+import functools
+from collections.abc import Iterator, Sequence
+from dataclasses import dataclass
+from typing import Any
+
+from ..parsed_table import ParsedTable, Points
+from ..program import Program
+from ..tables import Table
+from ..words import counted
+from .examples import Example, Examples, VariantExample
+from .frame import Frame
+from .html import Child, Markup, element
+from .patterns import joined_words, pattern_words, rule_words
+from .points import glyph_of, name_of, names_of, number_of, numbers_of
+from .variant_sets import Pair, VariantSet, variant_sets
+
+# So many letters and so many sets of variants one page has, unless it stands alone.
+MOST_TILES, MOST_SETS, MOST_GAPS, MOST_USERS = 1_000, 200, 200, 12
+# More than any table has.
+ALL = 1_000_000
+KINDS = {1: "variant table of version 1, which doesn’t say which variants are blocked", 2: "variant table", 3: "ruleset"}
+
+
+@dataclass(frozen=True)
+class Shown:
+    """What of a table a page shows: letters from a code point on, and sets of variants with such letters. A page that
+    stands alone shows all."""
+
+    start: int = 0
+    tiles: int = MOST_TILES
+    sets: int = MOST_SETS
+
+
+@dataclass(frozen=True)
+class View:
+    """A table with all that is said of it."""
+
+    parsed: ParsedTable
+    examples: Examples
+
+    @classmethod
+    def of(cls, table: Table, program: Program) -> "View":
+        """Reads a table, and asks the program for examples. Raises Unusable where what reads it isn't installed."""
+        parsed = parsed_table(table)
+        return cls(parsed, Examples(parsed, program))
+
+
+# A large table takes longer to read than all else of its page.
+parsed_table = functools.lru_cache(16)(ParsedTable.read)
+
+
+def table_page(frame: Frame, view: View, shown: Shown) -> bytes:
+    """The page."""
+    parsed, table = view.parsed, view.parsed.table
+    head = element("p", counted(table.entries, "entry", "entries"), f" of a {KINDS[table.version]}.", class_="quiet")
+    parts = [doubt_part(table), gaps_part(table), repertoire_part(frame, view, shown), variants_part(view, shown), rules_part(view),
+             demands_part(view), sets_part(parsed), actions_part(parsed)]
+    return frame.page(f"Table {table.name}", element("h1", f"Table {table.name}"), head, *parts)
+
+
+def whole_page(table: Table, program: Program) -> bytes:
+    """All of a table on a page that stands alone: one file, which needs no other. Raises Unusable where what reads tables
+    isn't installed."""
+    return table_page(Frame(stands_alone=True), View.of(table, program), Shown(tiles=ALL, sets=ALL))
+
+
+def doubt_part(table: Table) -> Markup | None:
+    """Why labels may collide although nothing shows it."""
+    if table.doubt is None:
+        return None
+    return element("p", element("strong", "No label is told to be available where labels collide under this table: "),
+                   f"{table.doubt}.", class_="warning")
+
+
+def gaps_part(table: Table) -> Markup | None:
+    """The pairs that are missing."""
+    if not table.gaps:
+        return None
+    rows = []
+    for gap in table.gaps[:MOST_GAPS]:
+        source, variant = (tuple(int(point, 16) for point in side.split("-")) for side in gap.split("|"))
+        rows.append(element("li", sequence(source), " has no variant ", sequence(variant), ": add ", element("code", gap)))
+    left = len(table.gaps) - len(rows)
+    words = f"{counted(len(table.gaps), 'pair')} of variants that should go both ways, or follow from two others, are missing."
+    return element("section", element("h2", "Gaps"), element("p", words), element("ul", *rows),
+                   element("p", f"And {left} more.") if left else None)
+
+
+def sequence(points: Points) -> Markup:
+    """A sequence with its numbers."""
+    return element("span", glyph_of(*points), " ", element("code", numbers_of(points)), title=names_of(points))
+
+
+# The letters.
+
+
+def repertoire_part(frame: Frame, view: View, shown: Shown) -> Markup:
+    """The letters that labels may have, by the first words of their names, and the sequences."""
+    entries = [entry for entry in view.parsed.entries if entry.source.points[0] >= shown.start]
+    groups: dict[str, list[Markup]] = {}
+    # Those of no label come last.
+    for entry in sorted(entries[:shown.tiles], key=lambda entry: (entry.is_outside, len(entry.source.points) > 1)):
+        groups.setdefault(group_of(entry), []).append(tile(entry))
+    parts = [[element("h3", f"{name} ({len(tiles)})"), element("ul", *tiles, class_="tiles")] for name, tiles in groups.items()]
+    more = None
+    if len(entries) > shown.tiles and not frame.stands_alone:
+        following = entries[shown.tiles].source.points[0]
+        more = element("p", element("a", f"From {number_of(following)} on", href=f"?from={following:04X}"))
+    return element("section", element("h2", "Repertoire", id="repertoire"), *parts, more)
+
+
+def group_of(entry: Any) -> str:
+    """How the name of its first code point begins: that of a letter names its script."""
+    if entry.is_outside:
+        return "Outside: only variants have them, no label"
+    if len(entry.source.points) > 1:
+        return "Sequences"
+    first = name_of(entry.source.points[0]).split(" ")[0]
+    return "Ideographs" if first == "CJK" else "Digits" if first == "DIGIT" else first.capitalize()
+
+
+def tile(entry: Any) -> Markup:
+    """A letter, or a sequence."""
+    source = entry.source
+    notes = [element("span", note, class_="note") for note in (*notes_of(source), *(["outside"] if entry.is_outside else []))]
+    return element("li", glyph_of(*source.points), element("span", numbers_of(source.points), class_="number"),
+                   element("span", names_of(source.points), class_="name"), *notes,
+                   class_="tile outside" if entry.is_outside else "tile")
+
+
+def notes_of(mapped: Any) -> Iterator[Child]:
+    """The tags of a sequence, and where it may stand."""
+    if mapped.tags:
+        yield f"as {', '.join(mapped.tags)}"
+    if mapped.condition:
+        words = "only where " if mapped.condition.word == "when" else "not where "
+        yield [words, element("a", mapped.condition.rule, href=f"#rule-{mapped.condition.rule}")]
+
+
+# The variants.
+
+
+def variants_part(view: View, shown: Shown) -> Markup | None:
+    """The sets of variants, each as a picture."""
+    every = [each for each in variant_sets(view.parsed) if each.parts[-1][-1] >= (shown.start,)]
+    if not every:
+        return None
+    says_which = view.parsed.table.version > 1
+    pictures = [picture(each, view.parsed, says_which) for each in every[:shown.sets]]
+    left = len(every) - len(pictures)
+    legend = "What stands in one green frame goes together: the variants are allocatable. ⊘ is between those that are blocked."
+    count = element("p", counted(len(every), "set"), " of sequences that are variants of each other.", class_="quiet")
+    return element("section", element("h2", "Variants", id="variants"), count,
+                   element("p", legend, class_="legend") if says_which else None, element("ul", *pictures, class_="sets"),
+                   element("p", f"And {left} more, from later letters on.") if left else None)
+
+
+def picture(whole: VariantSet, parsed: ParsedTable, says_which: bool) -> Markup:
+    """A set: the parts that go together, apart from each other, and below them each pair."""
+    parts = [together(part, parsed, says_which) for part in whole.parts]
+    blocked = element("span", "⊘", element("span", " blocked", class_="heard"), class_="between")
+    rows = [pair_row(pair, says_which) for pair in whole.pairs]
+    heads = [element("th", head, scope="col") for head in ("Sequence", "Variant", "Disposition")]
+    table = element("table", element("thead", element("tr", *heads)), element("tbody", *rows))
+    pairs = element("details", element("summary", counted(len(rows), "pair")), element("div", table, class_="wide"))
+    return element("li", element("div", joined_blocked(parts, blocked), class_="apart"), pairs, class_="set")
+
+
+def joined_blocked(parts: Sequence[Markup], blocked: Markup) -> list[Child]:
+    """The parts with what is between them."""
+    return [[blocked if place else None, each] for place, each in enumerate(parts)]
+
+
+def together(points: Sequence[Points], parsed: ParsedTable, says_which: bool) -> Markup:
+    """Sequences that go together."""
+    chips = [chip(each, parsed.ruleset.entries.get(each)) for each in points]
+    several = len(points) > 1 and says_which
+    caption = element("figcaption", "allocatable", class_="heard") if several else None
+    return element("figure", *chips, caption, class_="together several" if several else "together")
+
+
+def chip(points: Points, entry: Any) -> Markup:
+    """A sequence in a set."""
+    kind = "outside" if entry and entry.is_outside else "" if entry else "only a variant"
+    tags = ", ".join(entry.source.tags) if entry else ""
+    notes = [element("span", note, class_="kind") for note in (kind, tags) if note]
+    return element("span", glyph_of(*points), element("span", numbers_of(points), class_="number"), *notes,
+                   title=names_of(points), class_="chip outside" if kind else "chip")
+
+
+def disposition_of(variant: Any) -> str:
+    """What a variant of an entry is by itself."""
+    return "blocked" if variant.is_marked else "allocatable"
+
+
+def pair_row(pair: Pair, says_which: bool) -> Markup:
+    """A source with a variant."""
+    kind = disposition_of(pair.variant) if says_which else "not told"
+    notes = [[" ", note] for note in notes_of(pair.variant)]
+    return element("tr", element("td", sequence(pair.source)), element("td", sequence(pair.variant.points)),
+                   element("td", element("span", kind, class_=f"disposition {kind}"), *notes))
+
+
+# The rules.
+
+
+def rules_part(view: View) -> Markup | None:
+    """The rules in words, each with what asks it, and with examples."""
+    rules = [rule(view, name, contexts) for name, contexts in view.parsed.ruleset.rules.items()]
+    return element("section", element("h2", "Rules", id="rules"), *rules) if rules else None
+
+
+def rule(view: View, name: str, contexts: Any) -> Markup:
+    """A rule."""
+    entries = view.parsed.entries
+    sources = [(entry.source, sequence(entry.source.points)) for entry in entries]
+    pairs = [(variant, variant_words(entry.source, variant)) for entry in entries for variant in entry.variants]
+    told: list[Child] = [users(sources, name, "when", "There alone may stand: "),
+                         users(sources, name, "unless", "There may not stand: ")]
+    if any(told):
+        told.append(examples(view.examples.of(name)))
+    if any(asks(variant, name) for variant, _ in pairs):
+        told += [users(pairs, name, "when", "Variants only there: "), users(pairs, name, "unless", "Variants everywhere but there: "),
+                 variant_examples(view.examples.of_variant(name))]
+    return element("article", element("h3", name, id=f"rule-{name}"), element("p", "Holds ", rule_words(contexts), "."), *told,
+                   class_="rule")
+
+
+def variant_words(source: Any, variant: Any) -> Markup:
+    """A variant of a source."""
+    return element("span", sequence(variant.points), " of ", sequence(source.points), f" ({disposition_of(variant)})")
+
+
+def asks(mapped: Any, name: str, word: str | None = None) -> bool:
+    """Whether a sequence has a condition with a rule."""
+    return mapped.condition is not None and mapped.condition.rule == name and word in (None, mapped.condition.word)
+
+
+def users(shown: Sequence[tuple[Any, Markup]], name: str, word: str, words: str) -> Markup | None:
+    """What has a condition with a rule: the first ones."""
+    found = [markup for mapped, markup in shown if asks(mapped, name, word)]
+    more = f" and {len(found) - MOST_USERS} more" if len(found) > MOST_USERS else ""
+    return element("p", words, joined_words(found[:MOST_USERS], ", "), f"{more}.") if found else None
+
+
+def demands_part(view: View) -> Markup | None:
+    """The demands in words."""
+    parts = []
+    for number, demand in enumerate(view.parsed.ruleset.demands, 1):
+        words = "No part of a label is " if demand.word == "%never" else "Some part of each label is "
+        parts.append(element("article", element("h3", f"Demand {number}", id=f"demand-{number}"),
+                             element("p", words, pattern_words(demand.pattern), "."), examples(view.examples.of_number(number)),
+                             class_="rule"))
+    return element("section", element("h2", "Demands on the whole label", id="demands"), *parts) if parts else None
+
+
+def examples(found: Example) -> Markup:
+    """What the program admits and refuses, as it was asked."""
+    return element("dl", element("dt", "✓ admitted", class_="admitted"), element("dd", drawn(found.admitted)),
+                   element("dt", "✕ refused", class_="refused"), element("dd", drawn(found.refused)), class_="examples")
+
+
+def variant_examples(found: VariantExample) -> Markup:
+    """A label with a variant, and one without it, as the program lists them."""
+    having = [drawn(found.label), " has ", drawn(found.variant), f", {found.disposition}"] if found.label else drawn(None)
+    return element("dl", element("dt", "✓ variant", class_="admitted"), element("dd", having),
+                   element("dt", "✕ not so", class_="refused"), element("dd", drawn(found.without)), class_="examples")
+
+
+def drawn(label: str | None) -> Child:
+    """A label of an example."""
+    if label is None:
+        return "none of the labels that were drawn"
+    return [element("bdi", label), " ", element("code", " ".join(number_of(ord(each)) for each in label))]
+
+
+def sets_part(parsed: ParsedTable) -> Markup | None:
+    """The sets of code points that rules name."""
+    parts = []
+    for name, spans in parsed.ruleset.sets.items():
+        words = [[sequence((first,)), [" to ", sequence((last,))] if last != first else None] for first, last in spans]
+        head = element("h3", name, id=f"set-{name}")
+        parts.append(element("article", head, element("p", joined_words(words, ", ")), class_="rule"))
+    return element("section", element("h2", "Sets that rules name"), *parts) if parts else None
+
+
+def actions_part(parsed: ParsedTable) -> Markup:
+    """What becomes of a label and of a variant, in the order in which it is asked."""
+    ruleset = parsed.ruleset
+    steps: list[Child] = ["A label, or a variant, that can’t be cut into letters and sequences of the repertoire is refused."]
+    if ruleset.rules:
+        way = element("a", "rule", href="#rules")
+        steps.append(["One in which a letter stands where its ", way, " doesn’t let it is refused."])
+    if ruleset.demands:
+        steps.append(["One that breaks a ", element("a", "demand", href="#demands"), " is refused."])
+    if parsed.table.version == 1:
+        steps.append("Every other one is a variant. The table doesn’t say which are blocked.")
+    elif ruleset.tags:
+        tags = joined_words([element("b", tag) for tag in ruleset.tags], " or ")
+        steps += [["A variant whose letters all are ", tags, ", or have no tag, throughout, and none of them blocked, is allocatable."],
+                  "Every other variant is blocked."]
+    else:
+        steps += ["A variant that arises without a blocked one is allocatable.", "Every other variant is blocked."]
+    return element("section", element("h2", "What becomes of a label", id="actions"),
+                   element("ol", *(element("li", step) for step in steps)))

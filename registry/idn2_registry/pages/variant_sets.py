@@ -1,0 +1,45 @@
+"""Which sequences are variants of each other, and which of them go together."""
+
+from dataclasses import dataclass
+from typing import Any
+
+from ..audit import groups_of
+from ..parsed_table import ParsedTable, Points
+
+
+@dataclass(frozen=True)
+class Pair:
+    """A source and one of its variants. What isn't blocked is allocatable, but before version 2 nothing says which is."""
+
+    source: Points
+    variant: Any
+
+    @property
+    def is_allocatable(self) -> bool:
+        """Whether it isn't blocked."""
+        return not self.variant.is_marked
+
+
+@dataclass(frozen=True)
+class VariantSet:
+    """Sequences that are variants of each other, directly or through others, with the parts in which allocatable variants
+    connect them, and the pairs as the table has them."""
+
+    parts: tuple[tuple[Points, ...], ...]
+    pairs: tuple[Pair, ...]
+
+
+def variant_sets(parsed: ParsedTable) -> list[VariantSet]:
+    """All of a table, in the order of their first sequences."""
+    pairs = [Pair(entry.source.points, variant) for entry in parsed.entries for variant in entry.variants]
+    wholes = groups_of((pair.source, pair.variant.points) for pair in pairs)
+    place = {sequence: number for number, whole in enumerate(wholes) for sequence in whole}
+    parts: list[list[tuple[Points, ...]]] = [[] for _ in wholes]
+    together = groups_of((pair.source, pair.variant.points) for pair in pairs if pair.is_allocatable)
+    alone = place.keys() - {sequence for part in together for sequence in part}
+    for part in sorted([*together, *([sequence] for sequence in alone)]):
+        parts[place[part[0]]].append(tuple(part))
+    of_whole: list[list[Pair]] = [[] for _ in wholes]
+    for pair in pairs:
+        of_whole[place[pair.source]].append(pair)
+    return [VariantSet(tuple(divided), tuple(own)) for divided, own in zip(parts, of_whole, strict=True)]

@@ -1,0 +1,213 @@
+"""`publish`: a table in a form that others read, which says what the table says, or is refused."""
+
+import itertools
+import re
+from collections.abc import Iterator, Sequence
+from enum import Enum
+from pathlib import Path
+from typing import Any
+
+from .beside import package_module
+from .faults import Unknown, Unsayable, Unusable
+from .metadata import read_metadata
+from .parsed_table import ParsedTable, Points, spelled
+from .program import Program
+from .publish_xml import Element, ruleset_element
+from .tables import Table
+
+DECLARATION = '<?xml version="1.0" encoding="UTF-8"?>'
+
+
+class Form(Enum):
+    """In which form: RFC 7940, the lines of RFC 4290, or a page for people."""
+
+    XML = "xml"
+    RFC4290 = "rfc4290"
+    HTML = "html"
+
+
+def publish(table: Table, form: Form, meta: Path | None, program: Program) -> bytes:
+    """The text. Raises Unsayable, with the line of the table, where the form can't say what the table says."""
+    if form is Form.HTML:
+        # No other command waits for what draws pages.
+        from .pages.table_page import whole_page
+
+        return whole_page(table, program)
+    parsed, path = ParsedTable.read(table), meta or table.path.with_suffix(".toml")
+    if form is Form.RFC4290:
+        told = read_metadata(path, unicode_of(program)) if meta or path.is_file() else []
+        return Lines(parsed, program).text(told)
+    return Xml(parsed, read_metadata(path, unicode_of(program)), program).text()
+
+
+def unicode_of(program: Program) -> str:
+    """The version of Unicode of the program, as it tells it."""
+    found = re.search(r"\(Unicode (\S+)\)", program.version)
+    return found[1] if found else ""
+
+
+class Xml:
+    """A table as XML, each line with the line of the table that it says."""
+
+    def __init__(self, parsed: ParsedTable, meta: Sequence[Element], program: Program) -> None:
+        self.parsed, self.program = parsed, program
+        self.lines = [(DECLARATION, None), *ruleset_element(parsed, meta).lines()]
+
+    def text(self) -> bytes:
+        """The text, after it was read by two readers and the answers of the program were compared with it."""
+        check_variants(self.parsed)
+        text = "".join(f"{line}\n" for line, _ in self.lines).encode()
+        reader = package_module("rfc7940.reader")
+        try:
+            ruleset = reader.read(text)
+        except reader.Refused as refused:
+            raise self.unsayable(refused.line, f"XML can't say it: {refused.reason}") from refused
+        self.check_read_back(text)
+        self.check_answers(ruleset)
+        return text
+
+    def unsayable(self, line: int | None, reason: str) -> Unsayable:
+        """The reason, with the line of the table for a line of the text."""
+        place = self.lines[line - 1][1] if line else None
+        return Unsayable(f"{self.parsed.table.path}: {f'line {place}: ' if place else ''}{reason}")
+
+    def check_read_back(self, text: bytes) -> None:
+        """The converter makes the same entries of it."""
+        back, told = read_back(text, self.parsed, self.program)
+        if back is None:
+            found = re.match(r"lines? (\d+)\S*.*?: (.*)", told)
+            raise self.unsayable(int(found[1]) if found else None, f"XML can't say it: {found[2] if found else told}")
+        check_same(self.parsed, back, "XML")
+
+    def check_answers(self, ruleset: Any) -> None:
+        """What the program lists of labels is what RFC 7940 says of them."""
+        verified = package_module("rfc7940.verified")
+        words, mode = [self.program.path, *self.program.options], self.parsed.table.kind.value[0]
+        labels = verified.labels_for(ruleset, [])
+        try:
+            for difference in itertools.islice(verified.differences(words, mode, self.parsed.table.data, ruleset, labels), 1):
+                raise Unsayable(f"{self.parsed.table.path}: XML can't say it: {difference}")
+        except verified.Unanswered as error:
+            raise Unknown(f"{self.parsed.table.path}: {error}") from error
+
+
+class Lines:
+    """A table in the lines of RFC 4290: code points with their variants, and nothing else."""
+
+    def __init__(self, parsed: ParsedTable, program: Program) -> None:
+        self.parsed, self.program = parsed, program
+
+    def text(self, meta: Sequence[Element]) -> bytes:
+        """The text, after it was read back."""
+        self.check()
+        marks = {variant.is_marked for entry in self.parsed.ruleset.entries.values() for variant in entry.variants}
+        if len(marks) > 1:
+            raise self.unsayable(self.first_line_of_both(), "blocked variants beside allocatable ones")
+        lines = [f"# {element.name}: {line}" for element in flat(meta) for line in element.text.split("\n")]
+        # Version 1 says nothing of them.
+        if marks and self.parsed.table.version > 1:
+            lines.append(f"# All variants are {'blocked' if marks == {True} else 'allocatable'}.")
+        lines += map(line_of, self.parsed.ruleset.entries.values())
+        text = "".join(f"{line}\n" for line in lines).encode()
+        untyped = "blocked" if marks == {True} else "allocatable"
+        back, told = read_back(text, self.parsed, self.program, "--untyped", untyped)
+        if back is None:
+            raise Unsayable(f"{self.parsed.table.path}: RFC 4290 can't say it: {told}")
+        check_same(self.parsed, back, "RFC 4290")
+        return text
+
+    def unsayable(self, line: int, what: str) -> Unsayable:
+        """What RFC 4290 doesn't have, on a line of the table."""
+        return Unsayable(f"{self.parsed.table.path}: line {line}: RFC 4290 has no {what}")
+
+    def check(self) -> None:
+        """It has nothing that RFC 4290 lacks."""
+        for line, what in sorted(self.lacking()):
+            raise self.unsayable(line, what)
+
+    def lacking(self) -> Iterator[tuple[int, str]]:
+        """What RFC 4290 lacks, with its lines."""
+        ruleset, lines = self.parsed.ruleset, self.parsed.lines
+        for words, names in (("tags", ruleset.tags), ("rules", ruleset.rules), ("demands", range(len(ruleset.demands)))):
+            yield from ((lines[name], words) for name in names)
+        for source, entry in ruleset.entries.items():
+            if entry.is_outside:
+                yield lines[source], "outside sources"
+            if len(source) > 1:
+                yield lines[source], "sources of several code points"
+
+    def first_line_of_both(self) -> int:
+        """The first line by which the dispositions differ."""
+        seen = None
+        for source, entry in self.parsed.ruleset.entries.items():
+            for variant in entry.variants:
+                if seen not in (None, variant.is_marked):
+                    return self.parsed.lines[source]
+                seen = variant.is_marked
+        raise AssertionError("it is called where they differ")
+
+
+def flat(elements: Sequence[Element]) -> Iterator[Element]:
+    """The elements that have a text, references as those that they are."""
+    for element in elements:
+        yield from flat(element.children) if element.children else [element]
+
+
+def line_of(entry: Any) -> str:
+    """The line of an entry."""
+    variants = ":".join(in_rfc4290(variant.points) for variant in entry.variants)
+    return in_rfc4290(entry.source.points) + ("|" if variants else "") + variants
+
+
+def in_rfc4290(points: Points) -> str:
+    """A sequence in the spelling of RFC 4290."""
+    return "-".join(f"U+{point:04X}" for point in points)
+
+
+# ---- Reading back
+
+
+def read_back(text: bytes, parsed: ParsedTable, program: Program, *words: str) -> tuple[ParsedTable | None, str]:
+    """What the converter makes of a text: a table of the same version; or None, and its reason."""
+    command, ruleset, converting = (package_module(f"lgr.{name}") for name in ("command", "ruleset", "program"))
+    options = command.options_of(["--version", str(parsed.table.version), *words, "published"])
+    told: list[str] = []
+    try:
+        made = command.made(text, converting.Program(program.path, list(program.options)), options, told.append)
+    except ruleset.Fault as fault:
+        made, told = None, [str(fault)]
+    except converting.Unusable as error:
+        raise Unusable(str(error)) from error
+    if made is None:
+        return None, told[0].split("\n")[0]
+    return ParsedTable.read(Table(parsed.table.name, parsed.table.path, made)), ""
+
+
+def check_variants(parsed: ParsedTable) -> None:
+    """Each variant has code points of sources alone: what is no source can be in no label (RFC 7940, section 8.3)."""
+    known = {point for source in parsed.ruleset.entries for point in source}
+    for source, entry in parsed.ruleset.entries.items():
+        for variant in entry.variants:
+            if lost := [point for point in variant.points if point not in known]:
+                reason = f"by RFC 7940 no label has the variant {spelled(variant.points)}, since no entry has {lost[0]:04X}"
+                remedy = f": add !{lost[0]:04X}" if parsed.table.version == 3 else ""
+                raise Unsayable(f"{parsed.place(source)}: {reason}{remedy}")
+
+
+def check_same(parsed: ParsedTable, back: ParsedTable, form: str) -> None:
+    """What is read back has the same sources and variants, each blocked or not."""
+    one, other = marks_of(parsed), marks_of(back)
+    for source in [*one, *other]:
+        if one.get(source) != other.get(source):
+            place = parsed.place(source) if source in one else str(parsed.table.path)
+            raise Unsayable(f"{place}: {form} can't say it: {spelled(source)} reads back otherwise")
+
+
+def marks_of(parsed: ParsedTable) -> dict[Points, tuple[bool, Any]]:
+    """For each source whether it is outside, and its variants. No label has an outside source, so that its variants are neither
+    blocked nor allocatable."""
+    marks: dict[Points, tuple[bool, Any]] = {}
+    for source, entry in parsed.ruleset.entries.items():
+        variants = [(variant.points, variant.is_marked or entry.is_outside) for variant in entry.variants]
+        marks[source] = entry.is_outside, sorted(variants)
+    return marks

@@ -1,0 +1,141 @@
+"""Which path answers what."""
+
+import hmac
+from collections.abc import Awaitable, Callable
+from dataclasses import dataclass
+
+from aiohttp import web
+
+from ..answers import Object
+from ..faults import Unknown, Unusable
+from ..output import complain
+from ..requests import Request
+from .answering import Answering
+from .bodies import (MOST_BYTES, Faulty, body_of, json_response, request_of_object, request_of_query, requests_of_labels,
+                     response_of)
+from .connections import Connections
+from .metrics import Metrics
+from .openapi import described
+from .people import Pages
+
+READING = ("check", "variants", "tables-of")
+CHANGING = ("register", "release")
+Handler = Callable[[web.Request], Awaitable[web.StreamResponse]]
+AGAIN = {"Retry-After": "1"}
+METRICS_TYPE = "text/plain; version=0.0.4; charset=utf-8"
+
+
+@dataclass(frozen=True)
+class Service:
+    """All that is answered. Labels are registered and released only if there is a token."""
+
+    answering: Answering
+    metrics: Metrics
+    connections: Callable[[], Connections]
+    token: bytes | None
+
+    def application(self) -> web.Application:
+        """The application with its paths."""
+        @web.middleware
+        async def guarded(request: web.Request, handler: Handler) -> web.StreamResponse:
+            return await self.guarded(request, handler)
+
+        made = web.Application(middlewares=[guarded], client_max_size=MOST_BYTES)
+        for job in READING:
+            made.router.add_get(f"/v1/{job}", self.reading(job), allow_head=False)
+        made.router.add_post("/v1/check", self.check_all)
+        for job in CHANGING if self.token is not None else ():
+            made.router.add_post(f"/v1/{job}", self.changing(job))
+        for path, handler in (("/v1/health", self.health), ("/v1/openapi.json", self.openapi), ("/metrics", self.metrics_text)):
+            made.router.add_get(path, handler, allow_head=False)
+        Pages(self.answering).add_to(made)
+        return made
+
+    async def guarded(self, request: web.Request, handler: Handler) -> web.StreamResponse:
+        """What a path answers; or an object with `fault`. While it is answered the connection isn't cut off."""
+        self.connections().begins(request.protocol)
+        try:
+            response = await self.answered(request, handler)
+        finally:
+            self.connections().ends(request.protocol)
+        self.metrics.responses[response.status] += 1
+        return response
+
+    @staticmethod
+    async def answered(request: web.Request, handler: Handler) -> web.StreamResponse:
+        """What a path answers, whatever goes wrong."""
+        try:
+            return await handler(request)
+        except Faulty as error:
+            return json_response({"fault": str(error)}, error.status, error.headers)
+        except ValueError as error:
+            return json_response({"fault": str(error)}, 400)
+        except (Unknown, Unusable) as error:
+            return json_response({"fault": str(error)}, 503, AGAIN)
+        except web.HTTPException as error:
+            kept = {name: value for name, value in error.headers.items() if name == "Allow"}
+            return json_response({"fault": error.reason}, error.status, kept)
+        except Exception as error:
+            complain(f"it failed, which is a fault of idn2-registry: {type(error).__name__}: {error}")
+            return json_response({"fault": "it failed, which is a fault of idn2-registry"}, 500)
+
+    def reading(self, job: str) -> Handler:
+        """What answers a query."""
+        async def handler(request: web.Request) -> web.StreamResponse:
+            answer = await self.answering.ask(request_of_query(job, request))
+            return response_of(answer.object(), [answer])
+
+        return handler
+
+    async def check_all(self, request: web.Request) -> web.StreamResponse:
+        """Checks several labels."""
+        answers = await self.answering.ask_all(requests_of_labels("check", await body_of(request)))
+        return response_of({"answers": [answer.object() for answer in answers]}, answers)
+
+    def changing(self, job: str) -> Handler:
+        """What registers or releases a label for those who show the token."""
+        async def handler(request: web.Request) -> web.StreamResponse:
+            self.expect_token(request)
+            answer = await self.answering.ask(request_of_object(job, await body_of(request)))
+            return response_of(answer.object(), [answer])
+
+        return handler
+
+    def expect_token(self, request: web.Request) -> None:
+        """Raises Faulty without the token."""
+        kind, _, shown = request.headers.get("Authorization", "").partition(" ")
+        given = shown.strip().encode("utf-8", "surrogateescape")
+        if self.token is None or kind.lower() != "bearer" or not hmac.compare_digest(given, self.token):
+            raise Faulty(401, "show the token: Authorization: Bearer ..", WWW_Authenticate="Bearer")
+
+    async def health(self, request: web.Request) -> web.StreamResponse:
+        """Whether labels can be answered."""
+        told = await self.answering.call(self.state)
+        return json_response(told, 503 if "reason" in told else 200, AGAIN if "reason" in told else {})
+
+    def state(self) -> Object:
+        """What can be answered: the program is asked, and so is the register."""
+        zone = self.answering.zone
+        answer = zone.check("a")
+        told: Object = {"status": "ready", "program": zone.program.version, "tables": list(zone.configuration.tables)}
+        return told if answer.reason is None else {**told, "status": "unknown", "reason": answer.reason}
+
+    async def openapi(self, request: web.Request) -> web.StreamResponse:
+        """The description."""
+        return json_response(described(self.token is not None))
+
+    async def metrics_text(self, request: web.Request) -> web.StreamResponse:
+        """What a dashboard reads."""
+        return web.Response(body=self.metrics.text().encode(), headers={"Content-Type": METRICS_TYPE})
+
+
+def read_token(path: object) -> bytes:
+    """The token in a file. Raises Unusable for one that can be guessed."""
+    try:
+        with open(str(path), "rb") as file:
+            token = file.read(4097).strip()
+    except OSError as error:
+        raise Unusable(f"{path}: {error.strerror}: mend the path of token in [service]") from error
+    if not 32 <= len(token) <= 4096 or not token.isascii() or len(token.split()) != 1:
+        raise Unusable(f"{path}: a token is a word of 32 letters or more: openssl rand -hex 32 makes one")
+    return token

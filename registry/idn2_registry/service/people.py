@@ -1,0 +1,84 @@
+"""The pages over HTTP."""
+
+import re
+from collections.abc import Awaitable, Callable
+from dataclasses import dataclass, field
+
+from aiohttp import web
+
+from ..answers import Status
+from ..pages.classes import Classes
+from ..pages.frame import SCRIPT, STYLE, Frame, file_of
+from ..pages.label_page import Asked, found, label_page
+from ..pages.table_page import Shown, View, table_page
+from .answering import Answering
+from .bodies import Faulty, query_of
+
+HEADERS = {
+    "Content-Security-Policy": "default-src 'none'; style-src 'self'; script-src 'self'; form-action 'self'; base-uri 'none'; "
+                               "frame-ancestors 'none'",
+    "Referrer-Policy": "no-referrer", "X-Content-Type-Options": "nosniff", "Cache-Control": "no-store",
+}
+AGAIN = {"Retry-After": "1"}
+
+
+def html(body: bytes, status: int = 200) -> web.Response:
+    """A page."""
+    more = AGAIN if status == 503 else {}
+    return web.Response(body=body, status=status, content_type="text/html", charset="utf-8", headers={**HEADERS, **more})
+
+
+@dataclass(frozen=True)
+class Pages:
+    """What people look at."""
+
+    answering: Answering
+    # Examples take the program some time: they are kept as long as the table.
+    _views: dict[str, View] = field(default_factory=dict)
+
+    @property
+    def frame(self) -> Frame:
+        """What all pages have in common."""
+        return Frame(list(self.answering.zone.configuration.tables))
+
+    def add_to(self, application: web.Application) -> None:
+        """Adds the paths of the pages."""
+        application.router.add_get("/", self.label, allow_head=False)
+        application.router.add_get("/tables/{name}", self.table, allow_head=False)
+        for name, kind in ((STYLE, "text/css"), (SCRIPT, "text/javascript")):
+            application.router.add_get(f"/{name}", self.file(name, kind), allow_head=False)
+
+    @staticmethod
+    def file(name: str, kind: str) -> Callable[[web.Request], Awaitable[web.Response]]:
+        """What answers with a file of the pages."""
+        body = file_of(name)
+
+        async def handler(request: web.Request) -> web.Response:
+            return web.Response(body=body, content_type=kind, charset="utf-8", headers={"X-Content-Type-Options": "nosniff"})
+
+        return handler
+
+    async def label(self, request: web.Request) -> web.Response:
+        """The page of a label."""
+        asked = Asked.read(query_of(request))
+        if asked is None:
+            return html(label_page(self.frame, None, None))
+        zone = self.answering.zone
+        told = await self.answering.call(found, zone, Classes(zone.tables.pool), asked)
+        return html(label_page(self.frame, asked, told), 503 if told.answer.status is Status.UNKNOWN else 200)
+
+    async def table(self, request: web.Request) -> web.Response:
+        """The page of a table."""
+        zone = self.answering.zone
+        table = zone.tables.by_name.get(request.match_info["name"])
+        if table is None:
+            raise Faulty(404, "no table has this name")
+        start = query_of(request).get("from", "0")
+        if not re.fullmatch(r"[0-9A-Fa-f]{1,6}", start):
+            raise ValueError("from is a code point in hexadecimal digits")
+        view = self._views.get(table.name)
+        if view is None or view.parsed.table is not table:
+            view = await self.answering.call(View.of, table, zone.program)
+        if view.examples.are_whole:
+            self._views[table.name] = view
+        return html(table_page(self.frame, view, Shown(int(start, 16))))

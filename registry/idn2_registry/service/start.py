@@ -1,0 +1,118 @@
+"""The start and the end of the service: its sockets, its signals."""
+
+import asyncio
+import contextlib
+import os
+import signal
+import socket
+import sys
+from pathlib import Path
+
+from aiohttp import web
+
+from ..configuration import Configuration
+from ..faults import Unusable
+from ..output import complain
+from ..zone import Zone
+from .answering import Answering
+from .application import Service, read_token
+from .connections import Connections
+from .metrics import Metrics
+
+BACKLOG = 1024
+# So long requests have that are being answered at the end.
+END_SECONDS = 10.0
+# A thread gives way to another after so many seconds: the one that reads requests shouldn't wait for those that answer them.
+SWITCH_SECONDS = 0.0005
+FIRST_PASSED = 3
+
+
+def serve(zone: Zone) -> None:
+    """Serves until a signal ends it. Raises Unusable if it can't listen."""
+    told = zone.configuration.service
+    token = None if told.token is None else read_token(told.token)
+    listening = passed_sockets() or [listener(zone.configuration)]
+    sys.setswitchinterval(SWITCH_SECONDS)
+    asyncio.run(served(zone, token, listening))
+
+
+def passed_sockets() -> list[socket.socket]:
+    """Those that systemd has made."""
+    if os.environ.get("LISTEN_PID") != str(os.getpid()):
+        return []
+    return [socket.socket(fileno=FIRST_PASSED + number) for number in range(int(os.environ.get("LISTEN_FDS", "0")))]
+
+
+def listener(configuration: Configuration) -> socket.socket:
+    """The socket of the configuration."""
+    listen = configuration.service.listen
+    try:
+        return unix_listener(listen) if isinstance(listen, Path) else tcp_listener(*listen)
+    except OSError as error:
+        where = listen if isinstance(listen, Path) else f"{listen[0]}:{listen[1]}"
+        raise Unusable(f"{where}: {error.strerror}: end what listens there, or mend listen in [service]") from error
+
+
+def tcp_listener(host: str, port: int) -> socket.socket:
+    """A socket at an address of this machine."""
+    return socket.create_server((host, port), family=socket.AF_INET6 if ":" in host else socket.AF_INET, backlog=BACKLOG)
+
+
+def unix_listener(path: Path) -> socket.socket:
+    """A socket in a file, for its group. One that a process left which was killed is replaced."""
+    made = socket.socket(socket.AF_UNIX)
+    if path.is_socket():
+        with socket.socket(socket.AF_UNIX) as other, contextlib.suppress(ConnectionRefusedError):
+            other.connect(str(path))
+            raise OSError(98, "Address already in use")
+        path.unlink()
+    made.bind(str(path))
+    path.chmod(0o660)
+    made.listen(BACKLOG)
+    return made
+
+
+async def served(zone: Zone, token: bytes | None, listening: list[socket.socket]) -> None:
+    """Serves until a signal ends it."""
+    metrics = Metrics(zone.program.version)
+    answering = Answering(zone, metrics)
+    made: list[Connections] = []
+    service = Service(answering, metrics, lambda: made[0], token)
+    runner = web.AppRunner(service.application(), access_log=None, handle_signals=False)
+    await runner.setup()
+    assert runner.server is not None
+    made.append(Connections(runner.server, zone.configuration.service.connections, metrics))
+    loop = asyncio.get_running_loop()
+    is_over = asyncio.Event()
+    for number in (signal.SIGTERM, signal.SIGINT):
+        loop.add_signal_handler(number, is_over.set)
+    running: set[asyncio.Task[None]] = set()
+    loop.add_signal_handler(signal.SIGHUP, lambda: running.add(loop.create_task(reloaded(answering))))
+    servers = [await loop.create_server(made[0], sock=each, backlog=BACKLOG) for each in listening]
+    tell_ready(listening)
+    await is_over.wait()
+    for server in servers:
+        server.close()
+    await runner.server.shutdown(END_SECONDS)
+    await runner.cleanup()
+    await asyncio.to_thread(answering.close)
+
+
+async def reloaded(answering: Answering) -> None:
+    """Reads the tables again; faulty ones are told, and the old ones stay."""
+    try:
+        await answering.reload()
+    except Unusable as error:
+        complain(f"{error}; the old tables stay")
+
+
+def tell_ready(listening: list[socket.socket]) -> None:
+    """Tells the operator, and systemd, that requests are answered."""
+    for each in listening:
+        name = each.getsockname()
+        complain(f"listens at {name}" if isinstance(name, str) else f"listens at http://{name[0]}:{name[1]}/")
+    address = os.environ.get("NOTIFY_SOCKET", "")
+    if address:
+        with socket.socket(socket.AF_UNIX, socket.SOCK_DGRAM) as notify, contextlib.suppress(OSError):
+            notify.connect("\0" + address[1:] if address.startswith("@") else address)
+            notify.sendall(b"READY=1")

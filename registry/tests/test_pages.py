@@ -1,0 +1,196 @@
+"""The pages, as they are sent: what they say is what the program says, and nothing of a request stands in them unescaped."""
+
+import html
+import re
+
+import pytest
+from conftest import PROGRAM, TABLES, Place
+from serving import Served, Told, configure
+from test_service import query
+
+pytest.importorskip("aiohttp", reason="python3-aiohttp")
+
+from idn2_registry.pages.classes import Classes  # noqa: E402
+from idn2_registry.pages.html import element  # noqa: E402
+from idn2_registry.pages.table_page import Shown, View, table_page, whole_page  # noqa: E402
+from idn2_registry.pages.variant_sets import variant_sets  # noqa: E402
+from idn2_registry.pages.frame import Frame  # noqa: E402
+from idn2_registry.parsed_table import ParsedTable  # noqa: E402
+from idn2_registry.program import Program  # noqa: E402
+from idn2_registry.tables import Table, checked, read_table  # noqa: E402
+
+KINDS = """%version 3
+%tag simp
+%tag trad
+%set digit 0030..0039
+%rule edge ^ _ / _ $ / ^ . . 002D _
+%never @digit .* @digit
+002D unless edge
+0030..0039
+0061|!0430
+!0430|!0061
+56FD as simp|570B as trad
+570B as trad|56FD as simp
+"""
+
+
+def words_of(page: Told | bytes) -> str:
+    """What a page says, without its elements."""
+    text = page.text if isinstance(page, Told) else page.decode()
+    return re.sub(r" (?=[,.:])", "", " ".join(html.unescape(re.sub(r"<[^>]*>", " ", text)).split()))
+
+
+def test_says_of_a_label_what_the_program_says(place: Place) -> None:
+    place.load("haus\tH1", "strasse\tH2")
+    configure(place)
+    rows = (
+        ("maß", 200, ["maß is available.", "xn--ma-hia", "U+00DF", "LATIN SMALL LETTER SHARP S", "PVALID allowed", "2 of 2 variants"]),
+        ("xn--strae-oqa", 200, ["straße is taken: it collides with strasse, held by H2.", "1 s U+0073", "yes, held by H2"]),
+        ("haus", 200, ["haus is taken: it is registered, held by H1."]),
+        ("Faß", 200, ["Faß can’t be registered. U+0046 LATIN CAPITAL LETTER F at place 1 isn’t allowed in a label (RFC 5892 2.2).",
+                      "The fault is here", "DISALLOWED not allowed, RFC 5892 2.2"]),
+        ("mañana", 200, ["U+00F1 LATIN SMALL LETTER N WITH TILDE at place 3 isn’t in the table."]),
+        ("maß\r", 200, ["U+000D control character at place 4 is a control character, and no label has one."]),
+        ("a--", 200, ["The hyphen at place 3 is out of place"]),
+        ("", 200, ["The empty label can’t be registered. It is empty."]),
+        ("\udcff", 200, ["It isn’t UTF-8."]),
+        ("xn--a", 200, ["What it stands for is refused: U+0080"]),
+        ("a" * 64, 200, ["It is too long"]),
+        ("\u0301a", 200, ["It begins with a combining mark, U+0301 COMBINING ACUTE ACCENT."]),
+    )
+    with Served(place) as served:
+        for label, status, said in rows:
+            told = served.ask("GET", query("/", label=label))
+            words = words_of(told)
+            assert told.status == status, (label, words)
+            for each in said:
+                assert each in words, (label, each, words)
+
+
+def test_what_is_not_known_is_no_200_here_either(bare: Place) -> None:
+    bare.write("gap.txt", "0061|0062\n0062\n")
+    configure(bare, gap="gap.txt")
+    bare.load()
+    with Served(bare) as served:
+        told = served.ask("GET", "/?label=b")
+        assert (told.status, told.headers["Retry-After"]) == (503, "1")
+        assert "b isn’t known to be available: the table gap has 1 gap." in words_of(told)
+        told = served.ask("GET", "/tables/gap")
+        assert "b U+0062 has no variant a U+0061: add 0062|0061" in words_of(told), words_of(told)
+
+
+def test_nothing_of_a_request_is_a_part_of_a_page(place: Place) -> None:
+    configure(place)
+    bad = "\"'><script>alert(1)</script>&amp;"
+    with Served(place) as served:
+        for path in (query("/", label=bad), query("/", label="sss", find=bad), query("/", label="sss", after=bad)):
+            told = served.ask("GET", path)
+            assert "<script>" not in told.text and told.text.count("<script ") == 1, told.text
+            assert "default-src 'none'" in told.headers["Content-Security-Policy"]
+        for path, status in ((query("/", label="sss", table=bad), 400), (query("/tables/de", **{"from": bad}), 400),
+                             ("/tables/none", 404), ("/tables/..%2fregistry.toml", 404), ("/page.css/..", 404)):
+            assert served.ask("GET", path).status == status, path
+        assert served.ask("GET", "/page.css").headers.get_content_type() == "text/css"
+        assert served.ask("GET", "/page.js").headers.get_content_type() == "text/javascript"
+
+
+def test_searches_and_pages_in_the_variants_without_a_script(place: Place) -> None:
+    configure(place, more="", service="[limits]\nlimit = 2")
+    with Served(place) as served:
+        told = served.ask("GET", "/?label=sss")
+        assert "2 of 2 variants" in words_of(told)
+        [way] = re.findall(r'href="(/\?label=sss&amp;after=[^"]*)"', told.text)
+        following = served.ask("GET", html.unescape(way))
+        assert "1 of 1 variants" in words_of(following) and "xn--s-pfa" in following.text
+        found = served.ask("GET", query("/", label="sss", find="Qfa"))
+        assert "1 of 2 variants" in words_of(found) and "xn--s-qfa" in found.text
+
+
+def test_classes_are_those_of_the_program(place: Place) -> None:
+    rows = {"a": "PVALID", "ß": "PVALID", "-": "PVALID", "\u0301": "PVALID", "A": "DISALLOWED", "\r": "DISALLOWED", "\u200d": "CONTEXTJ",
+            "·": "CONTEXTO", "\u0660": "CONTEXTO", "\u06f5": "CONTEXTO", "\u30fb": "CONTEXTO", "\u05d0": "PVALID", "\u0378": "UNASSIGNED",
+            "\ud7ff": "UNASSIGNED"}
+    with place.zone() as zone:
+        classes = Classes(zone.tables.pool)
+        assert {text: classes.of(ord(text)).name for text in rows} == rows
+
+
+def test_elements_escape_texts() -> None:
+    assert element("p", "<&>", None, [element("b", '"'), "'"], title='"<', hidden=True, class_=None) == \
+        '<p title="&quot;&lt;" hidden>&lt;&amp;&gt;<b>&quot;</b>&#x27;</p>'
+
+
+def view_of(place: Place, text: str) -> View:
+    """A table with what is said of it."""
+    program = Program(PROGRAM)
+    return View.of(read_table("own", place.write("own.txt", text), program), program)
+
+
+def test_shows_a_ruleset_as_people_read_it(place: Place) -> None:
+    words = words_of(table_page(Frame(), view_of(place, KINDS), Shown()))
+    for said in ("15 entries of a ruleset.", "Digits (10)", "Latin (1)", "Ideographs (2)", "Outside: only variants have them, no label (1)",
+                 "а U+0430 CYRILLIC SMALL LETTER A outside", "2 sets of sequences", "国 U+56FD simp", "國 U+570B trad", "а U+0430 outside",
+                 "Holds at the start of the label; or at the end of the label; or directly after the start of the label, "
+                 "then any code point, then any code point, then - U+002D.",
+                 "There may not stand: - U+002D.",
+                 "No part of a label is a code point of digit, then any number of code points, then a code point of digit.",
+                 "A variant whose letters all are simp or trad, or have no tag, throughout, and none of them blocked, is allocatable."):
+        assert said in words, (said, words)
+
+
+def test_examples_are_admitted_and_refused_by_the_program(place: Place) -> None:
+    """Each as the run says that is asked for it alone."""
+    for name in ("devanagari", "chinese", "latin"):
+        program = Program(PROGRAM)
+        table = read_table(name, TABLES / "rulesets" / f"{name}.txt", program)
+        examples = View.of(table, program).examples
+        found = [(examples.of(rule), {"rule": rule}) for rule in examples.rules]
+        found += [(examples.of_number(number), {"demand": number}) for number in range(1, len(examples.demands) + 1)]
+        for example, cause in found:
+            assert example.admitted and example.refused, (name, cause, example)
+            for label, status in ((example.admitted, 0), (example.refused, 1)):
+                done = program.run(["--json", "--ruleset", table.held.path, label], files=[table.held.descriptor])
+                assert done.returncode == status, (name, cause, label, done)
+            assert all(f'"{member}":{value}' in done.stdout.decode().replace(f'"{value}"', str(value))
+                       for member, value in cause.items()), (cause, done)
+
+
+def test_examples_of_variants_are_listed_by_the_program(place: Place) -> None:
+    view = view_of(place, "%version 3\n%rule end _ $\n03B1..03C1\n03C3|03C2 when end\n03C2|03C3\n03C4..03C9\n")
+    found = view.examples.of_variant("end")
+    assert (found.label, found.variant, found.without) == ("σ", "ς", "σα")
+    words = words_of(table_page(Frame(), view, Shown()))
+    assert "Variants only there: ς U+03C2 of σ U+03C3 (allocatable)." in words, words
+    assert "✓ variant σ U+03C3 has ς U+03C2, allocatable ✕ not so σα U+03C3 U+03B1" in words, words
+
+
+def test_examples_are_none_where_there_is_no_answer(place: Place) -> None:
+    """A rule that nothing satisfies, and one that nothing breaks."""
+    view = view_of(place, "%version 3\n%rule never 0061 _ 0062\n%rule always _\n0061\n0063 when never\n0064 when always\n")
+    assert view.examples.of("never").admitted is None and view.examples.of("never").refused == "c"
+    assert view.examples.of("always").admitted == "d" and view.examples.of("always").refused is None
+
+
+def test_a_linguist_finds_a_planted_mistake(place: Place) -> None:
+    """A Cyrillic letter among the Latin ones stands alone in a group of its own; and a variant that nobody expects in its set."""
+    text = (TABLES / "german.txt").read_text("utf-8").replace("\n0061..007A\n", "\n0062..007A\n0430\n").replace("00DF|0073-0073", "00DF|0073-007A")
+    words = words_of(table_page(Frame(), view_of(place, text.replace("0073-0073|00DF", "0073-007A|00DF")), Shown()))
+    assert "Cyrillic (1) а U+0430 CYRILLIC SMALL LETTER A" in words and "sz U+0073 U+007A" in words, words
+
+
+def test_sets_of_variants_have_parts_that_go_together(place: Place) -> None:
+    [first, second] = variant_sets(ParsedTable.read(checked(Table("own", place.folder, KINDS.encode()), Program(PROGRAM))))
+    assert first.parts == (((0x61,),), ((0x430,),)) and second.parts == (((0x56FD,), (0x570B,)),)
+    [only] = variant_sets(ParsedTable.read(read_table("de", TABLES / "german.txt", Program(PROGRAM))))
+    assert only.parts == (((0x73, 0x73), (0xDF,)),)
+
+
+def test_shows_a_large_table_in_parts(place: Place) -> None:
+    program = Program(PROGRAM)
+    view = View.of(read_table("han", TABLES / "han.txt", program), program)
+    page = table_page(Frame(), view, Shown()).decode()
+    [start] = re.findall(r'href="\?from=([0-9A-F]+)"', page)
+    assert page.count('class="tile"') == 1_000
+    assert f"U+{start}" in table_page(Frame(), view, Shown(int(start, 16))).decode()
+    alone = whole_page(view.parsed.table, program).decode()
+    assert alone.count('class="tile"') == 3_602 and "<style>" in alone and "<script" not in alone and "<link" not in alone
