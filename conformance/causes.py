@@ -44,7 +44,7 @@ class Causes:
         label = text.partition("\t")[0] if mode == "jump" else text
         if refusal == NOT_VALID:
             return self.invalid(label, *table.cause(label))
-        return self.outside(label, table.inside) if refusal == NOT_IN_TABLE else self.of_label(label, refusal)
+        return self.outside(label, table.inside) if refusal == NOT_IN_TABLE else self.of_u_label(label, refusal)
 
     def of_registered(self, bodies, number, refusal):
         """The cause of the refusal of a line of registered labels, by the bodies of all up to it."""
@@ -149,6 +149,16 @@ class Causes:
         if len(points) > MOST_OCTETS:
             return f"{len(points)} code points"
         return f"A-label of {len(a_label(''.join(map(chr, points))))} octets"
+
+    def of_u_label(self, label, refusal):
+        """Of a label where a U-label is wanted: what begins with `xn--` is told by what it stands for (RFC 5890, section 2.3.2.1)."""
+        cause = self.of_label(label, refusal)
+        if refusal != HYPHEN or not label.startswith("xn--"):
+            return cause
+        try:
+            return f"{cause}: an A-label of '{self.registration.decoded(label)}'"
+        except Refused:
+            return f"{cause}: not RFC 5890 2.3.2.1 A-label"
 
     def of_a_label(self, label, refusal):
         """Of what begins with `xn--`, in lower case."""

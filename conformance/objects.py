@@ -39,6 +39,13 @@ def placed(refusal):
     return f"{text}: {rule_of(refusal['rule'])}" if "rule" in refusal else text
 
 
+def coded(refusal):
+    """What is told of a label that begins with `xn--` where a U-label is wanted."""
+    if "ulabel" in refusal:
+        return f": an A-label of '{refusal['ulabel']}'"
+    return f": not {refusal['rule']} A-label" if "rule" in refusal else ""
+
+
 def cause_of(refusal):
     """The cause in the words of a message, without what an object leaves out; None where no cause is told."""
     number = refusal["number"]
@@ -47,7 +54,7 @@ def cause_of(refusal):
     if number == LINE_TOO_LONG:
         return "more than 1024 bytes"
     if number == HYPHEN:
-        return f"place {refusal['place']}"
+        return f"place {refusal['place']}{coded(refusal)}"
     if "demand" in refusal:
         return f"demand {refusal['demand']}, {refusal['kind']}"
     if "code_point" in refusal:
@@ -135,6 +142,6 @@ def as_explained(output, lines):
 def without_what_objects_leave_out(messages):
     """Messages without which hyphen it is, without the byte that no UTF-8 goes on with, and of a table without what stands at the
     byte, other than a code point."""
-    messages = re.sub(rb"(?m)(place \d+), (?:the first|the last|with place 4)$", rb"\1", messages)
+    messages = re.sub(rb"(?m)(place \d+), (?:the first|the last|with place 4)(:.*)?$", rb"\1\2", messages)
     messages = re.sub(rb"(?m)^(idn2: table line \d+: \d+ [a-z ]+: )(U\+[0-9A-F]+ )?[^\n]*?(at byte \d+)(?:: [a-z 0-9]+)?$", rb"\1\2\3", messages)
     return re.sub(rb"byte 0x[0-9A-F]{2} (at byte )", rb"\1", messages)

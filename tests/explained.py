@@ -19,6 +19,9 @@ SOURCES = ["--variants", "SOURCES"]
 REGISTER, DECODE, LOOKUP = ["-r"], ["-d"], ["-l"]
 REGISTER_BY_STANDARD, DECODE_BY_STANDARD = ["-r", "--standard"], ["-d", "--standard"]
 
+# What begins with `xn--` where a U-label is wanted, and has none.
+NO_A_LABEL = "not RFC 5890 2.3.2.1 A-label"
+
 # A line; the words beside --explain; the message, and the cause after it.
 ROWS = [
     ("Faß", REGISTER, "10 disallowed code point", "U+0046 at place 1: RFC 5892 2.2 Unstable"),
@@ -79,7 +82,10 @@ ROWS = [
     ("mañana", GERMAN, "40 not made of table entries", "U+00F1 at place 3"),
     ("стол", GERMAN, "40 not made of table entries", "U+0441 at place 1"),
     ("oa", SOURCES, "40 not made of table entries", "U+0061 at place 2"),
-    ("xn--fa-hia", GERMAN, "13 hyphen out of place", "place 3, with place 4"),
+    ("xn--fa-hia", GERMAN, "13 hyphen out of place", "place 3, with place 4: an A-label of 'faß'"),
+    ("xn--strae-oqa", GERMAN, "13 hyphen out of place", "place 3, with place 4: an A-label of 'straße'"),
+    ("xn--a_", GERMAN, "10 disallowed code point", "U+005F at place 6: not RFC 5892 2.1 LetterDigits"),
+    ("xn--9", GERMAN, "13 hyphen out of place", f"place 3, with place 4: {NO_A_LABEL}"),
     (b"ab\xffc", REGISTER, "1 not UTF-8", "byte 0xFF at byte 3"),
     (b"a\xc3", REGISTER, "1 not UTF-8", "byte 0xC3 at byte 2"),
     ("a" * 1025, REGISTER, "2 line too long", "more than 1024 bytes"),
@@ -111,6 +117,15 @@ MORE_ROWS = [
     ("a_b.de", LOOKUP + ["--usestd3asciirules"], "20 not a valid name", None),
     ("a_b..de", LOOKUP, "21 name or label length", "label 2: 0 octets"),
     ("Haus", GERMAN, "10 disallowed code point", "U+0048 at place 1: RFC 5892 2.2 Unstable"),
+    # Nothing after `xn--`; a code point past ASCII; what it stands for isn't registrable, or has another A-label; one with a tab.
+    ("xn--", GERMAN, "13 hyphen out of place", f"place 3, with place 4: {NO_A_LABEL}"),
+    ("xn--faß", GERMAN, "13 hyphen out of place", f"place 3, with place 4: {NO_A_LABEL}"),
+    ("xn--ls8h", GERMAN, "13 hyphen out of place", f"place 3, with place 4: {NO_A_LABEL}"),
+    ("xn--a-", GERMAN, "13 hyphen out of place", f"place 3, with place 4: {NO_A_LABEL}"),
+    ("xn--FA-hia", GERMAN, "10 disallowed code point", "U+0046 at place 5: RFC 5892 2.2 Unstable"),
+    ("ab--c", GERMAN, "13 hyphen out of place", "place 3, with place 4"),
+    ("xn--4db\tx", GERMAN + ["--jump"], "13 hyphen out of place", "place 3, with place 4: an A-label of '\u05D0'"),
+    ("xn--" + "a" * 1000, GERMAN, "13 hyphen out of place", f"place 3, with place 4: {NO_A_LABEL}"),
     ("ob", SOURCES, "40 not made of table entries", "U+0062 at place 2"),
     ("ooab", SOURCES, None, None),
     ("ooba", SOURCES, "40 not made of table entries", "U+0062 at place 3"),
@@ -158,7 +173,8 @@ REGISTERED_ROWS = [
     ("haus\nb-\n", 2, "13 hyphen out of place", "place 2, the last"),
     ("Haus\n", 1, "10 disallowed code point", "U+0048 at place 1: RFC 5892 2.2 Unstable"),
     ("haus\nx\u00B7y\n", 2, "16 code point out of context", "U+00B7 at place 2: RFC 5892 A.3"),
-    ("xn--fa-hia\n", 1, "13 hyphen out of place", "place 3, with place 4"),
+    ("xn--fa-hia\n", 1, "13 hyphen out of place", "place 3, with place 4: an A-label of 'faß'"),
+    ("haus\nxn--ls8h\n", 2, "13 hyphen out of place", f"place 3, with place 4: {NO_A_LABEL}"),
     ("a" * 64, 1, "18 label too long", "64 code points"),
     (b"haus\nab\xffc\r\n", 2, "1 not UTF-8", "byte 0xFF at byte 3"),
     ("a" * 1025 + "\nb\n", 1, "2 line too long", "more than 1024 bytes"),
@@ -447,17 +463,19 @@ def tells_where_a_table_has_its_fault(folder):
         expect(words, b"", b"", f"idn2: table line 1: 30 table syntax: {MARK}\n".encode(), 2)
 
 
-def tells_a_cause_in_one_line_of_160_bytes(folder):
-    """A message is ASCII, one line, at most 160 bytes."""
+def tells_a_cause_in_one_line(folder):
+    """A message is one line of at most 160 bytes, all ASCII; of at most 400 where it tells what an A-label stands for."""
     last = "\U0010FFFF"
     lines = [
         "xn--" + "a" * 1000 + last, "." .join(["a"] * 400) + ".xn--" + "é" * 3, ".".join(["a"] * 500) + ".xn--ls8h",
         ".".join(["a"] * 470) + ".xn--" + "b" * 59 + "-", last * 200, "a" * 1000,
+        ("中" * 56).encode("idna").decode(),
     ]
     for words in (REGISTER, DECODE, LOOKUP, GERMAN):
         done = run(words + ["--explain"], "\n".join(lines + [row[0] for row in ROWS if isinstance(row[0], str)]).encode() + b"\n")
         for message in done.stderr.splitlines(keepends=True):
-            assert len(message) <= 160 and message.isascii() and message.endswith(b"\n"), message
+            most = 400 if b" an A-label of '" in message else 160
+            assert len(message) <= most and (most == 400 or message.isascii()) and message.endswith(b"\n"), message
 
 
 def tells_which_words_cannot_be_used(folder):
@@ -544,7 +562,7 @@ TESTS = [
     answers_the_same_with_the_option,
     tells_the_cause_of_a_wrong_registered_line,
     tells_where_a_table_has_its_fault,
-    tells_a_cause_in_one_line_of_160_bytes,
+    tells_a_cause_in_one_line,
     tells_which_words_cannot_be_used,
     tells_which_file_cannot_be_read,
     tells_why_the_output_cannot_be_written,

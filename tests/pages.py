@@ -211,7 +211,7 @@ def has_the_names_of_the_definition(folder):
 
 # What stands for each word in italics in a form of a cause, and what has no form of its own.
 PLACEHOLDERS = {"n": r"\d+", "k": r"\d+", "XXXX": "[0-9A-F]{4,6}", "FF": "[0-9A-F]{2}", "class": "[A-Z]+", "label": "[a-z0-9-]+",
-                "text": r"\S+", "rule": r"[A-Za-z]\w*"}
+                "ulabel": r"\S+", "text": r"\S+", "rule": r"[A-Za-z]\w*"}
 # Normalization Form C never ends where a label goes on.
 NEVER_TOLD = ("12", "NFC ends")
 
@@ -258,7 +258,8 @@ def lists_each_form_of_a_cause(folder):
             told |= found
     listed = {(number, shown) for number, shown, _ in forms}
     assert listed - {NEVER_TOLD} == told and len({number for number, _ in listed}) == 23, listed ^ told
-    named = re.findall(r'codes ": ((?:not )?RFC 5892 2\.[^"]*|outside the profile)"', text_of("crates/idn2_refusals/specs/CauseTexts.antt"))
+    rules = re.findall(r'^barring_rule .*', text_of("crates/idn2_refusals/specs/RuleTexts.antt"), re.MULTILINE)
+    named = ["".join(re.findall(r'codes "([^"]*)"', rule)).removeprefix(": ") for rule in rules if "scalar" not in rule]
     page = text_of("docs", "idn2.1")
     assert len(named) == 8 and all(f"B {each}\n" in page or f'BR "{each}" ' in page for each in named), named
 

@@ -35,6 +35,8 @@ pub record Details : Type 0 where
   pub alabel : Option (List ℕ)
   -- the place of a byte, from 1
   pub byte : Option ℕ
+  -- the U-label of an A-label that stands where a U-label is wanted
+  pub ulabel : Option (List ℕ)
 
 -- nothing further
 abbrev pub no_details : Details
@@ -54,6 +56,7 @@ no_details =
       octets = None;
       alabel = None;
       byte = None;
+      ulabel = None;
     }
 
 -- a code point by its number
@@ -81,6 +84,7 @@ abbrev pub length_fields : Details → List Field
 length_fields details =
     if_given (codes "code_points") count details.code_points ++ if_given (codes "octets") count details.octets
     ++ if_given (codes "alabel") text details.alabel ++ if_given (codes "byte") count details.byte
+    ++ if_given (codes "ulabel") text details.ulabel
 
 abbrev pub details_fields : Details → List Field
 details_fields details = where_fields details ++ rule_fields details ++ demand_fields details ++ length_fields details
@@ -101,6 +105,7 @@ pub record HasShortTexts (details : Details) : Type 0 where
   pub bidi_class : given_len details.bidi_class ≤ 64
   pub kind : given_len details.kind ≤ 8
   pub alabel : given_len details.alabel ≤ 252
+  pub ulabel : given_len details.ulabel ≤ 252
 
 -- ---- the same of the values of Rust
 
@@ -121,4 +126,5 @@ details_of members =
       octets = members.octets;
       alabel = option_copied members.alabel;
       byte = members.byte;
+      ulabel = option_copied members.ulabel;
     }

@@ -46,17 +46,18 @@ pub(crate) fn put_demand(out: &mut ObjectRoom, at: usize, members: &RefusalMembe
     put_text_if(out, kind, ",\"kind\":", members.kind)
 }
 
-/// Writes how long what is refused is, and which other A-label or byte it has.
+/// Writes how long what is refused is, and which other A-label, byte or U-label it has.
 pub(crate) fn put_lengths(out: &mut ObjectRoom, at: usize, members: &RefusalMembers) -> usize
     requires texts { HasShortTexts (details_of members.now) }
-    requires room { at + 1800 ≤ MAX_OBJECT_LEN }
+    requires room { at + 3400 ≤ MAX_OBJECT_LEN }
     ensures fields { take result out.new ≡ take at out.old ++ fields_text (length_fields (details_of members.now)) [] }
-    ensures end { result ≤ at + 1800 }
+    ensures end { result ≤ at + 3400 }
 {
     let octets = put_number_if(out, at, ",\"code_points\":", members.code_points);
     let alabel = put_number_if(out, octets, ",\"octets\":", members.octets);
     let byte = put_text_if(out, alabel, ",\"alabel\":", members.alabel);
-    put_number_if(out, byte, ",\"byte\":", members.byte)
+    let ulabel = put_number_if(out, byte, ",\"byte\":", members.byte);
+    put_text_if(out, ulabel, ",\"ulabel\":", members.ulabel)
 }
 
 /// Writes that the cause is of what an A-label stands for, where it is.

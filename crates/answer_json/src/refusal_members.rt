@@ -31,6 +31,8 @@ pub struct RefusalMembers<'a> {
     pub alabel: Option<&'a [u8]>,
     /// The place of a byte.
     pub byte: Option<u128>,
+    /// The U-label of an A-label that stands where a U-label is wanted.
+    pub ulabel: Option<&'a [u8]>,
 }
 
 impl RefusalMembers<'_> {
@@ -50,5 +52,6 @@ impl RefusalMembers<'_> {
         octets: None,
         alabel: None,
         byte: None,
+        ulabel: None,
     };
 }

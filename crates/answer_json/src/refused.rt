@@ -64,9 +64,9 @@ pub fn write_registered_fault<'a>(
 /// Writes the object of a refusal as a member.
 fn put_refusal(out: &mut ObjectRoom, at: usize, refusal: Refusal, members: &RefusalMembers) -> usize
     requires texts { HasShortTexts (details_of members.now) }
-    requires room { at + 4096 ≤ MAX_OBJECT_LEN }
+    requires room { at + 6144 ≤ MAX_OBJECT_LEN }
     ensures object { take result out.new ≡ take at out.old ++ refusal_text (Some (refusal_fields refusal (details_of members.now))) [] }
-    ensures end { result ≤ at + 4096 }
+    ensures end { result ≤ at + 6144 }
 {
     let object = put_opening(out, at, ",\"refusal\":");
     let text = put_number(out, object, "{\"number\":", refusal.number() as u64);

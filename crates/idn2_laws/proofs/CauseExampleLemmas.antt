@@ -3,10 +3,11 @@ use Rattle.std.proofs.Common.{refl}
 use Rattle.std.specs.Fmt.{digits}
 use Rattle.ruleset_text.specs.Canonical.{point_text}
 use Rattle.idn2_laws.specs.CauseExamples.{ExamplesOfCauses}
-use Rattle.idn2_refusals.specs.CauseTexts.{cause_text, a_label_text, byte_text}
+use Rattle.idn2_refusals.specs.CauseParts.{a_label_parts, byte_text, label_parts}
+use Rattle.idn2_refusals.specs.CauseWords.{cause_words, label_words, length_words, place_words, rule_words}
 
 pub examples_of_causes : ExamplesOfCauses
-unfolding digits point_text cause_text a_label_text byte_text
+unfolding digits point_text label_parts a_label_parts byte_text cause_words label_words place_words rule_words length_words
 examples_of_causes = record {
   barred = refl;
   profile = refl;
@@ -36,5 +37,7 @@ examples_of_causes = record {
   broken = refl;
   byte = refl;
   long_line = refl;
+  a_label = refl;
+  no_a_label = refl;
   byte_order_mark = refl;
 }

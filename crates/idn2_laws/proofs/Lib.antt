@@ -4,6 +4,8 @@ pub mod ExampleLemmas
 pub mod LineCauseLaws
 -- The examples of causes, computed.
 pub mod CauseExampleLemmas
+-- A cause is told alike by an object and by a message.
+pub mod ToldAlikeLemmas
 -- What a run says is the same in both forms.
 pub mod FormLemmas
 -- Laws of the labels that are listed.

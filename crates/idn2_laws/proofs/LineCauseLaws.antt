@@ -27,7 +27,9 @@ use Rattle.idn_cause.specs.declared.cause.Cause.TheVariants.{Point}
 use Rattle.idn_cause.specs.Causes.{cause_of, IsCause}
 use Rattle.idn_cause.specs.ALabelCauses.{a_label_cause, IsALabelCause}
 use Rattle.idn_cause.specs.NameCauses.{name_cause, query_cause, IsNameCause, IsQueryCause}
+use Rattle.idn_cause.specs.CodedLabels.{IsALabelOf, coded_label}
 use Rattle.idn_cause.proofs.CauseLaws.{cause-is, fault-has_cause}
+use Rattle.idn_cause.proofs.CodedSteps.{coded_label-is}
 use Rattle.idn_cause.proofs.ALabelLaws.{a_label_cause-is, a_label_fault-has_cause}
 use Rattle.idn_cause.proofs.NameLaws.{name_cause-is, name_fault-has_cause}
 use Rattle.idn_cause.proofs.QueryLaws.{query_cause-is, query_fault-has_cause}
@@ -44,12 +46,12 @@ use Rattle.idn2_options.specs.declared.command_line.mode.Mode.{Mode}
 use Rattle.idn2_options.specs.declared.command_line.mode.Mode.TheVariants as modes
 use Rattle.idn2_answers.specs.Answers.{IsRefusedAs, LineAnswer, if_admitted, line_answer, mode_answer, one_answer, text_answer}
 use Rattle.idn2_refusals.specs.Requests.{requested_label}
-use Rattle.idn2_refusals.specs.Explained.{Explained, Unexplained, ByLabel, ByName, ByQuery, ByTable, ByRequest, ByRegisteredLine, bad_byte, body_cause, if_wanted, invalid_cause, not_in_table_cause, points_cause, registration_cause, table_cause, unless_unexplained, validity_cause}
+use Rattle.idn2_refusals.specs.Explained.{Explained, Unexplained, ByLabel, ByName, ByQuery, ByTable, ByRequest, ByRegisteredLine, bad_byte, body_cause, coded_cause, if_wanted, invalid_cause, not_in_table_cause, points_cause, registration_cause, table_cause, u_label_cause, unless_unexplained, validity_cause}
 use Rattle.idn2_answers.specs.Transcript.{explained_by_mode, explained_in, Refuses, output_for, output_line_in}
-use Rattle.idn2_laws.specs.LineCauses.{IsBadByte, IsInvalidCause, IsLineCause, IsOf, IsNotInTableCause, IsPointsCause, IsRegistrationCause, IsTableCause, RefusalsAreExplained}
+use Rattle.idn2_laws.specs.LineCauses.{IsBadByte, IsCodedCause, IsInvalidCause, IsLineCause, IsOf, IsNotInTableCause, IsPointsCause, IsRegistrationCause, IsTableCause, IsULabelCause, RefusalsAreExplained}
 use Rattle.idn2_answers.specs.Said.{Said}
 use Rattle.idn2_refusals.specs.declared.cause.LineCause.{LineCause}
-use Rattle.idn2_refusals.specs.declared.cause.LineCause.TheVariants.{LongLine, OfLabel, OfALabel, OfName, OfQuery}
+use Rattle.idn2_refusals.specs.declared.cause.LineCause.TheVariants.{LongLine, OfLabel, OfALabel, OfName, OfQuery, ALabelOf, NoALabel}
 use Rattle.idn2_refusals.proofs.CauseLemmas.{bad_byte-at, invalid_cause-told, outside-told, not_in_table_cause-told}
 use Rattle.idn2_answers.proofs.AdmittedLabels.{admitted-made, admitted_answer, admitted_or_refused, refused_answer}
 
@@ -79,6 +81,48 @@ module _ (properties : Properties) where
       by_prefix false e =
           let is = of-part OfLabel (cause_of properties label refusal) (IsCause properties label refusal) cause (cause-is properties label refusal) in
           (λ h. inr (e, is.0 h), λ has. elim has [ inl coded ↦ absurd (let clash : true ≡ false = sym coded.0 ∙ e in cc) | inr plain ↦ is.1 plain.1 ])
+
+module _ (properties : Properties) where
+  coded-is : (given : List ℕ) (cause : LineCause) → (Some (coded_cause (coded_label properties given)) ≡ Some cause) ↔ IsCodedCause properties given cause
+  coded-is given cause = by_told (coded_label properties given) refl
+    where
+      by_told : (told : Option (List ℕ)) → coded_label properties given ≡ told → (Some (coded_cause told) ≡ Some cause) ↔ IsCodedCause properties given cause
+      by_told (Some utf8) is =
+          let found = (coded_label-is properties given utf8).0 is in (
+            λ h.
+                let same : ALabelOf (record { items = utf8 }) ≡ cause = cc in
+                inl (found.0, found.1, sym same ∙ ap (λ (u : List ℕ). ALabelOf (record { items = u })) found.2),
+            λ has. elim has [
+              | inl of ↦
+                  let again : Some utf8 ≡ Some (utf8_of of.0) = sym is ∙ (coded_label-is properties given (utf8_of of.0)).1 (of.0, of.1, refl) in
+                  let same : utf8 ≡ utf8_of of.0 = cc in
+                  ap Some (ap (λ (u : List ℕ). ALabelOf (record { items = u })) same ∙ sym of.2)
+              | inr none ↦ absurd (none.0 found.0 found.1)
+            ],
+          )
+      by_told None is = (
+        λ h.
+            let same : NoALabel ≡ cause = cc in
+            inr (λ label of. (let clash : None ≡ Some (utf8_of label) = sym is ∙ (coded_label-is properties given (utf8_of label)).1 (label, of, refl) in cc), sym same),
+        λ has. elim has [
+          | inl of ↦ let clash : None ≡ Some (utf8_of of.0) = sym is ∙ (coded_label-is properties given (utf8_of of.0)).1 (of.0, of.1, refl) in cc
+          | inr none ↦ ap Some (sym none.1)
+        ],
+      )
+
+  pub u_label-is : (label : List ℕ) (refusal : Refusal) (cause : LineCause) → (u_label_cause properties label refusal ≡ Some cause) ↔ IsULabelCause properties label refusal cause
+  unfolding u_label_cause
+  u_label-is label refusals.Hyphen cause = by_prefix (has_ace_prefix label) refl
+    where
+      by_prefix : (coded : Bool) → has_ace_prefix label ≡ coded
+          → (cond coded (Some (coded_cause (coded_label properties label))) (option_map OfLabel (cause_of properties label refusals.Hyphen)) ≡ Some cause) ↔ IsULabelCause properties label refusals.Hyphen cause
+      by_prefix true e =
+          let is = coded-is label cause in
+          (λ h. inl (e, is.0 h), λ has. elim has [ inl coded ↦ is.1 coded.1 | inr plain ↦ absurd (let clash : true ≡ false = sym e ∙ plain.0 in cc) ])
+      by_prefix false e =
+          let is = of-part OfLabel (cause_of properties label refusals.Hyphen) (IsCause properties label refusals.Hyphen) cause (cause-is properties label refusals.Hyphen) in
+          (λ h. inr (e, is.0 h), λ has. elim has [ inl coded ↦ absurd (let clash : true ≡ false = sym coded.0 ∙ e in cc) | inr plain ↦ is.1 plain.1 ])
+  u_label-is label refusal cause = of-part OfLabel (cause_of properties label refusal) (IsCause properties label refusal) cause (cause-is properties label refusal)
 
 -- a label that is refused with 40 is short enough to be registered, and isn't made of sources
 abbrev IsOutside : TableValue → List ℕ → Type 0
@@ -116,7 +160,7 @@ module _ (properties : Properties) where
   table-is table label NotInTable cause under =
       of-part OfLabel (not_in_table_cause table label) (IsNotInTableCause table label) cause (λ c. outside-is table label c under.sound.entries (under.outside refl))
   table-is table label refusals.NotValid cause under = invalid-is table label cause under.sound (under.invalid refl)
-  table-is table label refusal cause under = of-part OfLabel (cause_of properties label refusal) (IsCause properties label refusal) cause (cause-is properties label refusal)
+  table-is table label refusal cause under = u_label-is properties label refusal cause
 
 -- what is known of code points that are refused under a table
 abbrev IsRefusedBy : Explained → List ℕ → Refusal → Type 0
@@ -133,7 +177,7 @@ points-is (ByQuery std3) points refusal cause by =
     of-part OfQuery (query_cause (utf8_of points) std3 refusal) (IsQueryCause (utf8_of points) std3 refusal) cause (query_cause-is (utf8_of points) std3 refusal)
 points-is (ByTable properties table) points refusal cause by = table-is properties table points refusal cause by
 points-is (ByRequest properties table) points refusal cause by = table-is properties table (requested_label points) refusal cause by
-points-is (ByRegisteredLine properties) points refusal cause by = of-part OfLabel (cause_of properties points refusal) (IsCause properties points refusal) cause (cause-is properties points refusal)
+points-is (ByRegisteredLine properties) points refusal cause by = u_label-is properties points refusal cause
 
 -- ---- and each refusal of code points but for two has one
 
@@ -154,6 +198,16 @@ then-refused (Ok value) f refusal h = let clash : Ok (f value) ≡ Err refusal =
 then-refused (Err other) f refusal h = let same : other ≡ refusal = cc in ap Err same
 
 module _ (properties : Properties) where
+  -- a label where a U-label is wanted has a cause if it has one as a label
+  u_label-told : (label : List ℕ) (refusal : Refusal) → cause_of properties label refusal ≢ None → u_label_cause properties label refusal ≢ None
+  unfolding u_label_cause
+  u_label-told label refusals.Hyphen some none = by_prefix (has_ace_prefix label) none
+    where
+      by_prefix : (coded : Bool) → cond coded (Some (coded_cause (coded_label properties label))) (option_map OfLabel (cause_of properties label refusals.Hyphen)) ≡ None → ⊥
+      by_prefix true n = let clash : Some (coded_cause (coded_label properties label)) ≡ None = n in cc
+      by_prefix false n = some (untold OfLabel (cause_of properties label refusals.Hyphen) n)
+  u_label-told label refusal some none = some (untold OfLabel (cause_of properties label refusal) none)
+
   -- registration
   registered-told : (label : List ℕ) (refusal : Refusal) → register_answer properties label ≡ Err refusal → refusal ≢ refusals.Empty → registration_cause properties label refusal ≢ None
   unfolding register_answer tested_answer
@@ -240,7 +294,7 @@ module _ (properties : Properties) where
   refused-under table label refusal sound tested =
       record { sound = sound; outside = table-outside table label refusal sound tested; invalid = table-invalid table label refusal sound tested }
 
-  table_cause-other : (table : TableValue) (label : List ℕ) (refusal : Refusal) → refusal ≢ NotInTable → refusal ≢ refusals.NotValid → table_cause properties table label refusal ≡ option_map OfLabel (cause_of properties label refusal)
+  table_cause-other : (table : TableValue) (label : List ℕ) (refusal : Refusal) → refusal ≢ NotInTable → refusal ≢ refusals.NotValid → table_cause properties table label refusal ≡ u_label_cause properties label refusal
   table_cause-other table label NotInTable other valid = absurd (other refl)
   table_cause-other table label refusals.NotValid other valid = absurd (valid refl)
   table_cause-other table label refusal other valid = refl
@@ -257,7 +311,7 @@ module _ (properties : Properties) where
     | inl fault ↦
         let other : refusal ≢ NotInTable = λ same. fault-not_outside properties label (fault ∙ ap Some same) in
         let valid : refusal ≢ refusals.NotValid = λ same. fault-not_invalid properties label (fault ∙ ap Some same) in
-        fault-has_cause properties label refusal fault some (untold OfLabel (cause_of properties label refusal) (sym (table_cause-other properties table label refusal other valid) ∙ none))
+        u_label-told properties label refusal (fault-has_cause properties label refusal fault some) (sym (table_cause-other properties table label refusal other valid) ∙ none)
     | inr others ↦ elim others [
       | inl outside ↦
           let told = outside-told properties table label (furthest table label) sound.entries outside.1.0 ((furthest-told.exactly table label (furthest table label) sound.entries).1 refl) in

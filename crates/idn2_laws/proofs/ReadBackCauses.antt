@@ -26,6 +26,7 @@ use Rattle.idn_label.specs.Answers.{Answer as LabelAnswer}
 use Rattle.idn_label.specs.Decode.{decoded_label, decoded_labels, with_others}
 use Rattle.idn_label.specs.Register.{u_label_answer}
 use Rattle.idn_label.specs.Steps.{begins_with_prefix}
+use Rattle.idn_label.proofs.ALabels.{registrable_scalars}
 use Rattle.idn_label.proofs.AnswerLemmas.{decoded_code-from, u_label_answer-from}
 use Rattle.idn_cause.specs.declared.cause.Cause.{Cause}
 use Rattle.idn_cause.specs.declared.cause.Cause.TheVariants.{Condition}
@@ -48,16 +49,16 @@ use Rattle.idn2_options.specs.declared.command_line.mode.Mode.{Mode}
 use Rattle.idn2_options.specs.declared.command_line.mode.Mode.TheVariants as modes
 use Rattle.answer_json.specs.Inputs.{told_of}
 use Rattle.answer_json.specs.Objects.{refused as object}
-use Rattle.idn2_refusals.specs.CauseDetails.{told_details}
+use Rattle.idn2_refusals.specs.CauseParts.{told_details}
 use Rattle.idn2_refusals.specs.Requests.{requested_label}
 use Rattle.idn2_refusals.specs.Explained.{Explained, Unexplained, ByLabel, ByName, ByQuery, ByTable, ByRequest, ByRegisteredLine, body_cause, if_wanted, validity_cause}
 use Rattle.idn2_answers.specs.Transcript.{explained_by_mode, explained_in}
-use Rattle.idn2_laws.specs.LineCauses.{IsLineCause, IsPointsCause, IsTableCause}
+use Rattle.idn2_laws.specs.LineCauses.{IsCodedCause, IsLineCause, IsPointsCause, IsTableCause, IsULabelCause}
 use Rattle.idn2_laws.specs.ReadBack.{IsReadBack, ALabelHasFewOctets, HasFewOctets, IsShortBody, NameHasFewOctets, RefusalsAreReadBack, TellsFewOctets, TellsFewOctetsIfAny}
 use Rattle.idn2_refusals.specs.declared.cause.LineCause.{LineCause}
 use Rattle.idn2_laws.proofs.LineCauseLaws.{refusals_explained}
 use Rattle.idn2_laws.proofs.ReadBackDetails.{IsFitting, IsFittingALabel, IsFittingCause, IsFittingLength, refused_good}
-use Rattle.idn2_laws.proofs.ReadBackLemmas.{a_label-utf8, ascii_utf8}
+use Rattle.idn2_laws.proofs.ReadBackLemmas.{a_label-utf8, ascii_utf8, scalars_utf8}
 use Rattle.idn2_refusals.proofs.Utf8Bytes.{utf8-of_chars}
 
 -- ---- of a label
@@ -234,6 +235,20 @@ module _ (properties : Properties) where
   name_fits name refusals.Bidi cause (inr is) short few = whole_fits name cause is short
   name_fits name refusal cause is short few = label_fits name refusal cause is short few
 
+-- ---- where a U-label is wanted
+
+module _ (properties : Properties) where
+  pub coded_fits : (given : List ℕ) (cause : LineCause) → IsCodedCause properties given cause → IsFitting cause
+  coded_fits given cause (inl is) = subst IsFitting (sym is.2) (scalars_utf8 is.0 (registrable_scalars properties is.0 is.1.registrable))
+  coded_fits given cause (inr is) = subst IsFitting (sym is.1) tt
+
+  pub u_label_fits : (label : List ℕ) (refusal : Refusal) (cause : LineCause) → IsULabelCause properties label refusal cause → length label < 2 ^ 60 → TellsFewOctets cause → IsFitting cause
+  u_label_fits label refusals.Hyphen cause (inl is) short few = coded_fits label cause is.1
+  u_label_fits label refusals.Hyphen cause (inr is) short few =
+      subst IsFitting (sym is.1.2) (cause_fits properties label refusals.Hyphen is.1.0 is.1.1 (omega (arith, short)) (subst TellsFewOctets is.1.2 few))
+  u_label_fits label refusal cause is short few =
+      subst IsFitting (sym is.2) (cause_fits properties label refusal is.0 is.1 (omega (arith, short)) (subst TellsFewOctets is.2 few))
+
 -- ---- under a table
 
 letter_ascii : (c : ℕ) → is_letter c ≡ true → is_ascii c ≡ true
@@ -280,8 +295,7 @@ module _ (properties : Properties) where
   table_fits table label refusals.NotInTable cause sound is short few =
       subst IsFitting (sym is.2) (subst IsFittingCause (sym is.1.3) (omega (arith, is.1.2, short)))
   table_fits table label refusals.NotValid cause sound is short few = subst IsFitting (sym is.2) (validity_fits table label is.0 sound is.1 short)
-  table_fits table label refusal cause sound is short few =
-      subst IsFitting (sym is.2) (cause_fits properties label refusal is.0 is.1 (omega (arith, short)) (subst TellsFewOctets is.2 few))
+  table_fits table label refusal cause sound is short few = u_label_fits properties label refusal cause is short few
 
 -- ---- of a line
 
@@ -322,8 +336,7 @@ points_fit (ByName properties) points refusal cause is sound short few = subst I
 points_fit (ByQuery std3) points refusal cause is sound short few = subst IsFitting (sym is.2) (query_fits is.0 (subst TellsFewOctets is.2 few))
 points_fit (ByTable properties table) points refusal cause is sound short few = table_fits properties table points refusal cause sound is short few
 points_fit (ByRequest properties table) points refusal cause is sound short few = table_fits properties table (requested_label points) refusal cause sound is (omega (arith, before_first-length points, short)) few
-points_fit (ByRegisteredLine properties) points refusal cause is sound short few =
-    subst IsFitting (sym is.2) (cause_fits properties points refusal is.0 is.1 (omega (arith, short)) (subst TellsFewOctets is.2 few))
+points_fit (ByRegisteredLine properties) points refusal cause is sound short few = u_label_fits properties points refusal cause is short few
 
 pub points-length : (points : List ℕ) → length points ≤ length (utf8_of points)
 points-length [] = omega arith

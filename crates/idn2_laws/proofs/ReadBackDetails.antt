@@ -34,11 +34,11 @@ use Rattle.answer_json.specs.Hexadecimal.{leading_digit, point_text}
 use Rattle.answer_json.specs.Inputs.{told_of}
 use Rattle.answer_json.specs.Objects.{refused, registered_fault, table_fault}
 use Rattle.answer_json.specs.Unicode.{AreUnicode}
-use Rattle.idn2_refusals.specs.CauseDetails.{a_label_details, at_byte, barring_rule, cause_details, condition_rule, context_rule, fault_place_details, length_details, line_details, point_at_byte, told_details}
-use Rattle.idn2_refusals.specs.CauseTexts.{appendix_text, bidi_text, condition_text, demand_text}
+use Rattle.idn2_refusals.specs.CauseParts.{a_label_parts, at_byte, changed_parts, fault_place_parts, label_parts, length_parts, parts_of, placed, point_at_byte, point_parts, told_details}
+use Rattle.idn2_refusals.specs.RuleTexts.{appendix_rule, asked_text, barring_rule, bidi_rule, bidi_text, demand_text}
 use Rattle.idn2_laws.specs.ReadBack.{IsReadBack, byte_of}
 use Rattle.idn2_refusals.specs.declared.cause.LineCause.{LineCause}
-use Rattle.idn2_refusals.specs.declared.cause.LineCause.TheVariants.{Byte, LongLine, OfLabel, OfALabel, OfName, OfQuery, Misplaced, Broken as BrokenDemand, Ends, OfTable, ByteOrderMark}
+use Rattle.idn2_refusals.specs.declared.cause.LineCause.TheVariants.{Byte, LongLine, OfLabel, OfALabel, OfName, OfQuery, Misplaced, Broken as BrokenDemand, Ends, OfTable, ByteOrderMark, ALabelOf, NoALabel}
 use Rattle.idn2_laws.proofs.ReadBackLemmas.{ascii_utf8, input_small, input_unicode, object_read_back}
 
 -- ---- the code point of a refusal is ASCII
@@ -137,6 +137,7 @@ record AreGoodDetails (d : Details) : Type 0 where
   octets : IsSmallIfGiven d.octets
   alabel : IsUtf8IfGiven d.alabel
   byte : IsSmallIfGiven d.byte
+  ulabel : IsUtf8IfGiven d.ulabel
 
 module _ (d : Details) (h : AreGoodDetails d) where
   good_where : AreGood (where_fields d)
@@ -160,11 +161,13 @@ module _ (d : Details) (h : AreGoodDetails d) where
 
   good_lengths : AreGood (length_fields d)
   good_lengths =
-      joined _ (if_given (codes "byte") count d.byte)
+      joined _ (if_given (codes "ulabel") text d.ulabel)
+      (joined _ (if_given (codes "byte") count d.byte)
       (joined _ (if_given (codes "alabel") text d.alabel)
       (joined (if_given (codes "code_points") count d.code_points) (if_given (codes "octets") count d.octets) (good_count (codes "code_points") d.code_points refl h.code_points) (good_count (codes "octets") d.octets refl h.octets))
       (good_text (codes "alabel") d.alabel refl h.alabel))
-      (good_count (codes "byte") d.byte refl h.byte)
+      (good_count (codes "byte") d.byte refl h.byte))
+      (good_text (codes "ulabel") d.ulabel refl h.ulabel)
 
   good_details : AreGood (details_fields d)
   good_details = joined _ (length_fields d) (joined _ (demand_fields d) (joined (where_fields d) (rule_fields d) good_where good_rule) good_demand) good_lengths
@@ -248,6 +251,8 @@ IsFitting (BrokenDemand number kind) = number < 2 ^ 63
 IsFitting (Ends place) = place < 2 ^ 63
 IsFitting (OfTable place quoted) = byte_of place < 2 ^ 63
 IsFitting ByteOrderMark = Unit {0}
+IsFitting (ALabelOf utf8) = IsUtf8 utf8.items
+IsFitting NoALabel = Unit {0}
 
 abbrev pub IsFittingIfTold : Option LineCause → Type 0
 IsFittingIfTold None = Unit {0}
@@ -257,9 +262,9 @@ next_small : (n : ℕ) → n < 2 ^ 63 → n + 1 < 2 ^ 64
 next_small n small = omega (arith, small)
 
 good_none : AreGoodDetails no_details
-good_none = record { label = tt; place = tt; condition = tt; rule = tt; bidi_class = tt; demand = tt; kind = tt; code_points = tt; octets = tt; alabel = tt; byte = tt }
+good_none = record { label = tt; place = tt; condition = tt; rule = tt; bidi_class = tt; demand = tt; kind = tt; code_points = tt; octets = tt; alabel = tt; byte = tt; ulabel = tt }
 
-barring_ascii : (line : BarringLine) → IsUtf8 (barring_rule line)
+barring_ascii : (line : BarringLine) → IsUtf8 (barring_rule line).rule
 barring_ascii lines.NoScalarValue = ascii_utf8 (codes "no scalar value") refl
 barring_ascii lines.OutsideProfile = ascii_utf8 (codes "profile") refl
 barring_ascii lines.Exceptions = ascii_utf8 (codes "RFC 5892 2.6") refl
@@ -270,7 +275,7 @@ barring_ascii lines.IgnorableBlocks = ascii_utf8 (codes "RFC 5892 2.4") refl
 barring_ascii lines.OldHangulJamo = ascii_utf8 (codes "RFC 5892 2.9") refl
 barring_ascii lines.NoLetterDigit = ascii_utf8 (codes "RFC 5892 2.1") refl
 
-condition_ascii : (condition : BidiCondition) → IsUtf8 (condition_rule condition)
+condition_ascii : (condition : BidiCondition) → IsUtf8 (bidi_rule condition)
 condition_ascii conditions.First = ascii_utf8 (codes "RFC 5893 2 condition 1") refl
 condition_ascii conditions.RtlHolds = ascii_utf8 (codes "RFC 5893 2 condition 2") refl
 condition_ascii conditions.RtlEnds = ascii_utf8 (codes "RFC 5893 2 condition 3") refl
@@ -296,101 +301,82 @@ choice_ascii : (b : Bool) (first other : List ℕ) → is_all_ascii first ≡ tr
 choice_ascii true first other h k = h
 choice_ascii false first other h k = k
 
-appendix_ascii : (c : ℕ) → is_all_ascii (appendix_text c) ≡ true
+appendix_ascii : (c : ℕ) → is_all_ascii (appendix_rule c) ≡ true
 appendix_ascii c =
-    choice_ascii (c == 0x200C) (codes "1") _ refl
-    (choice_ascii (c == 0x200D) (codes "2") _ refl
-    (choice_ascii (c == 0xB7) (codes "3") _ refl
-    (choice_ascii (c == 0x375) (codes "4") _ refl
-    (choice_ascii (c == 0x5F3) (codes "5") _ refl
-    (choice_ascii (c == 0x5F4) (codes "6") _ refl
-    (choice_ascii (c == 0x30FB) (codes "7") _ refl
-    (choice_ascii (c / 16 == 0x66) (codes "8") (codes "9") refl refl)))))))
+    choice_ascii (c == 0x200C) (codes "RFC 5892 A.1") _ refl
+    (choice_ascii (c == 0x200D) (codes "RFC 5892 A.2") _ refl
+    (choice_ascii (c == 0xB7) (codes "RFC 5892 A.3") _ refl
+    (choice_ascii (c == 0x375) (codes "RFC 5892 A.4") _ refl
+    (choice_ascii (c == 0x5F3) (codes "RFC 5892 A.5") _ refl
+    (choice_ascii (c == 0x5F4) (codes "RFC 5892 A.6") _ refl
+    (choice_ascii (c == 0x30FB) (codes "RFC 5892 A.7") _ refl
+    (choice_ascii (c / 16 == 0x66) (codes "RFC 5892 A.8") (codes "RFC 5892 A.9") refl refl)))))))
 
-appendix_utf8 : (c : ℕ) → IsUtf8 (codes "RFC 5892 A." ++ appendix_text c)
-appendix_utf8 c = ascii_utf8 (codes "RFC 5892 A." ++ appendix_text c) (appendix_ascii c)
+good_placed : (place c : ℕ) → place < 2 ^ 63 → AreGoodDetails (placed place c)
+good_placed place c h = record { label = tt; place = next_small place h; condition = tt; rule = tt; bidi_class = tt; demand = tt; kind = tt; code_points = tt; octets = tt; alabel = tt; byte = tt; ulabel = tt }
 
-context_ascii : (refusal : Refusal) (c : ℕ) → IsUtf8IfGiven (context_rule refusal c)
-context_ascii refusals.NotUtf8 c = tt
-context_ascii refusals.LineTooLong c = tt
-context_ascii refusals.Empty c = tt
-context_ascii refusals.OutOfOrder c = tt
-context_ascii refusals.FileTooLong c = tt
-context_ascii refusals.Disallowed c = tt
-context_ascii refusals.Unassigned c = tt
-context_ascii refusals.NotNfc c = tt
-context_ascii refusals.Hyphen c = tt
-context_ascii refusals.LeadingMark c = tt
-context_ascii refusals.ContextJ c = appendix_utf8 c
-context_ascii refusals.ContextO c = appendix_utf8 c
-context_ascii refusals.Bidi c = tt
-context_ascii refusals.LabelTooLong c = tt
-context_ascii refusals.BadALabel c = tt
-context_ascii refusals.LookupInvalid c = tt
-context_ascii refusals.LookupLength c = tt
-context_ascii refusals.Syntax c = tt
-context_ascii refusals.SameSource c = tt
-context_ascii refusals.SameVariant c = tt
-context_ascii refusals.BadClass c = tt
-context_ascii refusals.Limit c = tt
-context_ascii refusals.NoSuchName c = tt
-context_ascii refusals.SameName c = tt
-context_ascii refusals.NotInTable c = tt
-context_ascii refusals.NotValid c = tt
-context_ascii refusals.Usage c = tt
-context_ascii refusals.ReadFault c = tt
-context_ascii refusals.WriteFault c = tt
-context_ascii refusals.Memory c = tt
+-- the same with a rule
+good_ruled : (d : Details) (rule : List ℕ) → IsUtf8 rule → AreGoodDetails d → AreGoodDetails (record d { rule = Some rule })
+good_ruled d rule utf8 h = record { label = h.label; place = h.place; condition = h.condition; rule = utf8; bidi_class = h.bidi_class; demand = h.demand; kind = h.kind; code_points = h.code_points; octets = h.octets; alabel = h.alabel; byte = h.byte; ulabel = h.ulabel }
 
-good_cause : (refusal : Refusal) (cause : Cause) → IsFittingCause cause → AreGoodDetails (cause_details refusal cause)
-unfolding cause_details
-good_cause refusal (Barred place c line) h = record { label = tt; place = next_small place h; condition = tt; rule = barring_ascii line; bidi_class = tt; demand = tt; kind = tt; code_points = tt; octets = tt; alabel = tt; byte = tt }
-good_cause refusal (Changed place c form) h = record { label = tt; place = next_small place h; condition = tt; rule = tt; bidi_class = tt; demand = tt; kind = tt; code_points = tt; octets = tt; alabel = tt; byte = tt }
-good_cause refusal (Hyphen place len) h = record { label = tt; place = next_small place h; condition = tt; rule = tt; bidi_class = tt; demand = tt; kind = tt; code_points = tt; octets = tt; alabel = tt; byte = tt }
-good_cause refusal (Point place c) h = record { label = tt; place = next_small place h; condition = tt; rule = context_ascii refusal c; bidi_class = tt; demand = tt; kind = tt; code_points = tt; octets = tt; alabel = tt; byte = tt }
-good_cause refusal (Broken broken c class) h = record { label = tt; place = next_small broken.place h; condition = tt; rule = condition_ascii broken.condition; bidi_class = bidi_ascii class; demand = tt; kind = tt; code_points = tt; octets = tt; alabel = tt; byte = tt }
-good_cause refusal (Points n) h = record { label = tt; place = tt; condition = tt; rule = tt; bidi_class = tt; demand = tt; kind = tt; code_points = h; octets = tt; alabel = tt; byte = tt }
-good_cause refusal (Octets n) h = record { label = tt; place = tt; condition = tt; rule = tt; bidi_class = tt; demand = tt; kind = tt; code_points = tt; octets = h; alabel = tt; byte = tt }
+good_changed : (place c : ℕ) (form : Option ℕ) → place < 2 ^ 63 → AreGoodDetails (changed_parts (placed place c) form).details
+good_changed place c None h = good_placed place c h
+good_changed place c (Some form) h = record { label = tt; place = next_small place h; condition = tt; rule = tt; bidi_class = tt; demand = tt; kind = tt; code_points = tt; octets = tt; alabel = tt; byte = tt; ulabel = tt }
+
+good_context : (refusal : Refusal) (place c : ℕ) → place < 2 ^ 63 → AreGoodDetails (point_parts refusal place c).details
+good_context refusals.ContextJ place c h = good_ruled (placed place c) (appendix_rule c) (ascii_utf8 (appendix_rule c) (appendix_ascii c)) (good_placed place c h)
+good_context refusals.ContextO place c h = good_ruled (placed place c) (appendix_rule c) (ascii_utf8 (appendix_rule c) (appendix_ascii c)) (good_placed place c h)
+good_context refusal place c h = good_placed place c h
+
+good_cause : (refusal : Refusal) (cause : Cause) → IsFittingCause cause → AreGoodDetails (label_parts refusal cause).details
+unfolding label_parts
+good_cause refusal (Barred place c line) h = good_ruled (placed place c) (barring_rule line).rule (barring_ascii line) (good_placed place c h)
+good_cause refusal (Changed place c form) h = good_changed place c form h
+good_cause refusal (Hyphen place len) h = good_placed place 0x2D h
+good_cause refusal (Point place c) h = good_context refusal place c h
+good_cause refusal (Broken broken c class) h = record { label = tt; place = next_small broken.place h; condition = tt; rule = condition_ascii broken.condition; bidi_class = bidi_ascii class; demand = tt; kind = tt; code_points = tt; octets = tt; alabel = tt; byte = tt; ulabel = tt }
+good_cause refusal (Points n) h = record { label = tt; place = tt; condition = tt; rule = tt; bidi_class = tt; demand = tt; kind = tt; code_points = h; octets = tt; alabel = tt; byte = tt; ulabel = tt }
+good_cause refusal (Octets n) h = record { label = tt; place = tt; condition = tt; rule = tt; bidi_class = tt; demand = tt; kind = tt; code_points = tt; octets = h; alabel = tt; byte = tt; ulabel = tt }
 
 -- the same details, of what an A-label stands for
 good_decoded_details : (d : Details) → AreGoodDetails d → AreGoodDetails (record d { decoded = true })
-good_decoded_details d h = record { label = h.label; place = h.place; condition = h.condition; rule = h.rule; bidi_class = h.bidi_class; demand = h.demand; kind = h.kind; code_points = h.code_points; octets = h.octets; alabel = h.alabel; byte = h.byte }
+good_decoded_details d h = record { label = h.label; place = h.place; condition = h.condition; rule = h.rule; bidi_class = h.bidi_class; demand = h.demand; kind = h.kind; code_points = h.code_points; octets = h.octets; alabel = h.alabel; byte = h.byte; ulabel = h.ulabel }
 
 -- and of the label of a number
 good_label_details : (d : Details) (n : ℕ) → n < 2 ^ 63 → AreGoodDetails d → AreGoodDetails (record d { label = Some (n + 1) })
-good_label_details d n small h = record { label = next_small n small; place = h.place; condition = h.condition; rule = h.rule; bidi_class = h.bidi_class; demand = h.demand; kind = h.kind; code_points = h.code_points; octets = h.octets; alabel = h.alabel; byte = h.byte }
+good_label_details d n small h = record { label = next_small n small; place = h.place; condition = h.condition; rule = h.rule; bidi_class = h.bidi_class; demand = h.demand; kind = h.kind; code_points = h.code_points; octets = h.octets; alabel = h.alabel; byte = h.byte; ulabel = h.ulabel }
 
-good_a_label : (refusal : Refusal) (cause : ALabelCause) → IsFittingALabel cause → AreGoodDetails (a_label_details refusal cause)
-unfolding a_label_details
+good_a_label : (refusal : Refusal) (cause : ALabelCause) → IsFittingALabel cause → AreGoodDetails (a_label_parts refusal cause).details
+unfolding a_label_parts
 good_a_label refusal NoCode h = good_none
-good_a_label refusal (NotAscii place c) h = record { label = tt; place = next_small place h; condition = tt; rule = tt; bidi_class = tt; demand = tt; kind = tt; code_points = tt; octets = tt; alabel = tt; byte = tt }
-good_a_label refusal NoPunycode h = record { label = tt; place = tt; condition = tt; rule = ascii_utf8 (codes "RFC 3492 6.2") refl; bidi_class = tt; demand = tt; kind = tt; code_points = tt; octets = tt; alabel = tt; byte = tt }
-good_a_label refusal (Other octets) h = record { label = tt; place = tt; condition = tt; rule = tt; bidi_class = tt; demand = tt; kind = tt; code_points = tt; octets = tt; alabel = h; byte = tt }
-good_a_label refusal (Decoded cause) h = good_decoded_details (cause_details refusal cause) (good_cause refusal cause h)
+good_a_label refusal (NotAscii place c) h = good_placed place c h
+good_a_label refusal NoPunycode h = good_ruled no_details (codes "RFC 3492 6.2") (ascii_utf8 (codes "RFC 3492 6.2") refl) good_none
+good_a_label refusal (Other octets) h = record { label = tt; place = tt; condition = tt; rule = tt; bidi_class = tt; demand = tt; kind = tt; code_points = tt; octets = tt; alabel = h; byte = tt; ulabel = tt }
+good_a_label refusal (Decoded cause) h = good_decoded_details (label_parts refusal cause).details (good_cause refusal cause h)
 good_a_label refusal (Copied cause) h = good_cause refusal cause h
 
-good_length : (cause : LengthCause) → IsFittingLength cause → AreGoodDetails (length_details cause)
-good_length (LabelOctets number octets) h = record { label = next_small number h.0; place = tt; condition = tt; rule = tt; bidi_class = tt; demand = tt; kind = tt; code_points = tt; octets = h.1; alabel = tt; byte = tt }
-good_length (NameOctets octets) h = record { label = tt; place = tt; condition = tt; rule = tt; bidi_class = tt; demand = tt; kind = tt; code_points = tt; octets = h; alabel = tt; byte = tt }
+good_length : (cause : LengthCause) → IsFittingLength cause → AreGoodDetails (length_parts cause).details
+good_length (LabelOctets number octets) h = record { label = next_small number h.0; place = tt; condition = tt; rule = tt; bidi_class = tt; demand = tt; kind = tt; code_points = tt; octets = h.1; alabel = tt; byte = tt; ulabel = tt }
+good_length (NameOctets octets) h = record { label = tt; place = tt; condition = tt; rule = tt; bidi_class = tt; demand = tt; kind = tt; code_points = tt; octets = h; alabel = tt; byte = tt; ulabel = tt }
 
 good_byte : (place : ℕ) → place < 2 ^ 63 → AreGoodDetails (at_byte place)
-good_byte place h = record { label = tt; place = tt; condition = tt; rule = tt; bidi_class = tt; demand = tt; kind = tt; code_points = tt; octets = tt; alabel = tt; byte = next_small place h }
+good_byte place h = record { label = tt; place = tt; condition = tt; rule = tt; bidi_class = tt; demand = tt; kind = tt; code_points = tt; octets = tt; alabel = tt; byte = next_small place h; ulabel = tt }
 
 good_point_byte : (place c : ℕ) → place < 2 ^ 63 → AreGoodDetails (point_at_byte place c)
-good_point_byte place c h = record { label = tt; place = tt; condition = tt; rule = tt; bidi_class = tt; demand = tt; kind = tt; code_points = tt; octets = tt; alabel = tt; byte = next_small place h }
+good_point_byte place c h = record { label = tt; place = tt; condition = tt; rule = tt; bidi_class = tt; demand = tt; kind = tt; code_points = tt; octets = tt; alabel = tt; byte = next_small place h; ulabel = tt }
 
-good_fault_place : (place : FaultPlace) → byte_of place < 2 ^ 63 → AreGoodDetails (fault_place_details place)
-good_fault_place (places.Lexeme place len) h = good_byte place h
-good_fault_place (places.End place) h = good_byte place h
-good_fault_place (places.Point place c) h = good_point_byte place c h
-good_fault_place (places.InRange place c) h = good_point_byte place c h
-good_fault_place (places.Variant place) h = good_byte place h
-good_fault_place (places.Source place) h = good_byte place h
-good_fault_place (places.Byte place) h = good_byte place h
-good_fault_place (places.NinthPoint place c) h = good_point_byte place c h
-good_fault_place (places.SeventeenthVariant place c) h = good_point_byte place c h
+good_fault_place : (place : FaultPlace) (quoted : List ℕ) → byte_of place < 2 ^ 63 → AreGoodDetails (fault_place_parts place quoted).details
+good_fault_place (places.Lexeme place len) quoted h = good_byte place h
+good_fault_place (places.End place) quoted h = good_byte place h
+good_fault_place (places.Point place c) quoted h = good_point_byte place c h
+good_fault_place (places.InRange place c) quoted h = good_point_byte place c h
+good_fault_place (places.Variant place) quoted h = good_byte place h
+good_fault_place (places.Source place) quoted h = good_byte place h
+good_fault_place (places.Byte place) quoted h = good_byte place h
+good_fault_place (places.NinthPoint place c) quoted h = good_point_byte place c h
+good_fault_place (places.SeventeenthVariant place c) quoted h = good_point_byte place c h
 
-condition_utf8 : (kind : ConditionKind) → IsUtf8 (condition_text kind)
+condition_utf8 : (kind : ConditionKind) → IsUtf8 (asked_text kind)
 condition_utf8 When = ascii_utf8 (codes "when") refl
 condition_utf8 Unless = ascii_utf8 (codes "unless") refl
 
@@ -398,18 +384,20 @@ demand_utf8 : (kind : DemandKind) → IsUtf8 (demand_text kind)
 demand_utf8 Never = ascii_utf8 (codes "never") refl
 demand_utf8 Always = ascii_utf8 (codes "always") refl
 
-good_line : (refusal : Refusal) (cause : LineCause) → IsFitting cause → AreGoodDetails (line_details refusal cause)
+good_line : (refusal : Refusal) (cause : LineCause) → IsFitting cause → AreGoodDetails (parts_of refusal cause).details
 good_line refusal (Byte place byte) h = good_byte place h
 good_line refusal LongLine h = good_none
 good_line refusal (OfLabel cause) h = good_cause refusal cause h
 good_line refusal (OfALabel cause) h = good_a_label refusal cause h
-good_line refusal (OfName cause) h = good_label_details (a_label_details refusal cause.cause) cause.label h.0 (good_a_label refusal cause.cause h.1)
+good_line refusal (OfName cause) h = good_label_details (a_label_parts refusal cause.cause).details cause.label h.0 (good_a_label refusal cause.cause h.1)
 good_line refusal (OfQuery cause) h = good_length cause h
-good_line refusal (Misplaced place c kind rule) h = record { label = tt; place = next_small place h.0; condition = condition_utf8 kind; rule = h.1; bidi_class = tt; demand = tt; kind = tt; code_points = tt; octets = tt; alabel = tt; byte = tt }
-good_line refusal (BrokenDemand number kind) h = record { label = tt; place = tt; condition = tt; rule = tt; bidi_class = tt; demand = next_small number h; kind = demand_utf8 kind; code_points = tt; octets = tt; alabel = tt; byte = tt }
-good_line refusal (Ends place) h = record { label = tt; place = next_small place h; condition = tt; rule = tt; bidi_class = tt; demand = tt; kind = tt; code_points = tt; octets = tt; alabel = tt; byte = tt }
-good_line refusal (OfTable place quoted) h = good_fault_place place h
+good_line refusal (Misplaced place c kind rule) h = record { label = tt; place = next_small place h.0; condition = condition_utf8 kind; rule = h.1; bidi_class = tt; demand = tt; kind = tt; code_points = tt; octets = tt; alabel = tt; byte = tt; ulabel = tt }
+good_line refusal (BrokenDemand number kind) h = record { label = tt; place = tt; condition = tt; rule = tt; bidi_class = tt; demand = next_small number h; kind = demand_utf8 kind; code_points = tt; octets = tt; alabel = tt; byte = tt; ulabel = tt }
+good_line refusal (Ends place) h = record { label = tt; place = next_small place h; condition = tt; rule = tt; bidi_class = tt; demand = tt; kind = tt; code_points = tt; octets = tt; alabel = tt; byte = tt; ulabel = tt }
+good_line refusal (OfTable place quoted) h = good_fault_place place quoted.items h
 good_line refusal ByteOrderMark h = good_point_byte 0 0xFEFF (omega arith)
+good_line refusal (ALabelOf utf8) h = record { label = tt; place = omega arith; condition = tt; rule = tt; bidi_class = tt; demand = tt; kind = tt; code_points = tt; octets = tt; alabel = tt; byte = tt; ulabel = h }
+good_line refusal NoALabel h = good_ruled (placed 2 0x2D) (codes "RFC 5890 2.3.2.1") (ascii_utf8 (codes "RFC 5890 2.3.2.1") refl) (good_placed 2 0x2D (omega arith))
 
 good_told : (refusal : Refusal) (cause : Option LineCause) → IsFittingIfTold cause → AreGoodDetails (told_details refusal cause)
 good_told refusal None h = good_none

@@ -14,22 +14,22 @@ use Rattle.idn_text.specs.Lines.{body_of, raw_lines}
 use Rattle.idn_text.specs.Points.{four_digits, hex_digit}
 use Rattle.idn_text.specs.declared.refusal.Refusal.{Refusal}
 use Rattle.idn_text.specs.declared.refusal.Refusal.TheVariants as refusals
-use Rattle.idn_cause.specs.Causes.{cause_of, shared}
-use Rattle.idn_cause.specs.declared.cause.Cause.{Cause}
-use Rattle.idn_cause.proofs.CauseLaws.{cause-is}
+use Rattle.idn_cause.specs.Causes.{shared}
 use Rattle.ruleset_text.specs.Canonical.{point_text}
 use Rattle.ruleset_text.specs.EntryText.{sequence_text}
 use Rattle.variant_table.specs.Gaps.{gaps_of}
 use Rattle.table_cause.specs.FaultPlaces.{fault_place, line_place, place_at}
 use Rattle.variant_table.specs.FaultyLines.{FaultyLine, faulty_line}
 use Rattle.ruleset_text.specs.declared.fault.FaultPlace.{FaultPlace}
-use Rattle.idn2_refusals.specs.Explained.{ByRegisteredLine, bad_byte, body_cause, points_cause}
+use Rattle.idn2_refusals.specs.Explained.{ByRegisteredLine, bad_byte, body_cause, points_cause, u_label_cause}
 use Rattle.idn2_laws.specs.ReadBack.{FindingsAreReadBack, IsReadBack, IsShortBody, RegisteredFaultsAreReadBack, TableFaultsAreReadBack, TellsFewOctetsIfAny}
 use Rattle.idn2_answers.specs.Said.{Counted, Gap, finding_object}
 use Rattle.idn2_refusals.specs.TableCauses.{begins_with_mark, cause_at, fault_cause, is_syntax_of_first, line_cause, told_if}
 use Rattle.idn2_refusals.specs.WrongLines.{body_at, body_if_any, differs_at, points_at, points_in, told_of_wrong_line, wrong_line_cause}
-use Rattle.idn2_refusals.specs.declared.cause.LineCause.TheVariants.{OfLabel, ByteOrderMark}
-use Rattle.idn2_laws.proofs.ReadBackCauses.{cause_fits, points-length, taken}
+use Rattle.idn2_refusals.specs.declared.cause.LineCause.{LineCause}
+use Rattle.idn2_refusals.specs.declared.cause.LineCause.TheVariants.{ByteOrderMark}
+use Rattle.idn2_laws.proofs.ReadBackCauses.{points-length, taken, u_label_fits}
+use Rattle.idn2_laws.proofs.LineCauseLaws.{u_label-is}
 use Rattle.idn2_laws.proofs.ReadBackDetails.{IsFitting, IsFittingIfTold, ascii_append, ascii_cons, four_ascii, registered_fault_good, table_fault_good}
 use Rattle.idn2_laws.proofs.ReadBackLemmas.{ascii_utf8, digit_ascii, object_read_back}
 use Rattle.idn2_refusals.proofs.Utf8Bytes.{utf8-of_chars}
@@ -147,20 +147,20 @@ order_fits place None h = omega (arith, h)
 order_fits place (Some c) h = omega (arith, h)
 
 module _ (properties : Properties) where
-  label_fits : (points : List ℕ) (refusal : Refusal) → length points ≤ 1024 → TellsFewOctetsIfAny (option_map OfLabel (cause_of properties points refusal)) → IsFittingIfTold (option_map OfLabel (cause_of properties points refusal))
-  label_fits points refusal short = by_cause (cause_of properties points refusal) refl
+  label_fits : (points : List ℕ) (refusal : Refusal) → length points ≤ 1024 → TellsFewOctetsIfAny (u_label_cause properties points refusal) → IsFittingIfTold (u_label_cause properties points refusal)
+  label_fits points refusal short = by_cause (u_label_cause properties points refusal) refl
     where
-      by_cause : (told : Option Cause) → cause_of properties points refusal ≡ told → TellsFewOctetsIfAny (option_map OfLabel told) → IsFittingIfTold (option_map OfLabel told)
+      by_cause : (told : Option LineCause) → u_label_cause properties points refusal ≡ told → TellsFewOctetsIfAny told → IsFittingIfTold told
       by_cause None e few = tt
-      by_cause (Some cause) e few = cause_fits properties points refusal cause ((cause-is properties points refusal cause).0 e) (omega (arith, short)) few
+      by_cause (Some cause) e few = u_label_fits properties points refusal cause ((u_label-is properties points refusal cause).0 e) (omega (arith, short)) few
 
   body_fits : (body : Option (List ℕ)) (refusal : Refusal) → IsShortBody body → TellsFewOctetsIfAny (body_cause (ByRegisteredLine properties) body refusal) → IsFittingIfTold (body_cause (ByRegisteredLine properties) body refusal)
   unfolding points_cause
   body_fits None refusal short few = tt
   body_fits (Some bytes) refusal short few = by_test (is_utf8 bytes) refl few
     where
-      by_test : (b : Bool) → is_utf8 bytes ≡ b → TellsFewOctetsIfAny (cond b (option_map OfLabel (cause_of properties (chars bytes) refusal)) (Some (bad_byte bytes)))
-          → IsFittingIfTold (cond b (option_map OfLabel (cause_of properties (chars bytes) refusal)) (Some (bad_byte bytes)))
+      by_test : (b : Bool) → is_utf8 bytes ≡ b → TellsFewOctetsIfAny (cond b (u_label_cause properties (chars bytes) refusal) (Some (bad_byte bytes)))
+          → IsFittingIfTold (cond b (u_label_cause properties (chars bytes) refusal) (Some (bad_byte bytes)))
       by_test true e few = label_fits (chars bytes) refusal (short_points bytes short e) few
       by_test false e few = omega (arith, utf8_valid_len_le bytes, short)
 

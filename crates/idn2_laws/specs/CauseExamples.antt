@@ -9,8 +9,8 @@ use Rattle.idn_cause.specs.declared.a_label.ALabelCause.TheVariants as a_labels
 use Rattle.idn_cause.specs.declared.query.LengthCause.TheVariants.{LabelOctets, NameOctets}
 use Rattle.label_patterns.specs.declared.condition.ConditionKind.TheVariants.{Unless}
 use Rattle.ruleset_text.specs.declared.definition.DemandKind.TheVariants.{Never}
-use Rattle.idn2_refusals.specs.CauseTexts.{tail_text}
-use Rattle.idn2_refusals.specs.declared.cause.LineCause.TheVariants.{Byte, LongLine, OfLabel, OfALabel, OfName, OfQuery, Misplaced, Broken, ByteOrderMark}
+use Rattle.idn2_refusals.specs.CauseWords.{tail_text}
+use Rattle.idn2_refusals.specs.declared.cause.LineCause.TheVariants.{Byte, LongLine, OfLabel, OfALabel, OfName, OfQuery, Misplaced, Broken, ByteOrderMark, ALabelOf, NoALabel}
 
 -- each form of a cause
 pub record ExamplesOfCauses : Type 0 where
@@ -42,4 +42,6 @@ pub record ExamplesOfCauses : Type 0 where
   pub broken : tail_text refusals.NotValid (Some (Broken 0 Never)) ≡ codes ": demand 1, never"
   pub byte : tail_text refusals.NotUtf8 (Some (Byte 2 0xFF)) ≡ codes ": byte 0xFF at byte 3"
   pub long_line : tail_text refusals.LineTooLong (Some LongLine) ≡ codes ": more than 1024 bytes"
+  pub a_label : tail_text refusals.Hyphen (Some (ALabelOf (record { items = codes "fass" }))) ≡ codes ": place 3, with place 4: an A-label of 'fass'"
+  pub no_a_label : tail_text refusals.Hyphen (Some NoALabel) ≡ codes ": place 3, with place 4: not RFC 5890 2.3.2.1 A-label"
   pub byte_order_mark : tail_text refusals.Syntax (Some ByteOrderMark) ≡ codes ": a byte order mark at byte 1"

@@ -6,3 +6,4 @@ pub mod ListingLaws
 pub mod Examples
 pub mod ListingExamples
 pub mod CauseExamples
+pub mod ToldAlike

@@ -6,11 +6,12 @@ use Rattle.idna.specs.Validity.{has_ace_prefix}
 use Rattle.idn_text.specs.Lines.{Numbered}
 use Rattle.idn_text.specs.Points.{utf8_of}
 use Rattle.idn_text.specs.declared.refusal.Refusal.{Refusal}
-use Rattle.idn_text.specs.declared.refusal.Refusal.TheVariants.{Empty, LookupInvalid, NotInTable, NotValid}
+use Rattle.idn_text.specs.declared.refusal.Refusal.TheVariants.{Empty, Hyphen, LookupInvalid, NotInTable, NotValid}
 use Rattle.idn_cause.specs.declared.cause.Cause.{Cause}
 use Rattle.idn_cause.specs.declared.cause.Cause.TheVariants.{Point}
 use Rattle.idn_cause.specs.Causes.{IsCause}
 use Rattle.idn_cause.specs.ALabelCauses.{IsALabelCause}
+use Rattle.idn_cause.specs.CodedLabels.{IsALabelOf}
 use Rattle.idn_cause.specs.NameCauses.{IsNameCause, IsQueryCause}
 use Rattle.variant_table.specs.Entries.{TableValue}
 use Rattle.valid_labels.specs.Causes as validity_causes
@@ -24,7 +25,7 @@ use Rattle.idn2_refusals.specs.Requests.{requested_label}
 use Rattle.idn2_refusals.specs.Explained.{Explained, Unexplained, ByLabel, ByName, ByQuery, ByTable, ByRequest, ByRegisteredLine, body_cause, validity_cause}
 use Rattle.idn2_answers.specs.Transcript.{explained_in, Refuses, line_output, output_line_in}
 use Rattle.idn2_refusals.specs.declared.cause.LineCause.{LineCause}
-use Rattle.idn2_refusals.specs.declared.cause.LineCause.TheVariants.{Byte, LongLine, OfLabel, OfALabel, OfName, OfQuery}
+use Rattle.idn2_refusals.specs.declared.cause.LineCause.TheVariants.{Byte, LongLine, OfLabel, OfALabel, OfName, OfQuery, ALabelOf, NoALabel}
 
 -- it is the cause of a label, a name or what else has one
 abbrev pub IsOf : {X : Type 0} → (X → LineCause) → (X → Type 0) → LineCause → Type 0
@@ -35,6 +36,19 @@ abbrev pub IsRegistrationCause : Properties → List ℕ → Refusal → LineCau
 IsRegistrationCause properties label refusal cause =
     ((has_ace_prefix label ≡ true) × IsOf OfALabel (IsALabelCause properties label refusal) cause)
     ⊎ ((has_ace_prefix label ≡ false) × IsOf OfLabel (IsCause properties label refusal) cause)
+
+-- what begins with "xn--" is the A-label of a label (RFC 5890, section 2.3.2.1), or of none
+abbrev pub IsCodedCause : Properties → List ℕ → LineCause → Type 0
+IsCodedCause properties given cause =
+    ((label : List ℕ) × IsALabelOf properties given label × (cause ≡ ALabelOf (record { items = utf8_of label })))
+    ⊎ (((label : List ℕ) → IsALabelOf properties given label → ⊥) × (cause ≡ NoALabel))
+
+-- of a label where a U-label is wanted; its hyphens in the third and the fourth place may be those of "xn--"
+abbrev pub IsULabelCause : Properties → List ℕ → Refusal → LineCause → Type 0
+IsULabelCause properties label Hyphen cause =
+    ((has_ace_prefix label ≡ true) × IsCodedCause properties label cause)
+    ⊎ ((has_ace_prefix label ≡ false) × IsOf OfLabel (IsCause properties label Hyphen) cause)
+IsULabelCause properties label refusal cause = IsOf OfLabel (IsCause properties label refusal) cause
 
 -- of a label that isn't made of sources of a table: the code point after the furthest place that they reach (RFC 7940, section 8.1)
 abbrev pub IsNotInTableCause : TableValue → List ℕ → Cause → Type 0
@@ -50,7 +64,7 @@ IsInvalidCause table label cause = IsOf (validity_cause table label) (validity_c
 abbrev pub IsTableCause : Properties → TableValue → List ℕ → Refusal → LineCause → Type 0
 IsTableCause properties table label NotInTable cause = IsOf OfLabel (IsNotInTableCause table label) cause
 IsTableCause properties table label NotValid cause = IsInvalidCause table label cause
-IsTableCause properties table label refusal cause = IsOf OfLabel (IsCause properties label refusal) cause
+IsTableCause properties table label refusal cause = IsULabelCause properties label refusal cause
 
 -- of the code points of a line
 abbrev pub IsPointsCause : Explained → List ℕ → Refusal → LineCause → Type 0
@@ -60,7 +74,7 @@ IsPointsCause (ByName properties) points refusal cause = IsOf OfName (IsNameCaus
 IsPointsCause (ByQuery std3) points refusal cause = IsOf OfQuery (IsQueryCause (utf8_of points) std3 refusal) cause
 IsPointsCause (ByTable properties table) points refusal cause = IsTableCause properties table points refusal cause
 IsPointsCause (ByRequest properties table) points refusal cause = IsTableCause properties table (requested_label points) refusal cause
-IsPointsCause (ByRegisteredLine properties) points refusal cause = IsOf OfLabel (IsCause properties points refusal) cause
+IsPointsCause (ByRegisteredLine properties) points refusal cause = IsULabelCause properties points refusal cause
 
 -- the first byte that no UTF-8 goes on with (RFC 3629, section 3)
 abbrev pub IsBadByte : List ℕ → LineCause → Type 0

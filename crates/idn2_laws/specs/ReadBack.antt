@@ -27,7 +27,7 @@ use Rattle.idn2_options.specs.Settings.{IsCount, Settings, tells_causes}
 use Rattle.idn2_options.specs.declared.command_line.mode.Mode.{Mode}
 use Rattle.idn2_options.specs.declared.command_line.mode.Mode.TheVariants.{CheckTable}
 use Rattle.idn2_answers.specs.Answers.{line_answer, mode_answer}
-use Rattle.idn2_refusals.specs.CauseDetails.{told_details}
+use Rattle.idn2_refusals.specs.CauseParts.{told_details}
 use Rattle.idn2_refusals.specs.Explained.{body_cause}
 use Rattle.idn2_answers.specs.Transcript.{explained_in, check_findings}
 use Rattle.idn2_answers.specs.Said.{Said, finding_object, said_object}

@@ -2,6 +2,7 @@
 ghost use Rattle.std.specs.Prelude.{ℕ, List};
 ghost use Rattle.idn2_answers.specs.Answers.{LineAnswer};
 ghost use Rattle.idn2_laws.specs.Laws.{CausesAreTold, DispositionsAreTold, FormsSayTheSame};
+ghost use Rattle.idn2_laws.specs.ToldAlike.{CausesAreToldAlike};
 ghost use Rattle.idn2_laws.specs.ListingLaws.{AdmittedAreListed, ListedAreMutual, NotValidIsNeverTold, RulesetsSayTheSame, SpelledAreValid};
 ghost use Rattle.idn2_laws.specs.LineCauses.{RefusalsAreExplained};
 ghost use Rattle.idn2_laws.specs.ReadBack.{FindingsAreReadBack, RefusalsAreReadBack, RegisteredFaultsAreReadBack, SaidIsReadBack, TableFaultsAreReadBack};
@@ -40,9 +41,10 @@ pub fn spelled_labels_are_valid()
     ensures { SpelledAreValid }
 {}
 
-/// What the message of a refused line goes on with.
+/// What the message of a refused line goes on with; and that the object tells the same place.
 pub fn causes_are_told()
     ensures laws { CausesAreTold }
+    ensures alike { CausesAreToldAlike }
     ensures examples { ExamplesOfCauses }
 {}
 

@@ -4,7 +4,7 @@ use Rattle.std.specs.Prelude.{codes}
 use Rattle.std.specs.Option.{option_map}
 use Rattle.std.specs.Str.{is_utf8, IsValidUpTo}
 use Rattle.std.proofs.lemmas.Bool.Decides.{nat_tests}
-use Rattle.std.proofs.lemmas.Fmt.{length-decimal-le, length-decimal-le_wide}
+use Rattle.std.proofs.lemmas.Fmt.{length-decimal-le_wide}
 use Rattle.std.proofs.lemmas.Str.{utf8_valid_len-IsValidUpTo, is_utf8-from_IsUtf8}
 use Rattle.idn_class.specs.declared.properties.Properties.{Properties}
 use Rattle.idn_text.specs.Points.{IsUtf8Of}
@@ -20,14 +20,13 @@ use Rattle.valid_labels.specs.Causes as validity_causes
 use Rattle.valid_labels.specs.Furthest.{IsFurthest, furthest}
 use Rattle.valid_labels.proofs.SourceLemmas.{furthest-told}
 use Rattle.idn2_refusals.specs.Explained.{Explained, PointsCauseNeedsNone, TextCauseNeedsNone, Unexplained, bad_byte, body_cause, invalid_cause, not_in_table_cause, points_cause, unless_unexplained, table_cause, text_cause, validity_cause}
-use Rattle.idn2_refusals.specs.CauseTexts.{tail_text}
+use Rattle.idn2_refusals.specs.CauseWords.{tail_text}
 use Rattle.idn2_refusals.proofs.Utf8Bytes.{is_not_utf8}
 use Rattle.idn2_refusals.specs.Explaining.{explained_by}
 use Rattle.idn2_refusals.specs.declared.cause.Explaining.{Explaining}
 use Rattle.idn2_refusals.specs.declared.cause.Explaining.TheVariants as by
 use Rattle.idn2_refusals.specs.declared.cause.LineCause.{LineCause}
-use Rattle.idn2_refusals.specs.declared.cause.LineCause.TheVariants.{Byte, OfLabel, OfName, OfALabel, Misplaced}
-use Rattle.idn2_refusals.specs.CauseRoom.{HasRoom, cause_room}
+use Rattle.idn2_refusals.specs.declared.cause.LineCause.TheVariants.{Byte, OfLabel}
 
 -- without the option no cause is told
 pub unexplained-none : (body : Option (List ℕ)) (refusal : Refusal) → body_cause Unexplained body refusal ≡ None
@@ -91,14 +90,7 @@ body_cause-nothing explaining body refusal is = ap (λ (e : Explaining). body_ca
 
 pub ruleset causes_of_text = (text_cause-points, text_cause-none)
 
--- ---- how many digits are told
-
--- of a place, and of the number of a label
-pub place_digits : (n : ℕ) → n ≤ 2 ^ 64 → length (decimal n) ≤ 20
-place_digits n few = length-decimal-le_wide 20 n (omega arith) (omega arith) (omega arith)
-
-pub label_digits : (n : ℕ) → n ≤ 65536 → length (decimal n) ≤ 5
-label_digits n few = length-decimal-le 5 n (omega arith) (omega arith) (omega arith)
+-- ---- how long what is told is
 
 -- the text of a refusal
 pub refusal_text-short : (refusal : Refusal) → length (refusal_text refusal) ≤ 33
@@ -133,19 +125,6 @@ refusal_text-short refusals.ReadFault = omega arith
 refusal_text-short refusals.WriteFault = omega arith
 refusal_text-short refusals.Memory = omega arith
 
--- the number of a line, of which there are at most 2^32
-pub line_digits : (n : ℕ) → n ≤ 2 ^ 32 → length (decimal n) ≤ 10
-line_digits n few = length-decimal-le 10 n (omega arith) (omega arith) (omega arith)
-
-cause_room-most : (cause : LineCause) → cause_room cause ≤ 94
-cause_room-most (OfName cause) = omega arith
-cause_room-most (OfALabel cause) = omega arith
-cause_room-most (Misplaced place c kind rule) = omega arith
-cause_room-most cause = omega arith
-
--- there is room for the cause of a line of input, and for that of any other line but a name's
-pub line_has_room : (number : ℕ) (cause : LineCause) → number ≤ 2 ^ 32 → HasRoom (codes "idn2: line ") number cause
-line_has_room number cause few = let digits = line_digits number few in let most = cause_room-most cause in omega arith
-
-pub other_has_room : (before : List ℕ) (number : ℕ) (cause : LineCause) → length before ≤ 22 → number < 2 ^ 64 → cause_room cause ≤ 72 → HasRoom before number cause
-other_has_room before number cause short below few = let digits = place_digits number (omega arith) in omega arith
+-- the number of a line
+pub number_digits : (n : ℕ) → n < 2 ^ 64 → length (decimal n) ≤ 20
+number_digits n few = length-decimal-le_wide 20 n (omega arith) (omega arith) (omega arith)

@@ -1,20 +1,12 @@
 -- The lines of registered labels, and their code points; and texts that are joined one after another.
-use Rattle.std.proofs.Common.{◌≡◌, ◌≤◌, ◌++◌, ◌∷◌, ◌==◌, ℕ, zero, suc, Bool, true, false, List, [], chars, length, take, eq-eqb, Option, Some, None, Result, Ok, Err, OnOk, OnErr, slice_get, cond, IfOk, IfSome, subst, refl, sym, ap, ◌∙◌, append_assoc, arith, if◌then◌else◌}
+use Rattle.std.proofs.Common.{◌≡◌, ◌≤◌, ◌++◌, ◌∷◌, ◌==◌, ℕ, zero, suc, Bool, true, false, List, [], chars, length, take, eq-eqb, Option, Some, None, Result, Ok, Err, OnOk, OnErr, slice_get, cond, refl, sym, ap, ◌∙◌, append_assoc, arith, if◌then◌else◌}
 use Rattle.std.specs.Str.{is_utf8}
 use Rattle.std.proofs.lemmas.Bool.Decides.{nat_tests}
 use Rattle.std.proofs.lemmas.Str.{is_utf8-from_IsUtf8}
-use Rattle.idn_class.specs.declared.properties.Properties.{Properties}
 use Rattle.idn_text.specs.Points.{IsUtf8Of}
 use Rattle.idn_text.proofs.Utf8Lemmas.{IsUtf8-from_points, points_from_utf8}
 use Rattle.idn_class.specs.Shared.{IsLongestShared}
-use Rattle.std.specs.Option.{option_map}
-use Rattle.idn_text.specs.declared.refusal.Refusal.{Refusal}
-use Rattle.idn_cause.specs.declared.cause.Cause.{Cause}
-use Rattle.idn_cause.specs.Causes.{cause_of, shared}
-use Rattle.idn2_refusals.specs.Explained.{ByRegisteredLine, bad_byte, body_cause, points_cause}
-use Rattle.idn2_refusals.specs.CauseRoom.{cause_room}
-use Rattle.idn2_refusals.specs.declared.cause.LineCause.{LineCause}
-use Rattle.idn2_refusals.specs.declared.cause.LineCause.TheVariants.{OfLabel}
+use Rattle.idn_cause.specs.Causes.{shared}
 use Rattle.idn2_refusals.specs.WrongLines.{differs_at, order_cause, points_in}
 use Rattle.idn2_refusals.proofs.Utf8Bytes.{is_not_utf8}
 
@@ -63,23 +55,3 @@ pub order_told : (before label b l again : List ℕ) (place : ℕ) (found : Opti
 order_told before label b l again place found is_before is_label is_again at got =
     let where_ : place ≡ shared label before = at ∙ ap (λ (x : List ℕ). shared x b) is_label ∙ ap (shared label) is_before in
     ap (differs_at place) (got ∙ ap (λ (x : List ℕ). slice_get x place) is_again) ∙ ap (λ (n : ℕ). differs_at n (slice_get label n)) where_
-
-module _ (properties : Properties) where
-  -- the cause of a label that is tested as it stands leaves room for the words before it
-  pub test_cause-short : (body : Option (List ℕ)) (refusal : Refusal) → IfSome (body_cause (ByRegisteredLine properties) body refusal) (λ cause. cause_room cause ≤ 72)
-  unfolding points_cause
-  test_cause-short None refusal = omega arith
-  test_cause-short (Some bytes) refusal = by_utf8 (is_utf8 bytes)
-    where
-      of_label : (told : Option Cause) → IfSome (option_map OfLabel told) (λ cause. cause_room cause ≤ 72)
-      of_label None = tt
-      of_label (Some cause) = omega arith
-
-      by_utf8 : (utf8 : Bool) → IfSome (cond utf8 (option_map OfLabel (cause_of properties (chars bytes) refusal)) (Some (bad_byte bytes))) (λ cause. cause_room cause ≤ 72)
-      by_utf8 true = of_label (cause_of properties (chars bytes) refusal)
-      by_utf8 false = omega arith
-
--- so does a cause that is this one
-pub told_short : {E : Type 0} (result : Result (Option LineCause) E) (told : Option LineCause) → IfOk result (λ cause. cause ≡ told) → IfSome told (λ cause. cause_room cause ≤ 72) → IfOk result (λ cause. IfSome cause (λ c. cause_room c ≤ 72))
-told_short {E} (Ok cause) told same short = subst (λ (o : Option LineCause). IfSome o (λ c. cause_room c ≤ 72)) (sym same) short
-told_short {E} (Err why) told same short = tt

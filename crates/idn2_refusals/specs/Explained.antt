@@ -7,11 +7,12 @@ use Rattle.idn_class.specs.declared.properties.Properties.{Properties}
 use Rattle.idna.specs.Validity.{has_ace_prefix}
 use Rattle.idn_text.specs.Points.{utf8_of}
 use Rattle.idn_text.specs.declared.refusal.Refusal.{Refusal}
-use Rattle.idn_text.specs.declared.refusal.Refusal.TheVariants.{Empty, LookupLength, NotInTable, NotValid}
+use Rattle.idn_text.specs.declared.refusal.Refusal.TheVariants.{Empty, Hyphen, LookupLength, NotInTable, NotValid}
 use Rattle.idn_cause.specs.declared.cause.Cause.{Cause}
 use Rattle.idn_cause.specs.declared.cause.Cause.TheVariants.{Point}
 use Rattle.idn_cause.specs.Causes.{IsFoundWithoutMemory, cause_of}
 use Rattle.idn_cause.specs.ALabelCauses.{a_label_cause}
+use Rattle.idn_cause.specs.CodedLabels.{coded_label}
 use Rattle.idn_cause.specs.NameCauses.{name_cause, query_cause}
 use Rattle.ruleset_text.specs.Definitions.{rule_name}
 use Rattle.variant_table.specs.Entries.{TableValue}
@@ -21,7 +22,7 @@ use Rattle.valid_labels.specs.Causes as validity_causes
 use Rattle.valid_labels.specs.Furthest.{furthest}
 use Rattle.idn2_refusals.specs.Requests.{requested_label}
 use Rattle.idn2_refusals.specs.declared.cause.LineCause.{LineCause}
-use Rattle.idn2_refusals.specs.declared.cause.LineCause.TheVariants.{Byte, LongLine, OfLabel, OfALabel, OfName, OfQuery, Misplaced, Broken}
+use Rattle.idn2_refusals.specs.declared.cause.LineCause.TheVariants.{Byte, LongLine, OfLabel, OfALabel, OfName, OfQuery, Misplaced, Broken, ALabelOf, NoALabel}
 
 -- of what the cause is told: of nothing, of a label, of a name that is decoded, of one that is looked up, of a label by the sources
 -- of a table, of the label of a request by them, or of a label that is tested as it stands
@@ -45,6 +46,17 @@ abbrev pub registration_cause : Properties → List ℕ → Refusal → Option L
 registration_cause properties label refusal =
     if has_ace_prefix label then option_map OfALabel (a_label_cause properties label refusal) else option_map OfLabel (cause_of properties label refusal)
 
+-- of what begins with "xn--" where a U-label is wanted: the U-label of an A-label (RFC 5890, section 2.3.2.1), or that it is none
+abbrev pub coded_cause : Option (List ℕ) → LineCause
+coded_cause (Some utf8) = ALabelOf (record { items = utf8 })
+coded_cause None = NoALabel
+
+-- of a label where a U-label is wanted: "xn--" puts two hyphens into the third and the fourth place (RFC 5891, section 4.2.3.1)
+unfoldable pub u_label_cause : Properties → List ℕ → Refusal → Option LineCause
+u_label_cause properties label Hyphen =
+    if has_ace_prefix label then Some (coded_cause (coded_label properties label)) else option_map OfLabel (cause_of properties label Hyphen)
+u_label_cause properties label refusal = option_map OfLabel (cause_of properties label refusal)
+
 -- the code point after those that sources of the table reach, of a label that is short enough to be registered (RFC 7940, section 8.1)
 abbrev pub not_in_table_cause : TableValue → List ℕ → Option Cause
 not_in_table_cause table label =
@@ -67,7 +79,7 @@ invalid_cause table label =
 abbrev pub table_cause : Properties → TableValue → List ℕ → Refusal → Option LineCause
 table_cause properties table label NotInTable = option_map OfLabel (not_in_table_cause table label)
 table_cause properties table label NotValid = invalid_cause table label
-table_cause properties table label refusal = option_map OfLabel (cause_of properties label refusal)
+table_cause properties table label refusal = u_label_cause properties label refusal
 
 -- of the code points of a line
 unfoldable pub points_cause : Explained → List ℕ → Refusal → Option LineCause
@@ -77,7 +89,7 @@ points_cause (ByName properties) points refusal = option_map OfName (name_cause 
 points_cause (ByQuery std3) points refusal = option_map OfQuery (query_cause (utf8_of points) std3 refusal)
 points_cause (ByTable properties table) points refusal = table_cause properties table points refusal
 points_cause (ByRequest properties table) points refusal = table_cause properties table (requested_label points) refusal
-points_cause (ByRegisteredLine properties) points refusal = option_map OfLabel (cause_of properties points refusal)
+points_cause (ByRegisteredLine properties) points refusal = u_label_cause properties points refusal
 
 -- the first byte that no UTF-8 goes on with (RFC 3629, section 3)
 abbrev pub bad_byte : List ℕ → LineCause
@@ -100,20 +112,24 @@ body_cause explained (Some bytes) refusal = text_cause explained bytes refusal
 
 -- ---- causes that are told without memory
 
--- of a label by the sources of a table; of what a ruleset asks of it the cause may take some
-abbrev pub TableCauseNeedsNone : Refusal → Type 0
-TableCauseNeedsNone NotValid = ⊥
-TableCauseNeedsNone refusal = IsFoundWithoutMemory refusal
+-- of a label; what begins with "xn--" may take some to be decoded
+abbrev pub LabelCauseNeedsNone : List ℕ → Refusal → Type 0
+LabelCauseNeedsNone label refusal = (has_ace_prefix label ≡ false) × IsFoundWithoutMemory refusal
 
--- of the code points of a line; what begins with "xn--" may take some to be decoded
+-- of a label by the sources of a table; of what a ruleset asks of it the cause may take some
+abbrev pub TableCauseNeedsNone : List ℕ → Refusal → Type 0
+TableCauseNeedsNone label NotValid = ⊥
+TableCauseNeedsNone label refusal = LabelCauseNeedsNone label refusal
+
+-- of the code points of a line
 abbrev pub PointsCauseNeedsNone : Explained → List ℕ → Refusal → Type 0
 PointsCauseNeedsNone Unexplained points refusal = Unit {0}
-PointsCauseNeedsNone (ByLabel properties) points refusal = (has_ace_prefix points ≡ false) × IsFoundWithoutMemory refusal
+PointsCauseNeedsNone (ByLabel properties) points refusal = LabelCauseNeedsNone points refusal
 PointsCauseNeedsNone (ByName properties) points refusal = refusal ≡ Empty
 PointsCauseNeedsNone (ByQuery std3) points refusal = refusal ≢ LookupLength
-PointsCauseNeedsNone (ByTable properties table) points refusal = TableCauseNeedsNone refusal
-PointsCauseNeedsNone (ByRequest properties table) points refusal = TableCauseNeedsNone refusal
-PointsCauseNeedsNone (ByRegisteredLine properties) points refusal = IsFoundWithoutMemory refusal
+PointsCauseNeedsNone (ByTable properties table) points refusal = TableCauseNeedsNone points refusal
+PointsCauseNeedsNone (ByRequest properties table) points refusal = TableCauseNeedsNone (requested_label points) refusal
+PointsCauseNeedsNone (ByRegisteredLine properties) points refusal = LabelCauseNeedsNone points refusal
 
 -- of the bytes of a line, which may be no UTF-8
 abbrev pub TextCauseNeedsNone : Explained → List ℕ → Refusal → Type 0

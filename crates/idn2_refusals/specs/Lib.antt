@@ -2,9 +2,10 @@
 pub mod Requests
 pub mod Explained
 pub mod Explaining
-pub mod CauseTexts
-pub mod CauseDetails
-pub mod CauseRoom
+pub mod RuleTexts
+pub mod CauseParts
+pub mod CauseWords
+pub mod ToldCauses
 pub mod WrongLines
 pub mod TableCauses
 pub mod TableFaults

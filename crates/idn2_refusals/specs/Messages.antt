@@ -10,8 +10,8 @@ use Rattle.answer_json.specs.Objects.{refused, table_fault, registered_fault}
 use Rattle.idn2_options.specs.declared.command_line.form.Form.{Form}
 use Rattle.idn2_options.specs.declared.command_line.form.Form.TheVariants.{Plain, Json}
 use Rattle.idn2_output.specs.OutputLines.{OutputLine, Output, Message}
-use Rattle.idn2_refusals.specs.CauseTexts.{tail_text}
-use Rattle.idn2_refusals.specs.CauseDetails.{told_details}
+use Rattle.idn2_refusals.specs.CauseWords.{tail_text}
+use Rattle.idn2_refusals.specs.CauseParts.{told_details}
 use Rattle.idn2_refusals.specs.declared.cause.LineCause.{LineCause}
 
 -- ---- messages

@@ -9,7 +9,7 @@ use Rattle.idn2_options.specs.declared.command_line.form.Form.TheVariants.{Plain
 use Rattle.idn2_output.specs.Writing.{Held}
 use Rattle.idn2_output.specs.declared.status.Status.{Status}
 use Rattle.idn2_output.specs.declared.status.Status.TheVariants.{Unusable, Faulty, OutOfMemory}
-use Rattle.idn2_refusals.specs.CauseTexts.{tail_text}
+use Rattle.idn2_refusals.specs.CauseWords.{tail_text}
 use Rattle.idn2_refusals.specs.Messages.{told, registered_message, registered_object}
 use Rattle.idn2_refusals.specs.WrongLines.{MayTakeMemory, told_of_wrong_line}
 use Rattle.idn2_refusals.specs.declared.cause.LineCause.{LineCause}

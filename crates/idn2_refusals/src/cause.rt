@@ -8,13 +8,14 @@ ghost use Rattle.answer_json.specs.Details.{given_len};
 ghost use Rattle.idn_cause.specs.NameCauses.{name_cause, query_cause};
 ghost use Rattle.idna.specs.Validity.{has_ace_prefix};
 ghost use Rattle.idn_cause.specs.Causes.{IsFoundWithoutMemory};
-ghost use Rattle.idn2_refusals.specs.Explained.{BodyCauseNeedsNone, PointsCauseNeedsNone, TableCauseNeedsNone, TextCauseNeedsNone, bad_byte, body_cause, if_wanted, not_in_table_cause, points_cause, registration_cause, table_cause, text_cause, unless_unexplained, invalid_cause as invalid_cause_of, validity_cause as validity_cause_of};
+ghost use Rattle.idn2_refusals.specs.Explained.{BodyCauseNeedsNone, PointsCauseNeedsNone, TableCauseNeedsNone, TextCauseNeedsNone, bad_byte, body_cause, coded_cause, if_wanted, not_in_table_cause, points_cause, registration_cause, table_cause, text_cause, u_label_cause, unless_unexplained, invalid_cause as invalid_cause_of, validity_cause as validity_cause_of};
 ghost use Rattle.idn2_refusals.specs.Explaining.{explained_by};
 
 use crate::request::label_of_request;
 use arrayvec::ArrayVec;
 use idn_cause::{
-    ALabelCause, Cause, LengthCause, NameCause, a_label_cause, cause_of, name_cause, query_cause,
+    ALabelCause, Cause, LabelUtf8, LengthCause, NameCause, a_label_cause, cause_of, coded_label,
+    name_cause, query_cause,
 };
 use idn_class::{MAX_LABEL_LEN, Properties};
 use idn_label::{code_point_at, has_ace_prefix};
@@ -78,6 +79,10 @@ pub enum LineCause {
     OfTable(FaultPlace, Quoted),
     /// A byte order mark at the head of a table.
     ByteOrderMark,
+    /// An A-label where a U-label is wanted: the U-label that it stands for.
+    ALabelOf(LabelUtf8),
+    /// What begins with `xn--` where a U-label is wanted, and is no A-label.
+    NoALabel,
 }
 
 impl<'t> Explaining<'t> {
@@ -178,7 +183,7 @@ fn cause_of_points(
             cause_by_table(alloc, label_of_request(points), refusal, *properties, table)
         }
         Explaining::RegisteredLine(properties) => {
-            Ok(of_label(cause_of(alloc, points, refusal, *properties)?))
+            cause_of_u_label(alloc, points, refusal, *properties)
         },
     }
 }
@@ -260,14 +265,46 @@ fn cause_by_table(
     properties: Properties,
     table: &Table,
 ) -> Result<Option<LineCause>, AllocError>
-    requires { AreScalarValues label.now }
+    requires short { length label.now ≤ MAX_LINE_LEN }
+    requires scalar_values { AreScalarValues label.now }
     ensures cause { IfOk result (λ cause. cause ≡ table_cause properties table.now label.now refusal) }
-    ensures no_memory { TableCauseNeedsNone refusal → IsOk result }
+    ensures no_memory { TableCauseNeedsNone label.now refusal → IsOk result }
 {
     match refusal {
         Refusal::NotInTable => Ok(of_label(not_in_table_cause(label, table))),
         Refusal::NotValid => cause_by_ruleset(alloc, label, table),
+        _ => cause_of_u_label(alloc, label, refusal, properties),
+    }
+}
+
+/// The cause of the fault of a label where a U-label is wanted.
+#[tactic(auto, unfolding(crate::specs::Explained::u_label_cause))]
+fn cause_of_u_label(
+    alloc: Global,
+    label: &[u32],
+    refusal: Refusal,
+    properties: Properties,
+) -> Result<Option<LineCause>, AllocError>
+    requires short { length label.now ≤ MAX_LINE_LEN }
+    requires scalar_values { AreScalarValues label.now }
+    ensures cause { IfOk result (λ cause. cause ≡ u_label_cause properties label.now refusal) }
+    ensures no_memory { has_ace_prefix label.now ≡ false → IsFoundWithoutMemory refusal → IsOk result }
+{
+    match refusal {
+        Refusal::Hyphen if has_ace_prefix(label) => {
+            Ok(Some(of_coded(coded_label(alloc, label, properties)?)))
+        }
         _ => Ok(of_label(cause_of(alloc, label, refusal, properties)?)),
+    }
+}
+
+/// The cause of what begins with `xn--` where a U-label is wanted.
+fn of_coded(label: Option<LabelUtf8>) -> LineCause
+    ensures { result ≡ coded_cause (option_map (λ utf8. utf8.items) label) }
+{
+    match label {
+        Some(label) => LineCause::ALabelOf(label),
+        None => LineCause::NoALabel,
     }
 }
 

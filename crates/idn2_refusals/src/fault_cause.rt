@@ -1,10 +1,9 @@
 //! The cause of the fault of a table. It is looked for only once the fault is told, and only if causes are wanted.
-ghost use Rattle.std.specs.Prelude.{◌≡◌, ◌≤◌, IfOk, IfSome, drop, false, take};
+ghost use Rattle.std.specs.Prelude.{◌≡◌, IfOk, drop, false, take};
 ghost use Rattle.std.specs.List.{list_all};
 ghost use Rattle.std.specs.Result.{IsOk};
 ghost use Rattle.idn2_refusals.specs.TableCauses.{begins_with_mark, is_syntax_of_first, is_visible as is_visible_byte, may_be_quoted as may_be_quoted_text, quoted as quoted_of, quoted_at as quoted_in, refusal_cause, told_if};
 ghost use Rattle.variant_table.specs.FaultyLines.{faulty_line_of};
-ghost use Rattle.idn2_refusals.specs.CauseRoom.{cause_room};
 
 use crate::cause::{LineCause, Quoted};
 use idn2_output::append;
@@ -25,7 +24,6 @@ pub(crate) fn fault_cause_if_wanted(
 ) -> Result<Option<LineCause>, AllocError>
     ensures cause { IfOk result (λ cause. cause ≡ told_if wanted (refusal_cause text.now refusal.now.fault (faulty_line_of refusal.now.line))) }
     ensures unwanted { wanted ≡ false → IsOk result }
-    ensures short { IfOk result (λ cause. IfSome cause (λ cause. cause_room cause ≤ 72)) }
 {
     if wanted {
         cause_of_refusal(alloc, text, refusal)
@@ -41,7 +39,6 @@ fn cause_of_refusal(
     refusal: &TableRefusal<'_>,
 ) -> Result<Option<LineCause>, AllocError>
     ensures cause { IfOk result (λ cause. cause ≡ refusal_cause text.now refusal.now.fault (faulty_line_of refusal.now.line)) }
-    ensures short { IfOk result (λ cause. IfSome cause (λ cause. cause_room cause ≤ 72)) }
 {
     if begins_with_mark(text) && is_syntax_of_first(refusal.fault) {
         return Ok(Some(LineCause::ByteOrderMark));

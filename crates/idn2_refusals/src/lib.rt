@@ -2,16 +2,18 @@
 #![tactic(auto)]
 
 mod cause;
-mod cause_text;
+mod cause_words;
 mod closing;
-mod details;
+mod digits;
 mod fault_cause;
 mod message;
 mod refusing;
 mod registered;
 mod registered_cause;
 mod request;
+mod rules;
 mod table;
+mod told_cause;
 
 pub use cause::{Explaining, LineCause};
 pub use closing::report;

@@ -1,12 +1,12 @@
 //! The messages of refusals.
 
 ghost use Rattle.std.specs.Prelude.{◌≡◌, ◌≤◌, ◌++◌, [], length, codes, decimal, Some};
-ghost use Rattle.idn2_refusals.specs.CauseTexts.{tail_text};
-ghost use Rattle.idn2_refusals.specs.CauseRoom.{HasRoom};
+ghost use Rattle.idn2_refusals.specs.CauseWords.{tail_text};
 ghost use Rattle.idn2_refusals.specs.Messages.{told, line_message, message_with, table_message};
 
 use crate::cause::LineCause;
-use crate::cause_text::{ExplainedMessage, push_line_cause};
+use crate::cause_words::{ExplainedMessage, push_cause};
+use crate::told_cause::told_cause;
 use arrayvec::ArrayString;
 use idn_text::Refusal;
 use idn2_output::append;
@@ -29,7 +29,7 @@ pub(crate) fn explained_message(
     refusal: &Refusal,
     cause: &LineCause,
 ) -> ExplainedMessage
-    requires { HasRoom before.now number cause.now }
+    requires { length before.now ≤ 22 }
     ensures { result.items ≡ message_with before.now number refusal.now (tail_text refusal.now (Some cause.now)) }
 {
     let mut message = ExplainedMessage::new();
@@ -41,7 +41,7 @@ pub(crate) fn explained_message(
     append(&mut message, b" ");
     append(&mut message, refusal.text().as_bytes());
     append(&mut message, b": ");
-    push_line_cause(&mut message, refusal, cause);
+    push_cause(&mut message, &told_cause(refusal, cause));
     append(&mut message, b"\n");
     message
 }

@@ -1,10 +1,10 @@
 //! Refusals of lines: a message, which goes on with the cause if causes are wanted, or an object with the cause.
-ghost use Rattle.std.specs.Prelude.{◌≡◌, ◌≢◌, ◌≤◌, ◌^◌, [], ◌∷◌, IfErr, Err, None, Some};
+ghost use Rattle.std.specs.Prelude.{◌≡◌, ◌≢◌, ◌≤◌, [], ◌∷◌, IfErr, Err, None, Some};
 ghost use Rattle.std.specs.Option.{option_copied};
 ghost use Rattle.idn_text.specs.Reading.{line_at};
 ghost use Rattle.answer_json.specs.Details.{given_len};
 ghost use Rattle.answer_json.specs.Inputs.{told, told_len, told_of};
-ghost use Rattle.idn2_refusals.specs.CauseTexts.{tail_text};
+ghost use Rattle.idn2_refusals.specs.CauseWords.{tail_text};
 ghost use Rattle.idn2_refusals.specs.Explained.{BodyCauseNeedsNone, body_cause};
 ghost use Rattle.idn2_output.specs.OutputLines.{Message, Output};
 ghost use Rattle.idn2_refusals.specs.Messages.{refusal_piece, refused_message, refused_object};
@@ -13,8 +13,8 @@ ghost use Rattle.idn2_refusals.specs.Explaining.{explained_by};
 ghost use Rattle.idn2_output.specs.declared.stop.Stop.TheVariants as stop;
 
 use crate::cause::{Explaining, LineCause, cause_of_body};
-use crate::details::details_of_refusal;
 use crate::message::{explained_message, line_message};
+use crate::told_cause::members_of;
 use answer_json::Input;
 use idn_text::{Lines, MAX_LINE_LEN, Refusal, Sink, Source};
 use idn2_options::Form;
@@ -33,7 +33,6 @@ pub fn refuse<R: Source, W: Sink, E: Sink>(
     refusal: Refusal,
     console: &mut Console<'_, '_, W, E>,
 ) -> Result<(), Stop>
-    requires { (line_at input.now).number ≤ 2 ^ 32 }
     ensures told { Emits console.old console.new
         (refusal_piece form (line_at input.now) refusal (body_cause (explained_by explaining.now) (line_at input.now).body refusal) ∷ []) result }
     ensures no_memory { BodyCauseNeedsNone (explained_by explaining.now) (line_at input.now).body refusal → IfErr result (λ why. why ≢ stop.Memory) }
@@ -63,8 +62,7 @@ fn explain<W: Sink, E: Sink>(
     refusal: Refusal,
     console: &mut Console<'_, '_, W, E>,
 ) -> Result<(), Stop>
-    requires few { given_len (option_copied text) ≤ MAX_LINE_LEN }
-    requires number { number ≤ 2 ^ 32 }
+    requires { given_len (option_copied text) ≤ MAX_LINE_LEN }
     ensures told { Emits console.old console.new
         (refusal_piece form (record { number = number; body = option_copied text.entry }) refusal (body_cause (explained_by explaining.now) (option_copied text.entry) refusal) ∷ []) result }
     ensures no_memory { BodyCauseNeedsNone (explained_by explaining.now) (option_copied text.entry) refusal → IfErr result (λ why. why ≢ stop.Memory) }
@@ -85,8 +83,7 @@ fn tell<W: Sink, E: Sink>(
     cause: Option<&LineCause>,
     console: &mut Console<'_, '_, W, E>,
 ) -> Result<(), Stop>
-    requires few { given_len (option_copied text) ≤ MAX_LINE_LEN }
-    requires number { number ≤ 2 ^ 32 }
+    requires { given_len (option_copied text) ≤ MAX_LINE_LEN }
     ensures told { Emits console.old console.new
         (refusal_piece form (record { number = number; body = option_copied text.entry }) refusal (option_copied cause.entry) ∷ []) result }
     ensures why { IfErr result (λ why. why ≢ stop.Memory) }
@@ -105,7 +102,6 @@ fn tell_message<W: Sink, E: Sink>(
     cause: Option<&LineCause>,
     console: &mut Console<'_, '_, W, E>,
 ) -> Result<(), Stop>
-    requires { number ≤ 2 ^ 32 }
     ensures told { Emits console.old console.new (Message (refused_message number refusal (tail_text refusal (option_copied cause.entry))) ∷ []) result }
     ensures why { IfErr result (λ why. why ≡ stop.Messages) }
 {
@@ -126,7 +122,6 @@ fn tell_explained<W: Sink, E: Sink>(
     cause: &LineCause,
     console: &mut Console<'_, '_, W, E>,
 ) -> Result<(), Stop>
-    requires { number ≤ 2 ^ 32 }
     ensures told { Emits console.old console.new (Message (refused_message number refusal (tail_text refusal (Some cause.now))) ∷ []) result }
     ensures why { IfErr result (λ why. why ≡ stop.Messages) }
 {
@@ -148,7 +143,7 @@ fn tell_object<W: Sink, E: Sink>(
         (Output (refused_object (record { number = number; body = option_copied text.entry }) refusal (option_copied cause.entry)) ∷ []) result }
     ensures why { IfErr result (λ why. why ≡ stop.Output) }
 {
-    let members = details_of_refusal(&refusal, cause);
+    let members = members_of(&refusal, cause);
     console.object(&Object::Refused(number, input_of(text), refusal, &members))
 }
 

@@ -1,17 +1,15 @@
 //! A file that isn't read as registered labels.
-ghost use Rattle.std.specs.Prelude.{◌≤◌, IfSome};
 ghost use Rattle.std.specs.Option.{option_copied};
 ghost use Rattle.idn2_output.specs.Writing.{held};
-ghost use Rattle.idn2_refusals.specs.CauseRoom.{cause_room};
-ghost use Rattle.idn2_refusals.specs.CauseTexts.{tail_text};
+ghost use Rattle.idn2_refusals.specs.CauseWords.{tail_text};
 ghost use Rattle.idn2_refusals.specs.Messages.{registered_message};
 ghost use Rattle.idn2_refusals.specs.Reports.{TellsUnreadLine, TellsWrong, TellsWrongLine};
 
 use crate::cause::LineCause;
 use crate::closing::report;
-use crate::details::details_of_refusal;
 use crate::message::{explained_message, registered_message};
 use crate::registered_cause::cause_if_wanted;
+use crate::told_cause::members_of;
 use answer_json::MAX_OBJECT_LEN;
 use idn_class::Properties;
 use idn_text::{Refusal, Sink, write_text};
@@ -50,14 +48,13 @@ fn tell_wrong_line<W: Sink, E: Sink>(
     out: &mut W,
     err: &mut E,
 ) -> Status
-    requires { IfSome cause (λ cause. cause_room cause.now ≤ 72) }
     ensures { TellsWrongLine form line refusal.now (option_copied cause.entry) (held (W.state out.old) (E.state err.old)) (held (W.state out.new) (E.state err.new)) result }
 {
     match form {
         Form::Plain => report_wrong_line(line, refusal, cause, err),
         Form::Json => {
             let mut room = [0; MAX_OBJECT_LEN];
-            let members = details_of_refusal(refusal, cause);
+            let members = members_of(refusal, cause);
             let fault = Object::RegisteredFault(line, *refusal, &members);
             let object = write_object(&mut room, &fault);
             match write_text(out, object) {
@@ -75,7 +72,6 @@ fn report_wrong_line<E: Sink>(
     cause: Option<&LineCause>,
     err: &mut E,
 ) -> Status
-    requires { IfSome cause (λ cause. cause_room cause.now ≤ 72) }
     ensures { TellsWrong (registered_message line refusal.now (tail_text refusal.now (option_copied cause.entry))) (E.state err.old) (E.state err.new) result }
 {
     match cause {

@@ -1,10 +1,9 @@
 //! The cause of a wrong line of the registered labels. It is looked for only once the line is found, and only if causes are
 //! wanted.
-ghost use Rattle.std.specs.Prelude.{◌≡◌, ◌≤◌, ◌-◌, IfOk, IfSome, OnErr, false, slice_get};
+ghost use Rattle.std.specs.Prelude.{◌≡◌, ◌≤◌, ◌-◌, IfOk, OnErr, false, slice_get};
 ghost use Rattle.std.specs.Result.{IsOk};
 ghost use Rattle.std.specs.Option.{option_copied};
 ghost use Rattle.answer_json.specs.Details.{given_len};
-ghost use Rattle.idn2_refusals.specs.CauseRoom.{cause_room};
 ghost use Rattle.idn2_refusals.specs.WrongLines.{MayTakeMemory, body_at, order_cause, points_at, told_of_wrong_line, wrong_line_cause};
 
 use crate::cause::{Explaining, LineCause, cause_of_body};
@@ -25,7 +24,6 @@ pub(crate) fn cause_if_wanted(
 ) -> Result<Option<LineCause>, AllocError>
     ensures cause { IfOk result (λ cause. cause ≡ told_of_wrong_line properties wanted text.now number refusal) }
     ensures unwanted { wanted ≡ false → IsOk result }
-    ensures short { IfOk result (λ cause. IfSome cause (λ cause. cause_room cause ≤ 72)) }
     ensures memory { OnErr result (MayTakeMemory text.now number refusal) }
 {
     if wanted {
@@ -45,7 +43,6 @@ fn cause_of_wrong_line(
     properties: Properties,
 ) -> Result<Option<LineCause>, AllocError>
     ensures cause { IfOk result (λ cause. cause ≡ wrong_line_cause properties text.now number refusal) }
-    ensures short { IfOk result (λ cause. IfSome cause (λ cause. cause_room cause ≤ 72)) }
     ensures memory { OnErr result (MayTakeMemory text.now number refusal) }
 {
     match refusal {
@@ -62,8 +59,7 @@ fn cause_of_wrong_line(
 
 /// Where a label differs from the one on the line before it.
 fn cause_of_order(text: &[u8], number: u64) -> LineCause
-    ensures cause { result ≡ order_cause (points_at text.now (number - 1)) (points_at text.now number) }
-    ensures short { cause_room result ≤ 72 }
+    ensures { result ≡ order_cause (points_at text.now (number - 1)) (points_at text.now number) }
 {
     let mut before = ArrayVec::new();
     let mut label = ArrayVec::new();

@@ -1,12 +1,11 @@
 //! A table that can't be used.
 
-ghost use Rattle.std.specs.Prelude.{◌≡◌, ◌≤◌, [], ◌∷◌, Err, IfOk, IfSome, MatchOption};
+ghost use Rattle.std.specs.Prelude.{◌≡◌, [], ◌∷◌, Err, IfOk, MatchOption};
 ghost use Rattle.std.specs.Option.{option_copied};
-ghost use Rattle.idn2_refusals.specs.CauseTexts.{tail_text};
+ghost use Rattle.idn2_refusals.specs.CauseWords.{tail_text};
 ghost use Rattle.idn2_refusals.specs.TableCauses.{fault_cause, told_if};
 ghost use Rattle.idn2_output.specs.OutputLines.{Message};
 ghost use Rattle.idn2_refusals.specs.Messages.{fault_piece, table_message as table_message_of};
-ghost use Rattle.idn2_refusals.specs.CauseRoom.{cause_room};
 ghost use Rattle.idn2_output.specs.Writing.{Emits};
 ghost use Rattle.idn2_refusals.specs.TableFaults.{told_of};
 ghost use Rattle.idn_class.specs.declared.properties.Properties.{Properties};
@@ -16,9 +15,9 @@ ghost use Rattle.idn2_output.specs.declared.status.Status.TheVariants as statuse
 ghost use Rattle.idn2_output.specs.declared.stop.Stop.TheVariants as stop;
 
 use crate::cause::LineCause;
-use crate::details::details_of_refusal;
 use crate::fault_cause::fault_cause_if_wanted;
 use crate::message::{explained_message, table_message};
+use crate::told_cause::members_of;
 use idn_text::{Refusal, Sink};
 use idn2_options::Form;
 use idn2_output::{Console, Object, Status, Stop};
@@ -56,13 +55,12 @@ fn write_fault<W: Sink, E: Sink>(
     cause: Option<&LineCause>,
     console: &mut Console<'_, '_, W, E>,
 ) -> Result<(), Stop>
-    requires { IfSome cause (λ cause. cause_room cause.now ≤ 72) }
     ensures { Emits console.old console.new (fault_piece form line refusal (option_copied cause.entry) ∷ []) result }
 {
     match form {
         Form::Plain => write_message(line, &refusal, cause, console),
         Form::Json => {
-            let members = details_of_refusal(&refusal, cause);
+            let members = members_of(&refusal, cause);
             console.object(&Object::TableFault(line, refusal, &members))
         }
     }
@@ -75,7 +73,6 @@ fn write_message<W: Sink, E: Sink>(
     cause: Option<&LineCause>,
     console: &mut Console<'_, '_, W, E>,
 ) -> Result<(), Stop>
-    requires { IfSome cause (λ cause. cause_room cause.now ≤ 72) }
     ensures { Emits console.old console.new (Message (table_message_of line refusal.now (tail_text refusal.now (option_copied cause.entry))) ∷ []) result }
 {
     match cause {

@@ -14,3 +14,5 @@ pub mod NameSteps
 pub mod NameLaws
 -- What causes of names are that are looked up.
 pub mod QueryLaws
+-- What begins with "xn--" where a U-label is wanted.
+pub mod CodedSteps

@@ -69,7 +69,7 @@ pub(crate) fn is_a_label(
 
 /// Whether a label may be registered, and its A-label is the one given.
 #[tactic(auto, using(crate::proofs::NameSteps::confirmed_labels))]
-fn is_confirmed(
+pub(crate) fn is_confirmed(
     alloc: Global,
     given: &[u32],
     label: &[u32],
@@ -85,7 +85,7 @@ fn is_confirmed(
 }
 
 /// What stands after the four code points of the prefix.
-fn code_of(given: &[u32]) -> &[u32]
+pub(crate) fn code_of(given: &[u32]) -> &[u32]
     ensures { result.now ≡ drop 4 given.now }
 {
     if given.len() <= 4 { &[] } else { &given[4..] }

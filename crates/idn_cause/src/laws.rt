@@ -14,6 +14,8 @@ ghost use Rattle.idn_cause.specs.declared.cause.Cause.{Cause};
 ghost use Rattle.idn_cause.specs.declared.name.NameCause.{NameCause};
 ghost use Rattle.idn_cause.specs.declared.query.LengthCause.{LengthCause};
 ghost use Rattle.idn_cause.specs.ALabelCauses.{a_label_cause, IsALabelCause};
+ghost use Rattle.idn_text.specs.Points.{utf8_of};
+ghost use Rattle.idn_cause.specs.CodedLabels.{coded_label, IsALabelOf};
 ghost use Rattle.idn_cause.specs.Causes.{cause_of, IsCause, IsPermitted};
 ghost use Rattle.idn_cause.specs.NameCauses.{name_cause, query_cause, IsNameCause, IsQueryCause};
 ghost use Rattle.idn_cause.specs.Examples.{HaveCauses, ExamplesOfALabels, ExamplesOfLengths, causes};
@@ -38,6 +40,12 @@ pub fn a_label_causes_are_told()
     ensures always { (properties : Properties) (given : List ℕ) (refusal : Refusal) → u_label_answer properties given ≡ Err refusal →
         refusal ≢ Empty → a_label_cause properties given refusal ≢ None }
     ensures examples { ExamplesOfALabels }
+{}
+
+/// What is told of what begins with `xn--` where a U-label is wanted is the label of which it is the A-label, if there is one.
+pub fn coded_labels_are_told()
+    ensures exactly { (properties : Properties) (given utf8 : List ℕ) →
+        (coded_label properties given ≡ Some utf8) ↔ ((label : List ℕ) × IsALabelOf properties given label × (utf8 ≡ utf8_of label)) }
 {}
 
 /// What is told of a fault of a name that is decoded is its cause, and nothing else is. Each fault but `Empty` has a

@@ -4,6 +4,7 @@
 
 mod a_label;
 mod cause;
+mod coded;
 mod label;
 mod laws;
 mod lengths;
@@ -14,9 +15,11 @@ mod query;
 
 pub use a_label::{ALabelCause, a_label_cause};
 pub use cause::Cause;
+pub use coded::{LabelUtf8, coded_label};
 pub use label::cause_of;
 pub use laws::{
-    a_label_causes_are_told, causes_are_told, name_causes_are_told, query_causes_are_told,
+    a_label_causes_are_told, causes_are_told, coded_labels_are_told, name_causes_are_told,
+    query_causes_are_told,
 };
 pub use name::{NameCause, name_cause};
 pub use query::{LengthCause, query_cause};

@@ -1,6 +1,6 @@
 //! The lines of the input, one after another.
 
-ghost use Rattle.std.specs.Prelude.{◌≡◌, ◌≢◌, ◌≤◌, ◌^◌, IfOk, Err};
+ghost use Rattle.std.specs.Prelude.{◌≡◌, ◌≢◌, IfOk, Err};
 ghost use Rattle.std.specs.Result.{is_err};
 ghost use Rattle.idn_text.specs.Reading.{IsUnread, line_at};
 ghost use Rattle.idn2_output.specs.Writing.{Emits, StopsForMemory};
@@ -61,8 +61,7 @@ fn serve_line<M: Answering, R: Source, W: Sink, E: Sink>(
     buffers: &mut Buffers,
     console: &mut Console<'_, '_, W, E>,
 ) -> Result<bool, Stop>
-    requires ready { M.is_ready mode.now }
-    requires few { (line_at input.now).number ≤ 2 ^ 32 }
+    requires { M.is_ready mode.now }
     ensures written { Emits console.old console.new
         (line_output form (explained_by explaining.now) (M.answer_of mode.now) (line_at input.now)) result }
     ensures refused { IfOk result (λ refused. refused ≡ is_err (line_answer (M.answer_of mode.now) (line_at input.now).body)) }

@@ -12,6 +12,9 @@ returns-clause-fields c =
     let octets = if_given (codes "octets") count told.octets in
     let alabel = if_given (codes "alabel") text (option_copied told.alabel) in
     let byte = if_given (codes "byte") count told.byte in
-    more_fields old (code_points ++ octets ++ alabel) byte
+    let ulabel = if_given (codes "ulabel") text (option_copied told.ulabel) in
+    more_fields old (code_points ++ octets ++ alabel ++ byte) ulabel
+    (more_fields old (code_points ++ octets ++ alabel) byte
     (more_fields old (code_points ++ octets) alabel (more_fields old code_points octets c.put_number_if-octets.ensures.field c.put_number_if-alabel.ensures.field) c.put_text_if-byte.ensures.field)
-    c.put_number_if.ensures.field
+    c.put_number_if-ulabel.ensures.field)
+    c.put_text_if.ensures.field

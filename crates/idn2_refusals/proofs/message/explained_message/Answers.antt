@@ -1,13 +1,15 @@
 use Rattle.std.proofs.Common.{ℕ, [], ◌∷◌, length, length-append, ap, decimal, arith}
 use Rattle.idn_text.specs.Refusals.{refusal_number, refusal_text}
-use Rattle.idn2_refusals.specs.CauseTexts.{line_cause_text}
-use Rattle.idn2_refusals.proofs.CauseLemmas.{refusal_text-short}
+use Rattle.idn2_refusals.specs.CauseParts.{parts_of}
+use Rattle.idn2_refusals.specs.CauseWords.{cause_words}
+use Rattle.idn2_refusals.proofs.CauseLemmas.{number_digits, refusal_text-short}
 use Rattle.idn2_refusals.proofs.WrongLineLemmas.{appended}
 use Rattle.idn2_refusals.proofs.message.explained_message.Goals as goal
 
-pub push_line_cause-requires : goal.push_line_cause-requires
-push_line_cause-requires c =
+pub push_cause-requires-clause-room : goal.push_cause-requires-clause-room
+push_cause-requires-clause-room c =
     let text = refusal_text-short c.args.refusal.now in
+    let digits = number_digits c.args.number (omega arith) in
     omega (
       arith,
       ap length c.append-7.ensures,
@@ -30,9 +32,10 @@ push_line_cause-requires c =
 pub append-requires-8 : goal.append-requires-8
 append-requires-8 c =
     let text = refusal_text-short c.args.refusal.now in
+    let digits = number_digits c.args.number (omega arith) in
     omega (
       arith,
-      c.push_line_cause.ensures.short,
+      c.push_cause.ensures.end,
       ap length c.append-7.ensures,
       ap length c.append-6.ensures,
       ap length c.append-5.ensures,
@@ -54,7 +57,8 @@ pub returns : goal.returns
 returns c =
     rw (
       c.append-8.ensures,
-      c.push_line_cause.ensures.items,
+      c.push_cause.ensures.items,
+      c.told_cause.ensures.parts,
       c.append-7.ensures,
       c.append-6.ensures,
       c.append-5.ensures,
@@ -71,4 +75,4 @@ returns c =
       c.as_bytes-3.ensures.value,
       c.text.ensures,
     )
-    (appended c.args.before.now (decimal c.args.number) (58 ∷ 32 ∷ []) (decimal (refusal_number c.args.refusal.now)) (32 ∷ []) (refusal_text c.args.refusal.now) (58 ∷ 32 ∷ []) (line_cause_text c.args.refusal.now c.args.cause.now) (10 ∷ []))
+    (appended c.args.before.now (decimal c.args.number) (58 ∷ 32 ∷ []) (decimal (refusal_number c.args.refusal.now)) (32 ∷ []) (refusal_text c.args.refusal.now) (58 ∷ 32 ∷ []) (cause_words (parts_of c.args.refusal.now c.args.cause.now)) (10 ∷ []))

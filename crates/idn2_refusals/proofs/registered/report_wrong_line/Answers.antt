@@ -1,14 +1,6 @@
-use Rattle.std.specs.Prelude.{◌≤◌, codes}
-use Rattle.std.proofs.Common.{arith, ◌∙◌, ℕ, List, subst}
+use Rattle.std.proofs.Common.{◌∙◌, ℕ, List, subst}
 use Rattle.idn2_refusals.specs.Reports.{TellsWrong}
-use Rattle.idn2_refusals.specs.CauseRoom.{cause_room}
-use Rattle.idn2_refusals.proofs.CauseLemmas.{other_has_room}
 use Rattle.idn2_refusals.proofs.registered.report_wrong_line.Goals as goal
-
-pub explained_message-message-requires : goal.explained_message-message-requires
-explained_message-message-requires g c =
-    let few : cause_room c.in-Some.cause.now ≤ 72 = rw c.in-Some.is at c.requires in
-    other_has_room (codes "idn2: registered line ") c.args.line c.in-Some.cause.now (omega arith) (omega arith) few
 
 pub returns-in-Some : goal.returns-in-Some
 returns-in-Some g c =
