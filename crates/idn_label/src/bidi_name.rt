@@ -7,7 +7,7 @@ ghost use Rattle.idna.specs.Labels.{labels_of};
 ghost use Rattle.idna.specs.Validity.{passes_bidi};
 ghost use Rattle.idn_label.specs.Decode.{name_fault};
 ghost use Rattle.idn_label.specs.inner.BidiNames.{EachPassesIfRtl, PassesIfRtl, begins_rtl};
-ghost use Rattle.idn_label.specs.inner.BidiNames.{is_lowercase, is_lowercase_or_digit};
+ghost use Rattle.idn_label.specs.inner.BidiNames.{is_lowercase, is_lowercase_or_digit, is_rtl_letter};
 
 use crate::bidi::passes_bidi_rule;
 use crate::full_stops::label_end;
@@ -96,6 +96,10 @@ fn is_before_hebrew(name: &[u8]) -> bool
     requires { IsUtf8 name.now }
     ensures { IsTrue result → list_any (λ c. is_rtl (bidi_class c)) (chars name.now) ≡ false }
 {
+    // Names past Cyrillic mostly begin so.
+    if let [0xD6..=0xFF, ..] = name {
+        return false;
+    }
     let mut is_before = true;
     for octet in name {
         is_before &= *octet < 0xD6;
@@ -137,6 +141,9 @@ fn utf8_label_passes(label: &[u8], are_rtl_tested: bool) -> bool
     if are_rtl_tested && begins_rtl(label) {
         return true;
     }
+    if has_rtl_letters_alone(label) {
+        return true;
+    }
     read_label_passes(label)
 }
 
@@ -168,6 +175,32 @@ fn is_lowercase_or_digit(octet: u8) -> bool
     ensures { result ≡ is_lowercase_or_digit octet }
 {
     matches!(octet, 0x61..=0x7A | 0x30..=0x39)
+}
+
+/// Whether a label in UTF-8 has only letters of Hebrew and Arabic, which are R or AL, and so meets the rule.
+#[inline]
+fn has_rtl_letters_alone(label: &[u8]) -> bool
+    requires { IsUtf8 label.now }
+    ensures { IsTrue result → passes_bidi_rule (chars label.now) ≡ true }
+{
+    let mut at = 0;
+    while at < label.len() {
+        let Some((c, next)) = character_at(label, at) else {
+            unreachable!()
+        };
+        if !is_rtl_letter(c) {
+            return false;
+        }
+        at = next;
+    }
+    true
+}
+
+#[inline]
+fn is_rtl_letter(c: char) -> bool
+    ensures { result ≡ is_rtl_letter c }
+{
+    matches!(c, '\u{5D0}'..='\u{5EA}' | '\u{620}'..='\u{64A}' | '\u{671}'..='\u{6D3}')
 }
 
 /// Whether a label in UTF-8 begins with R, AL or AN.

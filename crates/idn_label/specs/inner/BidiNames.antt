@@ -33,3 +33,7 @@ is_lowercase octet = nat_le 0x61 octet && nat_le octet 0x7A
 
 abbrev pub is_lowercase_or_digit : ℕ → Bool
 is_lowercase_or_digit octet = is_lowercase octet || nat_le 0x30 octet && nat_le octet 0x39
+
+-- letters of Hebrew and Arabic, each R or AL
+abbrev pub is_rtl_letter : ℕ → Bool
+is_rtl_letter c = nat_le 0x5D0 c && nat_le c 0x5EA || nat_le 0x620 c && nat_le c 0x64A || nat_le 0x671 c && nat_le c 0x6D3
