@@ -33,7 +33,7 @@ DECIDED = (r"`[^`]*`", r"RFC \d+(, section \d+)?", "UTS #46", r"docs/idn2\.1", r
            r"the Arabic block \(U\+0600 to 06FF\)", r"refuses (that name|it) with (17|20)", "more than 63 code points")
 
 # Bounds that documents state, each with the clause of a contract or a definition that has it.
-EDGES = ("crates/variant_list/src/net.rt", "result ≤ 68544")
+EDGES = ("crates/variant_list/src/net.rt", "result ≤ 326592")
 JUMP = ("crates/variant_list/src/search.rt", "≤ looks.old + 189 * length self.old.net.edges")
 FITS = ("crates/idn_punycode/src/lengths.rt", "utf8_len ≤ 30 → IsTrue result")
 FILE = ("crates/registered_labels/src/labels.rt", "const MAX_TEXT_LEN: usize = 0xFFFF_FFFF;")
@@ -43,8 +43,8 @@ BOUNDS = {
     ("docs/DECISIONS.md", "the octets of the label in UTF-8, where there are at most 30"): FITS,
     ("docs/PROOFS.md", "up to 30 octets the answer is yes"): FITS,
     ("docs/DECISIONS.md", "A name of at most 254 ASCII letters"): ("crates/idn_label/src/query/ldh.rt", "len ≤ 254"),
-    ("docs/PROOFS.md", "how many edges its variant graph has, at most 68,544"): EDGES,
-    ("docs/LISTING.md", "at most 68,544 edges"): EDGES,
+    ("docs/PROOFS.md", "how many edges its variant graph has, at most 326,592"): EDGES,
+    ("docs/LISTING.md", "at most 326,592 edges"): EDGES,
     ("docs/PROOFS.md", "tests at most 256 times as many edges"):
         ("crates/variant_list/src/cursor.rt", "≤ 256 * self.old.net.edges"),
     ("docs/PROOFS.md", "126 times are proved of one search"):

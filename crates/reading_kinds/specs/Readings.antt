@@ -53,7 +53,7 @@ pub record IsSubstitution (room : ℕ) (u : Substitution) : Type 0 where
   pub filled : 1 ≤ length u.points
   pub short : length u.points ≤ 8
 
--- substitutions that end within the label, at most 136 at each place
+-- substitutions that end within the label, at most 648 at each place
 abbrev pub AreSubstitutions : List (List Substitution) → Type 0
 AreSubstitutions [] = Unit {0}
-AreSubstitutions (here ∷ later) = All (IsSubstitution (length later + 1)) here × (length here ≤ 136) × AreSubstitutions later
+AreSubstitutions (here ∷ later) = All (IsSubstitution (length later + 1)) here × (length here ≤ 648) × AreSubstitutions later

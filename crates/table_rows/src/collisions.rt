@@ -57,7 +57,7 @@ fn labels_of(alloc: Global, search: &mut Collisions<'_, '_>) -> Result<String, F
 }
 
 /// Puts the characters of a label and a space after a text.
-fn push_label(text: &mut String, label: &[u32]) -> Result<(), Fail> {
+pub fn push_label(text: &mut String, label: &[u32]) -> Result<(), Fail> {
     for point in label {
         text.push(char::from_u32(*point).ok_or("no character")?)?;
     }

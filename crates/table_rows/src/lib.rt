@@ -13,6 +13,8 @@ mod fault_places;
 #[cfg(test)]
 mod fault_texts;
 #[cfg(test)]
+mod near;
+#[cfg(test)]
 mod nets;
 #[cfg(test)]
 mod readings;

@@ -124,7 +124,7 @@ cut_short (u ∷ cut) (here ∷ later) are cuts =
 pub spelled_short : (substitutions : List (List Substitution)) (v : List ℕ) → AreSubstitutions substitutions → length substitutions ≤ 63 → SubstitutionsSpell substitutions v → length v ≤ 504
 spelled_short substitutions v are few s = omega (arith, cut_short s.0 substitutions are s.1, ap length s.2, few)
 
-pub substitution_edges_few : (substitutions : List (List Substitution)) → AreSubstitutions substitutions → substitution_edges substitutions ≤ 1088 * length substitutions
+pub substitution_edges_few : (substitutions : List (List Substitution)) → AreSubstitutions substitutions → substitution_edges substitutions ≤ 5184 * length substitutions
 substitution_edges_few [] are = omega arith
 substitution_edges_few (here ∷ later) are =
     let each : (k : ℕ) (d : Substitution) → k < length here → length (get_or here k d).points ≤ 8 =

@@ -63,7 +63,7 @@ spelled_within (suc n) (here ∷ later) v are short =
 pub spelled_by-SubstitutionsSpell : (substitutions : List (List Substitution)) (v : List ℕ) → AreSubstitutions substitutions → Contains (spelled_by substitutions) v ↔ SubstitutionsSpell substitutions v
 spelled_by-SubstitutionsSpell substitutions v are = spelled_within (length substitutions) substitutions v are (omega arith)
 
-length-of_flat_map : {X Y : Type 0} (f : X → List Y) (h : X → ℕ) → ((x : X) → length (f x) ≡ h x) → (xs : List X) → length (flat_map f xs) ≡ sum_by h xs
+pub length-of_flat_map : {X Y : Type 0} (f : X → List Y) (h : X → ℕ) → ((x : X) → length (f x) ≡ h x) → (xs : List X) → length (flat_map f xs) ≡ sum_by h xs
 length-of_flat_map f h each [] = refl
 length-of_flat_map f h each (x ∷ xs) =
     length-append (f x) (flat_map f xs) ∙ ap (λ n. n + length (flat_map f xs)) (each x) ∙ ap (λ n. h x + n) (length-of_flat_map f h each xs) ∙ sym (sum_by-cons h x xs)
@@ -107,7 +107,7 @@ module _ (part : Part) (table : TableValue) (label : List ℕ) (formed : IsWellF
   AreSubstitutions-from place zero whole = tt
   AreSubstitutions-from place (suc n) whole = (
     λ k d l. is_substitution place n (get_or (substitutions_at part table label place) k d) whole (Contains-get_or (substitutions_at part table label place) k d l),
-    few_substitutions place,
+    omega (arith, few_substitutions place),
     AreSubstitutions-from (suc place) n (omega (arith, whole)),
   )
 

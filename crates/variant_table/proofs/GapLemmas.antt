@@ -92,7 +92,7 @@ flat_map-member f (z ∷ xs) x y h k = step (Contains-cases z xs x h) (λ m. fla
     step (inl s) rest = Contains-append_left (f z) (flat_map f xs) y (subst (λ w. Contains (f w) y) (sym s) k)
     step (inr m) rest = Contains-append_right (f z) (flat_map f xs) y (rest m)
 
-any-cases : (v : List ℕ) (xs : List (List ℕ)) → list_any (bytes_eq v) xs ≡ true → Contains xs v
+pub any-cases : (v : List ℕ) (xs : List (List ℕ)) → list_any (bytes_eq v) xs ≡ true → Contains xs v
 any-cases v [] e = absurd cc
 any-cases v (x ∷ xs) e = step (bytes_eq v x) refl e (any-cases v xs)
   where
@@ -100,7 +100,7 @@ any-cases v (x ∷ xs) e = step (bytes_eq v x) refl e (any-cases v xs)
     step true f g rest = subst (Contains (x ∷ xs)) (sym ((bytes_eq-Decides v x).0 f)) (Contains-head x xs)
     step false f g rest = Contains-later x xs v (rest g)
 
-any-member : (v : List ℕ) (xs : List (List ℕ)) → Contains xs v → list_any (bytes_eq v) xs ≡ true
+pub any-member : (v : List ℕ) (xs : List (List ℕ)) → Contains xs v → list_any (bytes_eq v) xs ≡ true
 any-member v [] h = absurd (Contains-none v h)
 any-member v (x ∷ xs) h = step (bytes_eq v x) refl (Contains-cases x xs v h) (any-member v xs)
   where

@@ -18,7 +18,7 @@ pub record IsNetOf (substitutions : List (List Substitution)) (plan : Plan) : Ty
 pub record IsNet (plan : Plan) : Type 0 where
   pub some : (v : List ℕ) × Reads plan (first_place plan) v
   pub short : (v : List ℕ) → Reads plan (first_place plan) v → length v ≤ 504
-  pub few : length plan.edges ≤ 68544
+  pub few : length plan.edges ≤ 326592
   pub room : length plan.rests ≤ length plan.edges + 64
 
 -- ---- what contracts see of a variant graph

@@ -1,0 +1,35 @@
+-- The laws of near labels.
+use Rattle.std.proofs.Common.{◌≡◌, inl, inr, ℕ, ◌+◌, List, [], ◌∷◌, ◌++◌, length, refl, sym, ap, ◌∙◌}
+use Rattle.std.specs.List.{Contains, AllByRecursion, flat_map}
+use Rattle.variant_table.specs.Entries.{Entry, TableValue}
+use Rattle.variant_list.specs.Closure.{GoTogether, PairUp, AreNear}
+use Rattle.variant_list.specs.Parts.Part.{Whole}
+use Rattle.variant_list.specs.Spelling.{JoinsReplacements, Spells}
+use Rattle.variant_list.proofs.PartLemmas.{Replaces-of_entry}
+
+joins_near : (table : TableValue) (label : List ℕ) (segmentation : List Entry) (place : ℕ) (v : List ℕ) → AllByRecursion (Contains table.entries) segmentation → JoinsReplacements Whole table label place segmentation v
+    → (parts : List (List ℕ)) × (others : List (List ℕ)) × PairUp table parts others × (flat_map (λ a. a) parts ≡ flat_map (λ (e : Entry). e.source) segmentation) × (flat_map (λ b. b) others ≡ v)
+joins_near table label [] place v of joins = ([], [], tt, refl, sym joins)
+joins_near table label (e ∷ segmentation) place v of joins =
+    let r : List ℕ = joins.0 in
+    let rest = joins_near table label segmentation (place + length e.source) joins.1 of.1 joins.3 in (
+      e.source ∷ rest.0,
+      r ∷ rest.1,
+      ((e, of.0, inl (refl, Replaces-of_entry Whole table label place e r joins.2)), rest.2),
+      ap (λ w. e.source ++ w) rest.3,
+      ap (λ w. r ++ w) rest.4 ∙ sym joins.4,
+    )
+
+pub AreNear-spelled : (table : TableValue) (label v : List ℕ) → Spells table label v → AreNear table label v
+AreNear-spelled table label v s = let g = joins_near table label s.0 0 v s.1.of_table s.2 in (g.0, g.1, g.2, g.3 ∙ s.1.joined, g.4)
+
+pairs_turned : (table : TableValue) (parts others : List (List ℕ)) → PairUp table parts others → PairUp table others parts
+pairs_turned table [] [] pairs = tt
+pairs_turned table [] (b ∷ others) pairs = absurd pairs
+pairs_turned table (a ∷ parts) [] pairs = absurd pairs
+pairs_turned table (a ∷ parts) (b ∷ others) pairs =
+    let g : GoTogether table a b = pairs.0 in
+    ((g.0, g.1, elim g.2 [ inl l ↦ inr l | inr r ↦ inl r ]), pairs_turned table parts others pairs.1)
+
+pub AreNear-turned : (table : TableValue) (v w : List ℕ) → AreNear table v w → AreNear table w v
+AreNear-turned table v w n = (n.1, n.0, pairs_turned table n.0 n.1 n.2, n.4, n.3)

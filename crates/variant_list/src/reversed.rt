@@ -1,0 +1,189 @@
+//! The pairs of a table that lack their reverse, turned round.
+ghost use Rattle.std.specs.Prelude.{◌≡◌, ◌≤◌, ◌↔◌, ℕ, [], ◌∷◌, ◌++◌, List, length, Contains, IsTrue, IfOk, IfErr, OnOk};
+ghost use Rattle.variant_table.specs.Gaps.{IsPair};
+ghost use Rattle.variant_list.specs.Reversed.{AreReversedOf, AreFew, IsCrowded, sources_of};
+ghost use Rattle.variant_list.specs.declared.reversed.ReversedFault.TheVariants.{TooManySources};
+ghost use Rattle.variant_list.specs.inner.Turned.{sequences_of, groups_of, AreSound, AreTurned, Adds, Puts, Turns, HasNoRoom};
+
+use std::alloc::{AllocError, Global};
+use std::collections::BTreeMap;
+use std::marker::Model;
+use thiserror::Error;
+use variant_table::{Entry, Table};
+
+/// A sequence is a variant of at most so many sources that aren't variants of it.
+const SOURCE_LIMIT: usize = 64;
+
+/// The sources that have a sequence as a variant and aren't variants of it. A table without gaps has none.
+#[derive(Drop)]
+pub struct Reversed {
+    sources: Sources,
+}
+
+/// Sequences, and the sources of which each is a variant.
+type Sources = BTreeMap<Vec<u32>, Vec<Vec<u32>>>;
+
+impl Model for Reversed {
+    ghost use Rattle.std.specs.Prelude.{List};
+    ghost use Rattle.variant_list.specs.Reversed.{Group, AreFew};
+    ghost use Rattle.variant_list.specs.inner.Turned.{groups_of};
+
+    ghost Value = { List Group };
+
+    ghost view = { λ r. groups_of r.sources.entries };
+
+    ghost invariant = { λ r. AreFew (groups_of r.sources.entries) };
+}
+
+/// Why the pairs of a table aren't turned round.
+#[derive(Clone, Copy, PartialEq, Eq, Debug, Drop, Error)]
+pub enum ReversedFault {
+    /// Some sequence is a variant of too many sources.
+    #[error("too many sources")]
+    TooManySources,
+    /// Memory was refused.
+    #[error("out of memory")]
+    Memory,
+}
+
+impl From<AllocError> for ReversedFault {
+    ghost use Rattle.std.specs.Prelude.{◌≡◌};
+    ghost use Rattle.variant_list.specs.declared.reversed.ReversedFault.TheVariants.{Memory};
+
+    ghost from_gives = { λ _ fault. fault ≡ Memory };
+
+    fn from(_: AllocError) -> ReversedFault {
+        ReversedFault::Memory
+    }
+}
+
+impl Reversed {
+    /// The pairs of a table. `TooManySources` comes exactly where a sequence is a variant of more than 64 sources that
+    /// aren't variants of it, and `Memory` only where memory was refused.
+    pub fn of_table(alloc: Global, table: &Table) -> Result<Reversed, ReversedFault>
+        ensures pairs { IfOk result (AreReversedOf table.now.entries) }
+        ensures few { IfOk result AreFew }
+        ensures crowded { IfErr result
+            (λ fault. fault ≡ TooManySources → (a : List ℕ) × IsCrowded table.now.entries a) }
+    {
+        let mut sources = BTreeMap::new(alloc);
+        for number in 0..table.len() {
+            add_entry(alloc, table, &table.entry(number), &mut sources)?;
+        }
+        Ok(Reversed { sources })
+    }
+
+    /// The sources of which a sequence is a variant, and that aren't variants of it.
+    pub fn sources(&self, sequence: &[u32]) -> &[Vec<u32>]
+        ensures sources { sequences_of result.now ≡ sources_of self.now sequence.now }
+        ensures few { length result.now ≤ 64 }
+    {
+        match self.sources.get(sequence) {
+            Some(sources) => sources,
+            None => &[],
+        }
+    }
+}
+
+/// Adds the pairs of an entry that lack their reverse.
+fn add_entry(
+    alloc: Global,
+    table: &Table,
+    entry: &Entry<'_>,
+    sources: &mut Sources,
+) -> Result<(), ReversedFault>
+    requires in_table { Contains table.now.entries entry.now }
+    requires sound { AreSound (groups_of sources.old.entries) }
+    requires turned { AreTurned table.now.entries (groups_of sources.old.entries) }
+    ensures adds { OnOk result
+        (Adds (groups_of sources.old.entries) (groups_of sources.new.entries) (Turns table.now.entries entry.now)) }
+    ensures sound { OnOk result (AreSound (groups_of sources.new.entries)) }
+    ensures crowded { IfErr result (λ fault. fault ≡ TooManySources → (a : List ℕ) × IsCrowded table.now.entries a) }
+{
+    let source = entry.source();
+    for number in 1..entry.replacements() {
+        let variant = entry.replacement(number);
+        if !is_pair(table, variant, source) {
+            add(alloc, sources, variant, source)?;
+        }
+    }
+    Ok(())
+}
+
+/// Whether a sequence is a source, and another one its variant.
+fn is_pair(table: &Table, source: &[u32], variant: &[u32]) -> bool
+    ensures { IsTrue result ↔ IsPair table.now.entries source.now variant.now }
+{
+    match table.find(source) {
+        Some(entry) => entry.has_variant(variant),
+        None => false,
+    }
+}
+
+/// Adds a source to those of a variant, unless it is there.
+fn add(
+    alloc: Global,
+    sources: &mut Sources,
+    variant: &[u32],
+    source: &[u32],
+) -> Result<(), ReversedFault>
+    requires sound { AreSound (groups_of sources.old.entries) }
+    ensures adds { OnOk result
+        (Adds (groups_of sources.old.entries) (groups_of sources.new.entries)
+        (λ a b. (a ≡ variant.now) × (b ≡ source.now))) }
+    ensures sound { OnOk result (AreSound (groups_of sources.new.entries)) }
+    ensures no_room { IfErr result
+        (λ fault. fault ≡ TooManySources → HasNoRoom (groups_of sources.old.entries) variant.now source.now) }
+{
+    let mut of_variant = match sources.remove(variant) {
+        Some(of_variant) => of_variant,
+        None => Vec::new(alloc),
+    };
+    if !has(&of_variant, source) {
+        if of_variant.len() >= SOURCE_LIMIT {
+            return Err(ReversedFault::TooManySources);
+        }
+        push_copy(alloc, &mut of_variant, source)?;
+    }
+    put(alloc, sources, variant, of_variant)?;
+    Ok(())
+}
+
+/// Whether a sequence is one of these.
+fn has(sequences: &[Vec<u32>], sequence: &[u32]) -> bool
+    ensures { IsTrue result ↔ Contains (sequences_of sequences.now) sequence.now }
+{
+    for other in sequences {
+        if other.as_slice() == sequence {
+            return true;
+        }
+    }
+    false
+}
+
+/// Adds a copy of a sequence.
+fn push_copy(
+    alloc: Global,
+    sequences: &mut Vec<Vec<u32>>,
+    sequence: &[u32],
+) -> Result<(), AllocError>
+    ensures { OnOk result (sequences_of sequences.new.items ≡ sequences_of sequences.old.items ++ sequence.now ∷ []) }
+{
+    sequences.push(Vec::from_slice(alloc, sequence)?)?;
+    Ok(())
+}
+
+/// Puts the sources of a variant that has none.
+fn put(
+    alloc: Global,
+    sources: &mut Sources,
+    variant: &[u32],
+    of_variant: Vec<Vec<u32>>,
+) -> Result<(), AllocError>
+    ensures { OnOk result
+        (Puts (groups_of sources.old.entries) (groups_of sources.new.entries) variant.now
+        (sequences_of of_variant.items)) }
+{
+    sources.insert(Vec::from_slice(alloc, variant)?, of_variant)?;
+    Ok(())
+}
