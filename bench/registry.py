@@ -61,17 +61,16 @@ def measure(options, folder):
     labels = registered.german_words(options.labels)
     (folder / "labels.txt").write_text("".join(f"{label}\n" for label in labels), "utf-8")
     command = [sys.executable, "-m", "idn2_registry"]
+    alone = sum(processor_time([options.ours, *words], folder, folder / "labels.txt") for words in (
+        ["--register"], ["--variants", registered.GERMAN, "--among", "labels.txt"]))
     for register in filter(None, ("sqlite:register.db", options.postgresql)):
         (folder / "registry.toml").write_text(f'register = "{register}"\n[tables]\nde = "{registered.GERMAN}"\n', "utf-8")
         load = processor_time([*command, "load", "--idn2", options.ours, "labels.txt"], folder)
         middle, worst = checks(options, folder, labels)
+        audit = processor_time([*command, "audit", "--idn2", options.ours], folder)
         kind = register.partition(":")[0]
         print(f"{kind}: load {load:.1f} s; check {middle:.2f} ms ({CHECK_WANTED} wanted), at worst {worst:.2f} ms "
-              f"({WORST_WANTED} wanted)")
-    audit = processor_time([*command, "audit", "--idn2", options.ours], folder)
-    alone = sum(processor_time([options.ours, *words], folder, folder / "labels.txt") for words in (
-        ["--register"], ["--variants", registered.GERMAN, "--among", "labels.txt"]))
-    print(f"audit: {audit / alone:.2f} times the program's own {alone:.1f} s ({AUDIT_WANTED} wanted)")
+              f"({WORST_WANTED} wanted); audit {audit / alone:.2f} times the program's own {alone:.1f} s ({AUDIT_WANTED} wanted)")
 
 
 if __name__ == "__main__":

@@ -7,13 +7,14 @@ rulesets and tables of the notation (drawn_rulesets.py). Before them come all ta
 of tests/. What is published has to read back to the same table, or is refused by a line that names why:
 
     to the letter    the canonical text of what is read back is that of the table, wherever its definitions stand
-    the same         else: what is read back is published to the letter, and the program lists the same under both, of labels
-                     that are drawn from the XML; sets lose what no label has, and definitions that nothing names go
+    the same         else: what is read back is published to the letter but for names of tags, and the program lists the same
+                     under both, of labels that are drawn from the XML; sets lose what no label has, and what nothing names goes
 
 The counts are printed, and of the refusals those by each reason. Status 1 where anything else comes out."""
 
 import argparse
 import collections
+import dataclasses
 import functools
 import itertools
 import multiprocessing
@@ -34,6 +35,7 @@ from lgr import command
 from lgr.program import Program as ConvertingProgram
 from lgr.ruleset import Fault
 from notation import canonical
+from notation.ruleset import Entry, Ruleset
 from rfc7940 import reader
 from rfc7940.drawn_labels import DrawnLabels
 from rich_ruleset import RichRuleset
@@ -99,9 +101,19 @@ def converted(xml: bytes, program: ConvertingProgram) -> bytes | None:
     return made
 
 
-def is_letter(one: ParsedTable, other: ParsedTable) -> bool:
+def with_tags_by_use(ruleset: Ruleset) -> Ruleset:
+    """The ruleset with other names of its tags: numbers, by what has them."""
+    entries = list(ruleset.entries.values())
+    users = {tag: [tag in mapped.tags for entry in entries for mapped in entry.mapped()] for tag in ruleset.tags}
+    names = {tag: f"t{number}" for number, tag in enumerate(sorted(users, key=users.__getitem__))}
+    renamed = lambda mapped: dataclasses.replace(mapped, tags=tuple(sorted(names[tag] for tag in mapped.tags)))
+    made = {entry.source.points: Entry(renamed(entry.source), tuple(map(renamed, entry.variants))) for entry in entries}
+    return dataclasses.replace(ruleset, tags=sorted(names.values()), entries=made)
+
+
+def is_letter(one: Ruleset, other: Ruleset) -> bool:
     """Whether both have the same canonical text, wherever their definitions stand."""
-    first, second = (canonical.text_of(each.ruleset).splitlines() for each in (one, other))
+    first, second = (canonical.text_of(each).splitlines() for each in (one, other))
     definitions = [sorted(line for line in lines if line.startswith(("%tag", "%set", "%rule"))) for lines in (first, second)]
     rest = [[line for line in lines if not line.startswith(("%tag", "%set", "%rule"))] for lines in (first, second)]
     return definitions[0] == definitions[1] and rest[0] == rest[1]
@@ -125,10 +137,10 @@ class Publishing:
             return str(error)
         parsed = ParsedTable.read(table)
         back = self.back(xml, parsed)
-        if is_letter(parsed, back):
+        if is_letter(parsed.ruleset, back.ruleset):
             return LETTER
         again = publish(Table("drawn", self.path, back.table.data), Form.XML, None, self.program)
-        assert is_letter(back, self.back(again, back)), (text, back.table.data)
+        assert is_letter(*map(with_tags_by_use, (back.ruleset, self.back(again, back).ruleset))), (text, back.table.data)
         labels = [label for label in DrawnLabels(reader.read(xml)).labels() if label[2:4] != "--" and "\n" not in label]
         assert self.listed(table, labels) == self.listed(back.table, labels), (text, back.table.data)
         return SAME

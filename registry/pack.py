@@ -13,7 +13,7 @@ TABLES = HERE.parent / "tables"
 # The converter, with the evaluator that verifies it, and what it stands on.
 PACKAGES = (HERE / "idn2_registry", TABLES / "lgr", TABLES / "rfc7940", TABLES / "notation")
 MODULES = (TABLES / "unicode_data.py",)
-SUFFIXES = (".py", ".typed", ".txt", ".css", ".js")
+SUFFIXES = (".py", ".typed", ".txt", ".css", ".js", ".svg")
 NAME_FILE = "idn2_registry/program_name.txt"
 START = """import sys
 

@@ -110,7 +110,7 @@ def installs_nothing_of_an_archive_with_a_wrong_sum(folder):
     pasted = "\n".join(block).replace("/usr/local/", "installed/")
     assert pasted.endswith(" installed/"), pasted
     pasted = pasted.replace(" installed/", f" '{os.path.join(kit.folder, 'installed')}'")
-    make = (f"mkdir -p installed {packed}/bin {packed}/share && echo program > {packed}/bin/idn2 && cd {packed} &&"
+    make = (f"mkdir -p installed {packed}/bin {packed}/lib {packed}/share && echo program > {packed}/bin/idn2 && cd {packed} &&"
             " sha256sum bin/idn2 > SHA256SUMS && {0} cd .. && tar czf {1} {2} && rm -r {2} && sha256sum {1} > {1}.sha256 && {3}")
     for inner, outer, is_whole in (("true &&", "true", True), ("echo other > bin/idn2 &&", "true", False),
                                    ("rm bin/idn2 &&", "true", False), ("rm SHA256SUMS &&", "true", False),

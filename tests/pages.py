@@ -569,7 +569,7 @@ def reads_as_much_of_a_file_as_can_matter(folder):
 
 def names_only_paths_that_are_there(folder):
     """Each document of the repository; what is built is left out."""
-    documents = [*glob.glob(os.path.join(ROOT, "*.md")), *glob.glob(os.path.join(ROOT, "docs", "*"))]
+    documents = [*glob.glob(os.path.join(ROOT, "*.md")), *glob.glob(os.path.join(ROOT, "docs", "*.*"))]
     named = {path for document in documents for path in named_paths(document) if not BUILT.fullmatch(path)}
     named |= {"crates/" + path for path in re.findall(r"\b\w+/specs/[\w/]+\.antt", text_of("docs", "DEFINITIONS.md"))}
     absent = [path for path in sorted(named) if not os.path.exists(os.path.join(ROOT, path))]

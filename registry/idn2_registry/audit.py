@@ -129,7 +129,7 @@ class Findings:
 def groups_of(pairs: Iterable[tuple[Each, Each]]) -> list[list[Each]]:
     """Groups of labels, or of sequences, that pairs connect, each in order, and by their first ones."""
     joined: dict[Each, list[Each]] = {}
-    for pair in pairs:
+    for pair in {(min(pair), max(pair)) for pair in pairs}:
         groups = {id(group): group for group in (joined.get(label, [label]) for label in pair)}
         whole = max(groups.values(), key=len)
         for group in groups.values():
@@ -144,32 +144,31 @@ def findings(program: Program, admitting: Sequence[Table], zone: Table, holdings
     """All that is wrong with the labels of a register under some tables. The program reads no registered labels with one that
     may not be registered. Only where it says so, each label is tested alone."""
     try:
-        return findings_among(program, admitting, zone, holdings.lines, means, name)
+        return findings_among(program, admitting, zone, holdings.text, means, name)
     except WrongRegistered:
-        invalid = refusals(TestTask(program), holdings.lines, means, f"{name}-test", [program.state])
-    lines = [label.encode() for label in holdings.labels if label not in invalid]
-    found = findings_among(program, admitting, zone, lines, means, f"{name}-rest")
+        invalid = refusals(TestTask(program), holdings.text, means, f"{name}-test", [program.state])
+    text = lines_of(label.encode() for label in holdings.labels if label not in invalid)
+    found = findings_among(program, admitting, zone, text, means, f"{name}-rest")
     return Findings(invalid | found.invalid, found.pairs)
 
 
-def findings_among(program: Program, admitting: Sequence[Table], zone: Table, lines: Sequence[bytes], means: Means,
-                   name: str) -> Findings:
+def findings_among(program: Program, admitting: Sequence[Table], zone: Table, text: bytes, means: Means, name: str) -> Findings:
     """The same of labels that may be registered."""
-    parts = parts_of(lines, means.lines_of_a_part(len(lines)))
+    parts = parts_of(text, means.lines_of_a_part(text.count(b"\n")))
     told = [json.loads(result) for result in
-            results(means, name, AuditTask(program, zone, b"".join(parts)), parts, [program.state, zone.data])]
+            results(means, name, AuditTask(program, zone, text), parts, [program.state, zone.data])]
     pairs = [(first, second) for each in told for first, second in each["pairs"]]
     if list(admitting) == [zone]:
         refused = [label.encode() for each in told for label in each["refused"]]
         return Findings(causes(program, admission_words(zone), refused), pairs)
     state = [program.state, *(table.data for table in admitting)]
-    return Findings(refusals(AdmissionTask(program, tuple(admitting)), lines, means, f"{name}-tables", state), pairs)
+    return Findings(refusals(AdmissionTask(program, tuple(admitting)), text, means, f"{name}-tables", state), pairs)
 
 
-def refusals(task: Task, lines: Sequence[bytes], means: Means, name: str, state: Sequence[bytes]) -> Refused:
+def refusals(task: Task, text: bytes, means: Means, name: str, state: Sequence[bytes]) -> Refused:
     """What a task refuses."""
     found: Refused = {}
-    for result in results(means, name, task, parts_of(lines), state):
+    for result in results(means, name, task, parts_of(text), state):
         found |= json.loads(result)
     return found
 
@@ -193,8 +192,8 @@ def audit(configuration: Configuration, program: Program, holdings: Holdings, me
     for group in new_groups:
         together = {"collide": [named[label].object() for label in group]}
         output.fact(together, "collide: " + ", ".join(registered_words(named[label]) for label in group), ExitStatus.NO)
-    counts = {"labels": len(holdings.labels), "invalid": len(found.invalid), "groups": len(groups)}
-    words = f"{counted(len(holdings.labels), 'label')}, {len(found.invalid)} invalid, {counted(len(groups), 'group')}"
+    counts = {"labels": holdings.count, "invalid": len(found.invalid), "groups": len(groups)}
+    words = f"{counted(holdings.count, 'label')}, {len(found.invalid)} invalid, {counted(len(groups), 'group')}"
     if since is not None:
         counts["new"] = len(new_labels) + len(new_groups)
         words += f", {counts['new']} new"

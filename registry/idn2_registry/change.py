@@ -101,7 +101,7 @@ def change(configuration: Configuration, program: Program, holdings: Holdings, m
     task = ChangeTask(program, old, new, configuration.limits)
     state = [program.state, old.data, new.data, repr(configuration.limits).encode()]
     changes: list[Object] = []
-    for result in results(means, "change", task, parts_of(holdings.lines), state):
+    for result in results(means, "change", task, parts_of(holdings.text), state):
         changes += json.loads(result)
     colliding = newly_colliding(configuration, program, holdings, means, tables, new)
     named = holdings.named([*(told["of"] for told in changes), *(label for group in colliding for label in group)], program)
@@ -112,7 +112,7 @@ def change(configuration: Configuration, program: Program, holdings: Holdings, m
     for group in colliding:
         told = {"change": "collide", "collide": [named[label].object() for label in group]}
         output.fact(told, "collide: " + ", ".join(registered_words(named[label]) for label in group), ExitStatus.NO)
-    counts = {"labels": len(holdings.labels), "changes": len(changes), "groups": len(colliding)}
+    counts = {"labels": holdings.count, "changes": len(changes), "groups": len(colliding)}
     words = [counted(counts["labels"], "label"), counted(counts["changes"], "change"), counted(counts["groups"], "group")]
     output.fact(counts, ", ".join(words), ExitStatus.YES)
 

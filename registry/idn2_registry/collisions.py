@@ -100,8 +100,8 @@ def found_in_audit(output: bytes, part: bytes, refused: Sequence[int]) -> tuple[
 
 def accepted(part: bytes, refused: Sequence[int]) -> list[bytes]:
     """The lines of a part that weren't refused."""
-    numbers = set(refused)
-    return [line for number, line in enumerate(part.split(b"\n")[:-1], 1) if number not in numbers]
+    lines, numbers = part.split(b"\n")[:-1], set(refused)
+    return [line for number, line in enumerate(lines, 1) if number not in numbers] if numbers else lines
 
 
 def refusals_in(output: bytes) -> list[Object]:

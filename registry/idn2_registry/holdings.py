@@ -2,7 +2,7 @@
 
 import json
 from collections.abc import Iterable
-from dataclasses import dataclass, field
+from dataclasses import dataclass
 from functools import cached_property
 
 from .answers import RegisteredLabel
@@ -13,21 +13,31 @@ from .register import Register
 
 @dataclass
 class Holdings:
-    """The labels of one state of a register, in label order, and those of their holders that are known."""
+    """The labels of one state of a register, in label order and each on a line, and those of their holders that are known."""
 
-    labels: list[str] = field(default_factory=list)
-    holders: dict[str, str] = field(default_factory=dict)
+    text: bytes = b""
+    held: bytes = b""
 
     @classmethod
     def read(cls, register: Register) -> "Holdings":
         """All of a register."""
-        rows = list(register.rows())
-        return cls([label for label, _ in rows], {label: holder for label, holder in rows if holder is not None})
+        return cls(*register.texts())
 
     @cached_property
-    def lines(self) -> list[bytes]:
-        """The labels as lines."""
-        return "\n".join(self.labels).encode().split(b"\n") if self.labels else []
+    def count(self) -> int:
+        """How many labels there are."""
+        return self.text.count(b"\n")
+
+    @cached_property
+    def labels(self) -> list[str]:
+        """The labels."""
+        return self.text.decode().split("\n")[:-1]
+
+    @cached_property
+    def holders(self) -> dict[str, str]:
+        """The holders by their labels."""
+        pairs = (line.partition("\t") for line in self.held.decode().split("\n")[:-1])
+        return {label: holder for label, _, holder in pairs}
 
     def named(self, labels: Iterable[str], program: Program) -> dict[str, RegisteredLabel]:
         """Labels with their A-labels and holders."""

@@ -98,7 +98,7 @@ def load(configuration: Configuration, program: Program, means: Means, path: str
     lines = lines_of(path)
     loading = Loading(registered_before(configuration), {}, [])
     number = 0
-    for result in results(means, "load", LoadTask(program), parts_of(lines), [program.state]):
+    for result in results(means, "load", LoadTask(program), parts_of(b"".join(line + b"\n" for line in lines)), [program.state]):
         for read in json.loads(result):
             number += 1
             loading.add(number, *read)

@@ -10,7 +10,7 @@ from collections.abc import Callable, Iterable, Iterator
 from typing import Any
 
 from .faults import Unknown, Unusable
-from .register import Register, Result, Row, Transaction, checked_label
+from .register import Register, Result, Row, Transaction, checked_label, checked_lines
 
 try:
     import psycopg
@@ -22,6 +22,8 @@ TABLE = """create table if not exists registered (
     label text collate "C" primary key check (label not like 'xn--%'),
     holder text
 )"""
+# So many labels are read at once.
+PAGE = 1_000_000
 FIRST = 'select label from registered where label >= %s collate "C" order by label collate "C" limit 1'
 MISSING = "there is no register: idn2-registry load FILE makes it, and load /dev/null an empty one"
 # What PostgreSQL says to a transaction that another one got in the way of. It says so of a key that both insert, too.
@@ -76,7 +78,9 @@ class PostgresqlRegister(Register):
         """A connection, whose statements have the time of a request."""
         wait = f"-c statement_timeout={math.ceil(self._seconds * 1000)}"
         try:
-            return psycopg.connect(self.uri, client_encoding="UTF8", connect_timeout=math.ceil(self._seconds), options=wait)
+            # Transactions are begun here, in one statement with their isolation.
+            return psycopg.connect(self.uri, autocommit=True, client_encoding="UTF8", connect_timeout=math.ceil(self._seconds),
+                                   options=wait)
         except psycopg.Error as error:
             raise Unknown(f"{self.name}: {first_line(error)}: start the database, or mend register") from error
 
@@ -106,7 +110,7 @@ class PostgresqlRegister(Register):
                 idle = self._idle.pop() if self._idle else None
             connection = idle or self._open()
             try:
-                connection.execute(f"set transaction isolation level {isolation}")
+                connection.execute(f"begin isolation level {isolation}")
                 return connection
             except psycopg.Error as error:
                 connection.close()
@@ -163,6 +167,13 @@ class PostgresqlRegister(Register):
                 cursor.execute('select label, holder from registered order by label collate "C"')
                 yield from cursor
 
+    def texts(self) -> tuple[bytes, bytes]:
+        # As rows a million labels take several times the time, and no text has more than 1 GB: so it is made in pages.
+        with self._session(READ) as connection:
+            connection.execute("set local statement_timeout = 0")
+            labels = b"".join(pages(connection, "label", "true"))
+            return labels, b"".join(pages(connection, "label || chr(9) || holder", "holder is not null"))
+
     def load(self, rows: Iterable[Row]) -> None:
         with self._session(CHANGE) as connection:
             connection.execute("set local statement_timeout = 0")
@@ -194,6 +205,20 @@ class PostgresqlRegister(Register):
             for connection in self._idle:
                 connection.close()
             self._idle.clear()
+
+
+def pages(connection: Connection, text: str, which: str) -> Iterator[bytes]:
+    """A text of each label of some, in label order and each on a line."""
+    query = f"""select count(*), string_agg(text, chr(10) order by label collate "C"), max(label collate "C") from (
+        select label, {text} as text from registered where {which} and label > %s collate "C" order by label collate "C"
+        limit {PAGE}) as page"""
+    last = ""
+    while True:
+        row = connection.execute(query, (last,)).fetchone()
+        count, found, last = row or (0, None, "")
+        if not count:
+            return
+        yield checked_lines(f"{found}\n".encode(), count)
 
 
 def value(connection: Connection, query: str) -> object:

@@ -8,7 +8,7 @@ from typing import TypeVar
 
 from .answers import CONTROL_CHARACTER
 from .configuration import Configuration, Reader
-from .faults import Unknown
+from .faults import Unknown, Unusable
 
 Result = TypeVar("Result")
 Row = tuple[str, str | None]
@@ -55,6 +55,11 @@ class Register(abc.ABC):
     def rows(self) -> Iterator[Row]:
         """All labels with their holders in label order, of one state of the register."""
 
+    def texts(self) -> tuple[bytes, bytes]:
+        """All labels in label order, each on a line; and those that have a holder, each with it after a tab. Of one state."""
+        rows = list(self.rows())
+        return text_of(label for label, _ in rows), text_of(f"{label}\t{holder}" for label, holder in rows if holder is not None)
+
     @abc.abstractmethod
     def load(self, rows: Iterable[Row]) -> None:
         """Adds labels, all or none, to a register that is made if there is none. Raises Unusable if one is registered."""
@@ -85,6 +90,19 @@ def open_register(configuration: Configuration, must_be: bool = True) -> Registe
         return PostgresqlRegister(configuration.register, configuration.limits.seconds, must_be)
     except ValueError as error:
         raise Reader(configuration.path).fault("register", f"{error}: write a URI as libpq takes it") from error
+
+
+def text_of(lines: Iterable[str]) -> bytes:
+    """Lines as one text. Raises Unusable for what is more than a line."""
+    each = list(lines)
+    return checked_lines("\n".join([*each, ""]).encode(), len(each))
+
+
+def checked_lines(text: bytes, count: int) -> bytes:
+    """The text, which has so many lines. Raises Unusable if it hasn't: something that a label or a holder can't have is in it."""
+    if text.count(b"\n") != count:
+        raise Unusable("the register has a label or a holder with a line feed: release it by the means of its database")
+    return text
 
 
 def checked_label(found: object, text: str) -> str:

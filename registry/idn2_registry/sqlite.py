@@ -7,7 +7,7 @@ from collections.abc import Callable, Iterable, Iterator
 from pathlib import Path
 
 from .faults import Unknown, Unusable
-from .register import Register, Result, Row, Transaction, checked_label
+from .register import Register, Result, Row, Transaction, checked_label, checked_lines
 
 TABLE = """create table if not exists registered (
     label text primary key check (typeof(label) = 'text') check (label not like 'xn--%'),
@@ -115,6 +115,17 @@ class SqliteRegister(Register):
     def rows(self) -> Iterator[Row]:
         with self._connection() as connection:
             yield from connection.execute("select label, holder from registered order by label collate binary")
+
+    def texts(self) -> tuple[bytes, bytes]:
+        # As rows a million labels take twice the time. The order of a subquery is that of what is put together of it.
+        with self._connection() as connection:
+            connection.execute("begin")
+            found = [connection.execute(f"select count(*), cast(group_concat(text, char(10)) as blob) from (select {text} as text "
+                                        f"from registered where {which} order by label collate binary)").fetchone()
+                     for text, which in (("label", "true"), ("label || char(9) || holder", "holder is not null"))]
+            connection.execute("commit")
+        labels, holders = (checked_lines((text or b"") + b"\n" * bool(count), count) for count, text in found)
+        return labels, holders
 
     def load(self, rows: Iterable[Row]) -> None:
         with self._connection("rwc") as connection:

@@ -16,8 +16,8 @@ from .program import WrongRegistered
 
 # Each part has so many lines.
 PART_LINES = 100_000
-# Of an audit, in which a part reads and tests all registered labels, so many at least.
-LEAST_AUDITED = 1_000_000
+# Of an audit, in which each part reads and tests all registered labels, up to so many.
+MOST_AUDITED = 1_000_000
 BAR = 30
 
 
@@ -40,12 +40,15 @@ class Means:
 
     def lines_of_a_part(self, count: int) -> int:
         """How many lines a part of an audit has. Of a cluster it isn't known how many parts it does at once."""
-        return PART_LINES if self.scheduler else max(LEAST_AUDITED, -(-count // self.processes))
+        return PART_LINES if self.scheduler else min(max(PART_LINES, -(-count // self.processes)), MOST_AUDITED)
 
 
-def parts_of(lines: Sequence[bytes], size: int = PART_LINES) -> list[bytes]:
-    """The lines in parts, each as one text."""
-    return [b"\n".join([*lines[start:start + size], b""]) for start in range(0, len(lines), size)]
+def parts_of(text: bytes, size: int = PART_LINES) -> list[bytes]:
+    """The lines of a text in parts, each of about so many."""
+    number = -(-text.count(b"\n") // size)
+    ends = [text.find(b"\n", len(text) * each // number) + 1 for each in range(1, number)]
+    parts = [text[start:end] for start, end in zip([0, *ends], [*ends, len(text)], strict=True)]
+    return [part for part in parts if part]
 
 
 class Progress:

@@ -1,6 +1,7 @@
 """A running service, and requests to it."""
 
 import http.client
+import importlib.util
 import json
 import os
 import re
@@ -10,8 +11,11 @@ import subprocess
 from types import TracebackType
 from typing import Any
 
+import pytest
 from conftest import LIMIT, Place
 
+# What the service stands on.
+needs_aiohttp = pytest.mark.skipif(importlib.util.find_spec("aiohttp") is None, reason="python3-aiohttp")
 TOKEN = "0123456789abcdef0123456789abcdef"
 # Runs the command with something else in its place, as `module.NAME = value`.
 CHANGED = "import sys; {}; from idn2_registry.command import main; sys.exit(main())"

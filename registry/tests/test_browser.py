@@ -9,13 +9,10 @@ from typing import Any
 import pytest
 from browser import Browser, program
 from conftest import ROOT, TABLES, Place
-from serving import Served
+from serving import Served, needs_aiohttp
 from test_service import query
 
-pytest.importorskip("aiohttp", reason="python3-aiohttp")
-
-if program() is None:
-    pytest.skip("chromium", allow_module_level=True)
+pytestmark = [needs_aiohttp, pytest.mark.skipif(program() is None, reason="chromium")]
 
 # For each text that is seen: its contrast with what is behind it, and what it is.
 CONTRASTS = """(() => {
@@ -73,8 +70,7 @@ def address(served: Served, path: str) -> str:
 
 def expect_no_complaint(browser: Browser) -> None:
     """Nothing stands in the console."""
-    told = [each for each in browser.complaints() if "favicon" not in str(each)]
-    assert told == [], told
+    assert browser.complaints() == []
 
 
 def test_a_label_is_typed_and_the_answer_is_told(browser: Browser, served: Served) -> None:
@@ -111,7 +107,7 @@ def test_searches_in_the_variants_while_one_types(browser: Browser, served: Serv
     browser.value("document.getElementById('find').focus()")
     browser.type("ßß")
     assert 0 < browser.value(rows) < count
-    assert browser.value("document.getElementById('count').textContent") == f"{browser.value(rows)} of {count} variants"
+    assert browser.value("document.getElementById('count').textContent") == f"{browser.value(rows)} of {count} shown"
     assert browser.value("document.getElementById('count').getAttribute('role')") == "status"
     expect_no_complaint(browser)
 
@@ -125,7 +121,7 @@ def test_the_page_does_without_its_script(browser: Browser, served: Served) -> N
         browser.type("ßs")
         browser.enter()
         assert browser.value("location.search") == query("", label="sss", find="ßs")
-        assert browser.value("document.getElementById('count').textContent") == "1 of 3 variants"
+        assert browser.value("document.getElementById('count').textContent") == "1 of 3 shown"
     finally:
         browser.call("Emulation.setScriptExecutionDisabled", value=False)
 

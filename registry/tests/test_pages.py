@@ -3,21 +3,18 @@
 import html
 import re
 
-import pytest
 from conftest import PROGRAM, TABLES, Place
-from serving import Served, Told, configure
+from serving import Served, Told, configure, needs_aiohttp
 from test_service import query
 
-pytest.importorskip("aiohttp", reason="python3-aiohttp")
-
-from idn2_registry.pages.classes import Classes  # noqa: E402
-from idn2_registry.pages.html import element  # noqa: E402
-from idn2_registry.pages.table_page import Shown, View, table_page, whole_page  # noqa: E402
-from idn2_registry.pages.variant_sets import variant_sets  # noqa: E402
-from idn2_registry.pages.frame import Frame  # noqa: E402
-from idn2_registry.parsed_table import ParsedTable  # noqa: E402
-from idn2_registry.program import Program  # noqa: E402
-from idn2_registry.tables import Table, checked, read_table  # noqa: E402
+from idn2_registry.pages.classes import Classes
+from idn2_registry.pages.frame import Frame
+from idn2_registry.pages.html import element
+from idn2_registry.pages.table_page import Shown, View, table_page, whole_page
+from idn2_registry.pages.variant_sets import variant_sets
+from idn2_registry.parsed_table import ParsedTable
+from idn2_registry.program import Program
+from idn2_registry.tables import Table, checked, read_table
 
 KINDS = """%version 3
 %tag simp
@@ -40,11 +37,12 @@ def words_of(page: Told | bytes) -> str:
     return re.sub(r" (?=[,.:])", "", " ".join(html.unescape(re.sub(r"<[^>]*>", " ", text)).split()))
 
 
+@needs_aiohttp
 def test_says_of_a_label_what_the_program_says(place: Place) -> None:
     place.load("haus\tH1", "strasse\tH2")
     configure(place)
     rows = (
-        ("maß", 200, ["maß is available.", "xn--ma-hia", "U+00DF", "LATIN SMALL LETTER SHARP S", "PVALID allowed", "2 of 2 variants"]),
+        ("maß", 200, ["maß is available.", "xn--ma-hia", "U+00DF", "LATIN SMALL LETTER SHARP S", "PVALID allowed", "2 of 2 shown"]),
         ("xn--strae-oqa", 200, ["straße is taken: it collides with strasse, held by H2.", "1 s U+0073", "yes, held by H2"]),
         ("haus", 200, ["haus is taken: it is registered, held by H1."]),
         ("Faß", 200, ["Faß can’t be registered. U+0046 LATIN CAPITAL LETTER F at place 1 isn’t allowed in a label (RFC 5892 2.2).",
@@ -67,6 +65,7 @@ def test_says_of_a_label_what_the_program_says(place: Place) -> None:
                 assert each in words, (label, each, words)
 
 
+@needs_aiohttp
 def test_what_is_not_known_is_no_200_here_either(bare: Place) -> None:
     bare.write("gap.txt", "0061|0062\n0062\n")
     configure(bare, gap="gap.txt")
@@ -79,6 +78,7 @@ def test_what_is_not_known_is_no_200_here_either(bare: Place) -> None:
         assert "b U+0062 has no variant a U+0061: add 0062|0061" in words_of(told), words_of(told)
 
 
+@needs_aiohttp
 def test_nothing_of_a_request_is_a_part_of_a_page(place: Place) -> None:
     configure(place)
     bad = "\"'><script>alert(1)</script>&amp;"
@@ -90,20 +90,34 @@ def test_nothing_of_a_request_is_a_part_of_a_page(place: Place) -> None:
         for path, status in ((query("/", label="sss", table=bad), 400), (query("/tables/de", **{"from": bad}), 400),
                              ("/tables/none", 404), ("/tables/..%2fregistry.toml", 404), ("/page.css/..", 404)):
             assert served.ask("GET", path).status == status, path
+        told = served.ask("GET", "/tables/none")
+        assert told.headers.get_content_type() == "text/html" and "No answer No table has this name." in words_of(told)
         assert served.ask("GET", "/page.css").headers.get_content_type() == "text/css"
         assert served.ask("GET", "/page.js").headers.get_content_type() == "text/javascript"
 
 
+@needs_aiohttp
+def test_each_table_has_its_way(bare: Place) -> None:
+    """Whatever its name is."""
+    lines = "".join(f'"{name}" = "{TABLES}/german.txt"\n' for name in ("a b", "ü?#", "50%25"))
+    bare.write("registry.toml", f'register = "sqlite:register.db"\nzone = "a b"\n[tables]\n{lines}[service]\nlisten = "127.0.0.1:0"\n')
+    bare.load()
+    with Served(bare) as served:
+        ways = re.findall(r'href="(/tables/[^"]*)"', served.ask("GET", "/").text)
+        assert len(ways) == 3 and all(served.ask("GET", way).status == 200 for way in ways), ways
+
+
+@needs_aiohttp
 def test_searches_and_pages_in_the_variants_without_a_script(place: Place) -> None:
     configure(place, more="", service="[limits]\nlimit = 2")
     with Served(place) as served:
         told = served.ask("GET", "/?label=sss")
-        assert "2 of 2 variants" in words_of(told)
+        assert "2 of 2 shown" in words_of(told)
         [way] = re.findall(r'href="(/\?label=sss&amp;after=[^"]*)"', told.text)
         following = served.ask("GET", html.unescape(way))
-        assert "1 of 1 variants" in words_of(following) and "xn--s-pfa" in following.text
+        assert "1 of 1 shown" in words_of(following) and "xn--s-pfa" in following.text
         found = served.ask("GET", query("/", label="sss", find="Qfa"))
-        assert "1 of 2 variants" in words_of(found) and "xn--s-qfa" in found.text
+        assert "1 of 2 shown" in words_of(found) and "xn--s-qfa" in found.text
 
 
 def test_classes_are_those_of_the_program(place: Place) -> None:

@@ -141,6 +141,20 @@ def test_loads_whole_or_not_at_all(kind: Place) -> None:
     kind.expect(["load", "again.txt"], "3 lines, 0 loaded, 0 refused\n", 0)
 
 
+def test_reads_all_labels_as_one_text(kind: Place, monkeypatch: pytest.MonkeyPatch) -> None:
+    """With their holders, those of several pages, and of nothing; a text of several lines is no label."""
+    kind.expect(["dump"], "", 0)
+    lines = sorted([*(f"haus{number}\tH{number % 3}" for number in range(7)), "ä\tA|B C", "𠀀", "strasse"])
+    kind.load(*lines)
+    for size in (1, 3, 10, 1000):
+        monkeypatch.setattr("idn2_registry.postgresql.PAGE", size)
+        assert kind.run("dump").stdout.decode() == "".join(f"{line}\n" for line in lines), size
+    with kind.zone() as zone:
+        zone.registered.load([("a\nb", None)])
+    done = kind.run("dump")
+    assert done.returncode == 75 and not done.stdout and b"with a line feed" in done.stderr, done
+
+
 def test_has_label_order(kind: Place) -> None:
     """As the bytes of UTF-8 have it, whatever the collation of the database."""
     labels = ["a", "a-b", "a0", "ab", "z", "ß", "ä", "ž", "а", "ا", "ก", "中", "𠀀"]

@@ -1,5 +1,6 @@
 """The service over HTTP: it answers with the objects of the commands, and what isn't known is never a 200."""
 
+import contextlib
 import itertools
 import json
 import os
@@ -18,16 +19,13 @@ from typing import Any
 
 import pytest
 from conftest import LIMIT, ROOT, TABLES, Place
-from serving import CHANGED, TOKEN, Served, asked, configure
+from postgresql import restart
+from serving import CHANGED, TOKEN, Served, asked, configure, needs_aiohttp
 
-pytest.importorskip("aiohttp", reason="python3-aiohttp")
+from idn2_registry.service.answering import Answering
+from idn2_registry.service.metrics import Metrics
 
-from postgresql import restart  # noqa: E402
-
-from idn2_registry.service.answering import Answering  # noqa: E402
-from idn2_registry.service.application import Service  # noqa: E402
-from idn2_registry.service.metrics import Metrics  # noqa: E402
-
+pytestmark = needs_aiohttp
 BEARER = {"Authorization": f"Bearer {TOKEN}"}
 
 
@@ -208,6 +206,20 @@ def test_cuts_off_who_is_too_slow(place: Place, text: bytes) -> None:
         assert served.ask("GET", "/v1/health").status == 200
 
 
+def test_cuts_off_who_reads_nothing(place: Place) -> None:
+    configure(place)
+    with Served(place, changed="import idn2_registry.service.connections as c; c.IDLE_SECONDS = 0.5") as served:
+        with served.socket() as connection:
+            request = b"GET /v1/openapi.json HTTP/1.1\r\nHost: a\r\n\r\n"
+            with contextlib.suppress(OSError):
+                # The answers are more than the buffers of the sockets take.
+                connection.sendall(request * 5_000)
+            until = time.monotonic() + LIMIT
+            while "idn2_registry_connections 1\n" not in served.ask("GET", "/metrics").text:
+                assert time.monotonic() < until
+                time.sleep(0.1)
+
+
 def test_the_description_is_what_is_served(place: Place) -> None:
     jsonschema = pytest.importorskip("jsonschema", reason="python3-jsonschema")
     configure(place)
@@ -240,6 +252,8 @@ def test_the_description_is_what_is_served(place: Place) -> None:
 
 def routes(place: Place, token: bytes | None) -> set[tuple[str, str]]:
     """The method and the path of each route."""
+    from idn2_registry.service.application import Service
+
     with place.zone() as zone:
         metrics = Metrics("")
         service = Service(Answering(zone, metrics), metrics, lambda: pytest.fail("no connection"), token)

@@ -7,7 +7,7 @@ from ..answers import Answer, Refusal, RegisteredLabel, Status, Variant
 from ..faults import Unknown
 from ..zone import Zone
 from .classes import Class, Classes
-from .frame import Frame
+from .frame import Frame, way_to
 from .html import Child, Markup, element, joined
 from .points import glyph_of, name_of, number_of
 from .sentences import holder_words, label_words, verdict
@@ -99,7 +99,7 @@ def verdict_part(answer: Answer) -> Markup:
     if answer.alabel is not None:
         facts += [element("dt", "A-label"), element("dd", element("code", answer.alabel))]
     if answer.tables:
-        ways = [[", " if place else "", element("a", name, href=f"/tables/{name}")] for place, name in enumerate(answer.tables)]
+        ways = [[", " if place else "", element("a", name, href=way_to(name))] for place, name in enumerate(answer.tables)]
         facts += [element("dt", "Tables that admit it"), element("dd", *ways)]
     return element("section", element("h2", mark, element("span", verdict(answer)), id="verdict"),
                    element("dl", *facts) if facts else None, class_=f"verdict {answer.status.value}", aria_labelledby="verdict")
@@ -158,7 +158,7 @@ def variants_part(asked: Asked, told: Found) -> Markup | None:
     if listing.variants is None:
         return element("section", head, element("p", "They aren’t known: ", element("bdi", listing.reason or ""), "."))
     shown = [each for each in listing.variants if has_text(each, asked.find)]
-    counted = element("p", f"{len(shown):,} of {len(listing.variants):,} variants", id="count", role="status",
+    counted = element("p", f"{len(shown):,} of {len(listing.variants):,} shown", id="count", role="status",
                       data_total=str(len(listing.variants)))
     more = more_way(asked, listing)
     return element("section", head, other_tables(asked, listing), search_form(asked), counted,

@@ -15,7 +15,7 @@ if (field && table) {
                 row.hidden = !row.textContent.toLowerCase().includes(text);
                 shown += row.hidden ? 0 : 1;
             }
-            count.textContent = `${shown.toLocaleString("en")} of ${total.toLocaleString("en")} variants`;
+            count.textContent = `${shown.toLocaleString("en")} of ${total.toLocaleString("en")} shown`;
         });
         field.form.addEventListener("submit", (event) => event.preventDefault());
     }

@@ -3,6 +3,7 @@
 import hmac
 from collections.abc import Awaitable, Callable
 from dataclasses import dataclass
+from pathlib import Path
 
 from aiohttp import web
 
@@ -129,10 +130,10 @@ class Service:
         return web.Response(body=self.metrics.text().encode(), headers={"Content-Type": METRICS_TYPE})
 
 
-def read_token(path: object) -> bytes:
+def read_token(path: Path) -> bytes:
     """The token in a file. Raises Unusable for one that can be guessed."""
     try:
-        with open(str(path), "rb") as file:
+        with open(path, "rb") as file:
             token = file.read(4097).strip()
     except OSError as error:
         raise Unusable(f"{path}: {error.strerror}: mend the path of token in [service]") from error

@@ -7,19 +7,21 @@ from dataclasses import dataclass, field
 from aiohttp import web
 
 from ..answers import Status
+from ..faults import Unknown, Unusable
 from ..pages.classes import Classes
-from ..pages.frame import SCRIPT, STYLE, Frame, file_of
+from ..pages.frame import ICON, SCRIPT, STYLE, Frame, file_of
 from ..pages.label_page import Asked, found, label_page
 from ..pages.table_page import Shown, View, table_page
 from .answering import Answering
 from .bodies import Faulty, query_of
 
 HEADERS = {
-    "Content-Security-Policy": "default-src 'none'; style-src 'self'; script-src 'self'; form-action 'self'; base-uri 'none'; "
-                               "frame-ancestors 'none'",
+    "Content-Security-Policy": "default-src 'none'; style-src 'self'; script-src 'self'; img-src 'self'; form-action 'self'; "
+                               "base-uri 'none'; frame-ancestors 'none'",
     "Referrer-Policy": "no-referrer", "X-Content-Type-Options": "nosniff", "Cache-Control": "no-store",
 }
 AGAIN = {"Retry-After": "1"}
+Handler = Callable[[web.Request], Awaitable[web.Response]]
 
 
 def html(body: bytes, status: int = 200) -> web.Response:
@@ -43,13 +45,27 @@ class Pages:
 
     def add_to(self, application: web.Application) -> None:
         """Adds the paths of the pages."""
-        application.router.add_get("/", self.label, allow_head=False)
-        application.router.add_get("/tables/{name}", self.table, allow_head=False)
-        for name, kind in ((STYLE, "text/css"), (SCRIPT, "text/javascript")):
+        for path, handler in (("/", self.label), ("/tables/{name}", self.table)):
+            application.router.add_get(path, self.shown(handler), allow_head=False)
+        for name, kind in ((STYLE, "text/css"), (SCRIPT, "text/javascript"), (ICON, "image/svg+xml")):
             application.router.add_get(f"/{name}", self.file(name, kind), allow_head=False)
 
+    def shown(self, handler: Handler) -> Handler:
+        """What answers with a page, also where there is none."""
+        async def answered(request: web.Request) -> web.Response:
+            try:
+                return await handler(request)
+            except Faulty as error:
+                return html(self.frame.fault(str(error)), error.status)
+            except ValueError as error:
+                return html(self.frame.fault(str(error)), 400)
+            except (Unknown, Unusable) as error:
+                return html(self.frame.fault(f"{error}: ask again"), 503)
+
+        return answered
+
     @staticmethod
-    def file(name: str, kind: str) -> Callable[[web.Request], Awaitable[web.Response]]:
+    def file(name: str, kind: str) -> Handler:
         """What answers with a file of the pages."""
         body = file_of(name)
 

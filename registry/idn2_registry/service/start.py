@@ -2,6 +2,7 @@
 
 import asyncio
 import contextlib
+import errno
 import os
 import signal
 import socket
@@ -64,7 +65,7 @@ def unix_listener(path: Path) -> socket.socket:
     if path.is_socket():
         with socket.socket(socket.AF_UNIX) as other, contextlib.suppress(ConnectionRefusedError):
             other.connect(str(path))
-            raise OSError(98, "Address already in use")
+            raise OSError(errno.EADDRINUSE, os.strerror(errno.EADDRINUSE))
         path.unlink()
     made.bind(str(path))
     path.chmod(0o660)
@@ -86,8 +87,7 @@ async def served(zone: Zone, token: bytes | None, listening: list[socket.socket]
     is_over = asyncio.Event()
     for number in (signal.SIGTERM, signal.SIGINT):
         loop.add_signal_handler(number, is_over.set)
-    running: set[asyncio.Task[None]] = set()
-    loop.add_signal_handler(signal.SIGHUP, lambda: running.add(loop.create_task(reloaded(answering))))
+    loop.add_signal_handler(signal.SIGHUP, Reloads(answering).begin)
     servers = [await loop.create_server(made[0], sock=each, backlog=BACKLOG) for each in listening]
     tell_ready(listening)
     await is_over.wait()
@@ -98,12 +98,25 @@ async def served(zone: Zone, token: bytes | None, listening: list[socket.socket]
     await asyncio.to_thread(answering.close)
 
 
-async def reloaded(answering: Answering) -> None:
-    """Reads the tables again; faulty ones are told, and the old ones stay."""
-    try:
-        await answering.reload()
-    except Unusable as error:
-        complain(f"{error}; the old tables stay")
+class Reloads:
+    """Reads the tables again when it is told to; faulty ones are told, and the old ones stay."""
+
+    def __init__(self, answering: Answering) -> None:
+        self._answering = answering
+        # A task that nothing refers to may be dropped.
+        self._running: set[asyncio.Task[None]] = set()
+
+    def begin(self) -> None:
+        """Begins to read them."""
+        task = asyncio.get_running_loop().create_task(self._reload())
+        self._running.add(task)
+        task.add_done_callback(self._running.discard)
+
+    async def _reload(self) -> None:
+        try:
+            await self._answering.reload()
+        except Unusable as error:
+            complain(f"{error}; the old tables stay")
 
 
 def tell_ready(listening: list[socket.socket]) -> None:

@@ -29,6 +29,8 @@ class Workers:
         until = time.monotonic() + seconds
 
         def job() -> None:
+            if future.cancelled():
+                return
             result: Any = None
             fault: BaseException | None = None
             try:
