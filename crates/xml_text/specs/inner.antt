@@ -1,0 +1,2 @@
+-- The definitions that inner functions and private fields cite.
+pub mod TagSteps

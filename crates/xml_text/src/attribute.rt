@@ -1,0 +1,64 @@
+//! What a tag says.
+ghost use Rattle.std.specs.Prelude.{◌≡◌};
+ghost use Rattle.xml_text.specs.Attributes.{is_named};
+
+use std::marker::Model;
+
+/// An attribute: its name, and the UTF-8 of its value, in which each reference is replaced and each blank is a space.
+#[derive(Debug, Drop)]
+pub struct Attribute {
+    name: Vec<u8>,
+    value: Vec<u8>,
+}
+
+impl Model for Attribute {
+    ghost use Rattle.xml_text.specs.Attributes.{Attribute as Said};
+
+    ghost Value = { Said };
+
+    ghost view = { λ a. record { name = a.name.items; value = a.value.items } };
+}
+
+impl Attribute {
+    pub fn new(name: Vec<u8>, value: Vec<u8>) -> Self
+        ensures { result ≡ record { name = name.items; value = value.items } }
+    {
+        Attribute { name, value }
+    }
+
+    pub fn name(&self) -> &[u8]
+        ensures { result.now ≡ self.now.name }
+    {
+        &self.name
+    }
+
+    pub fn value(&self) -> &[u8]
+        ensures { result.now ≡ self.now.value }
+    {
+        &self.value
+    }
+}
+
+/// Whether one of the attributes has the name.
+pub fn is_one_named(attributes: &[Attribute], name: &[u8]) -> bool
+    ensures { result ≡ is_named attributes.now name.now }
+{
+    attributes.iter().any(|attribute| attribute.name() == name)
+}
+
+/// Whether the content of an element follows its tag.
+#[derive(Clone, Copy, Debug, PartialEq, Eq)]
+pub enum TagKind {
+    /// `<name>`
+    Start,
+    /// `<name/>`
+    Empty,
+}
+
+/// A start tag, or the tag of an empty element.
+#[derive(Debug, Drop)]
+pub struct Tag {
+    pub name: Vec<u8>,
+    pub attributes: Vec<Attribute>,
+    pub kind: TagKind,
+}

@@ -1,0 +1,263 @@
+//! Reading a tag byte by byte: what was read of it, and which byte may follow.
+ghost use Rattle.std.specs.Prelude.{◌≡◌, Some, IfOk};
+ghost use Rattle.xml_text.specs.References.{referenced};
+ghost use Rattle.xml_text.specs.Tags.{tag};
+ghost use Rattle.xml_text.specs.inner.TagSteps as steps;
+ghost use Rattle.xml_text.specs.inner.TagSteps.{state, taken_as};
+
+use crate::attribute::{Attribute, Tag, TagKind, is_one_named};
+use crate::bytes::{is_blank, is_name_byte, is_name_start, is_reference_byte};
+use crate::quote::Quote;
+use crate::reference::referenced;
+use std::alloc::{AllocError, Global};
+use std::mem::replace;
+
+/// What was read last.
+#[derive(Clone, Copy, Debug, PartialEq, Eq)]
+pub enum Phase {
+    /// Nothing.
+    Open,
+    /// `<`
+    Begin,
+    /// A byte of the tag's name.
+    Name,
+    /// A value, with its quotes.
+    After,
+    /// A blank where an attribute may follow.
+    Blank,
+    /// A byte of an attribute's name.
+    Attribute,
+    /// A blank after it.
+    BeforeEquals,
+    /// `=`, and perhaps blanks.
+    AfterEquals,
+    /// A part of a value, or its first quote.
+    Value(Quote),
+    /// `&` in a value, or a byte after it.
+    Reference(Quote),
+    /// `/`
+    Slash,
+    /// `>`
+    Ended(TagKind),
+}
+
+/// What was read of a tag.
+#[derive(Drop)]
+pub struct TagState {
+    name: Vec<u8>,
+    attributes: Vec<Attribute>,
+    /// The name of the attribute that isn't complete.
+    attribute: Vec<u8>,
+    /// What was read of its value.
+    value: Vec<u8>,
+    /// What was read after the `&` of the reference that isn't complete.
+    reference: Vec<u8>,
+    phase: Phase,
+}
+
+/// Each step answers whether its byte may stand there. If it may not, or memory was refused, the state is of no use any more.
+impl TagState {
+    /// Nothing was read.
+    pub fn new(alloc: Global) -> Self
+        ensures { state result ≡ steps.start }
+    {
+        TagState {
+            name: Vec::new(alloc),
+            attributes: Vec::new(alloc),
+            attribute: Vec::new(alloc),
+            value: Vec::new(alloc),
+            reference: Vec::new(alloc),
+            phase: Phase::Open,
+        }
+    }
+
+    #[inline]
+    pub fn step(&mut self, alloc: Global, byte: u8) -> Result<bool, AllocError>
+        ensures { IfOk result (λ taken. steps.step (state self.old) byte ≡ taken_as taken (state self.new)) }
+    {
+        match self.phase {
+            Phase::Open => Ok(self.open(byte)),
+            Phase::Begin => self.begin(byte),
+            Phase::Name => self.name(byte),
+            Phase::After => Ok(self.after(byte)),
+            Phase::Blank => self.blank(byte),
+            Phase::Attribute => self.attribute(byte),
+            Phase::BeforeEquals => Ok(self.equals(byte)),
+            Phase::AfterEquals => Ok(self.quote(byte)),
+            Phase::Value(quote) => self.value(alloc, quote, byte),
+            Phase::Reference(quote) => self.reference(quote, byte),
+            Phase::Slash => Ok(self.slash(byte)),
+            Phase::Ended(_) => Ok(false),
+        }
+    }
+
+    /// Goes on to another phase.
+    fn go_on(&mut self, phase: Phase) -> bool
+        ensures { Some (steps.with_phase (state self.old) phase) ≡ taken_as result (state self.new) }
+    {
+        self.phase = phase;
+        true
+    }
+
+    fn open(&mut self, byte: u8) -> bool
+        ensures { steps.open_step (state self.old) byte ≡ taken_as result (state self.new) }
+    {
+        byte == b'<' && self.go_on(Phase::Begin)
+    }
+
+    fn begin(&mut self, byte: u8) -> Result<bool, AllocError>
+        ensures { IfOk result (λ taken. steps.begin_step (state self.old) byte ≡ taken_as taken (state self.new)) }
+    {
+        if !is_name_start(byte) {
+            return Ok(false);
+        }
+        self.name.push(byte)?;
+        Ok(self.go_on(Phase::Name))
+    }
+
+    fn name(&mut self, byte: u8) -> Result<bool, AllocError>
+        ensures { IfOk result (λ taken. steps.name_step (state self.old) byte ≡ taken_as taken (state self.new)) }
+    {
+        if !is_name_byte(byte) {
+            return Ok(self.after(byte));
+        }
+        self.name.push(byte)?;
+        Ok(self.go_on(Phase::Name))
+    }
+
+    fn after(&mut self, byte: u8) -> bool
+        ensures { steps.after_step (state self.old) byte ≡ taken_as result (state self.new) }
+    {
+        if is_blank(byte) {
+            return self.go_on(Phase::Blank);
+        }
+        match byte {
+            b'>' => self.go_on(Phase::Ended(TagKind::Start)),
+            b'/' => self.go_on(Phase::Slash),
+            _ => false,
+        }
+    }
+
+    fn blank(&mut self, byte: u8) -> Result<bool, AllocError>
+        ensures { IfOk result (λ taken. steps.blank_step (state self.old) byte ≡ taken_as taken (state self.new)) }
+    {
+        if !is_name_start(byte) {
+            return Ok(self.after(byte));
+        }
+        self.attribute.clear();
+        self.value.clear();
+        self.attribute.push(byte)?;
+        Ok(self.go_on(Phase::Attribute))
+    }
+
+    fn attribute(&mut self, byte: u8) -> Result<bool, AllocError>
+        ensures { IfOk result (λ taken. steps.attribute_step (state self.old) byte ≡ taken_as taken (state self.new)) }
+    {
+        if !is_name_byte(byte) {
+            return Ok(!is_one_named(&self.attributes, &self.attribute) && self.equals(byte));
+        }
+        self.attribute.push(byte)?;
+        Ok(true)
+    }
+
+    fn equals(&mut self, byte: u8) -> bool
+        ensures { steps.equals_step (state self.old) byte ≡ taken_as result (state self.new) }
+    {
+        if byte == b'=' {
+            return self.go_on(Phase::AfterEquals);
+        }
+        is_blank(byte) && self.go_on(Phase::BeforeEquals)
+    }
+
+    fn quote(&mut self, byte: u8) -> bool
+        ensures { steps.quote_step (state self.old) byte ≡ taken_as result (state self.new) }
+    {
+        match byte {
+            b'"' => self.go_on(Phase::Value(Quote::Double)),
+            b'\'' => self.go_on(Phase::Value(Quote::Single)),
+            _ => is_blank(byte) && self.go_on(Phase::AfterEquals),
+        }
+    }
+
+    fn value(&mut self, alloc: Global, quote: Quote, byte: u8) -> Result<bool, AllocError>
+        ensures { IfOk result (λ taken. steps.value_step quote (state self.old) byte ≡ taken_as taken (state self.new)) }
+    {
+        if byte == quote.byte() {
+            let name = replace(&mut self.attribute, Vec::new(alloc));
+            let value = replace(&mut self.value, Vec::new(alloc));
+            self.attributes.push(Attribute::new(name, value))?;
+            return Ok(self.go_on(Phase::After));
+        }
+        match byte {
+            b'<' => Ok(false),
+            b'&' => {
+                self.reference.clear();
+                Ok(self.go_on(Phase::Reference(quote)))
+            }
+            _ => {
+                let byte = if is_blank(byte) { b' ' } else { byte };
+                self.value.push(byte)?;
+                Ok(true)
+            }
+        }
+    }
+
+    fn reference(&mut self, quote: Quote, byte: u8) -> Result<bool, AllocError>
+        ensures { IfOk result (λ taken. steps.reference_step quote (state self.old) byte ≡ taken_as taken (state self.new)) }
+    {
+        if byte == b';' {
+            return self.resolve(quote);
+        }
+        if !is_reference_byte(byte) {
+            return Ok(false);
+        }
+        self.reference.push(byte)?;
+        Ok(true)
+    }
+
+    /// Puts the character in place of a reference that is complete.
+    fn resolve(&mut self, quote: Quote) -> Result<bool, AllocError>
+        ensures { let s = state self.old in IfOk result (λ taken. steps.resolved quote s (referenced s.reference) ≡ taken_as taken (state self.new)) }
+    {
+        let Some(character) = referenced(&self.reference) else {
+            return Ok(false);
+        };
+        let mut room = [0; 4];
+        let utf8 = character.encode_utf8(&mut room);
+        self.value.extend_from_slice(utf8.as_bytes())?;
+        Ok(self.go_on(Phase::Value(quote)))
+    }
+
+    fn slash(&mut self, byte: u8) -> bool
+        ensures { steps.slash_step (state self.old) byte ≡ taken_as result (state self.new) }
+    {
+        byte == b'>' && self.go_on(Phase::Ended(TagKind::Empty))
+    }
+
+    /// How the tag ended, once it is complete.
+    #[inline]
+    pub fn kind(&self) -> Option<TagKind>
+        ensures { result ≡ steps.kind_of self.now.phase }
+    {
+        match self.phase {
+            Phase::Ended(kind) => Some(kind),
+            _ => None,
+        }
+    }
+
+    /// The tag, which is complete.
+    pub fn into_tag(self, kind: TagKind) -> Tag
+        ensures { tag result ≡ steps.tag_of (state self) kind }
+    {
+        let TagState {
+            name,
+            attributes,
+            ..
+        } = self;
+        Tag {
+            name,
+            attributes,
+            kind,
+        }
+    }
+}

@@ -1,0 +1,28 @@
+//! Reading a tag.
+ghost use Rattle.std.specs.Prelude.{◌≤◌, length, take, IfOk, IfErr};
+ghost use Rattle.xml_text.specs.TagStops.{StopsAt};
+ghost use Rattle.xml_text.specs.Tags.{IsTag, tag};
+
+use crate::attribute::Tag;
+use crate::fault::ReadError;
+use crate::state::TagState;
+use std::alloc::Global;
+
+/// The tag with which a text begins, and how many bytes it has. The text is characters of XML, and its lines end in line feeds alone
+/// (section 2.11).
+pub fn read_tag(alloc: Global, text: &[u8]) -> Result<(Tag, usize), ReadError>
+    ensures read { IfOk result (λ read. IsTag (take read.1 text.now) (tag read.0)) }
+    ensures within { IfOk result (λ read. read.1 ≤ length text.now) }
+    ensures stop { IfErr result (StopsAt text.now) }
+{
+    let mut state = TagState::new(alloc);
+    for (place, byte) in text.iter().enumerate() {
+        if !state.step(alloc, *byte)? {
+            return Err(ReadError::Stop(place));
+        }
+        if let Some(kind) = state.kind() {
+            return Ok((state.into_tag(kind), place + 1));
+        }
+    }
+    Err(ReadError::Stop(text.len()))
+}
