@@ -220,7 +220,9 @@ class Causes:
 
     @staticmethod
     def invalid(label, where, broken):
-        """The condition that is broken at a place, or the demand of a number."""
+        """The condition that is broken at a place, or that there is no entry; or the demand of a number."""
+        if broken is None:
+            return f"{at(where, ord(label[where]))}: no entry"
         if broken.word.startswith("%"):
             return f"demand {where}, {broken.word[1:]}"
         return f"{at(where, ord(label[where]))}: {broken.word} {broken.rule}"

@@ -3,7 +3,7 @@
 import json
 import re
 
-from causes import BAD_LENGTH, FILE_TOO_LONG, INVALID, LINE_TOO_LONG, NOT_UTF8, OUT_OF_ORDER
+from causes import BAD_LENGTH, FILE_TOO_LONG, INVALID, LINE_TOO_LONG, NOT_UTF8, NOT_VALID, OUT_OF_ORDER
 from registration import BAD_A_LABEL, EMPTY, HYPHEN, LABEL_TOO_LONG, NOT_NFC, a_label
 from table_places import SYNTAX
 
@@ -34,6 +34,8 @@ def placed(refusal):
         return f"{text}: not ASCII"
     if "condition" in refusal:
         return f"{text}: {refusal['condition']} {refusal['rule']}"
+    if number == NOT_VALID:
+        return f"{text}: no entry"
     if "bidi_class" in refusal:
         text += f" is {refusal['bidi_class']}"
     return f"{text}: {rule_of(refusal['rule'])}" if "rule" in refusal else text

@@ -235,7 +235,7 @@ class Run:
         if mode == "--ruleset":
             return RulesetLabels(reading.read(text, self.classes.may_stand)), True
         table = check.read(text, self.classes)
-        return RulesetLabels(as_ruleset(table)), table.version == 2
+        return RulesetLabels(as_ruleset(table), cuts_anyway=True), table.version == 2
 
     def registered_labels(self, text):
         """The labels of a file of less than 4 GiB: one on each line, each greater than the one before."""

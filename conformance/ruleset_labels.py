@@ -15,11 +15,12 @@ class Unknown(Exception):
 
 
 class RulesetLabels:
-    def __init__(self, ruleset, most_spelled=SPELLED_LIMIT):
-        self.ruleset, self.most_spelled = ruleset, most_spelled
+    def __init__(self, ruleset, most_spelled=SPELLED_LIMIT, cuts_anyway=False):
+        """`cuts_anyway` is so of what is said by a table of version 1 or 2: a label may be cut in any way, and each label that it
+        spells is valid."""
+        self.ruleset, self.most_spelled, self.cuts_anyway = ruleset, most_spelled, cuts_anyway
         self.entries = {text_of(source): entry for source, entry in ruleset.entries.items()}
         self.inside = {source for source, entry in self.entries.items() if not entry.is_outside}
-        self.segments = self.all_segments()
 
     # Patterns: in which places of a label a part can end that begins in one of some places.
 
@@ -65,32 +66,43 @@ class RulesetLabels:
                        for before, after in self.ruleset.rules[condition.rule])
         return is_there == (condition.word == "when")
 
-    # Valid labels.
+    # Eligible labels (RFC 7940, section 8.1), and valid ones.
 
-    def all_segments(self):
-        """Each with its condition: the sources, and the variants that can't be cut into sources."""
-        segments = {source: entry.source.condition for source, entry in self.entries.items()}
-        variants = {text_of(variant.points) for entry in self.entries.values() for variant in entry.variants}
-        segments.update((variant, None) for variant in variants if not is_cut(variant, self.entries))
-        return segments
+    def stands(self, source, label, start):
+        """Whether the condition of a source that is at a place holds there."""
+        return self.holds(self.entries[source].source.condition, label, start, start + len(source))
+
+    def sources_at(self, label, start):
+        """The sources at a place of the label, whatever their conditions."""
+        parts = (label[start:end] for end in ends_from(start, label))
+        return [part for part in parts if part in self.entries]
+
+    def longest(self, label, start):
+        """The longest source that stands at a place, or None."""
+        return max((source for source in self.sources_at(label, start) if self.stands(source, label, start)), key=len, default=None)
+
+    def cut_end(self, label, sources):
+        """Where the cut of the label ends that takes the longest source that stands, and then the longest after it, as far as it is
+        one of these."""
+        place = 0
+        while (source := self.longest(label, place)) in sources:
+            place += len(source)
+        return place
 
     def cause(self, label):
-        """Why a label that is made of sources may not be asked about: the furthest place to which sources that may stand reach
-        and where one may not, after which the rest is made of sources, with the condition of the longest such source there; or the
-        number of the first demand that is broken, from 1, and that demand."""
-        holds = lambda source, start: self.holds(self.segments[source], label, start, start + len(source))
-        fits = reached(label, self.inside, holds)
-        if len(label) not in fits:
-            ends_well = lambda end: len(label) - end in reached(label[end:], self.inside, lambda source, start: True)
-            misplaced = [(start, len(source), source) for start in fits for source in self.inside if label.startswith(source, start)
-                         and not holds(source, start) and ends_well(start + len(source))]
-            start, _, source = max(misplaced)
-            return start, self.segments[source]
-        return next((number, demand) for number, demand in enumerate(self.ruleset.demands, 1) if not self.meets(demand, label))
+        """Why a label that is made of sources may not be asked about: the place at which its cut ends, with the condition of the
+        longest source there, or with None where no source is there or an outside one stands there; or the number of the first demand
+        that is broken, from 1, and that demand."""
+        place = self.cut_end(label, self.inside)
+        if place == len(label):
+            return next((number, demand) for number, demand in enumerate(self.ruleset.demands, 1) if not self.meets(demand, label))
+        sources = self.sources_at(label, place)
+        if not sources or self.longest(label, place):
+            return place, None
+        return place, self.entries[max(sources, key=len)].source.condition
 
     def is_valid(self, label):
-        holds = lambda segment, start: self.holds(self.segments[segment], label, start, start + len(segment))
-        return self.meets_demands(label) and len(label) in reached(label, self.segments, holds)
+        return self.cuts_anyway or self.meets_demands(label) and self.cut_end(label, self.entries) == len(label)
 
     def meets_demands(self, label):
         return all(self.meets(demand, label) for demand in self.ruleset.demands)
@@ -105,7 +117,9 @@ class RulesetLabels:
         """The number by which the ruleset refuses a label, or None."""
         if not is_cut(label, self.inside):
             return NOT_MADE_OF_ENTRIES
-        return None if label in self.spelled(label) and self.meets_demands(label) else NOT_VALID
+        if self.cuts_anyway or self.meets_demands(label) and self.cut_end(label, self.inside) == len(label):
+            return None
+        return NOT_VALID
 
     # What a label spells.
 
@@ -156,14 +170,16 @@ class RulesetLabels:
     # Beginnings of labels that a listing passes over.
 
     def is_dead_prefix(self, beginning):
-        """Whether the ruleset has ruled out each label that begins so: a demand is broken whatever follows, or no segment that
-        might go on ends near the end."""
+        """Whether the ruleset has ruled out each label that begins so: a demand is broken whatever follows, or no source that might
+        go on ends near the end, however the beginning is cut."""
+        if self.cuts_anyway:
+            return False
         if any(demand.word == "%never" and not has_end(demand.pattern) and self.is_somewhere(demand.pattern, beginning)
                for demand in self.ruleset.demands):
             return True
-        may_stand = lambda segment, start: not self.is_barred(self.segments[segment], beginning, start)
-        first_of_last = len(beginning) - max(map(len, self.segments), default=0) + 1
-        return not any(place >= first_of_last for place in reached(beginning, self.segments, may_stand))
+        may_stand = lambda source, start: not self.is_barred(self.entries[source].source.condition, beginning, start)
+        first_of_last = len(beginning) - max(map(len, self.entries), default=0) + 1
+        return not any(place >= first_of_last for place in reached(beginning, self.entries, may_stand))
 
     def is_barred(self, condition, label, start):
         """Whether the condition can't hold of a part that begins there, whatever follows."""
@@ -180,13 +196,13 @@ def text_of(points):
     return "".join(map(chr, points))
 
 
-def reached(label, segments, may_stand):
-    """The places that are reached from the first by segments that may stand where they begin."""
+def reached(label, sources, may_stand):
+    """The places that are reached from the first by sources that may stand where they begin."""
     places = {0}
     for start in range(len(label)):
         if start in places:
             places |= {end for end in ends_from(start, label)
-                       if label[start:end] in segments and may_stand(label[start:end], start)}
+                       if label[start:end] in sources and may_stand(label[start:end], start)}
     return places
 
 

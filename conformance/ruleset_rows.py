@@ -14,13 +14,13 @@ BLOCKED_CONSONANT = "%set C 0915..0939\n%rule sign @C _\n0905\n0915|!0905\n0916.
 LEADING_VOWELS = "%set C 0E01..0E2E\n%rule lead _ @C\n0E01..0E2E\n0E40..0E44 when lead\n"
 ONE_KIND_OF_DIGITS = ("%set ascii 0030..0039\n%set deva 0966..096F\n%never @ascii .* @deva / @deva .* @ascii\n"
                       "0915..0939\n0030|!0966\n0966|!0030\n0031|!0967\n0967|!0031\n")
-NEVER_AT_THE_END = "%never 0062 $\n0061|!0062\n"
+NEVER_AT_THE_END = "%never 0062 $\n0061|!0062\n0062\n"
 SOME_KANA = "%set kana 3041..3096 30A1..30FA\n%always @kana\n3041..3096\n4E00..9FFF\n"
 CHINESE = ("%tag simp\n%tag trad\n4E2D\n56FD as simp|570B as trad\n570B as trad|56FD as simp\n"
            "5B66 as simp|5B78 as trad\n5B78 as trad|5B66 as simp\n")
-A_TAG_OF_ITS_OWN = "%tag simp\n%tag trad\n%tag own\n0061 as own|0062 as simp,trad:!0063:0064 as trad\n0065\n"
+A_TAG_OF_ITS_OWN = "%tag simp\n%tag trad\n%tag own\n0061 as own|0062 as simp,trad:!0063:0064 as trad\n0062..0065\n"
 TWO_TAGS_AND_A_SEQUENCE = ("%tag s\n%tag t\n0061 as s|0062 as s\n0063 as t|0064 as t\n"
-                           "0061-0063 as t|0062-0064 as t\n")
+                           "0061-0063 as t|0062-0064 as t\n0062\n0064\n")
 CYRILLIC_OUTSIDE = "0061|!0430\n0062\n!0430|!0061\n"
 FINAL_SIGMA = "%rule end _ $\n03B1..03C1\n03C3|03C2 when end\n03C2|03C3\n03C4..03C9\n"
 FINAL_TEH = "%rule end _ $\n0647|!0629 unless end:0629 when end\n0629\n"
@@ -28,15 +28,20 @@ RRA_AND_HALANT = ("%set C 0915..0930 0932..0939\n%rule halant @C _\n%rule ya _ 0
                   "0931-094D when ya\n094D when halant\n")
 CONSONANTS_BY_TURNS = "%set C 0061..0063\n%rule x ^ (@C 0068)* @C _\n0061..0063\n0068\n0065 when x\n"
 ENDS_IN_PAIRS = "%never (^ / 0062) 0061 (0063 0063)* $\n0061..0063\n"
+LONGEST_FIRST = "0061\n0061-0062\n0062-0063\n0064\n"
+LONGEST_AT_THE_END = "%rule end _ $\n0061\n0061-0062 when end\n0062-0063\n0063\n"
+LONGEST_OF_A_VARIANT = "0061|0078\n0061-0062\n0062-0063\n0078|0061\n"
+LONGEST_UNLESS_IT_FAILS = "%rule r 0061 _\n0061\n0062 when r\n0062-0062 unless r\n"
+ONLY_AFTER_A = "%rule after_a 0061 _\n0061\n0062 when after_a|0063\n0063 when after_a|0062\n0064|0063\n"
 ALWAYS = "%rule always _\n0061 when always\n0062 unless always\n"
 DEAD = "%rule x 0061 _\n0061|!0063\n0063\n0062 when x\n"
 
 # The ruleset, and for each label the words, the label, and the lines that are listed, their fields parted by blanks here;
 # or the number by which the label is refused.
 LISTINGS = [
-    # What version 2 says is said the same.
-    ("0061..0063\n0078|!0079:007A\n", [([], "ax", "ax ax allocatable, ay ay blocked, az az allocatable, #end 3")]),
-    ("0061|!0062\n0061-0061|0062-0062\n", [
+    # What version 2 says is said the same, where each variant is a source.
+    ("0061..0063\n0078|!0079:007A\n0079..007A\n", [([], "ax", "ax ax allocatable, ay ay blocked, az az allocatable, #end 3")]),
+    ("0061|!0062\n0061-0061|0062-0062\n0062\n", [
         ([], "aa", "aa aa allocatable, ab ab blocked, ba ba blocked, bb bb allocatable, #end 4")]),
     ("0061\n", [([], "b", 40)]),
     # A condition: vowel signs follow a consonant.
@@ -87,7 +92,7 @@ LISTINGS = [
                     "bbe bbe allocatable, bce bce blocked, bde bde allocatable, cae cae blocked, cbe cbe blocked, "
                     "cce cce blocked, cde cde blocked, dae dae blocked, dbe dbe allocatable, dce dce blocked, "
                     "dde dde allocatable, #end 16")]),
-    ("%tag t\n0061|0062\n", [([], "a", "a a allocatable, b b allocatable, #end 2")]),
+    ("%tag t\n0061|0062\n0062\n", [([], "a", "a a allocatable, b b allocatable, #end 2")]),
     # Two segmentations, of which one is in a sub-table.
     (TWO_TAGS_AND_A_SEQUENCE, [
         ([], "ac", "ac ac allocatable, ad ad blocked, bc bc blocked, bd bd allocatable, #end 4")]),
@@ -103,26 +108,60 @@ LISTINGS = [
         ([], "σα", "σα xn--mxa9a allocatable, #end 1")]),
     (FINAL_TEH, [
         ([], "هه", "ةة xn--ogba blocked, ةه xn--ogb4d blocked, هة xn--ogb3d allocatable, هه xn--jhba allocatable, #end 4")]),
-    ("%rule x 0061 _\n0061|0062\n0063|0064 when x\n", [
+    ("%rule x 0061 _\n0061|0062\n0063|0064 when x\n0062\n0064\n", [
         ([], "ac", "ac ac allocatable, ad ad allocatable, bc bc allocatable, bd bd allocatable, #end 4")]),
     # Sources of several code points.
     (RRA_AND_HALANT, [
         ([], "कऱ्य", "कऱ्य xn--11b6cf6i allocatable, #end 1"),
         ([], "कऱ्क", 41),
         ([], "ऱक", 40)]),
-    ("0061\n0061-0062\n0062-0063\n", [([], "abc", "abc abc allocatable, #end 1")]),
-    # A code point keeps its condition where it arises in a variant; a variant of nothing but itself has none.
+    # Of several that stand the longest is taken, and there is no way back (RFC 7940, section 8.1).
+    (LONGEST_FIRST, [
+        ([], "ab", "ab ab allocatable, #end 1"),
+        ([], "aab", "aab aab allocatable, #end 1"),
+        ([], "bc", "bc bc allocatable, #end 1"),
+        ([], "abc", 41),
+        ([], "abd", "abd abd allocatable, #end 1"),
+        ([], "c", 40),
+        ([], "bd", 40)]),
+    (LONGEST_AT_THE_END, [
+        ([], "abc", "abc abc allocatable, #end 1"),
+        ([], "ab", "ab ab allocatable, #end 1"),
+        ([], "aab", "aab aab allocatable, #end 1"),
+        ([], "abab", 41)]),
+    (LONGEST_OF_A_VARIANT, [
+        ([], "xbc", "xbc xbc allocatable, #end 1"),
+        ([], "xx", "aa aa allocatable, ax ax allocatable, xa xa allocatable, xx xx allocatable, #end 4"),
+        ([], "abc", 41)]),
+    (LONGEST_UNLESS_IT_FAILS, [
+        ([], "abb", 41),
+        ([], "bb", "bb bb allocatable, #end 1"),
+        ([], "b", 41),
+        ([], "ab", "ab ab allocatable, #end 1"),
+        ([], "abbb", "abbb abbb allocatable, #end 1")]),
+    # Variants arise by each cut, and not by the longest first alone (RFC 7940, section 8.2).
+    ("0061|!0078\n0062\n0061-0062|0079\n0078\n0079\n", [
+        ([], "ab", "ab ab allocatable, xb xb blocked, y y allocatable, #end 3")]),
+    # A source that no label may begin with.
+    (ONLY_AFTER_A, [
+        ([], "ab", "ab ab allocatable, ac ac allocatable, #end 2"),
+        ([], "d", "d d allocatable, #end 1"),
+        (["--tries", "1"], "d", "d d allocatable, #stop 1 d"),
+        ([], "b", 41)]),
+    # A variant that is neither a source nor made of some is never listed.
+    ("0061|!0430\n0062\n", [([], "ab", "ab ab allocatable, #end 1")]),
+    # A code point keeps its condition where it arises in a variant. A variant that is made of no sources is not listed.
     ("%rule x 0061 _\n0061\n0063|0062\n0062 when x\n", [
         ([], "acc", "abc abc allocatable, acc acc allocatable, #end 2")]),
     ("%rule x 0061 _\n0061\n0063|0062-0062:0062-0061\n0062 when x\n", [
         ([], "ac", "aba aba allocatable, ac ac allocatable, #end 2")]),
     ("%rule x 0061 _\n0061\n0063|0062-0064\n0062 when x\n", [
-        ([], "cc", "bdbd bdbd allocatable, bdc bdc allocatable, cbd cbd allocatable, cc cc allocatable, #end 4")]),
+        ([], "cc", "cc cc allocatable, #end 1")]),
     # Groups and stars.
     (CONSONANTS_BY_TURNS, [([], "ahbhce", "ahbhce ahbhce allocatable, #end 1"), ([], "aabe", 41)]),
     (ENDS_IN_PAIRS, [([], "acb", "acb acb allocatable, #end 1"), ([], "cbacc", 41)]),
     (ALWAYS, [([], "aa", "aa aa allocatable, #end 1"), ([], "ab", 41)]),
-    # A beginning that the conditions of segments rule out is not tested.
+    # A beginning that the conditions of sources rule out is not tested.
     (DEAD, [
         ([], "abb", 41),
         ([], "aba", "aba aba allocatable, abc abc blocked, #end 2"),
@@ -131,7 +170,7 @@ LISTINGS = [
     # Ranges with a mark, a tag, a condition.
     ("%rule r 0061 _\n0061\n!0062..0063 when r\n0064|!0063\n", [
         ([], "ad", "ac ac blocked, ad ad allocatable, #end 2")]),
-    ("%tag t\n%tag v\n0061..0062 as t\n0063 as v|0064 as t\n", [
+    ("%tag t\n%tag v\n0061..0062 as t\n0063 as v|0064 as t\n0064\n", [
         ([], "ac", "ac ac allocatable, ad ad allocatable, #end 2")]),
     ("%rule r 0061 _\n0061\n0062..0063 when r\n", [([], "ca", 41)]),
 ]

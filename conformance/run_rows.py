@@ -1,6 +1,8 @@
 """Worked rows of whole runs: labels, names, lines, listings, tables and rulesets, and what a run must print, worked out by hand
 from the standards. The file of the table is `t`."""
 
+from ruleset_rows import LONGEST_AT_THE_END, LONGEST_FIRST, LONGEST_UNLESS_IT_FAILS, ONLY_AFTER_A
+
 SHARP_S = "0061\n0065\n0072\n0073\n0074\n0073-0073|00DF\n00DF|0073-0073\n"
 DOUBLED = "0061|0061-0061\n"
 HYPHENS = "0061|002D\n"
@@ -303,6 +305,22 @@ OF_RULESETS = [
     ([*RULESET, "--json"], SIGNS, "क\u093E\u093E\n",
      '{"line":1,"input":"क\u093E\u093E","refusal":{"number":41,"text":"not valid under the table",'
      '"code_point":"U+093E","place":3,"condition":"when","rule":"sign"}}\n', "", 1),
+    # Where the longest-first cut ends: the condition of the longest source there, or no entry.
+    ([*RULESET, "--explain"], f"%version 3\n{LONGEST_FIRST}", "abc\nabd\nc\nbd\n", "abd\tabd\tallocatable\n#end 1\n",
+     refused((1, "41 not valid under the table: U+0063 at place 3: no entry"), (3, "40 not made of table entries: U+0063 at place 1"),
+             (4, "40 not made of table entries: U+0062 at place 1")), 1),
+    ([*RULESET, "--json"], f"%version 3\n{LONGEST_FIRST}", "abc\n",
+     '{"line":1,"input":"abc","refusal":{"number":41,"text":"not valid under the table","code_point":"U+0063","place":3}}\n', "", 1),
+    ([*RULESET, "--explain"], f"%version 3\n{LONGEST_AT_THE_END}", "abab\n", "",
+     refused((1, "41 not valid under the table: U+0062 at place 2: no entry")), 1),
+    ([*RULESET, "--explain"], f"%version 3\n{LONGEST_UNLESS_IT_FAILS}", "abb\nb\n", "",
+     refused((1, "41 not valid under the table: U+0062 at place 3: when r"),
+             (2, "41 not valid under the table: U+0062 at place 1: when r")), 1),
+    ([*RULESET, "--json"], f"%version 3\n{LONGEST_UNLESS_IT_FAILS}", "b\n",
+     '{"line":1,"input":"b","refusal":{"number":41,"text":"not valid under the table","code_point":"U+0062","place":1,'
+     '"condition":"when","rule":"r"}}\n', "", 1),
+    ([*RULESET, "--explain"], f"%version 3\n{ONLY_AFTER_A}", "b\n", "",
+     refused((1, "41 not valid under the table: U+0062 at place 1: when after_a")), 1),
     # A beginning with both kinds of digits is a dead prefix: `--tries` doesn't count the labels after it.
     ([*RULESET, "--tries", "3"], DIGITS, "01\n",
      "01\t01\tallocatable\n०१\txn--d4bc\tblocked\n#end 2\n", "", 0),

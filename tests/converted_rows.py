@@ -498,12 +498,11 @@ WITH_CONDITION = ABC + char("0064", when="r"), AFTER_A
 WITH_RULE = ABC, refusing('<char cp="0061 0062"/>')
 WITH_VARIANT = char("0061", ("0062", "blocked")) + char("0062", ("0061", "blocked")), ""
 
-# What version 3 reads in another way than RFC 7940: the data, the options, and the difference.
+# What a version reads in another way than RFC 7940: the data, the options, and the difference.
 LONGEST = "it can be cut into entries, but not by the longest at each place (8.1)"
 UNCLEAR = "it arises in several ways, with types that differ (8.4)"
 OVERLAP = char("0061") + char("0061 0062") + char("0062 0063")
 DIFFERENCES = [
-    (OVERLAP, [], f"accepted, and by RFC 7940 refused: {LONGEST}"),
     (OVERLAP, ["--version", "2"], f"accepted, and by RFC 7940 refused: {LONGEST}"),
     (char("0061", ("0063", "blocked")) + char("0062") + char("0063") + char("0061 0062", ("0063 0062", "allocatable")), [],
      f"allocatable, and by RFC 7940 unclear: {UNCLEAR}"),

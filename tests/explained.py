@@ -156,7 +156,9 @@ RULESET_ROWS = [
     ("%never 007A\n%always 0061\n%never 0062\n0062..0063\n", "bc", "demand 2, always"),
     ("%always 0062\n%never 0061\n%always 0063\n0061\n0062\n", "ab", "demand 2, never"),
     ("%rule r 0061 _\n%never 0062\n0061\n0062 when r\n0063 when r\n", "abc", "U+0063 at place 3: when r"),
-    # of the sources that are misplaced the last; of those at one place the longest
+    # the place at which the longest-first cut ends; of the sources there the longest, or no entry
+    ("0061\n0061-0062\n0062-0063\n", "abc", "U+0063 at place 3: no entry"),
+    ("%rule end _ $\n0061\n0061-0062 when end\n0062-0063\n0063\n", "abab", "U+0062 at place 2: no entry"),
     ("%rule no 0078 _\n%rule nor 0079 _\n0061\n0061-0062\n0062-0063 when no\n0063 when nor\n", "abc", "U+0063 at place 3: when nor"),
     ("%rule no 0078 _\n%rule nor 0079 _\n0061\n0062 when no\n0062-0063 when nor\n0063\n", "abc", "U+0062 at place 2: when nor"),
     ("%rule no 0078 _\n%rule nor 0079 _\n0061\n0062 when no\n0062-0063 when nor\n0063\n0064\n", "abd", "U+0062 at place 2: when no"),

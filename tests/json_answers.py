@@ -440,7 +440,7 @@ SHAPES = {
     19: [shape | more for shape in OF_A_LABELS for more in (set(), {"label"})],
     20: [set()], 21: [{"octets"}, {"label", "octets"}], 30: [set(), {"byte"}, {"code_point", "byte"}], 31: [{"byte"}], 32: [{"byte"}],
     33: [{"code_point", "byte"}], 34: [set(), {"byte"}, {"code_point", "byte"}], 35: [{"byte"}], 36: [{"byte"}], 40: [PLACED],
-    41: [PLACED | {"condition", "rule"}, {"demand", "kind"}],
+    41: [PLACED, PLACED | {"condition", "rule"}, {"demand", "kind"}],
 }
 # A value of each member of a refusal.
 MEMBERS = {"label": 2, "decoded": True, "code_point": "U+200C", "place": 1, "rule": None, "bidi_class": "AL", "nfc": "U+00E1",

@@ -8,6 +8,7 @@ use Rattle.variant_table.specs.WellFormed.{IsTable}
 use Rattle.variant_table.specs.Segmentations.{IsMadeOfSources}
 use Rattle.valid_labels.specs.Tests.{is_admitted, is_made_of_sources}
 use Rattle.valid_labels.specs.Validity.{IsAdmitted, IsSound}
+use Rattle.valid_labels.proofs.NothingLemmas.{admitted-valid}
 use Rattle.valid_labels.proofs.SegmentationLemmas.{made-from_segmentation}
 use Rattle.valid_labels.proofs.TestLemmas.{tests-agree}
 use Rattle.idn2_answers.specs.Said.{Said}
@@ -53,7 +54,7 @@ refused_answer table label refusal said sound is made = by_cases is
 
 -- what is admitted is made of sources
 pub admitted-made : (table : TableValue) (label : List ℕ) → IsAdmitted table label → IsMadeOfSources table label
-admitted-made table label is = made-from_segmentation table label is.cut
+admitted-made table label is = made-from_segmentation table label (admitted-valid table label is).1
 
 -- a label is admitted, or refused as this
 pub admitted_or_refused : (table : TableValue) (label : List ℕ) → IsSound table → IsAdmitted table label ⊎ ((refusal : Refusal) × IsRefusedAs table label refusal)

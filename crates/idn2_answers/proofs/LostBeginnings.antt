@@ -1,12 +1,12 @@
 -- No label that is valid under a table begins with a list that is dead.
-use Rattle.std.proofs.Common.{◌≡◌, ◌⊎◌, inl, inr, ◌++◌, ◌&&◌, ◌||◌, ℕ, List, [], ◌∷◌, Bool, true, false, take, length, refl, sym, ap, ◌∙◌, arith}
+use Rattle.std.proofs.Common.{◌≡◌, ◌⊎◌, inl, inr, ◌++◌, ◌&&◌, ◌||◌, ℕ, List, [], ◌∷◌, Bool, true, false, not, take, length, refl, sym, ap, ◌∙◌, arith}
 use Rattle.std.proofs.Math.Seq.{take-append_seam}
 use Rattle.std.proofs.lemmas.List.{length-append}
 use Rattle.idn_class.specs.declared.properties.Properties.{Properties}
 use Rattle.idn_class.specs.DeadPrefixes.{hopeless}
 use Rattle.idn_label.proofs.DeadPrefixLemmas.{none_hopeless}
 use Rattle.variant_table.specs.Entries.{TableValue}
-use Rattle.valid_labels.specs.Tests.{is_dead_under, is_valid}
+use Rattle.valid_labels.specs.Tests.{allows_any_cut, is_dead_under, is_valid}
 use Rattle.variant_list.specs.Beginnings.{has_no_dead_prefix}
 use Rattle.variant_list.proofs.BeginningLemmas.{alive-gives}
 use Rattle.idn2_answers.specs.Answers.{is_registrable, ruled_labels}
@@ -43,5 +43,5 @@ dead_beginning dead (c ∷ w) z none is = unless-true (has_no_dead_prefix dead (
 pub ruled-for_good : (properties : Properties) (table : TableValue) (w z : List ℕ) → (ruled_labels properties table).hopeless w ≡ true → (ruled_labels properties table).accepts (w ++ z) ≡ false
 ruled-for_good properties table w z is = elim (one-of (hopeless properties w) (is_dead_under table w) is) [
   | inl h ↦ not-left (is_registrable properties (w ++ z)) _ (none_hopeless properties w z h)
-  | inr l ↦ not-right (is_registrable properties (w ++ z)) _ (not-right (is_valid table (w ++ z)) _ (dead_beginning (is_dead_under table) w z refl l))
+  | inr l ↦ not-right (is_registrable properties (w ++ z)) _ (not-right (is_valid table (w ++ z)) _ (dead_beginning (is_dead_under table) w z (not-right (not (allows_any_cut table)) _ refl) l))
 ]

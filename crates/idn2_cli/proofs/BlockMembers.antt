@@ -36,7 +36,7 @@ use Rattle.variant_table.proofs.MemberLemmas.{Contains-none}
 -- what a label spells is valid where the table asks nothing
 spelled-valid : (table : TableValue) (label v : List ℕ) → IsSound table → Spells table label v → asks_nothing table ≡ true → IsValid table v
 spelled-valid table label v sound spells free =
-    nothing-is-asked.valid table v sound ((tests-agree.nothing table).0 free) (spelled-replacements Whole table label v spells)
+    nothing-is-asked.valid table v ((tests-agree.nothing table sound.entries).0 free) (spelled-replacements Whole table label v spells)
 
 same_listed : (o : Settings) (table : TableValue) (label v : List ℕ) → IsSound table
     → (IsVariant (filter_of o.properties table).accepts table label o.after v × IsKept o.registered v) ↔ IsListed o table label v

@@ -90,8 +90,8 @@ same-table test table is = by_test (asks_nothing table) is
     by_test true e = absurd (let clash : Some test.table ≡ None = e in cc)
     by_test false e = cc
 
-pub nothing-asked : (table : TableValue) → ruling_in None ≡ ruling_of table → AsksNothing table
-nothing-asked table is = (tests-agree.nothing table).0 (by_test (asks_nothing table) is)
+pub nothing-asked : (table : TableValue) → IsSound table → ruling_in None ≡ ruling_of table → AsksNothing table
+nothing-asked table sound is = (tests-agree.nothing table sound.entries).0 (by_test (asks_nothing table) is)
   where
     by_test : (b : Bool) → None ≡ (if b then None else Some table) → b ≡ true
     by_test true e = refl

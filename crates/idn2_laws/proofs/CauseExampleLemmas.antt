@@ -34,6 +34,7 @@ examples_of_causes = record {
   length_of_a_name = refl;
   outside = refl;
   misplaced = refl;
+  no_entry = refl;
   broken = refl;
   byte = refl;
   long_line = refl;

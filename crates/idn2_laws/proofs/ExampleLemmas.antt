@@ -57,7 +57,7 @@ filter-passes after (v ∷ vs) ldh =
     ∙ ap (λ (rest : List (List ℕ)). if passes v && is_gt (label_cmp v after) then v ∷ rest else rest) (filter-passes after vs ldh.1)
 
 -- the block of a label by what is asked of labels
-abbrev block_with : Filter → Settings → TableValue → List ℕ → List Said
+abbrev pub block_with : Filter → Settings → TableValue → List ℕ → List Said
 block_with f o table label = block_to (disposition table label) (stop_of f o (spelled table label)) (variants_after f o (spelled table label))
 
 -- that of a label that spells such labels alone

@@ -303,7 +303,7 @@ module _ (properties : Properties) where
 invalid-told : (table : TableValue) (label : List ℕ) → IsSound table → IsInvalid table label → invalid_cause table label ≢ None
 invalid-told table label sound invalid none =
     let no_cause = untold (validity_cause table label) (validity_causes.cause_of table label) (sym (invalid_cause-told table label invalid.0) ∙ none) in
-    let clash : true ≡ false = sym (cause-is-exact.told table label sound invalid.1 invalid.2) ∙ ap is_some no_cause in cc
+    let clash : true ≡ false = sym (cause-is-exact.told table label sound invalid.2) ∙ ap is_some no_cause in cc
 
 module _ (properties : Properties) where
   table-told : (table : TableValue) (label : List ℕ) (refusal : Refusal) → IsSound table → IsTested properties table label refusal → refusal ≢ refusals.Empty → table_cause properties table label refusal ≢ None

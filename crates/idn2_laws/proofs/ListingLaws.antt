@@ -32,9 +32,9 @@ after-text o label whole is = subst (λ text. IsBelow text label) (sym whole) (a
 pub listed-itself : (o : Settings) (table : TableValue) (label : List ℕ) → IsAsked o table label → IsListed o table label label
 listed-itself o table label asked = record {
   registrable = asked.registrable;
-  valid = admitted-valid table label asked.admitted;
+  valid = (admitted-valid table label asked.admitted).0;
   greater = after-text o label asked.whole asked.registrable;
-  spelled = Spells-itself table label asked.admitted.cut;
+  spelled = Spells-itself table label (admitted-valid table label asked.admitted).1;
   kept = asked.kept;
 }
 
@@ -70,8 +70,8 @@ listed-mutual o table label other vs ws symmetric asked asked_too of_label of_ot
     let P : List ℕ → Type 0 = IsTaken o table in
     let first = taken-list o table label vs of_label in
     let second = taken-list o table other ws of_other in (
-      variants-same table symmetric.well_formed symmetric.gaps symmetric.points symmetric.free P label other vs ws first second (taken-asked o table other asked_too) asked_too.admitted.cut,
-      variants-first table symmetric.well_formed symmetric.gaps symmetric.points symmetric.free P label other vs ws first second (taken-asked o table label asked) (taken-asked o table other asked_too) asked.admitted.cut asked_too.admitted.cut,
+      variants-same table symmetric.well_formed symmetric.gaps symmetric.points symmetric.free P label other vs ws first second (taken-asked o table other asked_too) (admitted-valid table other asked_too.admitted).1,
+      variants-first table symmetric.well_formed symmetric.gaps symmetric.points symmetric.free P label other vs ws first second (taken-asked o table label asked) (taken-asked o table other asked_too) (admitted-valid table label asked.admitted).1 (admitted-valid table other asked_too.admitted).1,
     )
 
 -- ---- a table that asks nothing

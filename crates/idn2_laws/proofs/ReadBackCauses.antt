@@ -285,8 +285,8 @@ rule-utf8 table n sound =
     name_at-utf8 d.rule_names n (names_after d.set_names d.rule_names (names_after d.tags (d.set_names ++ d.rule_names) sound.definitions.names))
 
 validity_fits : (table : TableValue) (label : List ℕ) (why : ValidityCause) → IsSound table → validity_causes.IsCause table label why → length label < 2 ^ 60 → IsFitting (validity_cause table label why)
-validity_fits table label (validity.Misplaced place condition) sound is short =
-    (omega (arith, is.1.1.misplaced.within, short), rule-utf8 table condition.rule sound)
+validity_fits table label (validity.NotEligible place None) sound is short = (let l = is.1 in omega (arith, l, short))
+validity_fits table label (validity.NotEligible place (Some condition)) sound is short = ((let l = is.1 in omega (arith, l, short)), rule-utf8 table condition.rule sound)
 validity_fits table label (validity.Broken n kind) sound is short =
     omega (arith, slice_get_within table.definitions.demands n is.1.0 is.1.1.at, sound.definitions.few_patterns)
 

@@ -38,7 +38,7 @@ use Rattle.idn2_refusals.specs.CauseParts.{a_label_parts, at_byte, changed_parts
 use Rattle.idn2_refusals.specs.RuleTexts.{appendix_rule, asked_text, barring_rule, bidi_rule, bidi_text, demand_text}
 use Rattle.idn2_laws.specs.ReadBack.{IsReadBack, byte_of}
 use Rattle.idn2_refusals.specs.declared.cause.LineCause.{LineCause}
-use Rattle.idn2_refusals.specs.declared.cause.LineCause.TheVariants.{Byte, LongLine, OfLabel, OfALabel, OfName, OfQuery, Misplaced, Broken as BrokenDemand, Ends, OfTable, ByteOrderMark, ALabelOf, NoALabel}
+use Rattle.idn2_refusals.specs.declared.cause.LineCause.TheVariants.{Byte, LongLine, OfLabel, OfALabel, OfName, OfQuery, Misplaced, NoEntry, Broken as BrokenDemand, Ends, OfTable, ByteOrderMark, ALabelOf, NoALabel}
 use Rattle.idn2_laws.proofs.ReadBackLemmas.{ascii_utf8, input_small, input_unicode, object_read_back}
 
 -- ---- the code point of a refusal is ASCII
@@ -247,6 +247,7 @@ IsFitting (OfALabel cause) = IsFittingALabel cause
 IsFitting (OfName cause) = (cause.label < 2 ^ 63) × IsFittingALabel cause.cause
 IsFitting (OfQuery cause) = IsFittingLength cause
 IsFitting (Misplaced place c kind rule) = (place < 2 ^ 63) × IsUtf8 rule.items
+IsFitting (NoEntry place c) = place < 2 ^ 63
 IsFitting (BrokenDemand number kind) = number < 2 ^ 63
 IsFitting (Ends place) = place < 2 ^ 63
 IsFitting (OfTable place quoted) = byte_of place < 2 ^ 63
@@ -392,6 +393,7 @@ good_line refusal (OfALabel cause) h = good_a_label refusal cause h
 good_line refusal (OfName cause) h = good_label_details (a_label_parts refusal cause.cause).details cause.label h.0 (good_a_label refusal cause.cause h.1)
 good_line refusal (OfQuery cause) h = good_length cause h
 good_line refusal (Misplaced place c kind rule) h = record { label = tt; place = next_small place h.0; condition = condition_utf8 kind; rule = h.1; bidi_class = tt; demand = tt; kind = tt; code_points = tt; octets = tt; alabel = tt; byte = tt; ulabel = tt }
+good_line refusal (NoEntry place c) h = record { label = tt; place = next_small place h; condition = tt; rule = tt; bidi_class = tt; demand = tt; kind = tt; code_points = tt; octets = tt; alabel = tt; byte = tt; ulabel = tt }
 good_line refusal (BrokenDemand number kind) h = record { label = tt; place = tt; condition = tt; rule = tt; bidi_class = tt; demand = next_small number h; kind = demand_utf8 kind; code_points = tt; octets = tt; alabel = tt; byte = tt; ulabel = tt }
 good_line refusal (Ends place) h = record { label = tt; place = next_small place h; condition = tt; rule = tt; bidi_class = tt; demand = tt; kind = tt; code_points = tt; octets = tt; alabel = tt; byte = tt; ulabel = tt }
 good_line refusal (OfTable place quoted) h = good_fault_place place quoted.items h

@@ -79,6 +79,7 @@ findings_read_back table sound few =
 -- ---- the fault of a table
 
 pub table_faults_read_back : TableFaultsAreReadBack
+unfolding fault_place
 table_faults_read_back properties wanted notation bytes fault line refusal small within =
     table_fault_good line small refusal (told_if wanted (fault_cause properties notation bytes fault)) (by_wanted wanted (by_mark (begins_with_mark bytes && is_syntax_of_first fault)))
   where
@@ -91,7 +92,6 @@ table_faults_read_back properties wanted notation bytes fault line refusal small
     by_line (Some f) small = by_place f.line (line_place f.version f.definitions fault f.line) small
 
     by_mark : (b : Bool) → IsFittingIfTold (cond b (Some ByteOrderMark) (line_cause fault (faulty_line properties notation bytes)))
-    unfolding fault_place
     by_mark true = tt
     by_mark false = by_line (faulty_line properties notation bytes) within
 

@@ -1,11 +1,12 @@
 -- Over a table of version 2 and over the ruleset of the same entries a run says the same.
 use Rattle.std.proofs.Common.{◌≡◌, inl, inr, ℕ, ◌==◌, ◌||◌, List, [], ◌∷◌, ◌++◌, length, Bool, true, false, Option, Some, None, Ok, Err, refl, sym, ap, subst, ◌∙◌, if◌then◌else◌}
-use Rattle.std.specs.Prelude.{chars, is_err}
+use Rattle.std.specs.Prelude.{◌≢◌, chars, is_err}
+use Rattle.std.specs.List.{slice_get}
 use Rattle.std.specs.Str.{is_utf8}
 use Rattle.idn_class.specs.declared.properties.Properties.{Properties}
 use Rattle.idn_text.specs.Lines.{Numbered, raw_lines}
 use Rattle.idn_text.specs.declared.refusal.Refusal.{Refusal}
-use Rattle.idn_text.specs.declared.refusal.Refusal.TheVariants.{Empty, NotUtf8}
+use Rattle.idn_text.specs.declared.refusal.Refusal.TheVariants.{Empty, NotInTable, NotUtf8, NotValid}
 use Rattle.ruleset_text.specs.Definitions.{Definitions, nothing_defined}
 use Rattle.variant_table.specs.declared.version.Version.{Version}
 use Rattle.variant_table.specs.declared.version.Version.TheVariants.{One, Two, Three}
@@ -17,8 +18,16 @@ use Rattle.variant_table.proofs.RulesetLemmas.{as_three}
 use Rattle.variant_table.specs.Entries.{Entry, TableValue, table_of}
 use Rattle.valid_labels.specs.Furthest.{furthest}
 use Rattle.variant_table.specs.Segmentations.{IsMadeOfSources}
-use Rattle.valid_labels.specs.Validity.{IsAdmitted}
-use Rattle.valid_labels.proofs.NothingLemmas.{older-asks_nothing}
+use Rattle.valid_labels.specs.Tests.{asks_nothing, is_admitted, is_made_of_sources}
+use Rattle.valid_labels.specs.Validity.{AsksNothing, IsAdmitted, IsSound}
+use Rattle.valid_labels.proofs.NothingLemmas.{admitted-if_made, older-asks_nothing}
+use Rattle.valid_labels.proofs.TestLemmas.{tests-agree}
+use Rattle.idn_class.proofs.TestLemmas.{same_test}
+use Rattle.idn_label.specs.Answers.{unless_fault}
+use Rattle.idn_label.specs.FirstFault.{first_fault}
+use Rattle.variant_list.specs.Jumps.{candidates_from}
+use Rattle.idn2_answers.specs.Said.{Said, Least}
+use Rattle.idn2_answers.proofs.AdmittedLabels.{admitted-made}
 use Rattle.variant_list.specs.Parts.{Part}
 use Rattle.variant_list.specs.Parts.Part.{Whole, Unblocked, Tagged}
 use Rattle.variant_list.specs.RulesetLaws.{as_ruleset}
@@ -26,12 +35,13 @@ use Rattle.variant_list.proofs.RulesetLemmas.{PartSpells-as_ruleset}
 use Rattle.idn2_options.specs.Settings.{Settings, tells_causes}
 use Rattle.idn2_options.specs.declared.command_line.mode.Mode.{Mode}
 use Rattle.idn2_options.specs.declared.command_line.mode.Mode.TheVariants.{Lookup, Register, Decode, Variants, Jump, CheckTable}
-use Rattle.idn2_answers.specs.Answers.{IsAllocatable, IsRefusedAs, IsSubTable, LineAnswer, jump_answer, line_answer, variants_answer}
-use Rattle.idn2_refusals.specs.Requests.{requested_label}
+use Rattle.idn2_answers.specs.Answers.{IsAllocatable, IsRefusedAs, IsSubTable, LineAnswer, block, filter_if, if_admitted, jump_answer, line_answer, variants_answer}
+use Rattle.idn2_refusals.specs.Requests.{requested_label, requested_text}
 use Rattle.idn2_refusals.specs.Explained.{Explained, ByRequest, ByTable, bad_byte, body_cause, if_wanted, points_cause, table_cause}
 use Rattle.idn2_answers.specs.Transcript.{explained_in, Refuses, answer_statements, has_refused, lines_statements, mode_statements, mode_status, statements, status_if, status_of}
-use Rattle.idn2_laws.specs.ListingLaws.{RulesetsSayTheSame}
+use Rattle.idn2_laws.specs.ListingLaws.{IsSingle, RulesetsSayTheSame}
 use Rattle.idn2_refusals.specs.declared.cause.LineCause.{LineCause}
+use Rattle.idn2_laws.proofs.ExampleLemmas.{block_with}
 use Rattle.idn2_laws.proofs.ListingLaws.{never-invalid}
 
 -- ---- the text
@@ -73,13 +83,28 @@ module _ (definitions : Definitions) (entries : List Entry) (m n : Version) (lab
   made-version : IsMadeOfSources (table_of m definitions entries) label → IsMadeOfSources (table_of n definitions entries) label
   made-version h = (h.0, record { of_table = h.1.of_table; inside = h.1.inside; joined = h.1.joined })
 
-  admitted-version : IsAdmitted (table_of m definitions entries) label → IsAdmitted (table_of n definitions entries) label
-  admitted-version h = record { cut = (h.cut.0, record { of_table = h.cut.1.of_table; inside = h.cut.1.inside; joined = h.cut.1.joined; held = h.cut.1.held }); met = h.met }
+-- such a table asks nothing of its labels, and the ruleset of its entries asks nothing, too
+module _ (table : TableValue) (single : IsSingle table) where
+  earlier : table.version ≢ Three
+  earlier three = (let clash : Two ≡ Three = sym single.version ∙ three in cc)
 
-module _ (definitions : Definitions) (entries : List Entry) (m n : Version) (label : List ℕ) (refusal : Refusal) where
-  refused-version : IsRefusedAs (table_of m definitions entries) label refusal → IsRefusedAs (table_of n definitions entries) label refusal
-  refused-version (inl h) = inl (λ made. h.0 (made-version definitions entries n m label made), h.1)
-  refused-version (inr h) = inr (made-version definitions entries m n label h.0, λ admitted. h.1 (admitted-version definitions entries n m label admitted), h.2)
+  nothing : AsksNothing table
+  nothing = older-asks_nothing table single.of_table earlier
+
+  nothing_in : (v : Version) → AsksNothing (table_of v table.definitions table.entries)
+  nothing_in v = record { conditions = nothing.conditions; demands = nothing.demands; cuts = inr (single.points, single.covered) }
+
+  sound_in : (v : Version) → IsSound (table_of v table.definitions table.entries)
+  sound_in v = record { entries = single.of_table.well_formed; definitions = single.of_table.without_fault }
+
+  admitted-version : (m n : Version) (label : List ℕ) → IsAdmitted (table_of m table.definitions table.entries) label → IsAdmitted (table_of n table.definitions table.entries) label
+  admitted-version m n label h =
+      admitted-if_made (table_of n table.definitions table.entries) label (nothing_in n)
+      (made-version table.definitions table.entries m n label (admitted-made (table_of m table.definitions table.entries) label h))
+
+  refused-version : (m n : Version) (label : List ℕ) (refusal : Refusal) → IsRefusedAs (table_of m table.definitions table.entries) label refusal → IsRefusedAs (table_of n table.definitions table.entries) label refusal
+  refused-version m n label refusal (inl h) = inl (λ made. h.0 (made-version table.definitions table.entries n m label made), h.1)
+  refused-version m n label refusal (inr h) = inr (made-version table.definitions table.entries m n label h.0, λ admitted. h.1 (admitted-version n m label admitted), h.2)
 
 -- ---- what a run says
 
@@ -106,18 +131,40 @@ module _ (how how_too : Explained) (answer other : List ℕ → LineAnswer) (cau
   refused-same [] = refl
   refused-same (line ∷ lines) = ap (λ a. is_err a || has_refused answer lines) (answers-same answer other line.body answers) ∙ ap (λ b. is_err (line_answer other line.body) || b) (refused-same lines)
 
-module _ (o : Settings) (definitions : Definitions) (entries : List Entry) where
+module _ (o : Settings) (table : TableValue) (single : IsSingle table) where
   abbrev two : TableValue
-  two = table_of Two definitions entries
+  two = table_of Two table.definitions table.entries
 
   abbrev three : TableValue
-  three = table_of Three definitions entries
+  three = table_of Three table.definitions table.entries
+
+  free : (v : Version) → asks_nothing (table_of v table.definitions table.entries) ≡ true
+  free v = (tests-agree.nothing (table_of v table.definitions table.entries) single.of_table.well_formed).1 (nothing_in table single v)
+
+  admitted-same : (label : List ℕ) → is_admitted two label ≡ is_admitted three label
+  admitted-same label =
+      let a = tests-agree.admitted two label (sound_in table single Two) in
+      let b = tests-agree.admitted three label (sound_in table single Three) in
+      same_test (is_admitted two label) (is_admitted three label) (λ h. b.1 (admitted-version table single Two Three label (a.0 h))) (λ h. a.1 (admitted-version table single Three Two label (b.0 h)))
+
+  -- what is said of a label that is admitted, or a refusal
+  answer-same : (label : List ℕ) (said other : List Said) → said ≡ other → if_admitted two label said ≡ if_admitted three label other
+  answer-same label said other same =
+      let answer : Bool → List Said → LineAnswer = λ b s. if b then Ok s else (if is_made_of_sources two label then Err NotValid else Err NotInTable) in
+      ap (λ b. answer b said) (admitted-same label) ∙ ap (answer (is_admitted three label)) same
+
+  block-same : (label : List ℕ) → block o two label ≡ block o three label
+  block-same label =
+      ap (λ b. block_with (filter_if o.properties b two) o two label) (free Two) ∙ sym (ap (λ b. block_with (filter_if o.properties b three) o three label) (free Three))
 
   variants-answer-same : (label : List ℕ) → variants_answer o two label ≡ variants_answer o three label
-  variants-answer-same label = refl
+  variants-answer-same label = ap (unless_fault (first_fault o.properties label)) (answer-same label (block o two label) (block o three label) (block-same label))
 
   jump-answer-same : (request : List ℕ) → jump_answer o.properties two request ≡ jump_answer o.properties three request
-  jump-answer-same request = refl
+  jump-answer-same request =
+      let label = requested_label request in
+      let said : List Said = Least (slice_get (candidates_from two label (requested_text request)) 0) ∷ [] in
+      ap (unless_fault (first_fault o.properties label)) (answer-same label said said refl)
 
   table-cause-same : (label : List ℕ) (refusal : Refusal) → table_cause o.properties two label refusal ≡ table_cause o.properties three label refusal
   unfolding furthest
@@ -168,15 +215,12 @@ module _ (o : Settings) (definitions : Definitions) (entries : List Entry) where
 pub rulesets-say-the-same : RulesetsSayTheSame
 rulesets-say-the-same = record {
   read = text-as_ruleset;
-  said = λ o table lines is.
-      subst (λ (v : Version). statements o (Ok (table_of v table.definitions table.entries)) lines ≡ statements o (Ok (as_ruleset table)) lines) (sym is) (mode-statements-same o table.definitions table.entries o.mode lines);
-  status = λ o table lines is.
-      subst (λ (v : Version). status_of o (Ok (table_of v table.definitions table.entries)) lines ≡ status_of o (Ok (as_ruleset table)) lines) (sym is) (mode-status-same o table.definitions table.entries o.mode lines);
+  said = λ o table lines single.
+      subst (λ (v : Version). statements o (Ok (table_of v table.definitions table.entries)) lines ≡ statements o (Ok (as_ruleset table)) lines) (sym single.version) (mode-statements-same o table single o.mode lines);
+  status = λ o table lines single.
+      subst (λ (v : Version). status_of o (Ok (table_of v table.definitions table.entries)) lines ≡ status_of o (Ok (as_ruleset table)) lines) (sym single.version) (mode-status-same o table single o.mode lines);
   gaps = λ table. refl;
   allocatable = λ table label v. (allocatable-there table label v, allocatable-back table label v);
-  refused = λ table label refusal. (
-    refused-version table.definitions table.entries table.version (as_ruleset table).version label refusal,
-    refused-version table.definitions table.entries (as_ruleset table).version table.version label refusal,
-  );
+  refused = λ table label refusal single. (refused-version table single table.version Three label refusal, refused-version table single Three table.version label refusal);
   valid = λ table label is two. never-invalid table label (older-asks_nothing table is (λ three. (let clash : Two ≡ Three = sym two ∙ three in cc)));
 }

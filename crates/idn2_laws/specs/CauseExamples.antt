@@ -10,7 +10,7 @@ use Rattle.idn_cause.specs.declared.query.LengthCause.TheVariants.{LabelOctets, 
 use Rattle.label_patterns.specs.declared.condition.ConditionKind.TheVariants.{Unless}
 use Rattle.ruleset_text.specs.declared.definition.DemandKind.TheVariants.{Never}
 use Rattle.idn2_refusals.specs.CauseWords.{tail_text}
-use Rattle.idn2_refusals.specs.declared.cause.LineCause.TheVariants.{Byte, LongLine, OfLabel, OfALabel, OfName, OfQuery, Misplaced, Broken, ByteOrderMark, ALabelOf, NoALabel}
+use Rattle.idn2_refusals.specs.declared.cause.LineCause.TheVariants.{Byte, LongLine, OfLabel, OfALabel, OfName, OfQuery, Misplaced, NoEntry, Broken, ByteOrderMark, ALabelOf, NoALabel}
 
 -- each form of a cause
 pub record ExamplesOfCauses : Type 0 where
@@ -39,6 +39,7 @@ pub record ExamplesOfCauses : Type 0 where
   pub length_of_a_name : tail_text refusals.LookupLength (Some (OfQuery (NameOctets 254))) ≡ codes ": name of 254 octets"
   pub outside : tail_text refusals.NotInTable (Some (OfLabel (causes.Point 2 0xF1))) ≡ codes ": U+00F1 at place 3"
   pub misplaced : tail_text refusals.NotValid (Some (Misplaced 2 0x2D Unless (record { items = codes "edge" }))) ≡ codes ": U+002D at place 3: unless edge"
+  pub no_entry : tail_text refusals.NotValid (Some (NoEntry 2 0x63)) ≡ codes ": U+0063 at place 3: no entry"
   pub broken : tail_text refusals.NotValid (Some (Broken 0 Never)) ≡ codes ": demand 1, never"
   pub byte : tail_text refusals.NotUtf8 (Some (Byte 2 0xFF)) ≡ codes ": byte 0xFF at byte 3"
   pub long_line : tail_text refusals.LineTooLong (Some LongLine) ≡ codes ": more than 1024 bytes"

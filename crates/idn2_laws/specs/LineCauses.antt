@@ -55,7 +55,7 @@ abbrev pub IsNotInTableCause : TableValue → List ℕ → Cause → Type 0
 IsNotInTableCause table label cause =
     (place : ℕ) × IsFurthest table label place × (place < length label) × (cause ≡ Point place (slice_index label place))
 
--- of a label that is made of sources of a ruleset and isn't valid: a source whose condition fails, or a demand (RFC
+-- of a label that is made of sources of a ruleset and isn't valid: where it isn't eligible, or a demand (RFC
 -- 7940, sections 5.2 and 7)
 abbrev pub IsInvalidCause : TableValue → List ℕ → LineCause → Type 0
 IsInvalidCause table label cause = IsOf (validity_cause table label) (validity_causes.IsCause table label) cause

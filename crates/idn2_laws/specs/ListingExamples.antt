@@ -17,7 +17,7 @@ digits_of_two_kinds = table_with ((record { first = 48; last = 57 } ∷ []) ∷ 
 
 -- no label ends in b, which is a variant of a
 abbrev pub b_within : TableValue
-b_within = table_with [] [] (never (Then (Point 98) End) ∷ []) (entry (codes "a") (blocked (codes "b") ∷ []) ∷ [])
+b_within = table_with [] [] (never (Then (Point 98) End) ∷ []) (entry (codes "a") (blocked (codes "b") ∷ []) ∷ letters (codes "b"))
 
 -- the lines 0061, !0062..0063 when x and 0064|!0063, where x holds after a
 abbrev pub outside_after_a : TableValue
@@ -29,8 +29,8 @@ abbrev pub listed : TableValue → List ℕ → List (List ℕ)
 listed table label = variants (is_valid table) table label []
 
 -- a listing tests no label with a dead prefix. A variant is valid as a label of its own: its signs follow consonants,
--- its digits are of one kind, it doesn't end as none may, what is outside stands where it may, an output line has its
--- condition within a variant, and a variant that is no output line has none
+-- its digits are of one kind, it doesn't end as none may, what is outside stands where it may, a source has its
+-- condition within a variant, and what is not made of sources is not valid
 pub record ListingsOfExamples : Type 0 where
   pub one_kind_tested : tested (is_dead_under digits_of_two_kinds) digits_of_two_kinds (codes "01") [] ≡ codes "01" ∷ (2406 ∷ 2407 ∷ []) ∷ []
   pub end_tested : tested (is_dead_under b_within) b_within (codes "aa") [] ≡ codes "aa" ∷ codes "ab" ∷ codes "ba" ∷ codes "bb" ∷ []
@@ -41,7 +41,7 @@ pub record ListingsOfExamples : Type 0 where
   pub not_at_the_end : listed b_within (codes "aa") ≡ codes "aa" ∷ codes "ba" ∷ []
   pub outside_within_the_label : listed outside_within (codes "aba") ≡ codes "aba" ∷ (1072 ∷ codes "ba") ∷ []
   pub after_a_in_a_variant : listed two_for_one (codes "ac") ≡ codes "aba" ∷ codes "ac" ∷ []
-  pub pieces_of_their_own : listed after_a (codes "cc") ≡ codes "bdbd" ∷ codes "bdc" ∷ codes "cbd" ∷ codes "cc" ∷ []
+  pub variant_of_no_sources : listed after_a (codes "cc") ≡ codes "cc" ∷ []
   pub b_on_a : listed c_for_a (codes "aba") ≡ codes "aba" ∷ codes "abc" ∷ []
   pub range_outside : listed outside_after_a (codes "ad") ≡ codes "ac" ∷ codes "ad" ∷ []
   pub range_outside_alone : listed outside_after_a (codes "dd") ≡ codes "dd" ∷ []

@@ -13,7 +13,7 @@ use Rattle.variant_table.specs.Gaps.{gaps_of}
 use Rattle.variant_table.specs.Texts.{IsTextOf}
 use Rattle.variant_table.specs.Versions.{is_version_line}
 use Rattle.variant_table.specs.WellFormed.{IsTable}
-use Rattle.valid_labels.specs.Validity.{AsksNothing, IsAdmitted, IsSound, IsValid}
+use Rattle.valid_labels.specs.Validity.{AsksNothing, HasCoveredVariants, IsAdmitted, IsOfPoints, IsSound, IsValid}
 use Rattle.variant_list.specs.Spelling.{Spells}
 use Rattle.variant_list.specs.Labels.{IsListOf}
 use Rattle.variant_list.specs.MutualLaws.{IsMutual}
@@ -43,17 +43,25 @@ ListedAreMutual =
     IsMutual table → IsAsked o table label → IsAsked o table other → IsListOf (IsListed o table label) vs → IsListOf (IsListed o table other) ws →
     (Contains vs other ↔ (vs ≡ ws)) × (Contains vs other ↔ (slice_get vs 0 ≡ slice_get ws 0))
 
--- a text of version 2 spells the ruleset of the same entries once its first line says so (first and second are these lines); over the table and over that ruleset a run
--- says the same, in each mode and with the same status: the same listings, gaps, refusals and causes. The same labels are refused,
--- none of them as not valid, and the same are allocatable
+-- a table each of whose sources is one code point, and each of whose variants is made of sources
+pub record IsSingle (table : TableValue) : Type 0 where
+  pub of_table : IsTable table
+  pub version : table.version ≡ Two
+  pub points : IsOfPoints table
+  pub covered : HasCoveredVariants table
+
+-- a text of version 2 spells the ruleset of the same entries once its first line says so (first and second are these lines). Where each
+-- source is one code point and each variant is made of sources, a run says the same over the table and over that ruleset, in each
+-- mode and with the same status: the same listings, gaps, refusals and causes; and the same labels are refused, none of them as not
+-- valid. The same are allocatable always
 pub record RulesetsSayTheSame : Type 0 where
   pub read : (properties : Properties) (text other first second : List ℕ) (lines : List (List ℕ)) (table : TableValue) → table.version ≡ Two → raw_lines text ≡ first ∷ lines → raw_lines other ≡ second ∷ lines
       → is_version_line Table first ≡ true → is_version_line Ruleset second ≡ true → IsTextOf properties Table text table → IsTextOf properties Ruleset other (as_ruleset table)
-  pub said : (o : Settings) (table : TableValue) (lines : List Numbered) → table.version ≡ Two → statements o (Ok table) lines ≡ statements o (Ok (as_ruleset table)) lines
-  pub status : (o : Settings) (table : TableValue) (lines : List Numbered) → table.version ≡ Two → status_of o (Ok table) lines ≡ status_of o (Ok (as_ruleset table)) lines
+  pub said : (o : Settings) (table : TableValue) (lines : List Numbered) → IsSingle table → statements o (Ok table) lines ≡ statements o (Ok (as_ruleset table)) lines
+  pub status : (o : Settings) (table : TableValue) (lines : List Numbered) → IsSingle table → status_of o (Ok table) lines ≡ status_of o (Ok (as_ruleset table)) lines
   pub gaps : (table : TableValue) → gaps_of table.entries ≡ gaps_of (as_ruleset table).entries
   pub allocatable : (table : TableValue) (label v : List ℕ) → IsAllocatable table label v ↔ IsAllocatable (as_ruleset table) label v
-  pub refused : (table : TableValue) (label : List ℕ) (refusal : Refusal) → IsRefusedAs table label refusal ↔ IsRefusedAs (as_ruleset table) label refusal
+  pub refused : (table : TableValue) (label : List ℕ) (refusal : Refusal) → IsSingle table → IsRefusedAs table label refusal ↔ IsRefusedAs (as_ruleset table) label refusal
   pub valid : (table : TableValue) (label : List ℕ) → IsTable table → table.version ≡ Two → ¬ IsRefusedAs table label NotValid
 
 -- where the table asks nothing of its labels, 41 is never answered: not to a label, and not to a request

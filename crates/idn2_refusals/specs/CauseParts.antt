@@ -15,7 +15,7 @@ use Rattle.ruleset_text.specs.declared.fault.FaultPlace.TheVariants as places
 use Rattle.answer_json.specs.Details.{Details, HasShortTexts, no_details}
 use Rattle.idn2_refusals.specs.RuleTexts.{RuleText, a_label_rule, appendix_rule, asked_text, barring_rule, bidi_rule, bidi_text, bidi_words, demand_text, named, punycode_rule, words_alone}
 use Rattle.idn2_refusals.specs.declared.cause.LineCause.{LineCause}
-use Rattle.idn2_refusals.specs.declared.cause.LineCause.TheVariants.{Byte, LongLine, OfLabel, OfALabel, OfName, OfQuery, Misplaced, Broken, Ends, OfTable, ByteOrderMark, ALabelOf, NoALabel}
+use Rattle.idn2_refusals.specs.declared.cause.LineCause.TheVariants.{Byte, LongLine, OfLabel, OfALabel, OfName, OfQuery, Misplaced, NoEntry, Broken, Ends, OfTable, ByteOrderMark, ALabelOf, NoALabel}
 
 -- the members that an object has; and for a message what it has in place of a code point, and words round a rule
 pub record CauseParts : Type 0 where
@@ -141,6 +141,7 @@ parts_of refusal (OfName cause) = labelled (cause.label + 1) (a_label_parts refu
 parts_of refusal (OfQuery cause) = length_parts cause
 parts_of refusal (Misplaced place c kind rule) =
     ruled (named rule.items) (record (placed place c) { condition = Some (asked_text kind) })
+parts_of refusal (NoEntry place c) = noted (codes ": no entry") (plain (placed place c))
 parts_of refusal (Broken number kind) = plain (record no_details { demand = Some (number + 1); kind = Some (demand_text kind) })
 parts_of refusal (Ends place) = led (codes "ends") (record no_details { place = Some (place + 1) })
 parts_of refusal (OfTable place quoted) = fault_place_parts place quoted.items

@@ -22,7 +22,7 @@ use Rattle.valid_labels.specs.Causes as validity_causes
 use Rattle.valid_labels.specs.Furthest.{furthest}
 use Rattle.idn2_refusals.specs.Requests.{requested_label}
 use Rattle.idn2_refusals.specs.declared.cause.LineCause.{LineCause}
-use Rattle.idn2_refusals.specs.declared.cause.LineCause.TheVariants.{Byte, LongLine, OfLabel, OfALabel, OfName, OfQuery, Misplaced, Broken, ALabelOf, NoALabel}
+use Rattle.idn2_refusals.specs.declared.cause.LineCause.TheVariants.{Byte, LongLine, OfLabel, OfALabel, OfName, OfQuery, Misplaced, NoEntry, Broken, ALabelOf, NoALabel}
 
 -- of what the cause is told: of nothing, of a label, of a name that is decoded, of one that is looked up, of a label by the sources
 -- of a table, of the label of a request by them, or of a label that is tested as it stands
@@ -62,15 +62,16 @@ abbrev pub not_in_table_cause : TableValue → List ℕ → Option Cause
 not_in_table_cause table label =
     if nat_le (length label) 63 then Some (Point (furthest table label) (slice_index label (furthest table label))) else None
 
--- why a label that is made of sources may not be asked about: what is asked of the rule of a source that stands at a place, or a
--- demand by its number
+-- why a label that is made of sources may not be asked about: what is asked of the rule of the longest source at the place where it
+-- isn't eligible, or that no source is there; or a demand by its number
 abbrev pub validity_cause : TableValue → List ℕ → ValidityCause → LineCause
-validity_cause table label (validity.Misplaced place condition) =
+validity_cause table label (validity.NotEligible place None) = NoEntry place (slice_index label place)
+validity_cause table label (validity.NotEligible place (Some condition)) =
     Misplaced place (slice_index label place) condition.kind (record { items = rule_name table.definitions condition.rule })
 validity_cause table label (validity.Broken number kind) = Broken number kind
 
 -- why a label that is short enough to be registered, and made of sources, may not be asked about (RFC 7940, sections
--- 5.2 and 7)
+-- 7 and 8.1)
 abbrev pub invalid_cause : TableValue → List ℕ → Option LineCause
 invalid_cause table label =
     if nat_le (length label) 63 then option_map (validity_cause table label) (validity_causes.cause_of table label) else None

@@ -71,6 +71,8 @@ pub enum LineCause {
     /// A source stands at this place of a label, with this code point, where its condition fails: so it is asked of the rule
     /// of this name.
     Misplaced(usize, u32, ConditionKind, RuleName),
+    /// No source of a ruleset is at this place of a label, with this code point, by which the label may be cut.
+    NoEntry(usize, u32),
     /// A label breaks the demand of this number and kind.
     Broken(usize, DemandKind),
     /// Where a label ends before it differs from the one before it.
@@ -336,17 +338,20 @@ fn cause_by_ruleset(
     }
 }
 
-/// The condition that fails by the name of its rule, or the demand.
+/// Where the label isn't eligible, with the condition that fails there by the name of its rule; or the demand.
 fn validity_cause(label: &[u32], table: &Table, cause: ValidityCause) -> LineCause
     ensures { result ≡ validity_cause_of table.now label.now cause }
 {
     match cause {
-        ValidityCause::Misplaced(place, condition) => LineCause::Misplaced(
+        ValidityCause::NotEligible(place, Some(condition)) => LineCause::Misplaced(
             place,
             code_point_at(label, place),
             condition.kind,
             name_of_rule(table, condition.rule),
         ),
+        ValidityCause::NotEligible(place, None) => {
+            LineCause::NoEntry(place, code_point_at(label, place))
+        }
         ValidityCause::Broken(number, kind) => LineCause::Broken(number, kind),
     }
 }

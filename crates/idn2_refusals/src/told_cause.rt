@@ -112,10 +112,7 @@ impl<'a> ToldCause<'a> {
 }
 
 /// What the object of a refused line says of the cause, if there is one.
-pub(crate) fn members_of<'a>(
-    refusal: &Refusal,
-    cause: Option<&'a LineCause>,
-) -> RefusalMembers<'a>
+pub(crate) fn members_of<'a>(refusal: &Refusal, cause: Option<&'a LineCause>) -> RefusalMembers<'a>
     ensures members { details_of result ≡ told_details refusal.now (option_copied cause.entry) }
     ensures short { HasShortTexts (details_of result) }
 {
@@ -145,6 +142,9 @@ pub(crate) fn told_cause<'a>(refusal: &Refusal, cause: &'a LineCause) -> ToldCau
                 ..placed(*place, *point)
             };
             ToldCause::ruled(Rule::named(rule.as_slice()), members)
+        }
+        LineCause::NoEntry(place, point) => {
+            ToldCause::plain(placed(*place, *point)).noted(b": no entry")
         }
         LineCause::Broken(number, kind) => ToldCause::plain(RefusalMembers {
             demand: Some(counted(*number)),

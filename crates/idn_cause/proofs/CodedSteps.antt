@@ -51,6 +51,7 @@ module _ (properties : Properties) where
       by_answer (Err refusal) e = refl
 
 pub ruleset coded = (coded-none, coded-some)
+
 pub ruleset confirmed_as = (confirmed-utf8, confirmed-short, unconfirmed)
 
 module _ (properties : Properties) where

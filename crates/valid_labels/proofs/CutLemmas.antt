@@ -1,14 +1,26 @@
 -- A label that is cut into entries, as a list and as steps from place to place.
-use Rattle.std.proofs.Common.{◌≡◌, ℕ, ◌+◌, ◌-◌, ◌≤◌, List, [], ◌∷◌, ◌++◌, length, take, drop, refl, sym, ap, subst, ◌∙◌, arith, length-append, length-drop, append-nil}
+use Rattle.std.proofs.Common.{◌≡◌, ℕ, ◌+◌, ◌-◌, ◌<◌, ◌≤◌, List, [], ◌∷◌, ◌++◌, length, take, drop, refl, sym, ap, subst, ◌∙◌, arith, length-append, length-drop, append-nil}
 use Rattle.std.specs.Prelude.{Option}
-use Rattle.std.specs.List.{AllByRecursion, flat_map, slice_range}
+use Rattle.std.specs.List.{AllByRecursion, Contains, flat_map, slice_range}
+use Rattle.std.proofs.lemmas.List.Elements.{All-contains}
 use Rattle.std.proofs.lemmas.Grind.{flat_map-append}
 use Rattle.std.proofs.lemmas.List.{take_all, length-take-le}
 use Rattle.label_patterns.specs.declared.condition.Condition.{Condition}
 use Rattle.label_patterns.specs.Matches.{Rounds, no_round, one_more}
-use Rattle.variant_table.specs.Entries.{Entry}
+use Rattle.variant_table.specs.Entries.{Entry, replacements}
+use Rattle.variant_table.specs.WellFormed.{IsEntry, IsSequence, IsWellFormed}
 use Rattle.variant_table.proofs.MemberLists.{all-push}
 use Rattle.valid_labels.proofs.PartLemmas.{part-length, first-part, first-inside, after-first, take-part}
+
+pub rounds-map : (R S : ℕ → ℕ → Type 0) → ((i j : ℕ) → R i j → S i j) → (i j : ℕ) → Rounds R i j → Rounds S i j
+rounds-map R S f i _ no_round = no_round
+rounds-map R S f i _ (one_more k j rounds step) = one_more k j (rounds-map R S f i k rounds) (f k j step)
+
+pub sequence-filled : (entries : List Entry) (e : Entry) (s : List ℕ) → IsWellFormed entries → Contains entries e → Contains (replacements e) s → 0 < length s
+sequence-filled entries e s formed h r =
+    let each : IsEntry e = All-contains IsEntry entries e formed.entries h in
+    let one : IsSequence s = All-contains IsSequence (replacements e) s each.sequences r in
+    omega (arith, one.filled)
 
 -- the sources of entries, joined
 abbrev pub sources : List Entry → List ℕ

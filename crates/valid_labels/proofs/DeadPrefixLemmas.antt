@@ -1,5 +1,5 @@
 -- What is dead stays so, and is never valid.
-use Rattle.std.proofs.Common.{ℕ, ◌<◌, ◌≤◌, inl, inr, List, [], ◌++◌, length, sym, subst, arith, length-append, append-nil}
+use Rattle.std.proofs.Common.{ℕ, ◌<◌, ◌≤◌, inl, inr, List, [], ◌++◌, length, refl, sym, subst, arith, length-append, append-nil}
 use Rattle.std.specs.Prelude.{Option}
 use Rattle.std.specs.List.{slice_range}
 use Rattle.std.proofs.lemmas.List.Elements.{All-contains, All-from_recursion}
@@ -13,13 +13,24 @@ use Rattle.ruleset_text.specs.declared.definition.DemandKind.{DemandKind}
 use Rattle.ruleset_text.specs.Definitions.{Demand}
 use Rattle.variant_table.specs.Entries.{TableValue}
 use Rattle.variant_table.specs.Segmentations.{seen_under}
-use Rattle.valid_labels.specs.Segments.{IsSegment, SegmentStands, SegmentMayStand, IsMadeOfSegments, MayReach}
+use Rattle.variant_table.specs.WellFormed.{IsWellFormed}
+use Rattle.valid_labels.specs.declared.longest.Sources.TheVariants.{All}
+use Rattle.valid_labels.specs.Eligible.{IsEligible, LongestLeads}
+use Rattle.valid_labels.specs.Segments.{IsSegment, SegmentStands, SegmentMayStand, MayReach}
 use Rattle.valid_labels.specs.Demands.{IsWanted, IsMet}
 use Rattle.valid_labels.specs.Validity.{IsSound, IsValid, IsRefused, LeadsNowhere, IsDeadUnder}
 use Rattle.valid_labels.specs.Laws.{DeadForGood}
+use Rattle.valid_labels.proofs.CutLemmas.{rounds-map}
+use Rattle.valid_labels.proofs.EligibleLemmas.{leads-entry}
 use Rattle.valid_labels.proofs.PartLemmas.{part-length, part-stays}
 use Rattle.valid_labels.proofs.RuleLemmas.{rules-before}
-use Rattle.valid_labels.proofs.TestLemmas.{rounds-map, segment-filled}
+use Rattle.valid_labels.proofs.TestLemmas.{segment-filled}
+
+-- the longest source that stands is a segment that does
+pub leads-segment : (table : TableValue) (label : List ℕ) → IsWellFormed table.entries → (i j : ℕ) → LongestLeads All table label i j → SegmentStands table label i j
+leads-segment table label formed i j h =
+    let s = leads-entry All table label formed i j h in
+    (s.0.condition, (s.2, s.3, (s.0, s.1.0, sym s.4, refl)), s.5)
 
 -- what holds isn't barred
 pub stands-may : (table : TableValue) (label : List ℕ) → IsSound table → (i j : ℕ) → SegmentStands table label i j → SegmentMayStand table label i j
@@ -59,10 +70,11 @@ module _ (table : TableValue) (label more : List ℕ) (sound : IsSound table) wh
   last-segment _ l no_round = absurd (omega (arith, l))
   last-segment _ l (one_more i j rounds step) = (slice_range (label ++ more) i j, (step.0, step.1.2))
 
-  pub nowhere-invalid : 0 < length label → LeadsNowhere table label → IsMadeOfSegments table (label ++ more) → ⊥
-  nowhere-invalid some nowhere made =
+  pub nowhere-invalid : 0 < length label → LeadsNowhere table label → IsEligible table (label ++ more) → ⊥
+  nowhere-invalid some nowhere eligible =
       let n = length-append label more in
       let end : ℕ = length (label ++ more) in
+      let made = rounds-map (LongestLeads All table (label ++ more)) (SegmentStands table (label ++ more)) (leads-segment table (label ++ more) sound.entries) 0 end eligible in
       let may = rounds-map (SegmentStands table (label ++ more)) (SegmentMayStand table (label ++ more)) (stands-may table (label ++ more) sound) 0 end made in
       let before = within nowhere end may in
       let last = last-segment end (omega (arith, n, some)) made in
@@ -97,6 +109,7 @@ refused-invalid table label refused valid =
 
 pub dead-stays : (table : TableValue) (label more : List ℕ) → IsSound table → IsDeadUnder table label → IsDeadUnder table (label ++ more)
 dead-stays table label more sound is = record {
+  asks = is.asks;
   some = (let l = is.some in omega (arith, l, length-append label more));
   dead = elim is.dead [ inl r ↦ inl (refused-stays table label more sound r) | inr n ↦ inr (nowhere-stays table label more sound n) ];
 }
@@ -104,7 +117,7 @@ dead-stays table label more sound is = record {
 pub dead-invalid : (table : TableValue) (label more : List ℕ) → IsSound table → IsDeadUnder table label → IsValid table (label ++ more) → ⊥
 dead-invalid table label more sound is valid = elim is.dead [
   | inl r ↦ refused-invalid table (label ++ more) (refused-stays table label more sound r) valid
-  | inr n ↦ nowhere-invalid table label more sound is.some n valid.cut
+  | inr n ↦ elim valid.cut [ inl any ↦ is.asks any | inr eligible ↦ nowhere-invalid table label more sound is.some n eligible ]
 ]
 
 pub dead-for-good : DeadForGood

@@ -8,13 +8,14 @@ use Rattle.label_patterns.proofs.LawLemmas.{parts, stay}
 use Rattle.variant_table.specs.Entries.{TableValue}
 use Rattle.variant_table.specs.Segmentations.{seen_under}
 use Rattle.valid_labels.specs.Segments.{IsSegment, SegmentMayStand, MayReach}
-use Rattle.valid_labels.specs.Validity.{IsSound, IsValid, IsRefused, LeadsNowhere, IsDeadUnder, IsShortestDeadUnder, HasNoDeadPrefixUnder}
+use Rattle.valid_labels.specs.Validity.{AllowsAnyCut, IsSound, IsValid, IsRefused, LeadsNowhere, IsDeadUnder, IsShortestDeadUnder, HasNoDeadPrefixUnder}
 use Rattle.valid_labels.specs.inner.Ends.{IsRefusedAt, NoneRefuses, IsPast, IsDeadFrom, IsLeastDead, NoneIsDead}
-use Rattle.valid_labels.specs.inner.Segments.{IsLongest}
+use Rattle.valid_labels.specs.inner.Segments.{IsMost}
+use Rattle.valid_labels.proofs.CutLemmas.{rounds-map}
 use Rattle.valid_labels.proofs.DeadPrefixLemmas.{within, dead-invalid}
 use Rattle.valid_labels.proofs.PartLemmas.{part-stays}
 use Rattle.valid_labels.proofs.RuleLemmas.{rules-before}
-use Rattle.valid_labels.proofs.TestLemmas.{rounds-map, may-reach-within}
+use Rattle.valid_labels.proofs.TestLemmas.{may-reach-within}
 
 module _ (table : TableValue) (label more : List ℕ) (sound : IsSound table) where
   -- a segment that may stand in a label may stand in a longer one
@@ -24,7 +25,7 @@ module _ (table : TableValue) (label more : List ℕ) (sound : IsSound table) wh
       (h.0, (h.1.0, (let m = h.1.1 in omega (arith, m, length-append label more)), subst (λ s. IsSegment table s h.0) (sym (part-stays label more i j h.1.0 h.1.1)) h.1.2), λ barred. h.2 (stays.1 barred))
 
   -- the beginning leads nowhere where no segment leads past it from the last place that may be reached
-  pub nowhere-from : (last longest : ℕ) → MayReach table (label ++ more) last → ((p : ℕ) → last < p → p ≤ length (label ++ more) → MayReach table (label ++ more) p → ⊥) → IsLongest table longest
+  pub nowhere-from : (last longest : ℕ) → MayReach table (label ++ more) last → ((p : ℕ) → last < p → p ≤ length (label ++ more) → MayReach table (label ++ more) p → ⊥) → IsMost table longest
       → LeadsNowhere table label ↔ (last + longest ≤ length label)
   nowhere-from last longest reached greatest is = (
     λ nowhere.
@@ -68,20 +69,20 @@ module _ (table : TableValue) (label more : List ℕ) (sound : IsSound table) wh
         (d, is.some.1, is.some.2.0, is.some.2.1, (start.0, end, (let k = start.1 in omega (arith, k, l)), (stay d.pattern table.definitions.sets label more start.0 end is.some.2.1 l).1 start.2)),
   )
 
-  pub dead-from : (refused : Option ℕ) (last longest : ℕ) → MatchOption refused (NoneRefuses (seen_under table (label ++ more)) table.definitions.demands) (IsRefusedAt (seen_under table (label ++ more)) table.definitions.demands)
-      → MayReach table (label ++ more) last → ((p : ℕ) → last < p → p ≤ length (label ++ more) → MayReach table (label ++ more) p → ⊥) → IsLongest table longest
+  pub dead-from : (AllowsAnyCut table → ⊥) → (refused : Option ℕ) (last longest : ℕ) → MatchOption refused (NoneRefuses (seen_under table (label ++ more)) table.definitions.demands) (IsRefusedAt (seen_under table (label ++ more)) table.definitions.demands)
+      → MayReach table (label ++ more) last → ((p : ℕ) → last < p → p ≤ length (label ++ more) → MayReach table (label ++ more) p → ⊥) → IsMost table longest
       → IsDeadUnder table label ↔ IsDeadFrom refused (last + longest) (length label)
-  dead-from refused last longest r reached greatest is =
+  dead-from asks refused last longest r reached greatest is =
       let first = refused-from refused r in
       let second = nowhere-from last longest reached greatest is in (
         λ h. ((let s = h.some in omega (arith, s)), elim h.dead [ inl a ↦ inl (first.0 a) | inr b ↦ inr (second.0 b) ]),
-        λ h. record { some = (let s = h.0 in omega (arith, s)); dead = elim h.1 [ inl a ↦ inl (first.1 a) | inr b ↦ inr (second.1 b) ] },
+        λ h. record { asks = asks; some = (let s = h.0 in omega (arith, s)); dead = elim h.1 [ inl a ↦ inl (first.1 a) | inr b ↦ inr (second.1 b) ] },
       )
 
 -- the same for the first k code points of a label
-module _ (table : TableValue) (label : List ℕ) (sound : IsSound table) (refused : Option ℕ) (last longest : ℕ)
+module _ (table : TableValue) (label : List ℕ) (sound : IsSound table) (asks : AllowsAnyCut table → ⊥) (refused : Option ℕ) (last longest : ℕ)
     (r : MatchOption refused (NoneRefuses (seen_under table label) table.definitions.demands) (IsRefusedAt (seen_under table label) table.definitions.demands))
-    (reached : MayReach table label last) (greatest : (p : ℕ) → last < p → p ≤ length label → MayReach table label p → ⊥) (is : IsLongest table longest) where
+    (reached : MayReach table label last) (greatest : (p : ℕ) → last < p → p ≤ length label → MayReach table label p → ⊥) (is : IsMost table longest) where
   beginning-dead : (k : ℕ) → k ≤ length label → IsDeadUnder table (take k label) ↔ IsDeadFrom refused (last + longest) k
   beginning-dead k l =
       let whole : take k label ++ drop k label ≡ label = take-append-drop k label in
@@ -89,7 +90,7 @@ module _ (table : TableValue) (label : List ℕ) (sound : IsSound table) (refuse
       let P : List ℕ → Type 0 = λ v. MatchOption refused (NoneRefuses (seen_under table v) table.definitions.demands) (IsRefusedAt (seen_under table v) table.definitions.demands) in
       let Q : List ℕ → Type 0 = λ v. (p : ℕ) → last < p → p ≤ length v → MayReach table v p → ⊥ in
       subst (λ n. IsDeadUnder table (take k label) ↔ IsDeadFrom refused (last + longest) n) size
-      (dead-from table (take k label) (drop k label) sound refused last longest (subst P (sym whole) r) (subst (λ v. MayReach table v last) (sym whole) reached) (subst Q (sym whole) greatest) is)
+      (dead-from table (take k label) (drop k label) sound asks refused last longest (subst P (sym whole) r) (subst (λ v. MayReach table v last) (sym whole) reached) (subst Q (sym whole) greatest) is)
 
   pub shortest-dead : (found : Option ℕ) → MatchOption found (NoneIsDead refused (last + longest) (length label)) (IsLeastDead refused (last + longest) (length label))
       → MatchOption found (HasNoDeadPrefixUnder table label) (IsShortestDeadUnder table label)

@@ -6,6 +6,10 @@ pub mod ReachedLemmas
 pub mod CutLemmas
 -- Segmentations, and what a label is made of.
 pub mod SegmentationLemmas
+-- Where sources end that stand at a place.
+pub mod EndLemmas
+-- The longest-first cut of a label: there is one, and it is found.
+pub mod EligibleLemmas
 -- Segments of a table as a list, and where they end.
 pub mod SegmentLemmas
 -- The tests that compute are true where the definitions hold.
@@ -16,14 +20,12 @@ pub mod RuleLemmas
 pub mod DeadPrefixLemmas
 -- Labels that may be asked about, and tables that ask nothing.
 pub mod NothingLemmas
--- Where sources and other sequences end that stand at a place.
-pub mod EndLemmas
 -- Steps from place to place.
 pub mod StepLemmas
 -- Labels that are made of sources, by their steps; how far sources reach.
 pub mod SourceLemmas
--- The variants that are not made of sources, found one after the other; the longest segment.
-pub mod LoneLemmas
+-- The longest source, found one after the other.
+pub mod MostLemmas
 -- Demands, one after the other.
 pub mod DemandLemmas
 -- Steps of the program as segments that stand in a label.

@@ -1,15 +1,14 @@
 -- Single code points, and where they stand.
-use Rattle.std.proofs.Common.{◌++◌, get_or, set, take, replicate, ◌≤◌, ◌+◌, ◌≡◌, ℕ, ◌<◌, ◌⊎◌, inl, inr, List, [], ◌∷◌, length, refl, sym, ap, subst, ◌∙◌, arith}
+use Rattle.std.proofs.Common.{get_or, set, take, replicate, ◌≤◌, ◌+◌, ◌-◌, ◌≡◌, ℕ, ◌<◌, ◌⊎◌, inl, inr, List, [], ◌∷◌, length, refl, sym, ap, subst, ◌∙◌, arith}
 use Rattle.std.specs.Prelude.{◌↔◌, Option, Some, None}
 use Rattle.std.specs.List.{Contains}
 use Rattle.std.proofs.lemmas.Bool.{cases_order}
 use Rattle.std.proofs.lemmas.List.{get_or-take, get_or-set_same, get_or-set_other, get_or-replicate, get_or_past, length-replicate}
-use Rattle.std.proofs.lemmas.List.Elements.{Contains-append_cases}
 use Rattle.label_patterns.specs.declared.condition.Condition.{Condition}
 use Rattle.label_patterns.specs.declared.condition.ConditionKind.{ConditionKind}
 use Rattle.label_patterns.specs.declared.condition.ConditionKind.TheVariants.{When, Unless}
 use Rattle.label_patterns.specs.Barring.{IsBarred}
-use Rattle.label_patterns.specs.Conditions.{ConditionHolds, rule_at}
+use Rattle.label_patterns.specs.Conditions.{rule_at}
 use Rattle.label_patterns.specs.Matches.{Seen}
 use Rattle.label_patterns.specs.Patterns.{Pattern}
 use Rattle.label_patterns.specs.Places.{Has}
@@ -20,25 +19,25 @@ use Rattle.variant_table.specs.Entries.{Entry, TableValue}
 use Rattle.variant_table.specs.Singles as sources
 use Rattle.variant_table.specs.WellFormed.{IsWellFormed}
 use Rattle.variant_table.proofs.BeginningLemmas.{same_entry}
-use Rattle.variant_table.proofs.MemberLemmas.{Contains-none, Contains-one}
 use Rattle.valid_labels.specs.declared.single_places.SinglePlaces.{SinglePlaces}
 use Rattle.valid_labels.specs.declared.cutting.SingleSteps.{SingleSteps}
 use Rattle.variant_table.specs.Segmentations.{seen_under}
-use Rattle.valid_labels.specs.inner.Segments.{AreLone, NoneBegins}
 use Rattle.valid_labels.specs.inner.Singles.{asked_at, places_of_kind, AreHoldingSteps, AreSingles, IsSingle}
-use Rattle.valid_labels.specs.inner.Steps.{AreSteps, StepIs}
+use Rattle.valid_labels.specs.inner.Steps.{AreSteps, SourceIs}
+use Rattle.valid_labels.specs.declared.longest.Sources.TheVariants.{All}
+use Rattle.valid_labels.specs.Eligible.{LongestLeads}
+use Rattle.valid_labels.proofs.EligibleLemmas.{begins-within, source-filled, leads-entry}
+use Rattle.valid_labels.proofs.EndLemmas.{part-begins}
+use Rattle.valid_labels.proofs.PartLemmas.{part-length, first-part}
 use Rattle.valid_labels.proofs.SegmentationLemmas.{HoldsIn}
 use Rattle.valid_labels.proofs.StepLemmas.{single-steps}
 
--- the source of an entry with which no longer source begins, and no variant that is not made of sources
-pub single-point : (table : TableValue) (lone : List (List ℕ)) (point : ℕ) (e : Entry) → IsWellFormed table.entries → AreLone table lone → NoneBegins lone point → sources.IsSingle table.entries point e → IsSingle table point e.condition
-single-point table lone point e formed are none single = record {
+-- the source of an entry with which no longer source begins
+pub single-point : (table : TableValue) (point : ℕ) (e : Entry) → IsWellFormed table.entries → sources.IsSingle table.entries point e → IsSingle table point e.condition
+single-point table point e formed single = record {
   formed = formed;
-  segment = inl (e, single.in_table, single.alone, refl);
-  alone = λ rest c segment. elim segment [
-    | inl a ↦ by_rest rest c a.0 a.1 a.2 a.3
-    | inr b ↦ absurd (none rest ((are (point ∷ rest)).1 (b.0, b.1)))
-  ];
+  segment = (e, single.in_table, single.alone, refl);
+  alone = λ rest c a. by_rest rest c a.0 a.1 a.2 a.3;
 }
   where
     by_rest : (r : List ℕ) (c : Option Condition) (f : Entry) → Contains table.entries f → f.source ≡ point ∷ r → f.condition ≡ c → (r ≡ []) × (c ≡ e.condition)
@@ -47,13 +46,39 @@ single-point table lone point e formed are none single = record {
 
 -- ---- steps from single places
 
-pub steps-of : (A : Option Condition → ℕ → ℕ → Type 0) (free : (i j : ℕ) → A None i j) (table : TableValue) (label : List ℕ) (lone : List (List ℕ)) (places : SinglePlaces) (steps : SingleSteps) → AreLone table lone → AreSingles (length label) table label places
+-- from a single code point the longest source that stands is that code point, if it may stand there
+single-longest : (table : TableValue) (label : List ℕ) → IsWellFormed table.entries → (i : ℕ) (d : Option Condition) → i < length label → IsSingle table (get_or label i 0) d → (j : ℕ) → LongestLeads All table label i j ↔ ((j ≡ i + 1) × HoldsIn table label d i (i + 1))
+single-longest table label formed i d l single j =
+    let steps = λ (k : ℕ). single-steps (HoldsIn table label) table label i d l single k in (
+      λ h. (let s = leads-entry All table label formed i j h in (steps j).0 (s.0, s.1.0, s.2, s.3, s.4, s.5)),
+      λ h.
+          let s = (steps j).1 h in
+          let e = s.0 in
+          let le = s.2 in
+          let size : length e.source ≡ j - i = ap length (sym s.4) ∙ part-length label i j s.2 s.3 in
+          let end : j ≡ i + length e.source = omega (arith, size, le) in (
+            e,
+            record {
+              stands = record { of_table = s.1; begins = part-begins label i j e s.4; holds = subst (HoldsIn table label e.condition i) end s.5 };
+              longest = λ f stands.
+                  let within = begins-within label i f (source-filled table.entries f formed stands.of_table) stands.begins in
+                  let one = ((steps (i + length f.source)).0 (f, stands.of_table, omega arith, within, first-part label i f.source stands.begins.0 stands.begins.1, stands.holds)).0 in
+                  let here = h.0 in
+                  omega (arith, one, here, end);
+            },
+            tt,
+            end,
+          ),
+    )
+
+pub steps-of : (A : Option Condition → ℕ → ℕ → Type 0) (R : ℕ → ℕ → Type 0) (table : TableValue) (label : List ℕ) (places : SinglePlaces) (steps : SingleSteps)
+    → ((i : ℕ) (d : Option Condition) → i < length label → IsSingle table (get_or label i 0) d → (j : ℕ) → R i j ↔ ((j ≡ i + 1) × A d i (i + 1))) → AreSingles (length label) table label places
     → ((i : ℕ) → Has steps.known i → (c : Option Condition) × Has (asked_at places c) i × (A c i (i + 1) → Has steps.leading i))
-    → ((i : ℕ) → Has steps.leading i → (c : Option Condition) × Has (asked_at places c) i × A c i (i + 1)) → AreSteps (StepIs (λ e a b. A e.condition a b) table.entries lone label) (length label) steps
-steps-of A free table label lone places steps are singles known leading i h =
+    → ((i : ℕ) → Has steps.leading i → (c : Option Condition) × Has (asked_at places c) i × A c i (i + 1)) → AreSteps R (length label) steps
+steps-of A R table label places steps lead singles known leading i h =
     let k = known i h in
     let s = singles i k.0 k.1 in
-    let is = λ (j : ℕ). single-steps A free table label lone are i k.0 s.0 s.1 j in (
+    let is = λ (j : ℕ). lead i k.0 s.0 s.1 j in (
       s.0,
       λ j. (
         λ step. let r = (is j).0 step in (r.0, k.2 r.1),
@@ -65,26 +90,30 @@ steps-of A free table label lone places steps are singles known leading i h =
     )
 
 -- the same by the values that the program holds: where conditions hold
-pub holding-steps : (table T : TableValue) (D : Definitions) (S : Seen) (lone : List (List ℕ)) (label : List ℕ) (places : SinglePlaces) (steps : SingleSteps) → T ≡ table → D ≡ T.definitions → S ≡ seen_under table label → AreLone table lone → AreSingles (length label) table label places
-    → AreHoldingSteps D.rules S places steps → AreSteps (StepIs (λ e a b. ConditionHolds D.rules S e.condition a b) T.entries lone label) (length label) steps
-holding-steps table T D S lone label places steps t d s are singles holding =
-    let P : TableValue → Definitions → Seen → Type 0 = λ x y z. AreSteps (StepIs (λ e a b. ConditionHolds y.rules z e.condition a b) x.entries lone label) (length label) steps in
+pub holding-steps : (table T : TableValue) (D : Definitions) (S : Seen) (label : List ℕ) (places : SinglePlaces) (steps : SingleSteps) → IsWellFormed table.entries → T ≡ table → D ≡ T.definitions → S ≡ seen_under table label → AreSingles (length label) table label places
+    → AreHoldingSteps D.rules S places steps → AreSteps (LongestLeads All T label) (length label) steps
+holding-steps table T D S label places steps formed t d s singles holding =
     let same : D ≡ table.definitions = d ∙ ap (λ (x : TableValue). x.definitions) t in
     let of_table : AreHoldingSteps table.definitions.rules (seen_under table label) places steps =
     subst (λ y. AreHoldingSteps y.rules (seen_under table label) places steps) same (subst (λ z. AreHoldingSteps D.rules z places steps) s holding) in
-    subst (λ x. P x D S) (sym t) (subst (λ y. P table y S) (sym same) (subst (P table table.definitions) (sym s)
-    (steps-of (HoldsIn table label) (λ a b. tt) table label lone places steps are singles of_table.known of_table.leading)))
+    subst (λ x. AreSteps (LongestLeads All x label) (length label) steps) (sym t)
+    (steps-of (HoldsIn table label) (LongestLeads All table label) table label places steps (single-longest table label formed) singles of_table.known of_table.leading)
 
 -- and where conditions aren't barred, if nothing is asked
-pub unbarred-steps : (table T : TableValue) (D : Definitions) (S : Seen) (lone : List (List ℕ)) (label : List ℕ) (places : SinglePlaces) (steps : SingleSteps) → T ≡ table → D ≡ T.definitions → S ≡ seen_under table label → AreLone table lone → AreSingles (length label) table label places
-    → steps.known ≡ asked_at places None → steps.leading ≡ asked_at places None → AreSteps (StepIs (λ e a _. IsBarred D.rules S e.condition a → ⊥) T.entries lone label) (length label) steps
-unbarred-steps table T D S lone label places steps t d s are singles known leading =
-    let P : TableValue → Definitions → Seen → Type 0 = λ x y z. AreSteps (StepIs (λ e a _. IsBarred y.rules z e.condition a → ⊥) x.entries lone label) (length label) steps in
+pub unbarred-steps : (table T : TableValue) (D : Definitions) (S : Seen) (label : List ℕ) (places : SinglePlaces) (steps : SingleSteps) → T ≡ table → D ≡ T.definitions → S ≡ seen_under table label → AreSingles (length label) table label places
+    → steps.known ≡ asked_at places None → steps.leading ≡ asked_at places None → AreSteps (SourceIs (λ e a _. IsBarred D.rules S e.condition a → ⊥) T.entries label) (length label) steps
+unbarred-steps table T D S label places steps t d s singles known leading =
+    let A : Option Condition → ℕ → ℕ → Type 0 = λ c a b. IsBarred table.definitions.rules (seen_under table label) c a → ⊥ in
+    let P : TableValue → Definitions → Seen → Type 0 = λ x y z. AreSteps (SourceIs (λ e a _. IsBarred y.rules z e.condition a → ⊥) x.entries label) (length label) steps in
     let free : (a b : ℕ) → IsBarred table.definitions.rules (seen_under table label) None a → ⊥ = λ a b k. k in
     subst (λ x. P x D S) (sym t) (subst (λ y. P table y S) (sym (d ∙ ap (λ (x : TableValue). x.definitions) t)) (subst (P table table.definitions) (sym s)
-    (steps-of (λ c a b. IsBarred table.definitions.rules (seen_under table label) c a → ⊥) free table label lone places steps are singles
+    (steps-of A (SourceIs (λ e a b. A e.condition a b) table.entries label) table label places steps (single-steps A table label) singles
     (λ i h. (None, subst (λ n. Has n i) known h, λ none. subst (λ n. Has n i) (known ∙ sym leading) h))
     (λ i h. (None, subst (λ n. Has n i) leading h, free i (i + 1))))))
+
+-- no step is known
+pub no-steps : (R : ℕ → ℕ → Type 0) (n : ℕ) (steps : SingleSteps) → steps.known ≡ 0 → AreSteps R n steps
+no-steps R n steps none i h = absurd (not-in-none i (subst (λ k. Has k i) none h))
 
 -- ---- single places of a label that begins like another
 
@@ -176,17 +205,3 @@ more-holding rules seen places number known leading when unless asked holding ke
 
     at_unless : (i : ℕ) → Has unless i → Has (asked_at places (asked_of number Unless)) i
     at_unless i h = subst (λ v. Has v i) u h
-
--- ---- sequences, one after the other
-
-pub no-begins : (point : ℕ) → NoneBegins [] point
-no-begins point rest h = Contains-none (point ∷ rest) h
-
-pub more-begins : (sequences : List (List ℕ)) (points : List ℕ) (point : ℕ) → NoneBegins sequences point → NoneBegins (points ∷ []) point → NoneBegins (sequences ++ points ∷ []) point
-more-begins sequences points point before new rest h = elim (Contains-append_cases sequences (points ∷ []) (point ∷ rest) h) [ inl a ↦ before rest a | inr b ↦ new rest b ]
-
--- a sequence that is empty, or begins with another code point
-pub begins-other : (points : List ℕ) (point : ℕ) → ((0 < length points) → get_or points 0 0 ≡ point → ⊥) → NoneBegins (points ∷ []) point
-begins-other points point other rest h =
-    let same = Contains-one points (point ∷ rest) h in
-    other (omega (arith, ap length same)) (ap (λ l. get_or l 0 0) same)

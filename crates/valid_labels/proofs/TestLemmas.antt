@@ -1,10 +1,9 @@
 -- The tests that compute are true where the definitions hold.
-use Rattle.std.proofs.Common.{◌≡◌, ℕ, zero, suc, ◌+◌, ◌<◌, ◌≤◌, inl, inr, Bool, true, false, not, ◌&&◌, ◌||◌, eqb, ltb, List, [], ◌∷◌, length, map, refl, sym, ap, subst, ◌∙◌, arith}
-use Rattle.std.specs.Prelude.{◌↔◌, IsTrue, Option, Some, None}
+use Rattle.std.proofs.Common.{◌≡◌, ℕ, zero, suc, ◌+◌, ◌<◌, ◌≤◌, inl, inr, Bool, true, false, not, ◌&&◌, ◌||◌, eqb, eq-eqb, ltb, List, [], ◌∷◌, length, refl, sym, ap, subst, ◌∙◌, arith}
+use Rattle.std.specs.Prelude.{◌↔◌, ◌≢◌, IsTrue, Option, Some, None}
 use Rattle.std.specs.Option.{is_some}
-use Rattle.std.specs.List.{list_any, AllByRecursion, Contains, flat_map, slice_range}
+use Rattle.std.specs.List.{list_any, AllByRecursion, Contains, slice_range}
 use Rattle.std.proofs.lemmas.Bool.{cases_order, ltb-true, lt-ltb, eqb-true}
-use Rattle.std.proofs.lemmas.List.Elements.{All-contains, Contains-append_left, Contains-append_right, Contains-append_cases}
 use Rattle.label_patterns.specs.declared.condition.Condition.{Condition}
 use Rattle.label_patterns.specs.Barring.{IsBarred}
 use Rattle.label_patterns.specs.Matches.{Seen, Rounds, no_round, one_more}
@@ -14,31 +13,25 @@ use Rattle.label_patterns.proofs.TestLemmas.{condition-agrees, barred-agrees, oc
 use Rattle.ruleset_text.specs.declared.definition.DemandKind.{DemandKind}
 use Rattle.ruleset_text.specs.declared.definition.DemandKind.TheVariants.{Never, Always}
 use Rattle.ruleset_text.specs.Definitions.{Demand}
-use Rattle.variant_table.specs.Entries.{Entry, TableValue, replacements, sequences_in}
-use Rattle.variant_table.specs.WellFormed.{IsEntry, IsSequence, IsWellFormed}
-use Rattle.variant_table.proofs.MemberLemmas.{Contains-head, Contains-later}
-use Rattle.variant_table.specs.Segmentations.{IsMadeOfSources, HasSegmentation, seen_under, inside_of}
-use Rattle.valid_labels.specs.Segments.{IsCovered, IsVariant, IsSegment, SegmentIs, IsMadeOfSegments, MayReach}
+use Rattle.variant_table.specs.declared.version.Version.{Version}
+use Rattle.variant_table.specs.declared.version.Version.TheVariants.{One, Two, Three}
+use Rattle.variant_table.specs.Entries.{Entry, TableValue, sequences_in}
+use Rattle.variant_table.specs.WellFormed.{IsWellFormed}
+use Rattle.valid_labels.specs.declared.longest.Sources.TheVariants.{All, Inside}
+use Rattle.variant_table.proofs.MemberLemmas.{Contains-head}
+use Rattle.variant_table.specs.Segmentations.{IsMadeOfSources, HasNoConditions, seen_under, inside_of}
+use Rattle.valid_labels.specs.Segments.{IsCovered, IsSegment, SegmentIs, MayReach}
 use Rattle.valid_labels.specs.Demands.{IsMet, IsWanted, MeetsDemands}
-use Rattle.valid_labels.specs.Validity.{AsksNothing, IsAdmitted, IsValid, IsRefused, LeadsNowhere, IsDeadUnder}
-use Rattle.valid_labels.specs.Tests.{Segment, cut_places, not_asked, sources_of, is_covered, lone_variants, segments_of, holds_in, may_hold_in, is_made_of_sources, has_segmentation, is_made_of_segments, may_reach, is_wanted, are_met, meets_demands, is_admitted, is_valid, is_never, is_refused, leads_past, one_up_to, leads_on, is_dead_under, asks_nothing}
+use Rattle.valid_labels.specs.Validity.{AllowsAnyCut, AsksNothing, IsAdmitted, IsValid, IsRefused, LeadsNowhere, IsDeadUnder}
+use Rattle.valid_labels.specs.Tests.{Segment, cut_places, not_asked, sources_of, is_covered, segments_of, holds_in, may_hold_in, is_made_of_sources, is_eligible_by, may_reach, is_wanted, are_met, meets_demands, is_unconditional, is_three, allows_any_cut, is_admitted, is_valid, is_never, is_refused, leads_past, one_up_to, leads_on, is_dead_under, is_open, asks_nothing}
 use Rattle.valid_labels.specs.Laws.{TestsAgree}
-use Rattle.valid_labels.proofs.CutLemmas.{EntryStands, cut-steps, steps-cut}
-use Rattle.variant_table.proofs.MemberLists.{Contains-map, Contains-flat_map, Contains-filter, not-true, any-one, all-members}
+use Rattle.valid_labels.proofs.CutLemmas.{EntryStands, rounds-map, sequence-filled, cut-steps, steps-cut}
+use Rattle.valid_labels.proofs.EligibleLemmas.{eligible-agrees}
+use Rattle.variant_table.proofs.MemberLists.{Contains-map, Contains-filter, not-true, any-one, all-members}
 use Rattle.valid_labels.proofs.SegmentLemmas.{OneStands, IsFilled, Tells, cut-places-are}
-use Rattle.valid_labels.proofs.SegmentationLemmas.{IsInside, NotAsked, HoldsIn, made-cut, segmentation-cut, covered-cut}
-
-pub rounds-map : (R S : ℕ → ℕ → Type 0) → ((i j : ℕ) → R i j → S i j) → (i j : ℕ) → Rounds R i j → Rounds S i j
-rounds-map R S f i _ no_round = no_round
-rounds-map R S f i _ (one_more k j rounds step) = one_more k j (rounds-map R S f i k rounds) (f k j step)
+use Rattle.valid_labels.proofs.SegmentationLemmas.{IsInside, NotAsked, HoldsIn, made-cut, covered-cut}
 
 -- ---- sources
-
-pub sequence-filled : (entries : List Entry) (e : Entry) (s : List ℕ) → IsWellFormed entries → Contains entries e → Contains (replacements e) s → 0 < length s
-sequence-filled entries e s formed h r =
-    let each : IsEntry e = All-contains IsEntry entries e formed.entries h in
-    let one : IsSequence s = All-contains IsSequence (replacements e) s each.sequences r in
-    omega (arith, one.filled)
 
 -- entries that are of a table
 abbrev pub AreOf : List Entry → List Entry → Type 0
@@ -103,70 +96,36 @@ made-agrees table label formed =
       λ h. s.1 (cut-steps (IsInside table) NotAsked label (c.0 h)),
     )
 
-pub segmentation-agrees : (table : TableValue) (label : List ℕ) → IsWellFormed table.entries → IsTrue (has_segmentation table label) ↔ HasSegmentation table label
-segmentation-agrees table label formed =
-    let s = sources-agree (holds_in table label) (HoldsIn table label) (IsInside table) (inside_of table.entries) label (holds-tells table label) (inside-filled table formed) (inside-are table) (length label) in
-    let c = segmentation-cut table label in (
-      λ h. c.1 (steps-cut (IsInside table) (HoldsIn table label) label (s.0 h)),
-      λ h. s.1 (cut-steps (IsInside table) (HoldsIn table label) label (c.0 h)),
-    )
-
 -- ---- segments
-
-pub lone-agree : (table : TableValue) (s : List ℕ) → IsWellFormed table.entries → Contains (lone_variants table) s ↔ (IsVariant table s × (IsCovered table s → ⊥))
-lone-agree table s formed =
-    let f = Contains-filter (λ v. not (is_covered table v)) (flat_map (λ (e : Entry). sequences_in e.variants) table.entries) s in
-    let m = Contains-flat_map (λ (e : Entry). sequences_in e.variants) table.entries s in
-    let n = not-false (is_covered table s) (IsCovered table s) (covered-agrees table s formed) in
-    (λ h. (let g = f.0 h in (m.0 g.0, n.0 g.1)), λ h. f.1 (m.1 h.0, n.1 h.1))
 
 segment-is : (p : Segment) (s : List ℕ) (c : Option Condition) → s ≡ p.points → c ≡ p.condition → p ≡ (let q : Segment = record { points = s; condition = c } in q)
 segment-is p s c e f =
     ap (λ t. let q : Segment = record { points = t; condition = p.condition } in q) (sym e) ∙ ap (λ d. let q : Segment = record { points = s; condition = d } in q) (sym f)
 
-pub segments-agree : (table : TableValue) (p : Segment) → IsWellFormed table.entries → Contains (segments_of table) p ↔ IsSegment table p.points p.condition
-segments-agree table p formed =
+pub segments-agree : (table : TableValue) (p : Segment) → Contains (segments_of table) p ↔ IsSegment table p.points p.condition
+segments-agree table p =
     let f : Entry → Segment = λ e. record { points = e.source; condition = e.condition } in
-    let g : List ℕ → Segment = λ s. record { points = s; condition = None } in
-    let first = Contains-map f table.entries p in
-    let last = Contains-map g (lone_variants table) p in (
-      λ h. elim (Contains-append_cases (sources_of table.entries) (map g (lone_variants table)) p h) [
-        | inl a ↦ (let e = first.0 a in inl (e.0, e.1, ap (λ (q : Segment). q.points) (sym e.2), ap (λ (q : Segment). q.condition) (sym e.2)))
-        | inr b ↦
-            let s = last.0 b in
-            let l = (lone-agree table s.0 formed).0 s.1 in
-            let same : s.0 ≡ p.points = ap (λ (q : Segment). q.points) (sym s.2) in
-            inr (subst (IsVariant table) same l.0, (λ c. l.1 (subst (IsCovered table) (sym same) c)), ap (λ (q : Segment). q.condition) s.2)
-      ],
-      λ h. elim h [
-        | inl a ↦ Contains-append_left (sources_of table.entries) (map g (lone_variants table)) p (first.1 (a.0, a.1, segment-is p a.0.source a.0.condition a.2 a.3))
-        | inr b ↦ Contains-append_right (sources_of table.entries) (map g (lone_variants table)) p
-            (last.1 (p.points, (lone-agree table p.points formed).1 (b.0, b.1), segment-is p p.points None refl (sym b.2)))
-      ],
+    let all = Contains-map f table.entries p in (
+      λ h. (let e = all.0 h in (e.0, e.1, ap (λ (q : Segment). q.points) (sym e.2), ap (λ (q : Segment). q.condition) (sym e.2))),
+      λ a. all.1 (a.0, a.1, segment-is p a.0.source a.0.condition a.2 a.3),
     )
 
-pub variant-filled : (table : TableValue) (s : List ℕ) → IsWellFormed table.entries → IsVariant table s → 0 < length s
-variant-filled table s formed v = sequence-filled table.entries v.0 s formed v.1 (Contains-later v.0.source (sequences_in v.0.variants) s v.2)
-
 pub segment-filled : (table : TableValue) (s : List ℕ) (c : Option Condition) → IsWellFormed table.entries → IsSegment table s c → 0 < length s
-segment-filled table s c formed segment = elim segment [
-  | inl a ↦ subst (λ t. 0 < length t) a.2 (sequence-filled table.entries a.0 a.0.source formed a.1 (Contains-head a.0.source (sequences_in a.0.variants)))
-  | inr b ↦ variant-filled table s formed b.0
-]
+segment-filled table s c formed a = subst (λ t. 0 < length t) a.2 (sequence-filled table.entries a.0 a.0.source formed a.1 (Contains-head a.0.source (sequences_in a.0.variants)))
 
 pub segments-filled : (table : TableValue) → IsWellFormed table.entries → AllByRecursion IsFilled (segments_of table)
-segments-filled table formed = all-members IsFilled (segments_of table) (λ p h. segment-filled table p.points p.condition formed ((segments-agree table p formed).0 h))
+segments-filled table formed = sources-filled table.entries table.entries formed (λ e h. h)
 
 -- a segment stands in the label, and what is asked of it is so
 abbrev pub SomeSegment : (Option Condition → ℕ → ℕ → Type 0) → TableValue → List ℕ → ℕ → ℕ → Type 0
 SomeSegment A table label i j = (c : Option Condition) × SegmentIs table label c i j × A c i j
 
-segments-stand : (A : Option Condition → ℕ → ℕ → Type 0) (table : TableValue) (label : List ℕ) → IsWellFormed table.entries → (i j : ℕ) → OneStands A (segments_of table) label i j ↔ SomeSegment A table label i j
-segments-stand A table label formed i j = (
-  λ h. (h.0.condition, (h.2, h.3, subst (λ s. IsSegment table s h.0.condition) (sym h.4) ((segments-agree table h.0 formed).0 h.1)), h.5),
+segments-stand : (A : Option Condition → ℕ → ℕ → Type 0) (table : TableValue) (label : List ℕ) (i j : ℕ) → OneStands A (segments_of table) label i j ↔ SomeSegment A table label i j
+segments-stand A table label i j = (
+  λ h. (h.0.condition, (h.2, h.3, subst (λ s. IsSegment table s h.0.condition) (sym h.4) ((segments-agree table h.0).0 h.1)), h.5),
   λ h.
       let p : Segment = record { points = slice_range label i j; condition = h.0 } in
-      (p, (segments-agree table p formed).1 h.1.2, h.1.0, h.1.1, refl, h.2),
+      (p, (segments-agree table p).1 h.1.2, h.1.0, h.1.1, refl, h.2),
 )
 
 segments-cut : (asked : Option Condition → ℕ → ℕ → Bool) (A : Option Condition → ℕ → ℕ → Type 0) (table : TableValue) (label : List ℕ) → Tells (length label) asked A → IsWellFormed table.entries
@@ -174,12 +133,9 @@ segments-cut : (asked : Option Condition → ℕ → ℕ → Bool) (A : Option C
 segments-cut asked A table label tells formed j =
     let t = place-tested (cut_places asked (segments_of table) label) j in
     let c = cut-places-are label asked A tells (segments_of table) (segments-filled table formed) j in (
-      λ h. rounds-map (OneStands A (segments_of table) label) (SomeSegment A table label) (λ a b. (segments-stand A table label formed a b).0) 0 j (c.0 (t.0 h)),
-      λ h. t.1 (c.1 (rounds-map (SomeSegment A table label) (OneStands A (segments_of table) label) (λ a b. (segments-stand A table label formed a b).1) 0 j h)),
+      λ h. rounds-map (OneStands A (segments_of table) label) (SomeSegment A table label) (λ a b. (segments-stand A table label a b).0) 0 j (c.0 (t.0 h)),
+      λ h. t.1 (c.1 (rounds-map (SomeSegment A table label) (OneStands A (segments_of table) label) (λ a b. (segments-stand A table label a b).1) 0 j h)),
     )
-
-pub made-of-segments-agrees : (table : TableValue) (label : List ℕ) → IsWellFormed table.entries → IsTrue (is_made_of_segments table label) ↔ IsMadeOfSegments table label
-made-of-segments-agrees table label formed = segments-cut (holds_in table label) (HoldsIn table label) table label (holds-tells table label) formed (length label)
 
 may-tells : (table : TableValue) (label : List ℕ) → Tells (length label) (may_hold_in table label) (λ c i j. IsBarred table.definitions.rules (seen_under table label) c i → ⊥)
 may-tells table label c i j l m = not-false (condition_barred table.definitions.rules (seen_under table label) c i) (IsBarred table.definitions.rules (seen_under table label) c i) (barred-agrees table.definitions.rules (seen_under table label) c i l)
@@ -262,8 +218,8 @@ leads-agrees table label formed =
           let g = one.0 h in
           let b = (split g.0).0 g.2 in
           let p = (any g.0).0 b.1 in
-          (g.0, g.1, (may-reach-agrees table label formed g.0).0 b.0, (p.0, (segments-agree table p.0 formed).0 p.1, ltb-true n (g.0 + length p.0.points) p.2)),
-      λ h. one.1 (h.0, h.1, (split h.0).1 ((may-reach-agrees table label formed h.0).1 h.2, (any h.0).1 (h.3.0, (segments-agree table h.3.0 formed).1 h.3.1, lt-ltb n (h.0 + length h.3.0.points) h.3.2))),
+          (g.0, g.1, (may-reach-agrees table label formed g.0).0 b.0, (p.0, (segments-agree table p.0).0 p.1, ltb-true n (g.0 + length p.0.points) p.2)),
+      λ h. one.1 (h.0, h.1, (split h.0).1 ((may-reach-agrees table label formed h.0).1 h.2, (any h.0).1 (h.3.0, (segments-agree table h.3.0).1 h.3.1, lt-ltb n (h.0 + length h.3.0.points) h.3.2))),
     )
 
 nowhere-agrees : (table : TableValue) (label : List ℕ) → IsWellFormed table.entries → IsTrue (not (leads_on table label)) ↔ LeadsNowhere table label
@@ -279,34 +235,6 @@ nowhere-agrees table label formed =
       λ h. none.1 (λ on. (let l = h on.0 on.3.0.points on.3.0.condition on.2 on.3.1 in let m = on.3.2 in omega (arith, l, m))),
     )
 
-pub dead-agrees : (table : TableValue) (label : List ℕ) → IsWellFormed table.entries → IsTrue (is_dead_under table label) ↔ IsDeadUnder table label
-dead-agrees table label formed =
-    let two = and-both (ltb 0 (length label)) (is_refused table label || not (leads_on table label)) in
-    let either = or-one (is_refused table label) (not (leads_on table label)) in
-    let refused = refused-agrees table label in
-    let nowhere = nowhere-agrees table label formed in (
-      λ h.
-          let b = two.0 h in
-          record { some = ltb-true 0 (length label) b.0; dead = elim (either.0 b.1) [ inl r ↦ inl (refused.0 r) | inr w ↦ inr (nowhere.0 w) ] },
-      λ h. two.1 (lt-ltb 0 (length label) h.some, either.1 (elim h.dead [ inl r ↦ inl (refused.1 r) | inr w ↦ inr (nowhere.1 w) ])),
-    )
-
--- ---- all of them
-
-admitted-agrees : (table : TableValue) (label : List ℕ) → IsWellFormed table.entries → IsTrue (is_admitted table label) ↔ IsAdmitted table label
-admitted-agrees table label formed =
-    let two = and-both (has_segmentation table label) (meets_demands table label) in
-    let s = segmentation-agrees table label formed in
-    let d = demands-agree table label in
-    (λ h. (let b = two.0 h in record { cut = s.0 b.0; met = d.0 b.1 }), λ h. two.1 (s.1 h.cut, d.1 h.met))
-
-valid-agrees : (table : TableValue) (label : List ℕ) → IsWellFormed table.entries → IsTrue (is_valid table label) ↔ IsValid table label
-valid-agrees table label formed =
-    let two = and-both (is_made_of_segments table label) (meets_demands table label) in
-    let s = made-of-segments-agrees table label formed in
-    let d = demands-agree table label in
-    (λ h. (let b = two.0 h in record { cut = s.0 b.0; met = d.0 b.1 }), λ h. two.1 (s.1 h.cut, d.1 h.met))
-
 nil-is : {X : Type 0} (xs : List X) → IsTrue (eqb (length xs) 0) ↔ (xs ≡ [])
 nil-is [] = (λ h. refl, λ h. refl)
 nil-is (x ∷ xs) = (λ h. absurd (let e = eqb-true (suc (length xs)) 0 h in omega (arith, e)), λ h. absurd (let e : suc (length xs) ≡ 0 = ap length h in omega (arith, e)))
@@ -320,17 +248,128 @@ no-conditions (e ∷ entries) = by_condition e.condition refl (no-conditions ent
     by_condition None is rest = (λ h. (is, rest.0 h), λ h. rest.1 h.1)
     by_condition (Some c) is rest = (λ h. not-true h, λ h. absurd (let f : Some c ≡ None = sym is ∙ h.0 in cc))
 
-pub nothing-agrees : (table : TableValue) → IsTrue (asks_nothing table) ↔ AsksNothing table
-nothing-agrees table =
+unconditional-agrees : (table : TableValue) → IsTrue (is_unconditional table) ↔ (HasNoConditions table × (table.definitions.demands ≡ []))
+unconditional-agrees table =
     let two = and-both (not (list_any (λ (e : Entry). is_some e.condition) table.entries)) (eqb (length table.definitions.demands) 0) in
     let conditions = no-conditions table.entries in
     let demands = nil-is table.definitions.demands in
-    (λ h. (let b = two.0 h in record { conditions = conditions.0 b.0; demands = demands.0 b.1 }), λ h. two.1 (conditions.1 h.conditions, demands.1 h.demands))
+    (λ h. (let b = two.0 h in (conditions.0 b.0, demands.0 b.1)), λ h. two.1 (conditions.1 h.0, demands.1 h.1))
+
+earlier-agrees : (v : Version) → IsTrue (not (is_three v)) ↔ (v ≢ Three)
+earlier-agrees One = (λ h e. (let f : One ≡ Three = e in cc), λ h. refl)
+earlier-agrees Two = (λ h e. (let f : Two ≡ Three = e in cc), λ h. refl)
+earlier-agrees Three = (λ h. not-true h, λ h. absurd (h refl))
+
+any-cut-agrees : (table : TableValue) → IsTrue (allows_any_cut table) ↔ AllowsAnyCut table
+any-cut-agrees table =
+    let two = and-both (not (is_three table.version)) (is_unconditional table) in
+    let v = earlier-agrees table.version in
+    let u = unconditional-agrees table in (
+      λ h. (let b = two.0 h in let n = u.0 b.1 in record { earlier = v.0 b.0; conditions = n.0; demands = n.1 }),
+      λ h. two.1 (v.1 h.earlier, u.1 (h.conditions, h.demands)),
+    )
+
+pub dead-agrees : (table : TableValue) (label : List ℕ) → IsWellFormed table.entries → IsTrue (is_dead_under table label) ↔ IsDeadUnder table label
+dead-agrees table label formed =
+    let first = and-both (not (allows_any_cut table)) (ltb 0 (length label) && (is_refused table label || not (leads_on table label))) in
+    let asks = not-false (allows_any_cut table) (AllowsAnyCut table) (any-cut-agrees table) in
+    let two = and-both (ltb 0 (length label)) (is_refused table label || not (leads_on table label)) in
+    let either = or-one (is_refused table label) (not (leads_on table label)) in
+    let refused = refused-agrees table label in
+    let nowhere = nowhere-agrees table label formed in (
+      λ h.
+          let a = first.0 h in
+          let b = two.0 a.1 in
+          record { asks = asks.0 a.0; some = ltb-true 0 (length label) b.0; dead = elim (either.0 b.1) [ inl r ↦ inl (refused.0 r) | inr w ↦ inr (nowhere.0 w) ] },
+      λ h. first.1 (asks.1 h.asks, two.1 (lt-ltb 0 (length label) h.some, either.1 (elim h.dead [ inl r ↦ inl (refused.1 r) | inr w ↦ inr (nowhere.1 w) ]))),
+    )
+
+-- ---- all of them
+
+admitted-agrees : (table : TableValue) (label : List ℕ) → IsWellFormed table.entries → IsTrue (is_admitted table label) ↔ IsAdmitted table label
+admitted-agrees table label formed =
+    let two = and-both ((allows_any_cut table && is_made_of_sources table label) || is_eligible_by Inside table label) (meets_demands table label) in
+    let either = or-one (allows_any_cut table && is_made_of_sources table label) (is_eligible_by Inside table label) in
+    let any = and-both (allows_any_cut table) (is_made_of_sources table label) in
+    let a = any-cut-agrees table in
+    let m = made-agrees table label formed in
+    let s = eligible-agrees Inside table label formed in
+    let d = demands-agree table label in (
+      λ h.
+          let b = two.0 h in
+          record { cut = elim (either.0 b.0) [ inl x ↦ inl (let y = any.0 x in (a.0 y.0, m.0 y.1)) | inr y ↦ inr (s.0 y) ]; met = d.0 b.1 },
+      λ h. two.1 (either.1 (elim h.cut [ inl x ↦ inl (any.1 (a.1 x.0, m.1 x.1)) | inr y ↦ inr (s.1 y) ]), d.1 h.met),
+    )
+
+valid-agrees : (table : TableValue) (label : List ℕ) → IsWellFormed table.entries → IsTrue (is_valid table label) ↔ IsValid table label
+valid-agrees table label formed =
+    let two = and-both (allows_any_cut table || is_eligible_by All table label) (meets_demands table label) in
+    let either = or-one (allows_any_cut table) (is_eligible_by All table label) in
+    let a = any-cut-agrees table in
+    let s = eligible-agrees All table label formed in
+    let d = demands-agree table label in (
+      λ h. (let b = two.0 h in record { cut = elim (either.0 b.0) [ inl x ↦ inl (a.0 x) | inr y ↦ inr (s.0 y) ]; met = d.0 b.1 }),
+      λ h. two.1 (either.1 (elim h.cut [ inl x ↦ inl (a.1 x) | inr y ↦ inr (s.1 y) ]), d.1 h.met),
+    )
+
+-- no variant is open where each is made of sources
+covered-all : (table : TableValue) (ss : List (List ℕ)) → IsWellFormed table.entries → IsTrue (not (list_any (λ s. not (is_covered table s)) ss)) ↔ AllByRecursion (IsCovered table) ss
+covered-all table [] formed = (λ h. tt, λ h. refl)
+covered-all table (s ∷ ss) formed = by_test (is_covered table s) refl (covered-agrees table s formed) (covered-all table ss formed)
+  where
+    by_test : (b : Bool) → is_covered table s ≡ b → IsTrue (is_covered table s) ↔ IsCovered table s → IsTrue (not (list_any (λ v. not (is_covered table v)) ss)) ↔ AllByRecursion (IsCovered table) ss
+        → IsTrue (not (not b || list_any (λ v. not (is_covered table v)) ss)) ↔ (IsCovered table s × AllByRecursion (IsCovered table) ss)
+    by_test true is agrees rest = (λ h. (agrees.0 is, rest.0 h), λ h. rest.1 h.1)
+    by_test false is agrees rest = (λ h. not-true h, λ h. absurd (let f : true ≡ false = sym (agrees.1 h.0) ∙ is in cc))
+
+not-or : (a b : Bool) → IsTrue (not (not a || b)) ↔ (IsTrue a × IsTrue (not b))
+not-or true b = (λ h. (refl, h), λ h. h.1)
+not-or false b = (λ h. not-true h, λ h. absurd (let f : false ≡ true = h.0 in cc))
+
+abbrev Singles : TableValue → List Entry → Type 0
+Singles table es = AllByRecursion (λ (e : Entry). length e.source ≡ 1) es × AllByRecursion (λ (e : Entry). AllByRecursion (IsCovered table) (sequences_in e.variants)) es
+
+none-open : (table : TableValue) (es : List Entry) → IsWellFormed table.entries → IsTrue (not (list_any (is_open table) es)) ↔ Singles table es
+none-open table [] formed = (λ h. (tt, tt), λ h. refl)
+none-open table (e ∷ es) formed =
+    let one = not-or (eqb (length e.source) 1) (list_any (λ s. not (is_covered table s)) (sequences_in e.variants)) in
+    let variants = covered-all table (sequences_in e.variants) formed in
+    by_test (is_open table e) refl one variants (none-open table es formed)
+  where
+    by_test : (b : Bool) → is_open table e ≡ b → IsTrue (not (is_open table e)) ↔ (IsTrue (eqb (length e.source) 1) × IsTrue (not (list_any (λ s. not (is_covered table s)) (sequences_in e.variants)))) → IsTrue (not (list_any (λ s. not (is_covered table s)) (sequences_in e.variants))) ↔ AllByRecursion (IsCovered table) (sequences_in e.variants)
+        → IsTrue (not (list_any (is_open table) es)) ↔ Singles table es → IsTrue (not (b || list_any (is_open table) es)) ↔ Singles table (e ∷ es)
+    by_test true is one variants rest = (
+      λ h. not-true h,
+      λ h. absurd (
+          let f : IsTrue (not (is_open table e)) = one.1 (eq-eqb (length e.source) 1 h.0.0, variants.1 h.1.0) in
+          let g : false ≡ true = sym (ap not is) ∙ f in cc),
+    )
+    by_test false is one variants rest = (
+      λ h.
+          let r = rest.0 h in
+          let o = one.0 (ap not is) in
+          ((eqb-true (length e.source) 1 o.0, r.0), (variants.0 o.1, r.1)),
+      λ h. rest.1 (h.0.1, h.1.1),
+    )
+
+pub nothing-agrees : (table : TableValue) → IsWellFormed table.entries → IsTrue (asks_nothing table) ↔ AsksNothing table
+nothing-agrees table formed =
+    let two = and-both (is_unconditional table) (not (is_three table.version) || not (list_any (is_open table) table.entries)) in
+    let either = or-one (not (is_three table.version)) (not (list_any (is_open table) table.entries)) in
+    let u = unconditional-agrees table in
+    let v = earlier-agrees table.version in
+    let s = none-open table table.entries formed in (
+      λ h.
+          let b = two.0 h in
+          let n = u.0 b.0 in
+          record { conditions = n.0; demands = n.1; cuts = elim (either.0 b.1) [ inl x ↦ inl (v.0 x) | inr y ↦ inr (s.0 y) ] },
+      λ h. two.1 (u.1 (h.conditions, h.demands), either.1 (elim h.cuts [ inl x ↦ inl (v.1 x) | inr y ↦ inr (s.1 y) ])),
+    )
 
 pub tests-agree : TestsAgree
 tests-agree = record {
   made_of_sources = λ table label sound. made-agrees table label sound.entries;
-  segmentation = λ table label sound. segmentation-agrees table label sound.entries;
+  eligible = λ sources table label sound. eligible-agrees sources table label sound.entries;
   admitted = λ table label sound. admitted-agrees table label sound.entries;
   valid = λ table label sound. valid-agrees table label sound.entries;
   nothing = nothing-agrees;

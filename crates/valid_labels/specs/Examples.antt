@@ -7,7 +7,9 @@ use Rattle.ruleset_text.specs.declared.definition.DemandKind.TheVariants.{Never,
 use Rattle.ruleset_text.specs.Definitions.{Demand}
 use Rattle.variant_table.specs.Entries.{Entry, TableValue, plain_variant}
 use Rattle.variant_table.specs.ExampleTables.{table_with, when_first, unless_first}
-use Rattle.valid_labels.specs.Tests.{is_made_of_sources, has_segmentation, is_admitted, is_valid, is_dead_under}
+use Rattle.valid_labels.specs.declared.cause.ValidityCause.TheVariants.{NotEligible}
+use Rattle.valid_labels.specs.Causes.{cause_of}
+use Rattle.valid_labels.specs.Tests.{is_made_of_sources, is_admitted, is_valid, is_dead_under}
 
 abbrev pub never : Pattern → Demand
 never p = record { kind = Never; pattern = p }
@@ -66,13 +68,25 @@ syllables = table_with ((record { first = 97; last = 99 } ∷ []) ∷ []) (Then 
 abbrev pub always_held : TableValue
 always_held = table_with [] (Anchor ∷ []) [] (source (codes "a") when_first [] ∷ source (codes "b") unless_first [] ∷ [])
 
--- b stands after a alone; c may be replaced by bd, which is no source and not made of any
+-- b stands after a alone; c may be replaced by bd, which is not made of sources
 abbrev pub after_a : TableValue
 after_a = table_with [] (Then (Point 97) Anchor ∷ []) [] (source (codes "a") None [] ∷ source (codes "c") None (codes "bd" ∷ []) ∷ source (codes "b") when_first [] ∷ [])
 
--- sources of several code points
+-- sources of several code points: of abc the longest first is ab, so that c is left over
 abbrev pub several : TableValue
-several = table_with [] [] [] (source (codes "a") None [] ∷ source (codes "ab") None [] ∷ source (codes "bc") None [] ∷ [])
+several = table_with [] [] [] (source (codes "a") None (codes "x" ∷ []) ∷ source (codes "ab") None [] ∷ source (codes "bc") None [] ∷ source (codes "x") None (codes "a" ∷ []) ∷ [])
+
+-- ab stands at the end alone
+abbrev pub ab_at_end : TableValue
+ab_at_end = table_with [] (Then Anchor End ∷ []) [] (source (codes "a") None [] ∷ source (codes "ab") when_first [] ∷ source (codes "bc") None [] ∷ letters (codes "c"))
+
+-- b stands after a alone, and bb does not
+abbrev pub bb_unless_after_a : TableValue
+bb_unless_after_a = table_with [] (Then (Point 97) Anchor ∷ []) [] (letters (codes "a") ++ source (codes "b") when_first [] ∷ source (codes "bb") unless_first [] ∷ [])
+
+-- ab is outside, and c may be replaced by it
+abbrev pub outside_ab : TableValue
+outside_ab = table_with [] [] [] (letters (codes "ab") ++ record (source (codes "ab") None []) { outside = true } ∷ source (codes "c") None (codes "ab" ∷ []) ∷ [])
 
 -- no label has two a
 abbrev pub one_a : TableValue
@@ -137,11 +151,22 @@ pub record ValidityOfExamples : Type 0 where
   pub not_held : is_admitted always_held (codes "ab") ≡ false
   pub variant_in_place : is_valid after_a (codes "abc") ≡ true
   pub variant_out_of_place : is_valid after_a (codes "cb") ≡ false
-  pub variant_dead : is_dead_under after_a (codes "acb") ≡ false
-  pub lone_variant : is_valid after_a (codes "bdc") ≡ true
-  pub lone_variant_not_asked : is_made_of_sources after_a (codes "bdc") ≡ false
-  pub cut_two_ways : has_segmentation several (codes "abc") ≡ true
-  pub not_cut : has_segmentation several (codes "abb") ≡ false
+  pub variant_dead : is_dead_under after_a (codes "acb") ≡ true
+  pub lone_variant : is_valid after_a (codes "bdc") ≡ false
+  pub lone_variant_dead : is_dead_under after_a (codes "bd") ≡ true
+  pub longest_first : is_admitted several (codes "abc") ≡ false
+  pub longest_first_made : is_made_of_sources several (codes "abc") ≡ true
+  pub longest_first_cause : cause_of several (codes "abc") ≡ Some (NotEligible 2 None)
+  pub longest_first_variant : is_valid several (codes "xbc") ≡ true
+  pub longest_that_stands : is_admitted ab_at_end (codes "abc") ≡ true
+  pub longest_at_end : is_admitted ab_at_end (codes "aab") ≡ true
+  pub longest_within : cause_of ab_at_end (codes "abab") ≡ Some (NotEligible 1 None)
+  pub shorter_fails : cause_of bb_unless_after_a (codes "abb") ≡ Some (NotEligible 2 when_first)
+  pub shorter_fails_first : cause_of bb_unless_after_a (codes "b") ≡ Some (NotEligible 0 when_first)
+  pub longer_stands : is_admitted bb_unless_after_a (codes "bb") ≡ true
+  pub longer_after_it : is_admitted bb_unless_after_a (codes "abbb") ≡ true
+  pub outside_longest : cause_of outside_ab (codes "ab") ≡ Some (NotEligible 0 None)
+  pub outside_variant : is_valid outside_ab (codes "ab") ≡ true
   pub sign_after_vowel : is_valid vowel_for_consonant (2309 ∷ 2366 ∷ []) ≡ false
   pub consonant_after_vowel : is_valid vowel_for_consonant (2309 ∷ 2326 ∷ []) ≡ true
   pub two_leads : is_admitted leads (3648 ∷ 3648 ∷ 3585 ∷ []) ≡ false

@@ -1,4 +1,5 @@
 -- The definitions that contracts cite.
+pub mod Eligible
 pub mod Segments
 pub mod Demands
 pub mod Validity

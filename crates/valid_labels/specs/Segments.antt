@@ -1,26 +1,20 @@
--- What the variants of a table are made of, as labels of their own.
-use Rattle.std.specs.Prelude.{◌≡◌, ◌⊎◌, ℕ, ◌≤◌, List, length, Option, None, Contains}
+-- The sources of a table as segments of a label, in any cut.
+use Rattle.std.specs.Prelude.{◌≡◌, ℕ, ◌≤◌, List, length, Option, Contains}
 use Rattle.std.specs.List.{flat_map, slice_range, AllByRecursion}
 use Rattle.label_patterns.specs.declared.condition.Condition.{Condition}
 use Rattle.label_patterns.specs.Matches.{Rounds}
 use Rattle.label_patterns.specs.Conditions.{ConditionHolds}
 use Rattle.label_patterns.specs.Barring.{IsBarred}
-use Rattle.variant_table.specs.Entries.{Entry, TableValue, sequences_in}
+use Rattle.variant_table.specs.Entries.{Entry, TableValue}
 use Rattle.variant_table.specs.Segmentations.{seen_under}
 
 -- a sequence is made of sources of the table, of outside ones too
 abbrev pub IsCovered : TableValue → List ℕ → Type 0
 IsCovered table points = (entries : List Entry) × AllByRecursion (Contains table.entries) entries × (flat_map (λ e. e.source) entries ≡ points)
 
--- an entry of the table has this variant
-abbrev pub IsVariant : TableValue → List ℕ → Type 0
-IsVariant table points = (e : Entry) × Contains table.entries e × Contains (sequences_in e.variants) points
-
--- a segment of the table: a source, also an outside one, with its condition; or a variant that is not made of sources,
--- which has none
+-- a segment of the table: a source, also an outside one, with its condition
 abbrev pub IsSegment : TableValue → List ℕ → Option Condition → Type 0
-IsSegment table points condition =
-    ((e : Entry) × Contains table.entries e × (e.source ≡ points) × (e.condition ≡ condition)) ⊎ (IsVariant table points × (¬ IsCovered table points) × (condition ≡ None))
+IsSegment table points condition = (e : Entry) × Contains table.entries e × (e.source ≡ points) × (e.condition ≡ condition)
 
 -- the part of the label from i to j is a segment with this condition
 abbrev pub SegmentIs : TableValue → List ℕ → Option Condition → ℕ → ℕ → Type 0
@@ -34,10 +28,6 @@ SegmentStands table label i j = (c : Option Condition) × SegmentIs table label 
 abbrev pub SegmentMayStand : TableValue → List ℕ → ℕ → ℕ → Type 0
 SegmentMayStand table label i j = (c : Option Condition) × SegmentIs table label c i j × (¬ IsBarred table.definitions.rules (seen_under table label) c i)
 
--- the label can be cut into segments whose conditions hold
-abbrev pub IsMadeOfSegments : TableValue → List ℕ → Type 0
-IsMadeOfSegments table label = Rounds (SegmentStands table label) 0 (length label)
-
--- the label can be cut up to this place into segments whose conditions aren't barred
+-- the label can be cut up to this place, in any way, into segments whose conditions aren't barred
 abbrev pub MayReach : TableValue → List ℕ → ℕ → Type 0
 MayReach table label place = Rounds (SegmentMayStand table label) 0 place

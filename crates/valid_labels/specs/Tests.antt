@@ -1,15 +1,20 @@
 -- The definitions as tests that compute. A set of places of a label is a number, as in label_patterns.
-use Rattle.std.specs.Prelude.{ℕ, zero, suc, ◌+◌, ◌^◌, ◌&&◌, ◌||◌, nat_eq, nat_lt, Bool, true, false, not, List, [], ◌∷◌, ◌++◌, Option, None, length, map, filter, if◌then◌else◌, bytes_eq}
+use Rattle.std.specs.Prelude.{ℕ, zero, suc, ◌+◌, ◌^◌, ◌&&◌, ◌||◌, nat_eq, nat_lt, Bool, true, false, not, List, [], ◌∷◌, Option, Some, None, length, map, if◌then◌else◌, bytes_eq}
 use Rattle.std.specs.Int.RustNames.{bit_or}
 use Rattle.std.specs.Option.{is_some}
-use Rattle.std.specs.List.{list_any, flat_map, slice_range}
+use Rattle.std.specs.List.{list_any, slice_range}
 use Rattle.label_patterns.specs.declared.condition.Condition.{Condition}
 use Rattle.label_patterns.specs.Matches.{Seen}
 use Rattle.label_patterns.specs.Tests.{has_place, condition_holds, condition_barred, ignores_end, occurs_in}
 use Rattle.ruleset_text.specs.declared.definition.DemandKind.{DemandKind}
 use Rattle.ruleset_text.specs.declared.definition.DemandKind.TheVariants.{Never, Always}
 use Rattle.ruleset_text.specs.Definitions.{Demand}
+use Rattle.variant_table.specs.declared.version.Version.{Version}
+use Rattle.variant_table.specs.declared.version.Version.TheVariants.{Three}
 use Rattle.variant_table.specs.Entries.{Entry, TableValue, sequences_in}
+use Rattle.variant_table.specs.Places.{entries_at}
+use Rattle.valid_labels.specs.declared.longest.Sources.{Sources}
+use Rattle.valid_labels.specs.declared.longest.Sources.TheVariants.{All, Inside}
 use Rattle.variant_table.specs.Segmentations.{seen_under, inside_of}
 
 -- ---- sets of places that steps lead to
@@ -57,13 +62,9 @@ sources_of entries = map (λ e. record { points = e.source; condition = e.condit
 abbrev pub is_covered : TableValue → List ℕ → Bool
 is_covered table points = has_place (cut_places not_asked (sources_of table.entries) points) (length points)
 
--- the variants that are not made of sources
-abbrev pub lone_variants : TableValue → List (List ℕ)
-lone_variants table = filter (λ s. not (is_covered table s)) (flat_map (λ e. sequences_in e.variants) table.entries)
-
 -- the segments of a table
 abbrev pub segments_of : TableValue → List Segment
-segments_of table = sources_of table.entries ++ map (λ s. record { points = s; condition = None }) (lone_variants table)
+segments_of table = sources_of table.entries
 
 -- ---- labels
 
@@ -74,20 +75,51 @@ holds_in table label c i j = condition_holds table.definitions.rules (seen_under
 abbrev pub may_hold_in : TableValue → List ℕ → Option Condition → ℕ → ℕ → Bool
 may_hold_in table label c i j = not (condition_barred table.definitions.rules (seen_under table label) c i)
 
--- the label is made of sources; it has a segmentation
+-- the label is made of sources
 abbrev pub is_made_of_sources : TableValue → List ℕ → Bool
 is_made_of_sources table label = has_place (cut_places not_asked (sources_of (inside_of table.entries)) label) (length label)
-
-abbrev pub has_segmentation : TableValue → List ℕ → Bool
-has_segmentation table label = has_place (cut_places (holds_in table label) (sources_of (inside_of table.entries)) label) (length label)
-
--- the label is made of segments that may stand where they do
-abbrev pub is_made_of_segments : TableValue → List ℕ → Bool
-is_made_of_segments table label = has_place (cut_places (holds_in table label) (segments_of table) label) (length label)
 
 -- the places up to which the label may be cut
 abbrev pub may_reach : TableValue → List ℕ → ℕ
 may_reach table label = cut_places (may_hold_in table label) (segments_of table) label
+
+-- ---- the longest-first cut
+
+-- of some entries whose sources are at the place the last one whose condition holds, or the one that was found before
+abbrev pub last_standing : TableValue → List ℕ → ℕ → Option Entry → List Entry → Option Entry
+last_standing table label place found [] = found
+last_standing table label place found (e ∷ entries) =
+    last_standing table label place (if holds_in table label e.condition place (place + length e.source) then Some e else found) entries
+
+-- the longest entry that stands at the place
+abbrev pub longest_at : TableValue → List ℕ → ℕ → Option Entry
+longest_at table label place = last_standing table label place None (entries_at table.entries label place)
+
+abbrev pub is_of : Sources → Entry → Bool
+is_of All e = true
+is_of Inside e = not e.outside
+
+-- the place after such an entry, or the same place
+abbrev pub place_after : Sources → ℕ → Option Entry → ℕ
+place_after sources place None = place
+place_after sources place (Some e) = if is_of sources e then place + length e.source else place
+
+abbrev pub advanced : Sources → TableValue → List ℕ → ℕ → ℕ
+advanced sources table label place = place_after sources place (longest_at table label place)
+
+-- the place after the first n sources of the cut, or the one at which it ends
+abbrev pub cut_after : Sources → TableValue → List ℕ → ℕ → ℕ
+cut_after sources table label zero = 0
+cut_after sources table label (suc n) = advanced sources table label (cut_after sources table label n)
+
+-- the place at which the cut ends
+abbrev pub cut_end : Sources → TableValue → List ℕ → ℕ
+cut_end sources table label = cut_after sources table label (length label)
+
+abbrev pub is_eligible_by : Sources → TableValue → List ℕ → Bool
+is_eligible_by sources table label = nat_eq (cut_end sources table label) (length label)
+
+-- ---- demands
 
 abbrev pub is_wanted : DemandKind → Bool → Bool
 is_wanted Never occurring = not occurring
@@ -100,12 +132,26 @@ are_met seen (d ∷ demands) = is_wanted d.kind (occurs_in seen d.pattern) && ar
 abbrev pub meets_demands : TableValue → List ℕ → Bool
 meets_demands table label = are_met (seen_under table label) table.definitions.demands
 
+-- ---- labels
+
+-- no source has a condition, and there is no demand
+abbrev pub is_unconditional : TableValue → Bool
+is_unconditional table = not (list_any (λ e. is_some e.condition) table.entries) && nat_eq (length table.definitions.demands) 0
+
+abbrev pub is_three : Version → Bool
+is_three Three = true
+is_three earlier = false
+
+-- a label may be cut in any way
+abbrev pub allows_any_cut : TableValue → Bool
+allows_any_cut table = not (is_three table.version) && is_unconditional table
+
 -- the label may be asked about; it is valid
 abbrev pub is_admitted : TableValue → List ℕ → Bool
-is_admitted table label = has_segmentation table label && meets_demands table label
+is_admitted table label = ((allows_any_cut table && is_made_of_sources table label) || is_eligible_by Inside table label) && meets_demands table label
 
 abbrev pub is_valid : TableValue → List ℕ → Bool
-is_valid table label = is_made_of_segments table label && meets_demands table label
+is_valid table label = (allows_any_cut table || is_eligible_by All table label) && meets_demands table label
 
 -- ---- what is dead
 
@@ -133,8 +179,12 @@ leads_on table label =
 
 -- neither the label nor any label that begins with it is valid
 abbrev pub is_dead_under : TableValue → List ℕ → Bool
-is_dead_under table label = nat_lt 0 (length label) && (is_refused table label || not (leads_on table label))
+is_dead_under table label = not (allows_any_cut table) && (nat_lt 0 (length label) && (is_refused table label || not (leads_on table label)))
+
+-- the source is more than one code point, or a variant is not made of sources
+abbrev pub is_open : TableValue → Entry → Bool
+is_open table e = not (nat_eq (length e.source) 1) || list_any (λ s. not (is_covered table s)) (sequences_in e.variants)
 
 -- the table asks nothing of its labels
 abbrev pub asks_nothing : TableValue → Bool
-asks_nothing table = not (list_any (λ e. is_some e.condition) table.entries) && nat_eq (length table.definitions.demands) 0
+asks_nothing table = is_unconditional table && (not (is_three table.version) || not (list_any (is_open table) table.entries))

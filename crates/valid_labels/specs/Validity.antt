@@ -1,15 +1,19 @@
 -- Which labels are valid under a table (RFC 7940, sections 7 and 8).
-use Rattle.std.specs.Prelude.{◌≡◌, ◌⊎◌, ℕ, ◌+◌, ◌<◌, ◌≤◌, List, [], length, take, Option, Contains}
+use Rattle.std.specs.Prelude.{◌≡◌, ◌≢◌, ◌⊎◌, ℕ, ◌+◌, ◌<◌, ◌≤◌, List, [], length, take, Option, Contains}
+use Rattle.std.specs.List.{AllByRecursion}
 use Rattle.label_patterns.specs.declared.condition.Condition.{Condition}
 use Rattle.label_patterns.specs.Laws.{IgnoresEnd}
 use Rattle.label_patterns.specs.Rules.{Occurs}
 use Rattle.ruleset_text.specs.declared.definition.DemandKind.TheVariants.{Never}
 use Rattle.ruleset_text.specs.Definitions.{Demand}
 use Rattle.ruleset_text.specs.WellFormed.{AreDefinitions}
-use Rattle.variant_table.specs.Entries.{TableValue}
+use Rattle.variant_table.specs.declared.version.Version.TheVariants.{Three}
+use Rattle.variant_table.specs.Entries.{TableValue, sequences_in}
 use Rattle.variant_table.specs.WellFormed.{IsWellFormed}
-use Rattle.variant_table.specs.Segmentations.{seen_under, HasSegmentation, HasNoConditions}
-use Rattle.valid_labels.specs.Segments.{IsSegment, IsMadeOfSegments, MayReach}
+use Rattle.variant_table.specs.Segmentations.{seen_under, IsMadeOfSources, HasNoConditions}
+use Rattle.valid_labels.specs.declared.longest.Sources.TheVariants.{Inside}
+use Rattle.valid_labels.specs.Segments.{IsCovered, IsSegment, MayReach}
+use Rattle.valid_labels.specs.Eligible.{IsEligible, IsEligibleBy}
 use Rattle.valid_labels.specs.Demands.{MeetsDemands}
 
 -- well-formed entries, and definitions without a fault
@@ -17,21 +21,38 @@ pub record IsSound (table : TableValue) : Type 0 where
   pub entries : IsWellFormed table.entries
   pub definitions : AreDefinitions table.definitions
 
--- the table asks nothing of its labels: no source has a condition, and there is no demand
-pub record AsksNothing (table : TableValue) : Type 0 where
+-- a table of version 1 or 2, which has neither conditions nor demands: a label may be cut in any way
+pub record AllowsAnyCut (table : TableValue) : Type 0 where
+  pub earlier : table.version ≢ Three
   pub conditions : HasNoConditions table
   pub demands : table.definitions.demands ≡ []
 
--- a label that may be asked about: it has a segmentation, and meets the demands
+-- a label that may be asked about: it is eligible, by sources that are not outside, and meets the demands. Under a table of
+-- version 1 or 2 it is only to be made of sources
 pub record IsAdmitted (table : TableValue) (label : List ℕ) : Type 0 where
-  pub cut : HasSegmentation table label
+  pub cut : (AllowsAnyCut table × IsMadeOfSources table label) ⊎ IsEligibleBy Inside table label
   pub met : MeetsDemands table label
 
--- a valid label, be it asked about or a variant: it is made of segments that may stand where they do, and meets the
--- demands
+-- a valid label, be it asked about or a variant: it is eligible, and meets the demands. Under a table of version 1 or 2 each
+-- label is valid
 pub record IsValid (table : TableValue) (label : List ℕ) : Type 0 where
-  pub cut : IsMadeOfSegments table label
+  pub cut : AllowsAnyCut table ⊎ IsEligible table label
   pub met : MeetsDemands table label
+
+-- each source is one code point
+abbrev pub IsOfPoints : TableValue → Type 0
+IsOfPoints table = AllByRecursion (λ e. length e.source ≡ 1) table.entries
+
+-- each variant is made of sources
+abbrev pub HasCoveredVariants : TableValue → Type 0
+HasCoveredVariants table = AllByRecursion (λ e. AllByRecursion (IsCovered table) (sequences_in e.variants)) table.entries
+
+-- the table asks nothing of its labels: no source has a condition, there is no demand, and it is of version 1 or 2, or each
+-- source is one code point and each variant is made of sources
+pub record AsksNothing (table : TableValue) : Type 0 where
+  pub conditions : HasNoConditions table
+  pub demands : table.definitions.demands ≡ []
+  pub cuts : (table.version ≢ Three) ⊎ (IsOfPoints table × HasCoveredVariants table)
 
 -- a part of the label matches a pattern that no label may match, and that doesn't ask for the end of the label
 abbrev pub IsRefused : TableValue → List ℕ → Type 0
@@ -44,6 +65,7 @@ LeadsNowhere table label = (place : ℕ) (points : List ℕ) (c : Option Conditi
 
 -- a dead label, of one code point or more: neither it nor any label that begins with it is valid
 pub record IsDeadUnder (table : TableValue) (label : List ℕ) : Type 0 where
+  pub asks : ¬ AllowsAnyCut table
   pub some : 0 < length label
   pub dead : IsRefused table label ⊎ LeadsNowhere table label
 

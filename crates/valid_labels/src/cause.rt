@@ -1,34 +1,32 @@
 //! Why a label that is made of sources may not be asked about.
-ghost use Rattle.std.specs.Prelude.{◌≡◌, ◌+◌, ◌↔◌, ◌≤◌, ℕ, length, map, IfOk};
+ghost use Rattle.std.specs.Prelude.{◌≡◌, ◌≤◌, length, map, IfOk};
 ghost use Rattle.std.specs.List.{AllByRecursion};
 ghost use Rattle.label_patterns.specs.Matches.{HasItsSets};
-ghost use Rattle.label_patterns.specs.Places.{Has};
 ghost use Rattle.label_patterns.specs.inner.Masks.{AreMasks};
 ghost use Rattle.ruleset_text.specs.DemandTrees.{demand};
-ghost use Rattle.valid_labels.specs.Causes.{broken_from, cause_of, held_places as held_places_of, is_misplaced as is_misplaced_by, found_at as found_at_place, misplaced_at as misplaced_at_place, misplaced_below};
+ghost use Rattle.valid_labels.specs.Causes.{broken_from, cause_of, stopped_by as stopped_by_at};
 ghost use Rattle.variant_table.specs.Segmentations.{seen_under};
 
-use crate::cutting::reached;
+use crate::cutting::NO_STEPS;
 use crate::demands::is_met;
-use crate::source_predicate::{HoldingInside, holds};
-use crate::sources::is_made_of_sources;
-use label_patterns::{Condition, PointSet, SeenLabel, has, renew_masks};
+use crate::longest::{Sources, cut_end, stands};
+use label_patterns::{Condition, PointSet, SeenLabel, renew_masks};
 use ruleset_text::{Demand, DemandKind};
 use std::alloc::{AllocError, Global};
-use variant_table::{Entry, Table};
+use variant_table::Table;
 
 /// Why a label that is made of sources may not be asked about.
 #[derive(Clone, Copy, Debug, PartialEq, Eq)]
 pub enum ValidityCause {
-    /// At this place of the label, from 0, a source begins whose condition, this one, fails there. Sources that may stand
-    /// where they do reach no later place before such a source.
-    Misplaced(usize, Condition),
+    /// The longest-first cut of the label ends at this place of it, from 0. This is the condition of the longest source
+    /// there, and the conditions of all sources there fail. Without one no source is there by which the label may be cut.
+    NotEligible(usize, Option<Condition>),
     /// The label breaks the demand of this number, from 0, of this kind, and no earlier one.
     Broken(usize, DemandKind),
 }
 
-/// Why a label of at most 63 code points that is made of sources of a table may not be asked about. `None` where it may,
-/// or isn't made of sources. It is an `Err` only where memory was refused.
+/// Why a label of at most 63 code points that is made of sources of a table may not be asked about. `None` where it may.
+/// It is an `Err` only where memory was refused.
 pub fn invalid_cause(
     alloc: Global,
     table: &Table,
@@ -55,117 +53,33 @@ fn cause_under(
     requires masks { AreMasks sets.now label.now masks.now }
     ensures { result ≡ cause_of table.now label.now }
 {
-    let seen = SeenLabel::of_masks(sets, label, masks);
-    let places = held_places(table, &seen, label);
-    if has(places, label.len()) {
-        broken_demand(table, &seen)
-    } else {
-        misplaced_source(table, &seen, label, places)
-    }
-}
-
-/// The places up to which a label can be cut into sources that may stand where they do.
-fn held_places(table: &Table, seen: &SeenLabel<'_>, label: &[u32]) -> u64
-    requires short { length label.now ≤ 63 }
-    requires seen { seen.now ≡ seen_under table.now label.now }
-    ensures { (j : ℕ) → Has result j ↔ Has (held_places_of table.now label.now) j }
-{
     // Only for the proof: the contract of `len` says that a table is well-formed.
     let _entries = table.len();
-    let definitions = table.definitions();
-    let none: &[Vec<u32>] = &[];
-    let predicate = HoldingInside { definitions, seen };
-    reached(table, none, label, &predicate)
-}
-
-/// The source at the last place where one is misplaced.
-fn misplaced_source(
-    table: &Table,
-    seen: &SeenLabel<'_>,
-    label: &[u32],
-    places: u64,
-) -> Option<ValidityCause>
-    requires short { length label.now ≤ 63 }
-    requires seen { seen.now ≡ seen_under table.now label.now }
-    requires places { (j : ℕ) → Has places j ↔ Has (held_places_of table.now label.now) j }
-    ensures { result ≡ misplaced_below table.now label.now (length label.now) }
-{
-    let mut place = label.len();
-    while place > 0 {
-        place -= 1;
-        match found_at(table, seen, label, places, place) {
-            Some(condition) => return Some(ValidityCause::Misplaced(place, condition)),
-            None => continue,
-        }
-    }
-    None
-}
-
-/// The condition of the longest source that is misplaced at a place to which sources lead.
-fn found_at(
-    table: &Table,
-    seen: &SeenLabel<'_>,
-    label: &[u32],
-    places: u64,
-    place: usize,
-) -> Option<Condition>
-    requires short { length label.now ≤ 63 }
-    requires seen { seen.now ≡ seen_under table.now label.now }
-    requires places { (j : ℕ) → Has places j ↔ Has (held_places_of table.now label.now) j }
-    requires place { place ≤ length label.now }
-    ensures { result ≡ found_at_place table.now label.now place }
-{
-    if has(places, place) {
-        misplaced_at(table, seen, label, place)
+    let seen = SeenLabel::of_masks(sets, label, masks);
+    let place = cut_end(table, &seen, label, Sources::Inside, NO_STEPS);
+    if place == label.len() {
+        broken_demand(table, &seen)
     } else {
-        None
+        let condition = stopped_by(table, &seen, label, place);
+        Some(ValidityCause::NotEligible(place, condition))
     }
 }
 
-/// The condition of the longest source at a place that is misplaced there.
-fn misplaced_at(
-    table: &Table,
-    seen: &SeenLabel<'_>,
-    label: &[u32],
-    place: usize,
-) -> Option<Condition>
+/// The condition of the longest source at a place. `None` where there is no source, or one stands there.
+fn stopped_by(table: &Table, seen: &SeenLabel<'_>, label: &[u32], place: usize) -> Option<Condition>
     requires short { length label.now ≤ 63 }
     requires seen { seen.now ≡ seen_under table.now label.now }
     requires place { place ≤ length label.now }
-    ensures { result ≡ misplaced_at_place table.now label.now place }
+    ensures { result ≡ stopped_by_at table.now label.now place }
 {
     let mut found = None;
     for entry in table.entries_at(label, place) {
-        if is_misplaced(table, seen, label, place, &entry) {
-            found = entry.condition(0);
+        if stands(table, seen, label, place, &entry) {
+            return None;
         }
+        found = entry.condition(0);
     }
     found
-}
-
-/// Whether a source that stands at a place may not stand there, while what follows it is made of sources.
-fn is_misplaced(
-    table: &Table,
-    seen: &SeenLabel<'_>,
-    label: &[u32],
-    place: usize,
-    entry: &Entry<'_>,
-) -> bool
-    requires short { length label.now ≤ 63 }
-    requires seen { seen.now ≡ seen_under table.now label.now }
-    requires inside { place + length entry.now.source ≤ length label.now }
-    ensures { result ≡ is_misplaced_by table.now label.now place entry.now }
-{
-    // Only for the proof: the contract of `len` says that a table is well-formed.
-    let _entries = table.len();
-    if entry.is_outside() {
-        return false;
-    }
-    let end = place + entry.source().len();
-    if holds(entry.condition(0), table.definitions(), seen, place, end) {
-        return false;
-    }
-    is_made_of_sources(table, &label[end..])
 }
 
 /// The first demand of a table that a label breaks.

@@ -5,7 +5,7 @@ ghost use Rattle.valid_labels.specs.Validity.{HasNoDeadPrefixUnder, IsShortestDe
 ghost use Rattle.valid_labels.specs.inner.Singles.{AreSingles};
 ghost use Rattle.valid_labels.specs.inner.Ends.{IsLeastDead, IsRefusedAt, NoneIsDead, NoneRefuses};
 
-use crate::cutting::reached_over;
+use crate::cutting::reached;
 use crate::demands::refused_end;
 use crate::segments::Segments;
 use crate::single_places::SinglePlaces;
@@ -32,8 +32,8 @@ pub fn shortest_dead_prefix(
     let definitions = table.definitions();
     let predicate = UnbarredSource { definitions, seen };
     let steps = singles.free_steps();
-    let places = reached_over(table, segments.lone(), label, &predicate, steps);
-    // No segment leads from the last of these places past this one, and none from another place.
+    let places = reached(table, label, &predicate, steps);
+    // No source leads from the last of these places past this one, and none from another place.
     let nowhere = last_place(places, label.len()) + segments.longest();
     let refused = refused_by(table, seen);
     shortest(refused, nowhere, label.len())

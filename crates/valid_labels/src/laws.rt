@@ -2,7 +2,17 @@
 ghost use Rattle.valid_labels.specs.CauseLaws.{CauseIsExact};
 ghost use Rattle.valid_labels.specs.Examples.{ValidityOfExamples};
 ghost use Rattle.valid_labels.specs.Furthest.{FurthestIsTold};
-ghost use Rattle.valid_labels.specs.Laws.{AdmittedAreValid, DeadForGood, NothingIsAsked, SegmentationsAgree, TestsAgree};
+ghost use Rattle.valid_labels.specs.Laws.{AdmittedAreValid, DeadForGood, LongestFirst, NothingIsAsked, OneCut, SegmentationsAgree, TestsAgree};
+
+/// Longest first accepts no more labels than any cut, and the same where each source is one code point.
+pub fn longest_first()
+    ensures { LongestFirst }
+{}
+
+/// A label has one longest-first cut.
+pub fn one_cut()
+    ensures { OneCut }
+{}
 
 /// A label with a segmentation is made of sources, and a label that is made of sources without conditions has one.
 pub fn segmentations_agree()
@@ -19,7 +29,7 @@ pub fn dead_for_good()
     ensures { DeadForGood }
 {}
 
-/// A label that may be asked about is valid.
+/// A label that may be asked about is valid, and can be cut into sources that may stand where they do.
 pub fn admitted_are_valid()
     ensures { AdmittedAreValid }
 {}

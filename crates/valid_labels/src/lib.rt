@@ -6,6 +6,7 @@ mod cutting;
 mod dead_prefix;
 mod demands;
 mod laws;
+mod longest;
 mod segments;
 mod single_places;
 mod single_points;
@@ -18,8 +19,9 @@ mod validity;
 pub use cause::{ValidityCause, invalid_cause};
 pub use laws::{
     admitted_are_valid, cause_is_exact, dead_for_good, examples_hold, furthest_is_told,
-    nothing_is_asked, segmentations_agree, tests_agree,
+    longest_first, nothing_is_asked, one_cut, segmentations_agree, tests_agree,
 };
+pub use longest::Sources;
 pub use segments::Segments;
 pub use sources::{asks_nothing, furthest, is_made_of_sources};
 pub use testing::ValidityTest;

@@ -48,40 +48,6 @@ impl SourcePredicate for InsideSource {
     }
 }
 
-/// It is asked that the condition of the source holds where it stands.
-#[derive(Drop)]
-pub struct HoldingSource<'a> {
-    pub definitions: &'a Definitions,
-    pub seen: &'a SeenLabel<'a>,
-}
-
-impl<'a> SourcePredicate for HoldingSource<'a> {
-    ghost asks = { λ s e i j. ConditionHolds s.definitions.now.rules s.seen.now e.condition i j };
-
-    ghost can_ask = { λ s n. (s.seen.now.sets ≡ s.definitions.now.sets) × (n ≤ length s.seen.now.label) };
-
-    fn holds(&self, entry: &Entry<'_>, start: usize, end: usize) -> bool {
-        holds(entry.condition(0), self.definitions, self.seen, start, end)
-    }
-}
-
-/// It is asked that the source is not outside, and that its condition holds where it stands.
-#[derive(Drop)]
-pub struct HoldingInside<'a> {
-    pub definitions: &'a Definitions,
-    pub seen: &'a SeenLabel<'a>,
-}
-
-impl<'a> SourcePredicate for HoldingInside<'a> {
-    ghost asks = { λ s e i j. (e.outside ≡ false) × ConditionHolds s.definitions.now.rules s.seen.now e.condition i j };
-
-    ghost can_ask = { λ s n. (s.seen.now.sets ≡ s.definitions.now.sets) × (n ≤ length s.seen.now.label) };
-
-    fn holds(&self, entry: &Entry<'_>, start: usize, end: usize) -> bool {
-        !entry.is_outside() && holds(entry.condition(0), self.definitions, self.seen, start, end)
-    }
-}
-
 /// It is asked that the condition of the source isn't barred where it begins.
 #[derive(Drop)]
 pub struct UnbarredSource<'a> {

@@ -1,16 +1,18 @@
 //! Labels that are made of sources.
 ghost use Rattle.std.specs.Prelude.{◌≡◌, ◌↔◌, ◌<◌, ◌≤◌, ℕ, length, take, IsTrue};
+ghost use Rattle.std.specs.List.{AllByRecursion};
 ghost use Rattle.label_patterns.specs.Places.{Has};
 ghost use Rattle.variant_table.specs.WellFormed.{IsWellFormed};
 ghost use Rattle.valid_labels.specs.Furthest.{furthest as furthest_place};
-ghost use Rattle.variant_table.specs.Segmentations.{IsMadeOfSources};
-ghost use Rattle.valid_labels.specs.Tests.{is_covered as is_covered_by};
-ghost use Rattle.valid_labels.specs.Validity.{AsksNothing};
+ghost use Rattle.variant_table.specs.Entries.{sequences_in};
+ghost use Rattle.variant_table.specs.Segmentations.{HasNoConditions, IsMadeOfSources};
+ghost use Rattle.valid_labels.specs.Segments.{IsCovered};
+ghost use Rattle.valid_labels.specs.Validity.{AsksNothing, HasCoveredVariants, IsOfPoints};
 
-use crate::cutting::reached;
+use crate::cutting::{NO_STEPS, reached};
 use crate::source_predicate::{AnySource, InsideSource};
 use label_patterns::has;
-use variant_table::Table;
+use variant_table::{Entry, Table};
 
 /// Whether a label of at most 63 code points is made of sources of a table, none of them outside. Where they may stand
 /// is not asked.
@@ -33,12 +35,11 @@ pub fn furthest(table: &Table, label: &[u32]) -> usize
 /// Whether a sequence is made of sources of a table, of outside ones too.
 pub(crate) fn is_covered(table: &Table, points: &[u32]) -> bool
     requires { length points.now ≤ 63 }
-    ensures { result ≡ is_covered_by table.now points.now }
+    ensures { IsTrue result ↔ IsCovered table.now points.now }
 {
     // Only for the proof: the contract of `len` says that a table is well-formed.
     let _entries = table.len();
-    let none: &[Vec<u32>] = &[];
-    has(reached(table, none, points, &AnySource), points.len())
+    has(reached(table, points, &AnySource, NO_STEPS), points.len())
 }
 
 /// The places up to which a label is made of sources that are not outside.
@@ -50,8 +51,7 @@ fn inside_places(table: &Table, label: &[u32]) -> u64
 {
     // Only for the proof: the contract of `len` says that a table is well-formed.
     let _entries = table.len();
-    let none: &[Vec<u32>] = &[];
-    reached(table, none, label, &InsideSource)
+    reached(table, label, &InsideSource, NO_STEPS)
 }
 
 /// The greatest of the places up to `len` that are in a set. Place 0 must be.
@@ -68,16 +68,50 @@ pub(crate) fn last_place(places: u64, len: usize) -> usize
     place
 }
 
-/// Whether a table asks nothing of its labels: no source has a condition, and there is no demand. Then each label that is
-/// made of sources may be asked about, and each label that it spells is valid.
+/// Whether a table asks nothing of its labels: no source has a condition, there is no demand, and it is of version 1 or 2, or
+/// each source is one code point and each variant is made of sources. Then each label that is made of sources may be asked
+/// about, and each label that it spells is valid.
 pub fn asks_nothing(table: &Table) -> bool
     ensures { IsTrue result ↔ AsksNothing table.now }
 {
-    if !table.definitions().demands().is_empty() {
-        return false;
-    }
+    table.definitions().demands().is_empty()
+        && has_no_conditions(table)
+        && (table.version() != 3 || has_single_sources(table))
+}
+
+/// Whether no source has a condition.
+fn has_no_conditions(table: &Table) -> bool
+    ensures { IsTrue result ↔ HasNoConditions table.now }
+{
     for number in 0..table.len() {
         if table.entry(number).condition(0).is_some() {
+            return false;
+        }
+    }
+    true
+}
+
+/// Whether each source is one code point, and each variant is made of sources.
+fn has_single_sources(table: &Table) -> bool
+    ensures { IsTrue result ↔ (IsOfPoints table.now × HasCoveredVariants table.now) }
+{
+    for number in 0..table.len() {
+        let entry = table.entry(number);
+        if entry.source().len() != 1 || !has_covered_variants(table, &entry) {
+            return false;
+        }
+    }
+    true
+}
+
+/// Whether each variant of an entry is made of sources.
+fn has_covered_variants(table: &Table, entry: &Entry<'_>) -> bool
+    requires short { AllByRecursion (λ s. length s ≤ 63) (sequences_in entry.now.variants) }
+    ensures { IsTrue result ↔ AllByRecursion (IsCovered table.now) (sequences_in entry.now.variants) }
+{
+    // The source is the first of the replacements.
+    for number in 0..entry.replacements() - 1 {
+        if !is_covered(table, entry.replacement(number + 1)) {
             return false;
         }
     }

@@ -64,7 +64,9 @@ impl<'a> ValidityTest<'a> {
         ensures admission { IsAdmission self.old.table label.now result }
         ensures same { self.new ≡ self.old }
     {
-        let table = self.points.segments().table();
+        let segments = self.points.segments();
+        segments.recall_soundness();
+        let table = segments.table();
         if !is_made_of_sources(table, label) {
             return Admission::NotCut;
         }

@@ -3,31 +3,33 @@ ghost use Rattle.std.specs.Prelude.{◌≡◌, ◌↔◌, ◌≤◌, length, IsT
 ghost use Rattle.std.specs.List.{AllByRecursion};
 ghost use Rattle.label_patterns.specs.inner.Masks.{AreMasks};
 ghost use Rattle.valid_labels.specs.Demands.{IsMet};
-ghost use Rattle.valid_labels.specs.Segments.{IsMadeOfSegments};
-ghost use Rattle.variant_table.specs.Segmentations.{HasSegmentation, seen_under};
+ghost use Rattle.valid_labels.specs.Eligible.{IsEligible, IsEligibleBy};
+ghost use Rattle.variant_table.specs.Segmentations.{seen_under};
 ghost use Rattle.valid_labels.specs.Testing.{IsValidity};
-ghost use Rattle.valid_labels.specs.Validity.{IsAdmitted, IsValid};
+ghost use Rattle.valid_labels.specs.Validity.{AsksNothing, IsAdmitted, IsValid};
 ghost use Rattle.valid_labels.specs.inner.Singles.{AreSingles, HasRoom};
 
-use crate::cutting::{reached, reached_over};
+use crate::cutting::NO_STEPS;
 use crate::dead_prefix::shortest_dead_prefix;
 use crate::demands::are_met;
+use crate::longest::{Sources, cut_end};
 use crate::segments::Segments;
 use crate::single_places::SinglePlaces;
-use crate::source_predicate::{HoldingInside, HoldingSource};
 use crate::validity::Validity;
-use label_patterns::{PointSet, SeenLabel, has};
+use label_patterns::{PointSet, SeenLabel};
 use variant_table::Table;
 
-/// Whether a label may be asked about. `masks` has the places of each of the table's sets in it.
+/// Whether a label may be asked about, under a table that asks something. `masks` has the places of each of the table's
+/// sets in it.
 pub fn is_admitted(table: &Table, sets: &[PointSet], label: &[u32], masks: &[u64]) -> bool
+    requires asks { ¬ AsksNothing table.now }
     requires short { length label.now ≤ 63 }
     requires sets { sets.now ≡ table.now.definitions.sets }
     requires masks { AreMasks sets.now label.now masks.now }
     ensures { IsTrue result ↔ IsAdmitted table.now label.now }
 {
     let seen = SeenLabel::of_masks(sets, label, masks);
-    has_segmentation(table, &seen, label) && meets_demands(table, &seen)
+    is_eligible_inside(table, &seen, label) && meets_demands(table, &seen)
 }
 
 /// Whether a label is valid, and if it isn't, how long its shortest dead prefix is. `masks` has the places of each of
@@ -70,24 +72,23 @@ fn is_valid(
     requires singles { AreSingles (length label.now) segments.now label.now singles.now }
     ensures { IsTrue result ↔ IsValid segments.now label.now }
 {
-    is_made_of_segments(segments, seen, label, singles) && meets_demands(segments.table(), seen)
+    segments.recall_soundness();
+    is_eligible(segments, seen, label, singles) && meets_demands(segments.table(), seen)
 }
 
-/// Whether a label can be cut into sources of the table that may stand where they do.
-fn has_segmentation(table: &Table, seen: &SeenLabel<'_>, label: &[u32]) -> bool
+/// Whether a label is eligible by sources that are not outside.
+fn is_eligible_inside(table: &Table, seen: &SeenLabel<'_>, label: &[u32]) -> bool
     requires short { length label.now ≤ 63 }
     requires seen { seen.now ≡ seen_under table.now label.now }
-    ensures { IsTrue result ↔ HasSegmentation table.now label.now }
+    ensures { IsTrue result ↔ IsEligibleBy Sources.Inside table.now label.now }
 {
-    let definitions = table.definitions();
-    let none: &[Vec<u32>] = &[];
-    let predicate = HoldingInside { definitions, seen };
-    let places = reached(table, none, label, &predicate);
-    has(places, label.len())
+    // Only for the proof: the contract of `len` says that a table is well-formed.
+    let _entries = table.len();
+    cut_end(table, seen, label, Sources::Inside, NO_STEPS) == label.len()
 }
 
-/// Whether a label can be cut into segments that may stand where they do.
-fn is_made_of_segments(
+/// Whether a label is eligible.
+fn is_eligible(
     segments: &Segments<'_>,
     seen: &SeenLabel<'_>,
     label: &[u32],
@@ -97,14 +98,12 @@ fn is_made_of_segments(
     requires seen { seen.now ≡ seen_under segments.now label.now }
     requires room { HasRoom (length segments.now.definitions.rules) singles.now }
     requires singles { AreSingles (length label.now) segments.now label.now singles.now }
-    ensures { IsTrue result ↔ IsMadeOfSegments segments.now label.now }
+    ensures { IsTrue result ↔ IsEligible segments.now label.now }
 {
+    segments.recall_soundness();
     let table = segments.table();
-    let definitions = table.definitions();
-    let predicate = HoldingSource { definitions, seen };
-    let steps = singles.holding_steps(definitions.rules(), seen);
-    let places = reached_over(table, segments.lone(), label, &predicate, steps);
-    has(places, label.len())
+    let steps = singles.holding_steps(table.definitions().rules(), seen);
+    cut_end(table, seen, label, Sources::All, steps) == label.len()
 }
 
 /// Whether a label meets the demands of a table.

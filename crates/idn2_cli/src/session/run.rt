@@ -196,9 +196,7 @@ fn serve_variants<R: Source, W: Sink, E: Sink>(
             return refuse_table(alloc, options.form, wanted, text, &refusal, console);
         }
     };
-    let Ok(ruling) = ruling_of_table(alloc, &table) else {
-        return Err(Stop::Memory);
-    };
+    let ruling = ruling_of_table(&table);
     let dispositions = Dispositions::of_table(&table);
     let mode = Variants {
         table: &table,
@@ -234,9 +232,7 @@ fn serve_jumps<R: Source, W: Sink, E: Sink>(
             return refuse_table(alloc, options.form, wanted, text, &refusal, console);
         }
     };
-    let Ok(ruling) = ruling_of_table(alloc, &table) else {
-        return Err(Stop::Memory);
-    };
+    let ruling = ruling_of_table(&table);
     let mode = Jumps {
         table: &table,
         ruling: &ruling,

@@ -1,5 +1,5 @@
--- Steps from place to place of a label: sources that stand there and of which something is asked, and lone variants.
-use Rattle.std.specs.Prelude.{◌≡◌, ◌⊎◌, ◌↔◌, ℕ, ◌+◌, ◌<◌, ◌≤◌, List, length, Contains}
+-- Steps from place to place of a label: sources that stand there and of which something is asked.
+use Rattle.std.specs.Prelude.{◌≡◌, ◌↔◌, ℕ, ◌+◌, ◌<◌, ◌≤◌, List, length, Contains}
 use Rattle.std.specs.List.{slice_range}
 use Rattle.label_patterns.specs.Places.{Has}
 use Rattle.variant_table.specs.Entries.{Entry}
@@ -8,14 +8,6 @@ use Rattle.valid_labels.specs.declared.cutting.SingleSteps.{SingleSteps}
 -- a source stands from i to j, and what is asked of its entry is so
 abbrev pub SourceIs : (Entry → ℕ → ℕ → Type 0) → List Entry → List ℕ → ℕ → ℕ → Type 0
 SourceIs asks entries label i j = (e : Entry) × Contains entries e × (i ≤ j) × (j ≤ length label) × (slice_range label i j ≡ e.source) × asks e i j
-
--- one of the sequences stands there
-abbrev pub SequenceIs : List (List ℕ) → List ℕ → ℕ → ℕ → Type 0
-SequenceIs sequences label i j = (i ≤ j) × (j ≤ length label) × Contains sequences (slice_range label i j)
-
--- one or the other
-abbrev pub StepIs : (Entry → ℕ → ℕ → Type 0) → List Entry → List (List ℕ) → List ℕ → ℕ → ℕ → Type 0
-StepIs asks entries sequences label i j = SourceIs asks entries label i j ⊎ SequenceIs sequences label i j
 
 -- the known places are in a label of n code points; from the leading ones one code point leads on, and nothing else does
 abbrev pub AreSteps : (ℕ → ℕ → Type 0) → ℕ → SingleSteps → Type 0

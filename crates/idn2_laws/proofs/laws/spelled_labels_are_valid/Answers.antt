@@ -4,4 +4,4 @@ use Rattle.variant_list.proofs.SpellingLemmas.{PartSpells-made}
 use Rattle.idn2_laws.proofs.laws.spelled_labels_are_valid.Goals as goal
 
 pub returns : goal.returns
-returns c = λ table label v sound nothing spells. nothing-is-asked.valid table v sound nothing (PartSpells-made Whole table label v spells)
+returns c = λ table label v sound nothing spells. nothing-is-asked.valid table v nothing (PartSpells-made Whole table label v spells)

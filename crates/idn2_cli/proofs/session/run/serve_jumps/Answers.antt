@@ -1,12 +1,10 @@
-use Rattle.std.proofs.Common.{inl, Err, refl, subst, Ok, ap, chars, true, ◌∙◌}
+use Rattle.std.proofs.Common.{subst, Ok, ap, chars, true, ◌∙◌}
 use Rattle.idn2_refusals.specs.Explained.{Explained, ByRequest, if_wanted}
 use Rattle.idn2_options.specs.declared.command_line.form.Form.{Form}
 use Rattle.idn_class.specs.declared.properties.Properties.{Properties}
 use Rattle.idn2_options.specs.Settings.{Settings}
 use Rattle.idn2_options.specs.declared.command_line.mode.Mode.TheVariants.{Jump}
 use Rattle.variant_table.specs.Texts.{IsTextOf, IsToldOf}
-use Rattle.variant_table.specs.declared.fault.TableFault.TheVariants.{Memory}
-use Rattle.idn2_output.specs.declared.stop.Stop.TheVariants as stop
 use Rattle.idn2_answers.specs.Answers.{jump_answer}
 use Rattle.idn2_refusals.specs.Requests.{requested_label}
 use Rattle.idn2_cli.specs.Ends.{Job, lines_job}
@@ -27,10 +25,6 @@ returns g c =
     as_mode c.args.options.now Jump c.args.text.now (Ok c.in-Ok.table) _ _ _ _ _ c.serve_lines.result c.requires.mode (subst (λ (v : Settings). IsTextOf v.properties v.notation c.args.text.now c.in-Ok.table) c.options.view_is c.in-Ok.ensures.table)
     (ap (λ f. job given f (explained_by c.if_wanted-explaining.result)) (ap (λ (v : Settings). v.form) c.options.view_is)
     ∙ ap (λ e. job given c.args.options.now.form e) c.if_wanted-explaining.ensures
-    ∙ ap (λ (p : Properties). job p c.args.options.now.form (if_wanted c.tells_causes-2.result (ByRequest p c.in-Ok.table))) (ap (λ (v : Settings). v.properties) c.options.view_is)
-    ∙ ap (λ x. job c.args.options.now.properties c.args.options.now.form (if_wanted x (ByRequest c.args.options.now.properties c.in-Ok.table))) c.tells_causes-2.ensures)
+    ∙ ap (λ (p : Properties). job p c.args.options.now.form (if_wanted c.tells_causes.result (ByRequest p c.in-Ok.table))) (ap (λ (v : Settings). v.properties) c.options.view_is)
+    ∙ ap (λ x. job c.args.options.now.properties c.args.options.now.form (if_wanted x (ByRequest c.args.options.now.properties c.in-Ok.table))) c.tells_causes.ensures)
     c.serve_lines.ensures
-
-pub returns-in_default : goal.returns-in_default
-returns-in_default g c =
-    refused_lines c.args.options.now Jump (jumps_by_table c.args.options.now c.requires.mode) c.args.text.now _ Memory _ _ (Err stop.Memory) c.requires.unread (inl refl) (refl, refl) tt

@@ -1,4 +1,4 @@
-use Rattle.std.proofs.Common.{inl, Err, refl, subst, All, Ok, ap, chars, true, ◌∙◌}
+use Rattle.std.proofs.Common.{subst, All, Ok, ap, chars, true, ◌∙◌}
 use Rattle.std.specs.Option.{option_copied}
 use Rattle.idn_class.specs.declared.properties.Properties.{Properties}
 use Rattle.idn_label.specs.Memory.{NeedsNoMemory}
@@ -6,8 +6,6 @@ use Rattle.variant_table.specs.Entries.{TableValue}
 use Rattle.variant_list.specs.Spelled.{spelled}
 use Rattle.idn2_options.specs.Settings.{Settings, keeping}
 use Rattle.variant_table.specs.Texts.{IsTextOf, IsToldOf}
-use Rattle.variant_table.specs.declared.fault.TableFault.TheVariants.{Memory}
-use Rattle.idn2_output.specs.declared.stop.Stop.TheVariants as stop
 use Rattle.idn2_answers.specs.Answers.{filter_of, tested_after, variants_answer}
 use Rattle.idn2_refusals.specs.Explained.{ByTable, if_wanted}
 use Rattle.idn2_cli.specs.Memory.{IsRefusedWithoutMemory}
@@ -30,9 +28,5 @@ returns g c =
     (ap (λ f. lines_job f (explained_by c.if_wanted-explaining.result) (variants_answer o table) true (λ line. IsRefusedWithoutMemory c.args.options.now.properties (chars line)) (λ line. All NeedsNoMemory (tested_after (filter_of c.args.options.now.properties table) o (spelled table (chars line)))))
     (ap (λ (v : Settings). v.form) c.options.view_is)
     ∙ ap (λ e. lines_job o.form e (variants_answer o table) true (λ line. IsRefusedWithoutMemory c.args.options.now.properties (chars line)) (λ line. All NeedsNoMemory (tested_after (filter_of c.args.options.now.properties table) o (spelled table (chars line)))))
-    (c.if_wanted-explaining.ensures ∙ ap (λ (p : Properties). if_wanted c.tells_causes-2.result (ByTable p table)) (ap (λ (v : Settings). v.properties) c.options.view_is) ∙ ap (λ x. if_wanted x (ByTable c.args.options.now.properties table)) c.tells_causes-2.ensures))
+    (c.if_wanted-explaining.ensures ∙ ap (λ (p : Properties). if_wanted c.tells_causes.result (ByTable p table)) (ap (λ (v : Settings). v.properties) c.options.view_is) ∙ ap (λ x. if_wanted x (ByTable c.args.options.now.properties table)) c.tells_causes.ensures))
     c.serve_lines.ensures
-
-pub returns-in_default : goal.returns-in_default
-returns-in_default g c =
-    refused_lines (keeping (option_copied c.args.registered) c.args.options.now) Variants (lists_by_table (keeping (option_copied c.args.registered) c.args.options.now) c.requires.mode) c.args.text.now _ Memory _ _ (Err stop.Memory) c.requires.unread (inl refl) (refl, refl) tt
