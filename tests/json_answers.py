@@ -435,6 +435,8 @@ SHAPES = {
     1: [{"byte"}], 2: [set()], 3: [set()], 4: [{"place"}, PLACED], 5: [set()],
     **{number: [shape | more for shape in shapes for more in (set(), {"decoded"}, {"label", "decoded"})]
        for number, shapes in OF_LABELS.items()},
+    # Where a U-label is wanted: what an A-label stands for, or that it is none.
+    13: [PLACED, PLACED | {"decoded"}, PLACED | {"label", "decoded"}, PLACED | {"ulabel"}, PLACED | {"rule"}],
     # Of a name as a whole: a label that is copied may break the Bidi rule.
     17: [PLACED | {"rule", "bidi_class"} | more for more in (set(), {"decoded"}, {"label"}, {"label", "decoded"})],
     19: [shape | more for shape in OF_A_LABELS for more in (set(), {"label"})],
@@ -444,8 +446,9 @@ SHAPES = {
 }
 # A value of each member of a refusal.
 MEMBERS = {"label": 2, "decoded": True, "code_point": "U+200C", "place": 1, "rule": None, "bidi_class": "AL", "nfc": "U+00E1",
-           "code_points": 64, "octets": 64, "alabel": "a", "byte": 1, "condition": "when", "demand": 1, "kind": "never"}
-RULES = {10: "RFC 5892 2.2", 11: "RFC 5892 2.10", 15: "RFC 5892 A.1", 16: "RFC 5892 A.3", 17: "RFC 5893 2 condition 1",
+           "code_points": 64, "octets": 64, "alabel": "a", "byte": 1, "condition": "when", "demand": 1, "kind": "never",
+           "ulabel": "faß"}
+RULES = {10: "RFC 5892 2.2", 11: "RFC 5892 2.10", 13: "RFC 5890 2.3.2.1", 15: "RFC 5892 A.1", 16: "RFC 5892 A.3", 17: "RFC 5893 2 condition 1",
          19: "RFC 3492 6.2", 41: "after_consonant"}
 OF_NO_TYPE = (None, True, 1.5, [], {})
 
@@ -464,7 +467,7 @@ def written_objects(folder):
 
 def refusal_with(number, members):
     rule = RULES.get(number, "profile")
-    point = {"code_point": "U+002D"} if number == 13 else {}
+    point = {"code_point": "U+002D", "place": 3} if number == 13 else {}
     return {"number": number, "text": "x", **{name: rule if name == "rule" else MEMBERS[name] for name in members}, **point}
 
 

@@ -14,7 +14,7 @@ from program import ROOT, is_installed, is_there, python_with, run_tests
 PACKAGE = os.path.join(ROOT, "registry")
 # What some of the tests import, too.
 MODULES = ("pytest", "psycopg", "distributed", "aiohttp")
-LIMIT = 300
+LIMIT = 600
 
 
 def python_for_tests():

@@ -274,7 +274,8 @@ def cluster(place: Place) -> Iterator[tuple[str, list["subprocess.Popen[bytes]"]
     workers: list[subprocess.Popen[bytes]] = []
     try:
         until = time.monotonic() + LIMIT
-        while not file.exists():
+        # Until it is there, and whole.
+        while not (file.exists() and file.read_text().rstrip().endswith("}")):
             assert time.monotonic() < until and scheduler.poll() is None
             time.sleep(0.1)
         worker = [sys.executable, "-m", "distributed.cli.dask_worker", "--scheduler-file", str(file), "--nthreads", "1",

@@ -59,6 +59,12 @@ def test_the_packed_file_does_the_same(place: Place) -> None:
     place.write("published.xml", OVERLAP)
     done = run("convert", "published.xml")
     assert (done.stdout, done.returncode) == (b"", 1) and b"label 0061-0062-0063: accepted, and by RFC 7940 refused" in done.stderr, done
+    place.write("table.toml", 'version = "1"\ndate = 2026-11-28\nlanguage = "de"\nscope = "example"\n')
+    place.write("table.txt", "0061|0062\n0062|0061\n")
+    place.write("back.xml", run("publish", "table.txt", "--as", "xml").stdout)
+    place.write("back.txt", run("convert", "--version", "1", "back.xml").stdout)
+    assert run("compare", "table.txt", "back.txt").stdout == b"table.txt and back.txt: identical, 0 differences\n"
+    assert run("publish", "table.txt", "--as", "html").stdout.startswith(b"<!DOCTYPE html>")
     assert os.access(folder / "idn2-registry", os.X_OK)
     old = "import runpy, sys; sys.version_info = (3, 10, 2); runpy.run_path(sys.argv[1], run_name='__main__')"
     done = subprocess.run([sys.executable, "-c", old, str(folder / "idn2-registry")], capture_output=True, timeout=LIMIT, check=False)

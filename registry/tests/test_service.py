@@ -1,6 +1,5 @@
 """The service over HTTP: it answers with the objects of the commands, and what isn't known is never a 200."""
 
-import contextlib
 import itertools
 import json
 import os
@@ -206,20 +205,6 @@ def test_cuts_off_who_is_too_slow(place: Place, text: bytes) -> None:
         assert served.ask("GET", "/v1/health").status == 200
 
 
-def test_cuts_off_who_reads_nothing(place: Place) -> None:
-    configure(place)
-    with Served(place, changed="import idn2_registry.service.connections as c; c.IDLE_SECONDS = 0.5") as served:
-        with served.socket() as connection:
-            request = b"GET /v1/openapi.json HTTP/1.1\r\nHost: a\r\n\r\n"
-            with contextlib.suppress(OSError):
-                # The answers are more than the buffers of the sockets take.
-                connection.sendall(request * 5_000)
-            until = time.monotonic() + LIMIT
-            while "idn2_registry_connections 1\n" not in served.ask("GET", "/metrics").text:
-                assert time.monotonic() < until
-                time.sleep(0.1)
-
-
 def test_the_description_is_what_is_served(place: Place) -> None:
     jsonschema = pytest.importorskip("jsonschema", reason="python3-jsonschema")
     configure(place)
@@ -417,17 +402,17 @@ def test_takes_a_socket_of_systemd_and_tells_when_it_is_ready(place: Place) -> N
         notify.close()
 
 
-def expect_unusable(place: Place, message: str, changed: str = "pass") -> None:
-    """It doesn't start, and says why in one line."""
-    command = place.words("serve")
-    command[1:3] = ["-c", CHANGED.format(changed)]
-    done = subprocess.run(command, cwd=place.folder, env=place.environment, capture_output=True, timeout=LIMIT, check=False)
+def expect_unusable(done: "subprocess.CompletedProcess[bytes]", message: str) -> None:
+    """It didn't start, and said why in one line."""
     assert done.returncode == 75 and done.stderr.count(b"\n") == 1 and message in done.stderr.decode(), done
 
 
 def test_says_why_it_does_not_start(place: Place) -> None:
     place.configure()
-    expect_unusable(place, f"{sys.executable} has no aiohttp, which serve needs: apt-get install", "sys.modules['aiohttp'] = None")
+    command = place.words("serve")
+    command[1:3] = ["-c", CHANGED.format("sys.modules['aiohttp'] = None")]
+    done = subprocess.run(command, cwd=place.folder, env=place.environment, capture_output=True, timeout=LIMIT, check=False)
+    expect_unusable(done, f"{sys.executable} has no aiohttp, which serve needs: apt-get install")
     rows = (('listen = "0.0.0.0:80"', "registry.toml: line 6: listen: no address of this machine alone"),
             ('listen = "example.org:80"', "line 6: listen"), ("listen = 80", "line 6: listen"), ('listen = "unix:"', "line 6: listen"),
             ('listen = "127.0.0.1:99999"', "line 6: listen"), ("connections = 0", "line 6: connections: write a number from 1 to"),
@@ -438,7 +423,7 @@ def test_says_why_it_does_not_start(place: Place) -> None:
     place.write("short.txt", "secret\n")
     for line, message in rows:
         place.configure(f"[service]\n{line}")
-        expect_unusable(place, message)
+        expect_unusable(place.run("serve"), message)
 
 
 def test_metrics_are_in_the_text_form(place: Place) -> None:

@@ -22,7 +22,7 @@ use Rattle.table_cause.specs.FaultPlaces.{fault_place, line_place, place_at}
 use Rattle.variant_table.specs.FaultyLines.{FaultyLine, faulty_line}
 use Rattle.ruleset_text.specs.declared.fault.FaultPlace.{FaultPlace}
 use Rattle.idn2_refusals.specs.Explained.{ByRegisteredLine, bad_byte, body_cause, points_cause, u_label_cause}
-use Rattle.idn2_laws.specs.ReadBack.{FindingsAreReadBack, IsReadBack, IsShortBody, RegisteredFaultsAreReadBack, TableFaultsAreReadBack, TellsFewOctetsIfAny}
+use Rattle.idn2_laws.specs.ReadBack.{byte_of, FindingsAreReadBack, IsReadBack, IsShortBody, RegisteredFaultsAreReadBack, TableFaultsAreReadBack, TellsFewOctetsIfAny}
 use Rattle.idn2_answers.specs.Said.{Counted, Gap, finding_object}
 use Rattle.idn2_refusals.specs.TableCauses.{begins_with_mark, cause_at, fault_cause, is_syntax_of_first, line_cause, told_if}
 use Rattle.idn2_refusals.specs.WrongLines.{body_at, body_if_any, differs_at, points_at, points_in, told_of_wrong_line, wrong_line_cause}
