@@ -1,8 +1,10 @@
 """Long work on several machines, by Dask: its scheduler sends parts to its workers, and a part again if its worker is lost."""
 
+import itertools
 import sys
 from collections.abc import Iterator
 from concurrent.futures import CancelledError
+from typing import Any
 
 from .faults import Unknown, Unusable
 from .work import Task
@@ -24,19 +26,36 @@ def done_by_cluster(address: str, task: Task, parts: dict[int, bytes]) -> Iterat
     except (OSError, ValueError) as error:
         raise Unusable(f"{address}: no scheduler there: dask-scheduler starts one") from error
     with client:
-        # The result of a call, which is made again if its worker is lost; what is scattered isn't.
-        sent = client.submit(received, task, pure=False)
-        waiting = {client.submit(done_there, sent, part, pure=False): number for number, part in parts.items()}
         try:
-            for future in distributed.as_completed(list(waiting)):
-                yield waiting[future], future.result()
+            yield from Sending(client, task, parts).results()
         except (OSError, CancelledError, distributed.scheduler.KilledWorker) as error:
             raise Unknown(f"{address}: {error}") from error
 
 
-def received(task: Task) -> Task:
-    """The task, on a worker."""
-    return task
+class Sending:
+    """Parts on their way: two for each worker, since the task goes with each of them. A part that stood on what another worker has
+    might wait for ever once that worker is lost."""
+
+    def __init__(self, client: Any, task: Task, parts: dict[int, bytes]) -> None:
+        self._client, self._task, self._left = client, task, iter(parts.items())
+        self._numbers: dict[Any, int] = {}
+        self._done = distributed.as_completed()
+
+    def results(self) -> Iterator[tuple[int, bytes]]:
+        """The numbers and results of all parts, as they are done."""
+        self._send()
+        for future in self._done:
+            number, result = self._numbers.pop(future), future.result()
+            self._send()
+            yield number, result
+
+    def _send(self) -> None:
+        """Sends more of the parts that are left."""
+        room = 2 * max(1, len(self._client.scheduler_info()["workers"])) - len(self._numbers)
+        for number, part in itertools.islice(self._left, max(0, room)):
+            future = self._client.submit(done_there, self._task, part, pure=False)
+            self._numbers[future] = number
+            self._done.add(future)
 
 
 def done_there(task: Task, part: bytes) -> bytes:
