@@ -499,10 +499,12 @@ def serves_hostile_rulesets(folder):
 
 
 def lists_in_the_largest_nets_of_rulesets(folder):
-    """One variant graph for each of 8 tags: eight sources begin at each place, each with sixteen variants of eight code points."""
+    """Each substitution has the kinds of 8 tags: eight sources begin at each place, each with sixteen variants of eight code points,
+    which are sources, too."""
     tags = "stuvwxyz"
     with open(table_of_the_largest_nets(folder), encoding="ascii") as file:
         entries = [line.replace(":", f" as {','.join(tags)}:") for line in file.read().splitlines()]
+    entries += map(points, "bcdefghijklmnopq12345678")
     table = table_file(folder, "\n".join(["%version 3", *(f"%tag {tag}" for tag in tags), *entries]).encode())
     done = within_a_second(["--ruleset", table, "--limit", "100"], b"a" * 63)
     variants = done.stdout.splitlines()
