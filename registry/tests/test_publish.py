@@ -83,8 +83,6 @@ PARTS = [
 # Lines of version 3 with what XML can't say, or can't read back, and the message after the name of the file.
 REFUSED = [
     ("0061..0063\n0066|0067", "line 3: by RFC 7940 no label has the variant 0067, since no entry has 0067: add !0067"),
-    ("0061\n0061-0062\n0062-0063", "XML can't say it: label 0061-0062-0063: accepted, and by RFC 7940 refused: it can be cut "
-     "into entries, but not by the longest at each place (8.1)"),
     ("%rule r 0061 ^ _\n0061\n0066 when r", "line 2: XML can't say it: look-behind: not what the schema has in it, or in "
      "another order"),
     ("%rule r (^)? 0061 _\n0061\n0066 when r", "line 2: XML can't say it: start: the attribute 'count' can't stand here"),
