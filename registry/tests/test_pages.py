@@ -3,10 +3,14 @@
 import html
 import re
 
+import pytest
 from conftest import PROGRAM, TABLES, Place
 from serving import Served, Told, configure, needs_aiohttp
 from test_service import query
 
+from idn2_registry.answers import Answer, Refusal, Status
+from idn2_registry.faults import Unknown
+from idn2_registry.pages import label_page
 from idn2_registry.pages.classes import Classes
 from idn2_registry.pages.frame import Frame
 from idn2_registry.pages.html import element
@@ -15,6 +19,7 @@ from idn2_registry.pages.variant_sets import variant_sets
 from idn2_registry.parsed_table import ParsedTable
 from idn2_registry.program import Program
 from idn2_registry.tables import Table, checked, read_table
+from idn2_registry.zone import Tables
 
 KINDS = """%version 3
 %tag simp
@@ -47,7 +52,7 @@ def test_says_of_a_label_what_the_program_says(place: Place) -> None:
         ("haus", 200, ["haus is taken: it is registered, held by H1."]),
         ("Faß", 200, ["Faß can’t be registered. U+0046 LATIN CAPITAL LETTER F at place 1 isn’t allowed in a label (RFC 5892 2.2).",
                       "The fault is here", "DISALLOWED not allowed, RFC 5892 2.2"]),
-        ("mañana", 200, ["U+00F1 LATIN SMALL LETTER N WITH TILDE at place 3 isn’t in the table."]),
+        ("mañana", 200, ["U+00F1 LATIN SMALL LETTER N WITH TILDE at place 3 isn’t in the table de."]),
         ("maß\r", 200, ["U+000D control character at place 4 is a control character, and no label has one."]),
         ("a--", 200, ["The hyphen at place 3 is out of place"]),
         ("", 200, ["The empty label can’t be registered. It is empty."]),
@@ -73,9 +78,49 @@ def test_what_is_not_known_is_no_200_here_either(bare: Place) -> None:
     with Served(bare) as served:
         told = served.ask("GET", "/?label=b")
         assert (told.status, told.headers["Retry-After"]) == (503, "1")
-        assert "b isn’t known to be available: the table gap has 1 gap." in words_of(told)
+        assert "It isn’t known whether b is available: the table gap has 1 gap." in words_of(told)
         told = served.ask("GET", "/tables/gap")
         assert "b U+0062 has no variant a U+0061: add 0062|0061" in words_of(told), words_of(told)
+
+
+@needs_aiohttp
+def test_each_table_says_why_it_refuses_a_label(bare: Place) -> None:
+    """What comes furthest is told first, with its rule in words."""
+    paths = {"de": TABLES / "german.txt", "devanagari": TABLES / "rulesets" / "devanagari.txt"}
+    joined = bare.write("zone.txt", bare.run("join", *map(str, paths.values())).stdout)
+    configure(bare, more='zone = "zone"\n', zone=joined, **paths)
+    bare.load()
+    nukta = "◌\u093c U+093C."
+    rows = (
+        ("क्\u200dष", ["can’t be registered: no table admits it.",
+                       "U+200D ZERO WIDTH JOINER at place 3 isn’t in the table devanagari.",
+                       "3 ZWJ U+200D ZERO WIDTH JOINER The fault is here",
+                       "de U+0915 DEVANAGARI LETTER KA at place 1 isn’t in the table de."], []),
+        ("किी", ["at place 3 may stand only where the rule after_consonant of the table devanagari holds.",
+                "Rule after_consonant Holds directly after a code point of consonant, then perhaps " + nukta],
+         ["#rule-after_consonant", "#set-consonant"]),
+        ("१2", ["It has a part that demand 1 of the table devanagari bars.",
+               "Demand 1 No part of a label is a code point of ascii_digit,"],
+         ["#demand-1", "#set-devanagari_digit"]),
+    )
+    with Served(bare) as served:
+        page = served.ask("GET", "/tables/devanagari").text
+        for label, said, places in rows:
+            told = served.ask("GET", query("/", label=label))
+            for each in said:
+                assert each in words_of(told), (label, each, words_of(told))
+            for place in places:
+                assert f'href="/tables/devanagari{place}"' in told.text and f'id="{place[1:]}"' in page, (label, place)
+
+
+def test_a_table_that_says_nothing_is_no_refusal(place: Place, monkeypatch: pytest.MonkeyPatch) -> None:
+    def silent(tables: Tables, answer: Answer) -> dict[str, Refusal]:
+        raise Unknown("no answer within 5 seconds")
+
+    monkeypatch.setattr(label_page, "refusals_of", silent)
+    with place.zone() as zone:
+        told = label_page.found(zone, Classes(zone.tables.pool), label_page.Asked("mañana"))
+    assert (told.answer.status, told.answer.refusal) == (Status.UNKNOWN, None)
 
 
 @needs_aiohttp
@@ -143,7 +188,8 @@ def view_of(place: Place, text: str) -> View:
 def test_shows_a_ruleset_as_people_read_it(place: Place) -> None:
     words = words_of(table_page(Frame(), view_of(place, KINDS), Shown()))
     for said in ("15 entries of a ruleset.", "Digits (10)", "Latin (1)", "Ideographs (2)", "Outside: only variants have them, no label (1)",
-                 "а U+0430 CYRILLIC SMALL LETTER A outside", "2 sets of sequences", "国 U+56FD simp", "國 U+570B trad", "а U+0430 outside",
+                 "а U+0430 CYRILLIC SMALL LETTER A outside", "2 sets of sequences", "国 U+56FD simp", "國 U+570B trad",
+                 "⊘ blocked а U+0430 CYRILLIC SMALL LETTER A outside",
                  "Holds at the start of the label; or at the end of the label; or directly after the start of the label, "
                  "then any code point, then any code point, then - U+002D.",
                  "There may not stand: - U+002D.",
@@ -190,6 +236,32 @@ def test_a_linguist_finds_a_planted_mistake(place: Place) -> None:
     text = (TABLES / "german.txt").read_text("utf-8").replace("\n0061..007A\n", "\n0062..007A\n0430\n").replace("00DF|0073-0073", "00DF|0073-007A")
     words = words_of(table_page(Frame(), view_of(place, text.replace("0073-0073|00DF", "0073-007A|00DF")), Shown()))
     assert "Cyrillic (1) а U+0430 CYRILLIC SMALL LETTER A" in words and "sz U+0073 U+007A" in words, words
+
+
+UNEVEN = ("Not the same both ways 1 pair of variants with another disposition, or another rule, the other way. "
+          "for c U+0063 the variant с U+0441 is allocatable; but for с U+0441 the variant c U+0063 is blocked")
+PLANTED = (
+    ("latin", {"\n0063|!0441": "\n0063|0441"}, UNEVEN),
+    ("latin", {"!0501|!0064\n": ""}, "Missing: 1 pair of variants. Each goes both ways,"),
+    ("latin", {"75|!03C5": "75|!03BD", "76|!03BD": "76|!03C5", "!03C5|!0075": "!03C5|!0076", "!03BD|!0076": "!03BD|!0075"},
+     "u U+0075 LATIN SMALL LETTER U ⊘ blocked ν U+03BD GREEK SMALL LETTER NU outside"),
+    ("devanagari", {"nukta_base 0915..0917": "nukta_base 0915..0918"}, "8 code points: क ख ग घ ज ड ढ फ"),
+    ("devanagari", {"vowel 0905..090B": "vowel 0905..090C"}, "Not in the repertoire: ऌ U+090C."),
+    ("devanagari", {"base @nukta_base _": "base @consonant _"}, "7 code points: क ख ग ज ड ढ फ No rule names this set."),
+    ("devanagari", {"0903 when after_syllable_or_nasal": "0903 when after_syllable"}, "Nothing asks this rule."),
+    ("devanagari", {"0913..0914 unless after_virama": "0913..0914"}, "ऐ U+0910, ऑ U+0911. ✓ admitted"),
+)
+
+
+@pytest.mark.parametrize("name, changes, said", PLANTED)
+def test_a_mistake_in_a_ruleset_shows_itself(place: Place, name: str, changes: dict[str, str], said: str) -> None:
+    text = (TABLES / "rulesets" / f"{name}.txt").read_text("utf-8")
+    assert said not in words_of(table_page(Frame(), view_of(place, text), Shown()))
+    for old, new in changes.items():
+        assert text.count(old) == 1, old
+        text = text.replace(old, new)
+    words = words_of(table_page(Frame(), view_of(place, text), Shown()))
+    assert said in words, words
 
 
 def test_sets_of_variants_have_parts_that_go_together(place: Place) -> None:

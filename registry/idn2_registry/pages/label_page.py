@@ -1,16 +1,22 @@
 """A label: the verdict in a sentence, its code points with the fault, its variants, and who holds what it collides with."""
 
-from dataclasses import dataclass
+import itertools
+from collections.abc import Mapping
+from dataclasses import dataclass, field, replace
 from urllib.parse import urlencode
 
 from ..answers import Answer, Refusal, RegisteredLabel, Status, Variant
-from ..faults import Unknown
-from ..zone import Zone
+from ..collisions import NOT_VALID
+from ..faults import Unknown, Unusable
+from ..tables import Table
+from ..zone import Tables, Zone
 from .classes import Class, Classes
 from .frame import Frame, way_to
 from .html import Child, Markup, element, joined
+from .patterns import demand_sentence, rule_sentence
 from .points import glyph_of, name_of, number_of
-from .sentences import holder_words, label_words, verdict
+from .sentences import holder_words, label_words, refusal_sentence, verdict
+from .table_page import parsed_table
 
 MOST_POINTS = 63
 UNKNOWN_CLASS = Class("", "not known")
@@ -36,11 +42,13 @@ class Asked:
 
 @dataclass(frozen=True)
 class Found:
-    """What the zone says of it."""
+    """What the zone says of it, with what each table says that refuses it, and the rule of the first of these in words."""
 
     answer: Answer
     listing: Answer | None
     classes: dict[int, Class]
+    refusals: Mapping[str, Refusal] = field(default_factory=dict)
+    rule: Markup | None = None
 
     @property
     def points(self) -> str:
@@ -65,12 +73,31 @@ def found(zone: Zone, classes: Classes, asked: Asked) -> Found:
     if answer.ulabel is not None and answer.tables:
         page = zone.limits.limit if asked.after is not None else None
         listing = zone.variants(asked.label, asked.table, page, asked.after)
+    tables = zone.tables
+    try:
+        refusals = refusals_of(tables, answer)
+    except (Unknown, Unusable) as error:
+        return Found(replace(answer, status=Status.UNKNOWN, refusal=None, reason=str(error)), None, {})
+    rule = None
+    for table, refusal in itertools.islice(refusals.items(), 1):
+        answer, rule = replace(answer, refusal=refusal), rule_of(tables.by_name[table], refusal)
     first = Found(answer, listing, {})
     try:
         told = {ord(each): classes.of(ord(each)) for each in dict.fromkeys(first.points[:MOST_POINTS])}
     except Unknown:
         told = {}
-    return Found(answer, listing, told)
+    return Found(answer, listing, told, refusals, rule)
+
+
+def refusals_of(tables: Tables, answer: Answer) -> dict[str, Refusal]:
+    """What each table says of a label that none of them admits. First comes the one that says most: that the label isn’t
+    valid, else the one whose place is the furthest."""
+    if answer.status is not Status.REFUSED or answer.ulabel is None:
+        return {}
+    with tables.pool.request():
+        told = [(name, tables.refusal(name, answer.ulabel)) for name in tables.admitting]
+    refusals = [(name, refusal) for name, refusal in told if refusal is not None]
+    return dict(sorted(refusals, key=lambda each: (each[1].number != NOT_VALID, -each[1].details.get("place", 0))))
 
 
 def label_page(frame: Frame, asked: Asked | None, told: Found | None) -> bytes:
@@ -78,7 +105,8 @@ def label_page(frame: Frame, asked: Asked | None, told: Found | None) -> bytes:
     title = "Check a label" if asked is None or told is None else f"{asked.label}: {told.answer.status.value}"
     parts: list[Child] = [element("h1", "Check a label"), form(asked)]
     if asked is not None and told is not None:
-        parts += [verdict_part(told.answer), points_part(told), collisions_part(told.answer), variants_part(asked, told)]
+        parts += [verdict_part(told), points_part(told), tables_part(told), collisions_part(told.answer),
+                  variants_part(asked, told)]
     return frame.page(title, *parts)
 
 
@@ -92,8 +120,9 @@ def form(asked: Asked | None) -> Markup:
                    element("div", field, element("button", "Check", type="submit"), class_="field"), hint, role="search")
 
 
-def verdict_part(answer: Answer) -> Markup:
-    """The sentence, with what the label is in a query and which tables admit it."""
+def verdict_part(told: Found) -> Markup:
+    """The sentence, with what the label is in a query, which tables admit it, and the rule that refuses it."""
+    answer = told.answer
     mark = element("span", MARKS.get(answer.status, "?"), class_="mark", aria_hidden="true")
     facts: list[Child] = []
     if answer.alabel is not None:
@@ -101,8 +130,35 @@ def verdict_part(answer: Answer) -> Markup:
     if answer.tables:
         ways = [[", " if place else "", element("a", name, href=way_to(name))] for place, name in enumerate(answer.tables)]
         facts += [element("dt", "Tables that admit it"), element("dd", *ways)]
-    return element("section", element("h2", mark, element("span", verdict(answer)), id="verdict"),
-                   element("dl", *facts) if facts else None, class_=f"verdict {answer.status.value}", aria_labelledby="verdict")
+    facts.append(told.rule)
+    head = element("h2", mark, element("span", verdict(answer, told.refusals)), id="verdict")
+    return element("section", head, element("dl", *facts) if any(facts) else None, class_=f"verdict {answer.status.value}", aria_labelledby="verdict")
+
+
+def rule_of(table: Table, refusal: Refusal) -> Markup | None:
+    """The rule or the demand of a table that refuses a label, in words where what reads tables is installed."""
+    told = refusal.details
+    if "condition" not in told and "demand" not in told:
+        return None
+    kind, name = ("rule", told["rule"]) if "condition" in told else ("demand", told["demand"])
+    try:
+        ruleset = parsed_table(table).ruleset
+        words = rule_sentence(ruleset.rules[name]) if kind == "rule" else demand_sentence(ruleset.demands[name - 1])
+    except Unusable:
+        words = f"See the table {table.name}."
+    way = way_to(table.name)
+    heads = element("dt", element("a", f"{kind.capitalize()} {name}", href=f"#{kind}-{name}"))
+    # The ways lead to other places of the page of the table.
+    return Markup(joined(heads, element("dd", words)).replace('href="#', f'href="{way}#'))
+
+
+def tables_part(told: Found) -> Markup | None:
+    """What each of several tables says of a label that none admits."""
+    if len(told.refusals) < 2:
+        return None
+    rows = [[element("dt", element("a", name, href=way_to(name))), element("dd", refusal_sentence(refusal, name))]
+            for name, refusal in told.refusals.items()]
+    return element("section", element("h2", "What each table says"), element("dl", rows))
 
 
 def points_part(told: Found) -> Markup | None:

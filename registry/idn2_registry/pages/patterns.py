@@ -82,6 +82,29 @@ def rule_words(contexts: Any) -> Child:
     return joined_words([context_words(before, after) for before, after in contexts], "; or ")
 
 
+def rule_sentence(contexts: Any) -> Child:
+    """A rule in a sentence."""
+    return ["Holds ", rule_words(contexts), "."]
+
+
+def demand_sentence(demand: Any) -> Child:
+    """A demand in a sentence."""
+    first = "No part of a label is " if demand.word == "%never" else "Some part of each label is "
+    return [first, pattern_words(demand.pattern), "."]
+
+
+def sets_named(branches: Any) -> Iterator[str]:
+    """The names of the sets in a pattern."""
+    for item in itertools.chain(*branches):
+        match kind_of(item):
+            case "Set":
+                yield item.name
+            case "Group":
+                yield from sets_named(item.branches)
+            case "Optional" | "Many":
+                yield from sets_named([[item.atom]])
+
+
 def samples(branch: Any, sets: dict[str, Any]) -> list[Sample]:
     """Some sequences that a branch matches."""
     choices = [list(itertools.islice(item_samples(item, sets), MOST)) for item in branch]

@@ -23,27 +23,28 @@ SENTENCES: Mapping[int | None, str] = {
     17: "It breaks the Bidi rule with {point}{at} ({rule}).",
     18: "It is too long: a label has at most 63 code points, and its A-label at most 63 octets.",
     19: "It begins with xn--, but is no A-label.",
-    40: "{point}{at} isn’t in the table.",
-    41: "It isn’t valid under the table.",
+    40: "{point}{at} isn’t in {table}.",
+    41: "It isn’t valid under {table}.",
 }
 CONDITIONS = {
-    "when": "{point}{at} may stand only where the rule {rule} of the table holds.",
-    "unless": "{point}{at} may not stand where the rule {rule} of the table holds.",
+    "when": "{point}{at} may stand only where the rule {rule} of {table} holds.",
+    "unless": "{point}{at} may not stand where the rule {rule} of {table} holds.",
 }
 DEMANDS = {
-    "never": "Demand {demand} of the table bars a part of it.",
-    "always": "It has no part that demand {demand} of the table wants.",
+    "never": "It has a part that demand {demand} of {table} bars.",
+    "always": "It has no part that demand {demand} of {table} wants.",
 }
 
 
-def refusal_sentence(refusal: Refusal) -> str:
-    """Why a label is refused."""
+def refusal_sentence(refusal: Refusal, table: str | None = None) -> str:
+    """Why a label is refused, by a table where it is one that refuses it."""
     told = refusal.details
     sentence = SENTENCES.get(refusal.number, str(refusal))
     if refusal.number == 41:
         sentence = CONDITIONS.get(told.get("condition", ""), DEMANDS.get(told.get("kind", ""), sentence))
     where = f" at place {told['place']}" if "place" in told else ""
-    filled = {"point": point_words(told.get("code_point")), "at": where, "rule": told.get("rule", "")}
+    filled = {"point": point_words(told.get("code_point")), "at": where, "rule": told.get("rule", ""),
+              "table": "the table" if table is None else f"the table {table}"}
     sentence = sentence.format_map({**told, **filled}).replace(" ()", "")
     return f"What it stands for is refused: {sentence}" if told.get("decoded") else sentence[:1].upper() + sentence[1:]
 
@@ -74,16 +75,20 @@ def taken_sentence(answer: Answer) -> Child:
     return ["is taken: it collides with ", label_words(first.ulabel), holder_words(first), rest, "."]
 
 
-def verdict(answer: Answer) -> Markup:
-    """What is said of a label, in a sentence."""
+def verdict(answer: Answer, refusals: Mapping[str, Refusal]) -> Markup:
+    """What is said of a label, in a sentence; of the tables that refuse it the first is told."""
     name = label_words(answer.ulabel or answer.label) if answer.label else "The empty label"
     match answer.status:
         case Status.AVAILABLE:
             said: Child = "is available."
         case Status.TAKEN:
             said = taken_sentence(answer)
+        case Status.REFUSED if refusals:
+            table, refusal = next(iter(refusals.items()))
+            none = ": no table admits it" if len(refusals) > 1 else ""
+            said = [f"can’t be registered{none}. ", refusal_sentence(refusal, table)]
         case Status.REFUSED if answer.refusal is not None:
             said = ["can’t be registered. ", refusal_sentence(answer.refusal)]
         case _:
-            said = ["isn’t known to be available: ", element("bdi", answer.reason or ""), "."]
+            return joined("It isn’t known whether ", name, " is available: ", element("bdi", answer.reason or ""), ".")
     return joined(name, " ", said)

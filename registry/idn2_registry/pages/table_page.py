@@ -1,6 +1,7 @@
 """A table as people read it: its letters, which of them are variants of each other, its rules in words, and its gaps."""
 
 import functools
+import itertools
 from collections.abc import Iterator, Sequence
 from dataclasses import dataclass
 from typing import Any
@@ -12,12 +13,12 @@ from ..words import counted
 from .examples import Example, Examples, VariantExample
 from .frame import Frame
 from .html import Child, Markup, element
-from .patterns import joined_words, pattern_words, rule_words
+from .patterns import demand_sentence, joined_words, rule_sentence, sets_named
 from .points import glyph_of, name_of, names_of, number_of, numbers_of
-from .variant_sets import Pair, VariantSet, variant_sets
+from .variant_sets import Pair, VariantSet, uneven_pairs, variant_sets
 
 # So many letters and so many sets of variants one page has, unless it stands alone.
-MOST_TILES, MOST_SETS, MOST_GAPS, MOST_USERS = 1_000, 200, 200, 12
+MOST_TILES, MOST_SETS, MOST_GAPS, MOST_USERS, MOST_MEMBERS = 1_000, 200, 200, 100, 400
 # More than any table has.
 ALL = 1_000_000
 KINDS = {1: "variant table of version 1, which doesn’t say which variants are blocked", 2: "variant table", 3: "ruleset"}
@@ -55,8 +56,8 @@ def table_page(frame: Frame, view: View, shown: Shown) -> bytes:
     """The page."""
     parsed, table = view.parsed, view.parsed.table
     head = element("p", counted(table.entries, "entry", "entries"), f" of a {KINDS[table.version]}.", class_="quiet")
-    parts = [doubt_part(table), gaps_part(table), repertoire_part(frame, view, shown), variants_part(view, shown), rules_part(view),
-             demands_part(view), sets_part(parsed), actions_part(parsed)]
+    parts = [doubt_part(table), gaps_part(table), uneven_part(parsed), repertoire_part(frame, view, shown),
+             variants_part(view, shown), rules_part(view), demands_part(view), sets_part(parsed), actions_part(parsed)]
     return frame.page(f"Table {table.name}", element("h1", f"Table {table.name}"), head, *parts)
 
 
@@ -70,7 +71,7 @@ def doubt_part(table: Table) -> Markup | None:
     """Why labels may collide although nothing shows it."""
     if table.doubt is None:
         return None
-    return element("p", element("strong", "No label is told to be available where labels collide under this table: "),
+    return element("p", element("strong", "A zone whose labels collide by this table tells no label to be available: "),
                    f"{table.doubt}.", class_="warning")
 
 
@@ -83,9 +84,29 @@ def gaps_part(table: Table) -> Markup | None:
         source, variant = (tuple(int(point, 16) for point in side.split("-")) for side in gap.split("|"))
         rows.append(element("li", sequence(source), " has no variant ", sequence(variant), ": add ", element("code", gap)))
     left = len(table.gaps) - len(rows)
-    words = f"{counted(len(table.gaps), 'pair')} of variants that should go both ways, or follow from two others, are missing."
+    words = (f"Missing: {counted(len(table.gaps), 'pair')} of variants. Each goes both ways, and two with a common variant have "
+             "each other.")
     return element("section", element("h2", "Gaps"), element("p", words), element("ul", *rows),
                    element("p", f"And {left} more.") if left else None)
+
+
+def uneven_part(parsed: ParsedTable) -> Markup | None:
+    """The pairs that aren't the same both ways."""
+    uneven = uneven_pairs(parsed)
+    if not uneven:
+        return None
+    rows = [element("li", way_words(there), "; but ", way_words(back)) for there, back in uneven[:MOST_GAPS]]
+    left = len(uneven) - len(rows)
+    words = f"{counted(len(uneven), 'pair')} of variants with another disposition, or another rule, the other way."
+    return element("section", element("h2", "Not the same both ways"), element("p", words), element("ul", *rows),
+                   element("p", f"And {left} more.") if left else None)
+
+
+def way_words(pair: Pair) -> Child:
+    """What the variant of a pair is."""
+    notes = [[" ", note] for note in notes_of(pair.variant)]
+    disposition = f" is {disposition_of(pair.variant)}"
+    return ["for ", sequence(pair.source), " the variant ", sequence(pair.variant.points), disposition, notes]
 
 
 def sequence(points: Points) -> Markup:
@@ -186,8 +207,11 @@ def chip(points: Points, entry: Any) -> Markup:
     kind = "outside" if entry and entry.is_outside else "" if entry else "only a variant"
     tags = ", ".join(entry.source.tags) if entry else ""
     notes = [element("span", note, class_="kind") for note in (kind, tags) if note]
-    return element("span", glyph_of(*points), element("span", numbers_of(points), class_="number"), *notes,
-                   title=names_of(points), class_="chip outside" if kind else "chip")
+    # The name of an ideograph is its number.
+    is_named = not all(name_of(point).startswith("CJK ") for point in points)
+    name = element("span", names_of(points), class_="name") if is_named else None
+    return element("span", glyph_of(*points), element("span", numbers_of(points), class_="number"), name, *notes,
+                   class_="chip outside" if kind else "chip")
 
 
 def disposition_of(variant: Any) -> str:
@@ -224,7 +248,9 @@ def rule(view: View, name: str, contexts: Any) -> Markup:
     if any(asks(variant, name) for variant, _ in pairs):
         told += [users(pairs, name, "when", "Variants only there: "), users(pairs, name, "unless", "Variants everywhere but there: "),
                  variant_examples(view.examples.of_variant(name))]
-    return element("article", element("h3", name, id=f"rule-{name}"), element("p", "Holds ", rule_words(contexts), "."), *told,
+    if not any(told):
+        told.append(element("p", element("strong", "Nothing asks this rule.")))
+    return element("article", element("h3", name, id=f"rule-{name}"), element("p", rule_sentence(contexts)), *told,
                    class_="rule")
 
 
@@ -249,9 +275,8 @@ def demands_part(view: View) -> Markup | None:
     """The demands in words."""
     parts = []
     for number, demand in enumerate(view.parsed.ruleset.demands, 1):
-        words = "No part of a label is " if demand.word == "%never" else "Some part of each label is "
         parts.append(element("article", element("h3", f"Demand {number}", id=f"demand-{number}"),
-                             element("p", words, pattern_words(demand.pattern), "."), examples(view.examples.of_number(number)),
+                             element("p", demand_sentence(demand)), examples(view.examples.of_number(number)),
                              class_="rule"))
     return element("section", element("h2", "Demands on the whole label", id="demands"), *parts) if parts else None
 
@@ -278,12 +303,42 @@ def drawn(label: str | None) -> Child:
 
 def sets_part(parsed: ParsedTable) -> Markup | None:
     """The sets of code points that rules name."""
-    parts = []
-    for name, spans in parsed.ruleset.sets.items():
-        words = [[sequence((first,)), [" to ", sequence((last,))] if last != first else None] for first, last in spans]
-        head = element("h3", name, id=f"set-{name}")
-        parts.append(element("article", head, element("p", joined_words(words, ", ")), class_="rule"))
+    ruleset = parsed.ruleset
+    patterns = [*(side for contexts in ruleset.rules.values() for context in contexts for side in context),
+                *(branch for demand in ruleset.demands for branch in demand.pattern)]
+    used = set(sets_named(patterns))
+    letters = {point for entry in parsed.entries if not entry.is_outside for point in entry.source.points}
+    parts = [named_set(name, spans, letters, name in used) for name, spans in ruleset.sets.items()]
     return element("section", element("h2", "Sets that rules name"), *parts) if parts else None
+
+
+def named_set(name: str, spans: Sequence[tuple[int, int]], letters: set[int], is_used: bool) -> Markup:
+    """A set, with those of its code points that no letter of the repertoire has."""
+    words = [[sequence((first,)), [" to ", sequence((last,))] if last != first else None] for first, last in spans]
+    told = [element("p", joined_words(words, ", ")), members(spans)]
+    size = sum(last - first + 1 for first, last in spans)
+    missing = size - sum(first <= point <= last for point in letters for first, last in spans)
+    if missing:
+        outside = (sequence((point,)) for point in points_of(spans) if point not in letters)
+        more = f" and {missing - MOST_USERS} more" if missing > MOST_USERS else ""
+        shown = joined_words(list(itertools.islice(outside, MOST_USERS)), ", ")
+        told.append(element("p", element("strong", "Not in the repertoire: "), shown, f"{more}."))
+    if not is_used:
+        told.append(element("p", element("strong", "No rule names this set.")))
+    return element("article", element("h3", name, id=f"set-{name}"), *told, class_="rule")
+
+
+def points_of(spans: Sequence[tuple[int, int]]) -> Iterator[int]:
+    """The code points of a set."""
+    return itertools.chain.from_iterable(range(first, last + 1) for first, last in spans)
+
+
+def members(spans: Sequence[tuple[int, int]]) -> Markup:
+    """How many code points a set has, and the first ones of them as they look."""
+    size = sum(last - first + 1 for first, last in spans)
+    glyphs = [glyph_of(point) for point in itertools.islice(points_of(spans), MOST_MEMBERS)]
+    more = " …" if size > MOST_MEMBERS else ""
+    return element("p", counted(size, "code point"), ": ", joined_words(glyphs, " "), more, class_="members")
 
 
 def actions_part(parsed: ParsedTable) -> Markup:
