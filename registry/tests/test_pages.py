@@ -238,6 +238,7 @@ def test_a_linguist_finds_a_planted_mistake(place: Place) -> None:
     assert "Cyrillic (1) а U+0430 CYRILLIC SMALL LETTER A" in words and "sz U+0073 U+007A" in words, words
 
 
+JOINED = "%version 3\n0061|0062:!0063\n0062|0061:0063\n0063|!0061:0062\n"
 UNEVEN = ("Not the same both ways 1 pair of variants with another disposition, or another rule, the other way. "
           "for c U+0063 the variant с U+0441 is allocatable; but for с U+0441 the variant c U+0063 is blocked")
 PLANTED = (
@@ -264,9 +265,26 @@ def test_a_mistake_in_a_ruleset_shows_itself(place: Place, name: str, changes: d
     assert said in words, words
 
 
+def test_what_a_page_says_of_several_ways_is_all_of_them(place: Place) -> None:
+    """Both conditions of a variant, and each branch of a demand in a line of its own."""
+    text = "%version 3\n%rule edge ^ _\n%never 0061 0062 / 0062 0061 / 0061 0063\n0063\n"
+    text += "0061|!0062 unless edge:0062 when edge\n0062|!0061 unless edge\n"
+    page = table_page(Frame(), view_of(place, text), Shown())
+    assert ("for a U+0061 the variant b U+0062 is blocked not where edge, and allocatable only where edge; "
+            "but for b U+0062 the variant a U+0061 is blocked not where edge") in words_of(page).replace(" ;", ";"), words_of(page)
+    assert "No part of a label is one of these: a U+0061, then b U+0062 b U+0062, then a U+0061 a U+0061, then c" in words_of(page)
+    assert page.decode().count("<li><bdi") == 3
+
+
 def test_sets_of_variants_have_parts_that_go_together(place: Place) -> None:
     [first, second] = variant_sets(ParsedTable.read(checked(Table("own", place.folder, KINDS.encode()), Program(PROGRAM))))
     assert first.parts == (((0x61,),), ((0x430,),)) and second.parts == (((0x56FD,), (0x570B,)),)
+    [joined] = variant_sets(ParsedTable.read(checked(Table("own", place.folder, JOINED.encode()), Program(PROGRAM))))
+    assert joined.parts == (((0x61,), (0x62,), (0x63,)),)
+    words = words_of(table_page(Frame(), view_of(place, JOINED), Shown()))
+    # Two of them are blocked all the same.
+    assert "A green frame has what allocatable variants connect, directly or through others" in words, words
+    assert "a U+0061 c U+0063 blocked" in words, words
     [only] = variant_sets(ParsedTable.read(read_table("de", TABLES / "german.txt", Program(PROGRAM))))
     assert only.parts == (((0x73, 0x73), (0xDF,)),)
 

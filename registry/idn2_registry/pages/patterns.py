@@ -89,8 +89,10 @@ def rule_sentence(contexts: Any) -> Child:
 
 def demand_sentence(demand: Any) -> Child:
     """A demand in a sentence."""
-    first = "No part of a label is " if demand.word == "%never" else "Some part of each label is "
-    return [first, pattern_words(demand.pattern), "."]
+    first = "No part of a label is" if demand.word == "%never" else "Some part of each label is"
+    if len(demand.pattern) <= 2:
+        return [f"{first} ", pattern_words(demand.pattern), "."]
+    return [f"{first} one of these:", element("ul", *(element("li", branch_words(branch)) for branch in demand.pattern))]
 
 
 def sets_named(branches: Any) -> Iterator[str]:

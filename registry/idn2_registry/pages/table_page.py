@@ -102,11 +102,11 @@ def uneven_part(parsed: ParsedTable) -> Markup | None:
                    element("p", f"And {left} more.") if left else None)
 
 
-def way_words(pair: Pair) -> Child:
-    """What the variant of a pair is."""
-    notes = [[" ", note] for note in notes_of(pair.variant)]
-    disposition = f" is {disposition_of(pair.variant)}"
-    return ["for ", sequence(pair.source), " the variant ", sequence(pair.variant.points), disposition, notes]
+def way_words(pairs: Sequence[Pair]) -> Child:
+    """What a variant of a source is, where it is that."""
+    told = [[disposition_of(pair.variant), [[" ", note] for note in notes_of(pair.variant)]] for pair in pairs]
+    first = pairs[0]
+    return ["for ", sequence(first.source), " the variant ", sequence(first.variant.points), " is ", joined_words(told, ", and ")]
 
 
 def sequence(points: Points) -> Markup:
@@ -171,7 +171,8 @@ def variants_part(view: View, shown: Shown) -> Markup | None:
     says_which = view.parsed.table.version > 1
     pictures = [picture(each, view.parsed, says_which) for each in every[:shown.sets]]
     left = len(every) - len(pictures)
-    legend = "What stands in one green frame goes together: the variants are allocatable. ⊘ is between those that are blocked."
+    legend = ("A green frame has what allocatable variants connect, directly or through others. ⊘ is between those that are "
+              "blocked. The pairs say what each is, and where.")
     count = element("p", counted(len(every), "set"), " of sequences that are variants of each other.", class_="quiet")
     return element("section", element("h2", "Variants", id="variants"), count,
                    element("p", legend, class_="legend") if says_which else None, element("ul", *pictures, class_="sets"),
@@ -276,7 +277,7 @@ def demands_part(view: View) -> Markup | None:
     parts = []
     for number, demand in enumerate(view.parsed.ruleset.demands, 1):
         parts.append(element("article", element("h3", f"Demand {number}", id=f"demand-{number}"),
-                             element("p", demand_sentence(demand)), examples(view.examples.of_number(number)),
+                             element("div", demand_sentence(demand)), examples(view.examples.of_number(number)),
                              class_="rule"))
     return element("section", element("h2", "Demands on the whole label", id="demands"), *parts) if parts else None
 

@@ -29,14 +29,14 @@ class VariantSet:
     pairs: tuple[Pair, ...]
 
 
-def uneven_pairs(parsed: ParsedTable) -> list[tuple[Pair, Pair]]:
-    """The pairs that go both ways, but not with the same disposition under the same conditions."""
+def uneven_pairs(parsed: ParsedTable) -> list[tuple[list[Pair], list[Pair]]]:
+    """The pairs that go both ways, but not with the same dispositions under the same conditions: one way, and the other."""
     ways: dict[tuple[Points, Points], list[Pair]] = {}
     for entry in parsed.entries:
         for variant in entry.variants:
             ways.setdefault((entry.source.points, variant.points), []).append(Pair(entry.source.points, variant))
     both = [(there, ways[back, source]) for (source, back), there in ways.items() if source < back and (back, source) in ways]
-    return [(there[0], back[0]) for there, back in both if set(map(terms, there)) != set(map(terms, back))]
+    return [(there, back) for there, back in both if set(map(terms, there)) != set(map(terms, back))]
 
 
 def terms(pair: Pair) -> tuple[bool, str, str]:
