@@ -57,7 +57,7 @@ def test_the_packed_file_does_the_same(place: Place) -> None:
     done = run("convert", "--version", "2", "published.txt")
     assert done.returncode == 0 and done.stdout.endswith(b"\n0073\n0073-0073|!00DF\n"), done
     place.write("published.xml", OVERLAP)
-    done = run("convert", "published.xml")
+    done = run("convert", "--version", "2", "published.xml")
     assert (done.stdout, done.returncode) == (b"", 1) and b"label 0061-0062-0063: accepted, and by RFC 7940 refused" in done.stderr, done
     place.write("table.toml", 'version = "1"\ndate = 2026-11-28\nlanguage = "de"\nscope = "example"\n')
     place.write("table.txt", "0061|0062\n0062|0061\n")
