@@ -171,7 +171,7 @@ def join(words: Words, output: Output) -> None:
 
 
 def publish(words: Words, output: Output) -> None:
-    """Writes a table as others read it: XML of RFC 7940, or lines of RFC 4290."""
+    """Writes a table as others read it: XML of RFC 7940, lines of RFC 4290, or a page."""
     [table], asked = named_tables(words, [words.table])
     output.text(published(table, Form(words.form), words.meta, asked))
 
@@ -265,8 +265,10 @@ def guarded(job: Callable[[], int]) -> int:
         return ExitStatus.NO.value
     except (Unusable, Unknown) as error:
         complain(str(error))
-    except (ValueError, OSError) as error:
-        complain(f"{error}")
+    except OSError as error:
+        complain(f"{error.filename}: {error.strerror}" if error.filename else str(error))
+    except ValueError as error:
+        complain(str(error))
     except KeyboardInterrupt:
         complain("stopped")
     except Exception as error:

@@ -7,6 +7,8 @@ from typing import Any
 
 from .faults import Unusable
 
+NOT_WHOLE = "not the whole output of an audit --json without --since"
+
 
 @dataclass(frozen=True)
 class Earlier:
@@ -32,9 +34,9 @@ class Earlier:
         except OSError as error:
             raise Unusable(f"{path}: {error.strerror}: name the output of an earlier audit --json") from error
         except (ValueError, TypeError, KeyError) as error:
-            raise Unusable(f"{path}: no output of audit --json: {error}") from error
+            raise Unusable(f"{path}: {NOT_WHOLE}") from error
         if not is_whole:
-            raise Unusable(f"{path}: not the whole output of an audit --json without --since")
+            raise Unusable(f"{path}: {NOT_WHOLE}")
         return cls(invalid, groups)
 
     def knows(self, label: str) -> bool:

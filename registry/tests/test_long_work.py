@@ -124,6 +124,7 @@ def test_audit_since_tells_what_is_new(place: Place) -> None:
         done = place.run("audit", "--since", "part.json")
         assert done.returncode == 75 and not done.stdout and b"part.json: no" in done.stderr, (text, done)
     assert b"none.json: No such file" in place.run("audit", "--since", "none.json").stderr
+    assert place.run("load", "none.txt").stderr == b"idn2-registry: none.txt: No such file or directory\n"
 
 
 def test_audit_of_nothing_wrong(place: Place) -> None:

@@ -1,5 +1,8 @@
 """The service over HTTP: it answers with the objects of the commands, and what isn't known is never a 200."""
 
+import contextlib
+import gzip
+import http.client
 import itertools
 import json
 import os
@@ -19,7 +22,7 @@ from typing import Any
 import pytest
 from conftest import LIMIT, ROOT, TABLES, Place
 from postgresql import restart
-from serving import CHANGED, TOKEN, Served, asked, configure, needs_aiohttp
+from serving import CHANGED, TOKEN, Served, Told, asked, configure, needs_aiohttp
 
 from idn2_registry.service.answering import Answering
 from idn2_registry.service.metrics import Metrics
@@ -138,8 +141,12 @@ def test_tells_faulty_requests(place: Place) -> None:
             told = served.ask(method, path, body, **BEARER)
             assert told.status == status, (method, path, told.status, told.bytes)
             assert method == "HEAD" or list(told.object) == ["fault"], (method, path, told.bytes)
-        deep = served.ask("POST", "/v1/check", b"[" * 100_000, Content_Type="application/json")
-        assert deep.status == 400 and list(deep.object) == ["fault"]
+        packed = {"Content_Encoding": "gzip"}
+        for body, headers, status in ((b"[" * 100_000, {}, 400), (b'{"labels":["a"],"labels":["b"]}', {}, 400),
+                                      (gzip.compress(b'{"labels":["a"]}'), packed, 415), (b"{", packed, 415)):
+            told = served.ask("POST", "/v1/check", body, Content_Type="application/json", **headers)
+            assert told.status == status and list(told.object) == ["fault"], (body, told.status, told.bytes)
+        assert "label" in served.ask("GET", "/v1/check").object["fault"]
         assert served.ask("GET", "/v1/health").object["status"] == "ready"
         assert served.end() == ""
 
@@ -159,7 +166,40 @@ def test_nothing_of_a_request_reaches_the_log(place: Place) -> None:
                     pass
         told = served.ask("GET", query("/v1/check", label="\x1b[2J\n"))
         assert told.object["refusal"]["code_point"] == "U+001B"
-        assert not re.search(r"[\x00-\x09\x0b-\x1f]", served.end())
+        assert served.end() == ""
+
+
+NO_HTTP = (b"\x1b[2J\r\n\r\n", b"GET / HTTP/1.1\r\nno header\r\n\r\n", b"GET /?label=" + b"a" * 9_000 + b" HTTP/1.1\r\n\r\n",
+           b"POST /v1/check HTTP/1.1\r\nContent-Length: -1\r\n\r\n")
+
+
+def test_tells_what_is_no_http_as_other_faults(place: Place) -> None:
+    configure(place)
+    with Served(place) as served:
+        for text in NO_HTTP:
+            with served.socket() as connection:
+                connection.sendall(text)
+                response = http.client.HTTPResponse(connection)
+                response.begin()
+                told = Told(response)
+            assert told.status == 400 and list(told.object) == ["fault"] and b"aaa" not in told.bytes, (text, told.bytes)
+        assert f'idn2_registry_responses_total{{status="400"}} {len(NO_HTTP)}\n' in served.ask("GET", "/metrics").text
+        assert served.end() == ""
+
+
+def test_who_goes_away_is_no_fault(place: Place) -> None:
+    configure(place)
+    with Served(place) as served:
+        with served.socket() as connection:
+            connection.sendall(b"POST /v1/check HTTP/1.1\r\nHost: a\r\nExpect: 100-continue\r\nContent-Type: application/json\r\n"
+                               b"Content-Length: 100\r\n\r\n")
+            # It is being answered.
+            assert connection.recv(100).startswith(b"HTTP/1.1 100 ")
+        until = time.monotonic() + LIMIT
+        while "idn2_registry_connections 1\n" not in (told := served.ask("GET", "/metrics").text):
+            assert time.monotonic() < until
+        assert 'status="500"' not in told
+        assert served.end() == ""
 
 
 def test_turns_away_what_is_above_the_limits(place: Place) -> None:
@@ -203,6 +243,28 @@ def test_cuts_off_who_is_too_slow(place: Place, text: bytes) -> None:
                 is_open = False
         assert not is_open
         assert served.ask("GET", "/v1/health").status == 200
+
+
+def test_cuts_off_who_reads_nothing(place: Place) -> None:
+    """Who asks and reads no answer finds its connection closed: it can't send any more."""
+    place.configure('[service]\nlisten = "unix:socket"')
+    with Served(place, changed="import idn2_registry.service.connections as c; c.IDLE_SECONDS = 0.5") as served:
+        with served.socket() as connection:
+            # Far more answers than the buffers of the socket take.
+            connection.sendall(b"GET /v1/openapi.json HTTP/1.1\r\nHost: a\r\n\r\n" * 500)
+            until, is_open = time.monotonic() + LIMIT, True
+            while is_open:
+                assert time.monotonic() < until
+                try:
+                    connection.send(b"\r\n")
+                    time.sleep(0.01)
+                except OSError:
+                    is_open = False
+            answers = b""
+            with contextlib.suppress(OSError):
+                while piece := connection.recv(65_536):
+                    answers += piece
+        assert 0 < answers.count(b"HTTP/1.1 200 OK") < 500
 
 
 def test_the_description_is_what_is_served(place: Place) -> None:
@@ -364,7 +426,7 @@ def test_ends_after_what_is_being_answered(place: Place) -> None:
         while not served.children:
             time.sleep(0.01)
         assert served.end() == ""
-        assert len(answer.result().object["answers"]) == 300
+        assert len(answer.result().object["answers"]) == 300 and answer.result().headers["Connection"] == "close"
 
 
 def test_listens_in_a_unix_socket(place: Place) -> None:

@@ -60,6 +60,8 @@ class Service:
         finally:
             self.connections().ends(request.protocol)
         self.metrics.responses[response.status] += 1
+        if self.connections().are_ending:
+            response.force_close()
         return response
 
     @staticmethod

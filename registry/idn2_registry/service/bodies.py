@@ -53,20 +53,29 @@ def value_of(name: str, text: str) -> object:
 
 async def body_of(request: web.Request) -> Object:
     """The object in a body. Raises ValueError for one that is none, and Faulty for one that is too slow."""
-    if request.content_type != JSON:
-        raise Faulty(415, f"a body is {JSON}")
+    if request.content_type != JSON or "Content-Encoding" in request.headers:
+        raise Faulty(415, f"a body is {JSON}, without Content-Encoding")
     try:
         async with asyncio.timeout(BODY_SECONDS):
             body = await request.read()
     except TimeoutError as error:
         raise Faulty(408, f"no body within {BODY_SECONDS:g} seconds", Connection="close") from error
+    except ConnectionError as error:
+        raise ValueError("the body isn't whole") from error
     try:
-        told: Any = json.loads(body)
+        told: Any = json.loads(body, object_pairs_hook=object_of)
     except (ValueError, RecursionError) as error:
         raise ValueError(f"the body is no JSON: {error}") from error
     if not isinstance(told, dict):
         raise ValueError("a body is an object")
     return told
+
+
+def object_of(members: list[tuple[str, Any]]) -> Object:
+    """An object of its members. Raises ValueError if one comes twice, since readers don't agree which of them holds."""
+    if len(dict(members)) != len(members):
+        raise ValueError("a member comes twice")
+    return dict(members)
 
 
 def requests_of_labels(job: str, told: Object) -> list[Request]:
@@ -84,6 +93,8 @@ def request_of_object(job: str, told: Object) -> Request:
     for name in ("id", "job"):
         if name in told:
             raise ValueError(f"{job} takes no {name}")
+    if not isinstance(told.get("label"), str):
+        raise ValueError(f"{job} takes a label, which is a text")
     return Request.read({**told, "job": job})
 
 

@@ -18,6 +18,8 @@ class Connections:
     def __init__(self, make: Callable[[], asyncio.Protocol], most: int, metrics: Metrics) -> None:
         self._make, self._most, self._metrics = make, most, metrics
         self._open: dict[asyncio.BaseProtocol, "Connection"] = {}
+        # At the end each response says that its connection is closed, so that nobody sends another request in it.
+        self.are_ending = False
 
     def __call__(self) -> asyncio.Protocol:
         """The protocol of a new connection."""

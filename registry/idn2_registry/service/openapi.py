@@ -9,11 +9,11 @@ from .bodies import MOST_LABELS
 KINDS = {str: "string", bool: "boolean", int: "integer"}
 MEANINGS = {
     "label": "A U-label or an A-label.",
-    "holder": "Who asks, and may have variants of own labels.",
+    "holder": "Who asks: the holder of a label may have variants of it. A label is registered with its holder.",
     "variants": "List the variants, too.",
     "table": "The table; else the first that admits the label.",
-    "page": "At most so many variants.",
-    "after": "Only variants after this text.",
+    "page": "At most so many variants, from 1. Without it a label that has more than the limits allow is unknown.",
+    "after": "Only variants after this text: the `after` of the page before.",
 }
 SUMMARIES = {
     "check": "Whether a label is available, refused or taken",
@@ -39,21 +39,37 @@ def named(name: str) -> Object:
     return {"$ref": f"#/components/schemas/{name}"}
 
 
+def meant(schema: Object, meaning: str) -> Object:
+    """A schema with what it means."""
+    return {**schema, "description": meaning}
+
+
 TEXT = kind("string")
+STATUS = kind("string", enum=[status.value for status in Status], description=(
+    "refused: `refusal` says why. taken: `taken_by` has the labels that it collides with, also itself where it is registered. "
+    "available: none of both. registered, released: it was done. free: it wasn't registered, so that nothing was released. "
+    "listed: the variants of a label. admitted: `tables` admit a label. unknown: `reason` says why, and nothing else is said."))
 SCHEMAS: Object = {
     "RegisteredLabel": members("ulabel alabel holder", ulabel=TEXT, alabel=TEXT, holder={"type": ["string", "null"]}),
     "Variant": members("ulabel alabel", ulabel=TEXT, alabel=TEXT, disposition=kind("string", enum=["allocatable", "blocked"])),
-    # The members of its cause are those of docs/JSON.md; a control character has no number.
-    "Refusal": kind("object", properties={"number": kind("integer"), "text": TEXT}, required=["text"]),
-    "Answer": members("status", label=TEXT, label_hex=TEXT, status=kind("string", enum=[status.value for status in Status]),
+    "Refusal": kind("object", properties={"number": kind("integer"), "text": TEXT}, required=["text"],
+                    description="Why a label is refused; a control character has no number. Other members tell where and by "
+                                "which rule, as the text needs them: code_point, place, byte, rule and others."),
+    "Answer": members("status", label=TEXT, label_hex=meant(TEXT, "The bytes of a label that is no UTF-8."), status=STATUS,
                       ulabel=TEXT, alabel=TEXT, tables=kind("array", items=TEXT), refusal=named("Refusal"),
                       taken_by=kind("array", items=named("RegisteredLabel")), table=TEXT,
-                      variants=kind("array", items=named("Variant")), complete=kind("boolean"), after=TEXT, reason=TEXT),
+                      variants=kind("array", items=named("Variant")), complete=kind("boolean"),
+                      after=meant(TEXT, "Where variants that aren't complete go on: ask with it as `after`."),
+                      reason=meant(TEXT, "Why it isn't known.")),
     "Answers": members("answers", answers=kind("array", items=named("Answer"), maxItems=MOST_LABELS)),
     "Health": members("status program tables", status=kind("string", enum=["ready", "unknown"]), program=TEXT,
                       tables=kind("array", items=TEXT), reason=TEXT),
     "Fault": members("fault", fault=TEXT),
 }
+
+
+UNKNOWN = ("Not known, which says nothing about a label: what was to be done was done or not. Ask again, a few times: if it stays "
+           "unknown, `reason` or `fault` tells the operator why.")
 
 
 def response(meaning: str, schema: Object) -> Object:
@@ -64,11 +80,11 @@ def response(meaning: str, schema: Object) -> Object:
 def responses(schema: Object, *faults: int) -> Object:
     """The responses of an operation; with those faults that not every operation has."""
     again = {"Retry-After": {"description": "Ask again after so many seconds.", "schema": kind("integer")}}
-    unknown = response("Not known, which says nothing about a label.", {"anyOf": [schema, named("Fault")]})
+    unknown = response(UNKNOWN, {"anyOf": [schema, named("Fault")]})
     told = {"200": response("The answer is known.", schema), "503": {**unknown, "headers": again},
-            "400": response("No request of this operation.", named("Fault"))}
+            "400": response("No request of this operation. Nothing was done.", named("Fault"))}
     meanings = {401: "Without the token.", 408: "The body came too slowly.", 413: "The body is too long.",
-                415: "The body isn't JSON."}
+                415: "The body isn't JSON, or is packed."}
     return told | {str(status): response(meanings[status], named("Fault")) for status in faults}
 
 

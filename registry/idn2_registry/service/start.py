@@ -7,6 +7,7 @@ import os
 import signal
 import socket
 import sys
+from functools import partial
 from pathlib import Path
 
 from aiohttp import web
@@ -19,6 +20,7 @@ from .answering import Answering
 from .application import Service, read_token
 from .connections import Connections
 from .metrics import Metrics
+from .protocol import Protocol
 
 BACKLOG = 1024
 # So long requests have that are being answered at the end.
@@ -79,10 +81,11 @@ async def served(zone: Zone, token: bytes | None, listening: list[socket.socket]
     answering = Answering(zone, metrics)
     made: list[Connections] = []
     service = Service(answering, metrics, lambda: made[0], token)
-    runner = web.AppRunner(service.application(), access_log=None, handle_signals=False)
+    runner = web.AppRunner(service.application(), handle_signals=False)
     await runner.setup()
-    assert runner.server is not None
-    made.append(Connections(runner.server, zone.configuration.service.connections, metrics))
+    server = runner.server
+    assert server is not None
+    made.append(Connections(partial(Protocol, server, metrics), zone.configuration.service.connections, metrics))
     loop = asyncio.get_running_loop()
     is_over = asyncio.Event()
     for number in (signal.SIGTERM, signal.SIGINT):
@@ -91,9 +94,10 @@ async def served(zone: Zone, token: bytes | None, listening: list[socket.socket]
     servers = [await loop.create_server(made[0], sock=each, backlog=BACKLOG) for each in listening]
     tell_ready(listening)
     await is_over.wait()
-    for server in servers:
-        server.close()
-    await runner.server.shutdown(END_SECONDS)
+    made[0].are_ending = True
+    for each in servers:
+        each.close()
+    await server.shutdown(END_SECONDS)
     await runner.cleanup()
     await asyncio.to_thread(answering.close)
 

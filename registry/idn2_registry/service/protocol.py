@@ -1,0 +1,29 @@
+"""What is no request of HTTP: it is told as other faults are, and counted. aiohttp's own protocol tells it as plain text, and logs
+it with a part of what was sent."""
+
+import asyncio
+from typing import Any
+
+from aiohttp import web
+from aiohttp.web_protocol import RequestHandler
+
+from .bodies import json_response
+from .metrics import Metrics
+
+
+class Protocol(RequestHandler):
+    """The protocol of one connection. A body is taken as it was sent: one that was packed could be far longer than it looks."""
+
+    def __init__(self, server: web.Server, metrics: Metrics) -> None:
+        options: dict[str, Any] = {"access_log": None, "auto_decompress": False}
+        super().__init__(server, loop=asyncio.get_running_loop(), **options)
+        self._metrics = metrics
+
+    def handle_error(self, request: web.BaseRequest, status: int = 500, exc: BaseException | None = None,
+                     message: str | None = None) -> web.StreamResponse:
+        if status >= 500:
+            return super().handle_error(request, status, exc, message)
+        self._metrics.responses[status] += 1
+        response = json_response({"fault": "no request of HTTP, or its head is too long"}, status)
+        response.force_close()
+        return response
