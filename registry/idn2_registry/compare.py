@@ -109,7 +109,8 @@ def facts_of(parsed: ParsedTable, rules: dict[str, str]) -> Facts:
         facts[kind, source] = with_condition("outside" if entry.is_outside else "", entry.source, rules)
         variants: dict[Points, list[str]] = {}
         for variant in entry.variants:
-            disposition = "blocked" if variant.is_marked else "allocatable"
+            # No label has an outside source, so that its variants are neither blocked nor allocatable.
+            disposition = "outside" if entry.is_outside else "blocked" if variant.is_marked else "allocatable"
             variants.setdefault(variant.points, []).append(with_condition(disposition, variant, rules))
         facts.update({(Kind.VARIANT, (source, points)): " and ".join(sorted(said)) for points, said in variants.items()})
     facts.update({(Kind.RULE, rules[name]): text for name, text in rule_texts(parsed).items()})

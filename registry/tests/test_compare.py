@@ -13,6 +13,8 @@ ROWS = [
     # Names, order, spelling, and definitions that nothing names say nothing.
     (ONE, "%version 3\n%set x 0066\n%set all 0030..0034 0035..0039\n%rule r ^ _ / _ $\n%rule idle _\n%never @all @all\n"
      "!0430|!0061\nU+0061|!0430\n0030..0039\n0062\n2D unless r\n".replace("\n2D", "\n002D"), "identical", []),
+    # Nor does a mark before a variant that no label has.
+    (ONE, ONE.replace("!0430|!0061", "!0430|0061"), "identical", []),
     ("0061\n0062\n", "%version 2\n0061..0062\n", "identical", []),
     ("0061..0063\n".replace("0061..0063", "0061\n0062\n0063"), "%version 2\n0061..0062\n", "contained",
      ["code point U+0063: only in one.txt"]),

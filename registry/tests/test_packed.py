@@ -15,7 +15,7 @@ from conftest import LIMIT, PACKAGE, PROGRAM, ROOT, Place
 from idn2_registry.command import parser
 
 SHELLS = ("bash", "zsh", "fish")
-# What the converter makes of it says something else (RFC 7940, section 8.1), so that nothing is printed.
+# A table of version 2 that is made of it says something else (RFC 7940, section 8.1), so that nothing is printed.
 OVERLAP = ('<lgr xmlns="urn:ietf:params:xml:ns:lgr-1.0"><data><char cp="0061"/><char cp="0061 0062"/><char cp="0062 0063"/></data>'
            "</lgr>")
 

@@ -133,6 +133,16 @@ def test_publishes_tables_of_versions_1_and_2(with_meta: Place) -> None:
         assert (flat(text).partition("</meta>")[2], told, status) == (f"<data>{wanted}</data></lgr>", "", 0)
 
 
+def test_says_no_table_that_cuts_labels_otherwise(with_meta: Place) -> None:
+    """By RFC 7940 a label has the longest entry at each place, as under version 3; before it any way to cut a label will do."""
+    lines = "0061\n0061-0062\n0062-0063\n"
+    message = ("XML can't say it: label 0061-0062-0063: accepted, and by RFC 7940 refused: it can be cut into entries, but not by "
+               "the longest at each place (8.1)")
+    for version in ("", "%version 2\n"):
+        assert published(with_meta, version + lines) == ("", f"idn2-registry: table.txt: {message}\n", 1)
+    assert published(with_meta, "%version 3\n" + lines)[1:] == ("", 0)
+
+
 @pytest.mark.parametrize(("lines", "message"), REFUSED)
 def test_refuses_what_xml_cannot_say(with_meta: Place, lines: str, message: str) -> None:
     """By one line, and nothing is printed."""
