@@ -267,6 +267,23 @@ def test_cuts_off_who_reads_nothing(place: Place) -> None:
         assert 0 < answers.count(b"HTTP/1.1 200 OK") < 500
 
 
+def test_reads_no_more_requests_than_it_can_answer(place: Place) -> None:
+    """Who asks on and on and reads nothing can't send any more; and at last gets all answers."""
+    place.configure('[service]\nlisten = "unix:socket"')
+    request = b"GET /v1/openapi.json HTTP/1.1\r\nHost: a\r\nA: " + b"b" * 4_000 + b"\r\n\r\n"
+    with Served(place) as served, served.socket() as connection:
+        sent = 0
+        connection.settimeout(1)
+        with contextlib.suppress(TimeoutError):
+            while sent < 4_000_000:
+                sent += connection.send(request[sent % len(request):])
+        connection.settimeout(LIMIT)
+        assert sent < 4_000_000
+        count, answers = sent // len(request), b""
+        while answers.count(b"HTTP/1.1 200 OK") < count:
+            answers += connection.recv(1_000_000)
+
+
 def test_the_description_is_what_is_served(place: Place) -> None:
     jsonschema = pytest.importorskip("jsonschema", reason="python3-jsonschema")
     configure(place)

@@ -2,7 +2,7 @@
 
 start        sockets, signals, the start and the end
 connections  how long a connection may take, and how many there may be
-protocol     what is no request of HTTP
+protocol     what is no request of HTTP, and how many wait
 answering    what is asked of the zone, so many at once
 workers      threads that ask it
 application  which path answers what

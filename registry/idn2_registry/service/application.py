@@ -18,6 +18,7 @@ from .connections import Connections
 from .metrics import Metrics
 from .openapi import described
 from .people import Pages
+from .protocol import Protocol
 
 READING = ("check", "variants", "tables-of")
 CHANGING = ("register", "release")
@@ -55,6 +56,8 @@ class Service:
     async def guarded(self, request: web.Request, handler: Handler) -> web.StreamResponse:
         """What a path answers; or an object with `fault`. While it is answered the connection isn't cut off."""
         self.connections().begins(request.protocol)
+        if isinstance(request.protocol, Protocol):
+            request.protocol.pace()
         try:
             response = await self.answered(request, handler)
         finally:

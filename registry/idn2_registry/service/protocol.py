@@ -1,5 +1,5 @@
-"""What is no request of HTTP: it is told as other faults are, and counted. aiohttp's own protocol tells it as plain text, and logs
-it with a part of what was sent."""
+"""The protocol of aiohttp, with two things changed. What is no request of HTTP is told as other faults are, and counted: aiohttp
+tells it as plain text, and logs a part of it. And of a connection only so many requests wait: aiohttp reads on and on."""
 
 import asyncio
 from typing import Any
@@ -10,6 +10,8 @@ from aiohttp.web_protocol import RequestHandler
 from .bodies import json_response
 from .metrics import Metrics
 
+MOST_WAITING = 16
+
 
 class Protocol(RequestHandler):
     """The protocol of one connection. A body is taken as it was sent: one that was packed could be far longer than it looks."""
@@ -18,6 +20,17 @@ class Protocol(RequestHandler):
         options: dict[str, Any] = {"access_log": None, "auto_decompress": False}
         super().__init__(server, loop=asyncio.get_running_loop(), **options)
         self._metrics = metrics
+
+    def data_received(self, data: bytes) -> None:
+        super().data_received(data)
+        self.pace()
+
+    def pace(self) -> None:
+        """Reads on while few requests wait. What isn't read stays with who sends, and takes no memory here."""
+        if len(self._messages) > MOST_WAITING:
+            self.pause_reading()
+        else:
+            self.resume_reading()
 
     def handle_error(self, request: web.BaseRequest, status: int = 500, exc: BaseException | None = None,
                      message: str | None = None) -> web.StreamResponse:
