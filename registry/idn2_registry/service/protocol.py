@@ -20,6 +20,7 @@ class Protocol(RequestHandler):
         options: dict[str, Any] = {"access_log": None, "auto_decompress": False}
         super().__init__(server, loop=asyncio.get_running_loop(), **options)
         self._metrics = metrics
+        self._is_held = False
 
     def data_received(self, data: bytes) -> None:
         super().data_received(data)
@@ -28,8 +29,11 @@ class Protocol(RequestHandler):
     def pace(self) -> None:
         """Reads on while few requests wait. What isn't read stays with who sends, and takes no memory here."""
         if len(self._messages) > MOST_WAITING:
+            self._is_held = True
             self.pause_reading()
-        else:
+        elif self._is_held:
+            # A body that nobody reads may hold it, too: only what was held here goes on.
+            self._is_held = False
             self.resume_reading()
 
     def handle_error(self, request: web.BaseRequest, status: int = 500, exc: BaseException | None = None,
