@@ -3,9 +3,10 @@ ghost use Rattle.std.specs.Prelude.{◌≡◌, ◌≤◌, ◌+◌, ◌++◌, Som
 ghost use Rattle.std.specs.Option.{option_copied};
 ghost use Rattle.answer_json.specs.Details.{HasShortTexts, details_of, no_details};
 ghost use Rattle.idn2_refusals.specs.CauseParts.{IsShort, a_label_parts, at_byte as at_byte_of, byte_text, changed_parts, code_point_text, decoded_parts, fault_place_parts, hyphen_text, label_parts, labelled, led, length_parts, lexeme_text, noted, parts_of, placed as placed_of, plain, point_at_byte as point_at_byte_of, point_parts, ruled, told_details};
+ghost use Rattle.idn2_refusals.specs.RuleTexts.{asked_text, named};
 ghost use Rattle.idn2_refusals.specs.ToldCauses.{rule_of, told_parts};
 
-use crate::cause::{LineCause, Quoted};
+use crate::cause::{LineCause, Quoted, RuleName};
 use crate::digits::{push_code_point, push_digit};
 use crate::rules::{
     Rule, name_of_class, rule_of_a_label, rule_of_appendix, rule_of_condition, rule_of_line,
@@ -16,6 +17,7 @@ use arrayvec::ArrayVec;
 use idn_cause::{ALabelCause, Cause, LengthCause};
 use idn_text::Refusal;
 use idn2_output::append;
+use label_patterns::ConditionKind;
 use ruleset_text::FaultPlace;
 
 /// The code point of the hyphen.
@@ -137,11 +139,7 @@ pub(crate) fn told_cause<'a>(refusal: &Refusal, cause: &'a LineCause) -> ToldCau
         }
         LineCause::OfQuery(cause) => of_length(cause),
         LineCause::Misplaced(place, point, kind, rule) => {
-            let members = RefusalMembers {
-                condition: Some(word_of_condition(*kind)),
-                ..placed(*place, *point)
-            };
-            ToldCause::ruled(Rule::named(rule.as_slice()), members)
+            of_misplaced(*place, *point, *kind, rule)
         }
         LineCause::NoEntry(place, point) => {
             ToldCause::plain(placed(*place, *point)).noted(b": no entry")
@@ -151,13 +149,7 @@ pub(crate) fn told_cause<'a>(refusal: &Refusal, cause: &'a LineCause) -> ToldCau
             kind: Some(word_of_demand(*kind)),
             ..RefusalMembers::NONE
         }),
-        LineCause::Ends(place) => {
-            let members = RefusalMembers {
-                place: Some(counted(*place)),
-                ..RefusalMembers::NONE
-            };
-            ToldCause::led(b"ends", members)
-        }
+        LineCause::Ends(place) => of_end(*place),
         LineCause::OfTable(place, quoted) => of_fault_place(place, quoted),
         LineCause::ByteOrderMark => {
             ToldCause::led(b"a byte order mark", point_at_byte(0, BYTE_ORDER_MARK))
@@ -174,6 +166,36 @@ pub(crate) fn told_cause<'a>(refusal: &Refusal, cause: &'a LineCause) -> ToldCau
             ..ToldCause::ruled(rule_of_a_label(), placed(2, HYPHEN))
         },
     }
+}
+
+/// A code point of which a source is asked by this rule.
+fn of_misplaced<'a>(
+    place: usize,
+    point: u32,
+    kind: ConditionKind,
+    rule: &'a RuleName,
+) -> ToldCause<'a>
+    ensures parts { told_parts result ≡ ruled (named rule.now.items)
+        (record (placed_of place point) { condition = Some (asked_text kind) }) }
+    ensures short { IsShort (told_parts result) }
+{
+    let members = RefusalMembers {
+        condition: Some(word_of_condition(kind)),
+        ..placed(place, point)
+    };
+    ToldCause::ruled(Rule::named(rule.as_slice()), members)
+}
+
+/// The place at which a label ends.
+fn of_end<'a>(place: usize) -> ToldCause<'a>
+    ensures parts { told_parts result ≡ led (codes "ends") (record no_details { place = Some (place + 1) }) }
+    ensures short { IsShort (told_parts result) }
+{
+    let members = RefusalMembers {
+        place: Some(counted(place)),
+        ..RefusalMembers::NONE
+    };
+    ToldCause::led(b"ends", members)
 }
 
 /// The cause of a label's fault.
