@@ -106,7 +106,7 @@ FAULTS: list[tuple[str, str, Any, int]] = [
     ("GET", "/v1/check?" + "&".join(f"a{number}=1" for number in range(17)), None, 400),
     ("GET", "/v1/variants?label=a&page=-1", None, 400),
     ("GET", "/v1/variants?label=a&page=0", None, 400),
-    ("GET", "/v1/variants?label=a&page=%D9%A1", None, 400),
+    ("GET", "/v1/variants?label=a&page=%E0%A5%A7", None, 400),
     ("GET", "/v1/variants?label=a&page=99999999999999999999999", None, 400),
     ("GET", "/v1/variants?label=a&after=%00", None, 400),
     ("GET", "/v1/variants?label=a&table=../../etc/passwd", None, 400),
