@@ -64,7 +64,8 @@ pub fn one_is_done(rule: &PatternTree, seen: &SeenLabel, start: usize) -> bool
 fn is_done(context: &PatternTree, seen: &SeenLabel, start: usize) -> bool
     requires known { HasItsSets (length seen.now.sets) (pattern context.now) }
     requires start { start ≤ length seen.now.label }
-    ensures { IsTrue result ↔ (IsTrue (ends_in_anchor_pattern (pattern context.now)) × EndsBefore seen.now (pattern context.now) start) }
+    ensures { IsTrue result ↔ (IsTrue (ends_in_anchor_pattern (pattern context.now)) ×
+        EndsBefore seen.now (pattern context.now) start) }
 {
     ends_in_anchor(context) && is_before(context, seen, start)
 }

@@ -66,7 +66,8 @@ fn context_holds(context: &PatternTree, seen: &SeenLabel, start: usize, end: usi
     requires known { HasItsSets (length seen.now.sets) (pattern context.now) }
     requires start { start ≤ length seen.now.label }
     requires end { end ≤ length seen.now.label }
-    ensures { IsTrue result ↔ (EndsBefore seen.now (pattern context.now) start × BeginsAfter seen.now (pattern context.now) end) }
+    ensures { IsTrue result ↔ (EndsBefore seen.now (pattern context.now) start ×
+        BeginsAfter seen.now (pattern context.now) end) }
 {
     has(places_before(context, seen), start) && has(places_after(context, seen), end)
 }
@@ -91,7 +92,9 @@ pub fn holds(rule: &PatternTree, seen: &SeenLabel, start: usize, end: usize) -> 
 /// The places of a label such that one context holds for the code point that stands there.
 fn points_in_context(context: &PatternTree, seen: &SeenLabel) -> u64
     requires { HasItsSets (length seen.now.sets) (pattern context.now) }
-    ensures { (i : _) → Has result i ↔ ((i < length seen.now.label) × EndsBefore seen.now (pattern context.now) i × BeginsAfter seen.now (pattern context.now) (i + 1)) }
+    ensures { (i : _) → Has result i ↔
+        ((i < length seen.now.label) × EndsBefore seen.now (pattern context.now) i ×
+            BeginsAfter seen.now (pattern context.now) (i + 1)) }
 {
     before(places_after(context, seen), places_before(context, seen))
 }

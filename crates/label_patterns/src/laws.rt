@@ -2,8 +2,8 @@
 ghost use Rattle.label_patterns.specs.Laws.{BeforeStays, MatchesStay, MatchesParts};
 ghost use Rattle.label_patterns.specs.TestLaws.{BarredForGood, BarringStays, TestsAgree};
 
-/// What matches a pattern without an end matches it still where the label is lengthened, and nothing else does up to the
-/// old end.
+/// What matches a pattern without an end matches it still where the label is lengthened, and nothing else does up to
+/// the old end.
 pub fn matches_stay()
     ensures { MatchesStay }
 {}

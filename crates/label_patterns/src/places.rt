@@ -71,7 +71,8 @@ pub fn only(starts: u64, place: usize) -> u64
 
 /// The places that are in at least one of the sets.
 pub fn either(left: u64, right: u64) -> u64
-    ensures places { (p : _) → (Has result p → Has left p ⊎ Has right p) × (Has left p → Has result p) × (Has right p → Has result p) }
+    ensures places { (p : _) → (Has result p → Has left p ⊎ Has right p) × (Has left p → Has result p) ×
+        (Has right p → Has result p) }
     ensures more { left ≤ result }
 {
     left | right

@@ -58,7 +58,8 @@ impl Board {
         requires sound { IsSoundAt substitutions.now label.now self.old column }
         ensures grows { Grows self.old self.new column }
         ensures sound { IsSoundAt substitutions.now label.now self.new column }
-        ensures taken { (u : Substitution) → Contains (substitutions_at substitutions.now place) u → length u.points ≡ count → HasTaken label.now self.new column place u }
+        ensures taken { (u : Substitution) → Contains (substitutions_at substitutions.now place) u →
+            length u.points ≡ count → HasTaken label.now self.new column place u }
     {
         let from = Cell {
             column: column - count,
@@ -96,7 +97,8 @@ impl Board {
         requires sound { IsSoundAt substitutions.now label.now self.old column }
         ensures grows { Grows self.old self.new column }
         ensures sound { IsSoundAt substitutions.now label.now self.new column }
-        ensures taken { (p : ℕ) (u : Substitution) → Contains (substitutions_at substitutions.now p) u → length u.points ≡ count → HasTaken label.now self.new column p u }
+        ensures taken { (p : ℕ) (u : Substitution) → Contains (substitutions_at substitutions.now p) u →
+            length u.points ≡ count → HasTaken label.now self.new column p u }
     {
         let mut left = self.reached_in(column - count);
         while left != 0 {
@@ -120,7 +122,8 @@ impl Board {
         requires substitutions { AllFit substitutions.now }
         requires wide { length substitutions.now ≤ 63 }
         requires room { length self.old.has ≡ (length substitutions.now + 1) * 64 }
-        requires longest { (p : ℕ) (u : Substitution) → Contains (substitutions_at substitutions.now p) u → length u.points ≤ longest }
+        requires longest { (p : ℕ) (u : Substitution) → Contains (substitutions_at substitutions.now p) u →
+            length u.points ≤ longest }
         requires column { column ≤ 63 }
         requires within { column ≤ length label.now }
         requires some { 1 ≤ column }
@@ -145,7 +148,8 @@ impl Board {
         requires substitutions { AllFit substitutions.now }
         requires wide { length substitutions.now ≤ 63 }
         requires room { length self.old.has ≡ (length substitutions.now + 1) * 64 }
-        requires longest { (p : ℕ) (u : Substitution) → Contains (substitutions_at substitutions.now p) u → length u.points ≤ longest }
+        requires longest { (p : ℕ) (u : Substitution) → Contains (substitutions_at substitutions.now p) u →
+            length u.points ≤ longest }
         requires long { length label.now ≤ 63 }
         requires kept { kept ≤ length label.now }
         requires right { IsRight substitutions.now label.now self.old kept }
@@ -157,11 +161,12 @@ impl Board {
         }
     }
 
-    /// Fills the first column: nothing is spelled yet, and no kind is there. The board is of the empty label then, for any
-    /// substitutions.
+    /// Fills the first column: nothing is spelled yet, and no kind is there. The board is of the empty label then, for
+    /// any substitutions.
     pub(crate) fn begin(&mut self)
         requires { 64 ≤ length self.old.has }
-        ensures right { (substitutions : List (List Substitution)) (label : List ℕ) → AllFit substitutions → IsRight substitutions label self.new 0 }
+        ensures right { (substitutions : List (List Substitution)) (label : List ℕ) → AllFit substitutions →
+            IsRight substitutions label self.new 0 }
         ensures room { length self.new.has ≡ length self.old.has }
     {
         self.clear(0);
@@ -180,8 +185,10 @@ impl Board {
         requires room { length self.now.has ≡ (length substitutions.now + 1) * 64 }
         requires right { IsRight substitutions.now label.now self.now (length label.now) }
         ensures spelled { IsSome result ↔ SubstitutionsSpell substitutions.now label.now }
-        ensures has { IfSome result (λ words. (k : ℕ) → k < 64 → (bit_at words.has k ≡ 1) ↔ SomeHas substitutions.now label.now k) }
-        ensures lacks { IfSome result (λ words. (k : ℕ) → k < 64 → (bit_at words.lacks k ≡ 1) ↔ SomeLacks substitutions.now label.now k) }
+        ensures has { IfSome result (λ words. (k : ℕ) → k < 64 →
+            (bit_at words.has k ≡ 1) ↔ SomeHas substitutions.now label.now k) }
+        ensures lacks { IfSome result (λ words. (k : ℕ) → k < 64 →
+            (bit_at words.lacks k ≡ 1) ↔ SomeLacks substitutions.now label.now k) }
     {
         if !self.reaches(label.len(), substitutions.len()) {
             return None;

@@ -42,7 +42,8 @@ pub struct LabelSubstitutions {
 impl Model for LabelSubstitutions {
     ghost Value = { List (List Substitution) };
 
-    ghost view = { λ kept. lists_of (map (substitution_of kept.points.items) kept.substitutions.items) kept.places.items };
+    ghost view = { λ kept. lists_of
+        (map (substitution_of kept.points.items) kept.substitutions.items) kept.places.items };
 
     ghost invariant = { λ kept. IsKept kept.points.items kept.substitutions.items kept.places.items kept.longest };
 }
@@ -57,7 +58,8 @@ impl LabelSubstitutions {
 
     /// As many code points as the longest substitution has, or more.
     pub fn longest(&self) -> usize
-        ensures { (place : ℕ) (u : Substitution) → Contains (substitutions_at self.now place) u → length u.points ≤ result }
+        ensures { (place : ℕ) (u : Substitution) → Contains (substitutions_at self.now place) u →
+            length u.points ≤ result }
     {
         self.longest
     }
@@ -75,7 +77,8 @@ impl LabelSubstitutions {
     pub fn get(&self, place: usize, number: usize) -> SubstitutionView<'_>
         requires place { place < length self.now }
         requires number { number < length (substitutions_at self.now place) }
-        ensures { slice_get (substitutions_at self.now place) number ≡ Some (record { covers = result.covers; kinds = result.kinds; points = result.points.now }) }
+        ensures { slice_get (substitutions_at self.now place) number ≡
+            Some (record { covers = result.covers; kinds = result.kinds; points = result.points.now }) }
     {
         let part = self.places[place];
         let kept = self.substitutions[part.start + number];

@@ -31,7 +31,9 @@ impl Model for Readings {
 
     ghost view = { λ r. r.substitutions };
 
-    ghost invariant = { λ r. AreSubstitutions r.substitutions × (length r.substitutions ≤ 63) × (r.count ≤ 63) × IsRight r.substitutions (take r.count r.label) r.board r.count × (length r.board.has ≡ (length r.substitutions + 1) * 64) };
+    ghost invariant = { λ r. AreSubstitutions r.substitutions × (length r.substitutions ≤ 63) × (r.count ≤ 63) ×
+        IsRight r.substitutions (take r.count r.label) r.board r.count ×
+            (length r.board.has ≡ (length r.substitutions + 1) * 64) };
 }
 
 impl Readings {
@@ -57,8 +59,10 @@ impl Readings {
         requires { length label.now ≤ 63 }
         ensures same { self.new ≡ self.old }
         ensures spelled { IsSome result ↔ SubstitutionsSpell self.old label.now }
-        ensures has { IfSome result (λ words. (k : ℕ) → k < 64 → (bit_at words.has k ≡ 1) ↔ SomeHas self.old label.now k) }
-        ensures lacks { IfSome result (λ words. (k : ℕ) → k < 64 → (bit_at words.lacks k ≡ 1) ↔ SomeLacks self.old label.now k) }
+        ensures has { IfSome result (λ words. (k : ℕ) → k < 64 →
+            (bit_at words.has k ≡ 1) ↔ SomeHas self.old label.now k) }
+        ensures lacks { IfSome result (λ words. (k : ℕ) → k < 64 →
+            (bit_at words.lacks k ≡ 1) ↔ SomeLacks self.old label.now k) }
     {
         let kept = shared_len(&self.label[..self.count], label);
         self.board.fill(

@@ -23,9 +23,12 @@ pub struct SubstitutionsDraft {
 impl Model for SubstitutionsDraft {
     ghost Value = { Draft };
 
-    ghost view = { λ draft. record { done = lists_of (map (substitution_of draft.points.items) draft.substitutions.items) draft.places.items; begun = drop draft.start (map (substitution_of draft.points.items) draft.substitutions.items) } };
+    ghost view = { λ draft. record { done = lists_of
+        (map (substitution_of draft.points.items) draft.substitutions.items) draft.places.items;
+            begun = drop draft.start (map (substitution_of draft.points.items) draft.substitutions.items) } };
 
-    ghost invariant = { λ draft. IsKept draft.points.items draft.substitutions.items draft.places.items draft.longest × (draft.start ≤ length draft.substitutions.items) };
+    ghost invariant = { λ draft. IsKept draft.points.items draft.substitutions.items draft.places.items draft.longest ×
+        (draft.start ≤ length draft.substitutions.items) };
 }
 
 impl SubstitutionsDraft {
@@ -44,7 +47,8 @@ impl SubstitutionsDraft {
 
     /// Adds a substitution to the place that isn't done.
     pub fn add(&mut self, covers: usize, kinds: u64, points: &[u32]) -> Result<(), AllocError>
-        ensures { OnOk result (self.new ≡ with_substitutions self.old (record { covers = covers; kinds = kinds; points = points.now } ∷ [])) }
+        ensures { OnOk result (self.new ≡
+            with_substitutions self.old (record { covers = covers; kinds = kinds; points = points.now } ∷ [])) }
     {
         let start = self.points.len();
         self.points.extend_from_slice(points)?;

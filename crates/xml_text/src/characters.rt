@@ -5,8 +5,8 @@ ghost use Rattle.xml_text.specs.Characters.{AreCharacters, IsWrongAt};
 use crate::reference::is_character;
 use idn_text::character_at;
 
-/// The first byte of a text at which no character in UTF-8 stands, or one that XML may not have; `None` if the text is characters
-/// of XML from its beginning to its end.
+/// The first byte of a text at which no character in UTF-8 stands, or one that XML may not have; `None` if the text is
+/// characters of XML from its beginning to its end.
 pub fn first_wrong_character(text: &[u8]) -> Option<usize>
     ensures right { IfNone result (AreCharacters text.now) }
     ensures wrong { IfSome result (IsWrongAt text.now) }

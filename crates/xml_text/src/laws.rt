@@ -5,7 +5,8 @@ ghost use Rattle.xml_text.specs.Tags.{Tag, IsTag};
 
 /// A text begins with one tag at most.
 pub fn a_text_begins_with_one_tag()
-    ensures { (t u : Tag) (front rest other more : List ℕ) → front ++ rest ≡ other ++ more → IsTag front t → IsTag other u →
+    ensures { (t u : Tag) (front rest other more : List ℕ) → front ++ rest ≡ other ++ more → IsTag front t →
+        IsTag other u →
         (front ≡ other) × (t ≡ u) }
 {}
 

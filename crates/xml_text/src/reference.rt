@@ -6,8 +6,8 @@ ghost use Rattle.xml_text.specs.References.{referenced as referenced_by};
 /// One more than the last code point.
 const END_OF_POINTS: u32 = 0x11_0000;
 
-/// The character for which the bytes between `&` and `;` stand: one of the five entities, or a number. `None` where they stand
-/// for none.
+/// The character for which the bytes between `&` and `;` stand: one of the five entities, or a number. `None` where
+/// they stand for none.
 #[tactic(auto, unfolding(crate::specs::References::referenced))]
 pub fn referenced(name: &[u8]) -> Option<char>
     ensures { result ≡ referenced_by name.now }

@@ -55,7 +55,8 @@ pub struct TagState {
     phase: Phase,
 }
 
-/// Each step answers whether its byte may stand there. If it may not, or memory was refused, the state is of no use any more.
+/// Each step answers whether its byte may stand there. If it may not, or memory was refused, the state is of no use any
+/// more.
 impl TagState {
     /// Nothing was read.
     pub fn new(alloc: Global) -> Self
@@ -180,7 +181,8 @@ impl TagState {
     }
 
     fn value(&mut self, alloc: Global, quote: Quote, byte: u8) -> Result<bool, AllocError>
-        ensures { IfOk result (λ taken. steps.value_step quote (state self.old) byte ≡ taken_as taken (state self.new)) }
+        ensures { IfOk result (λ taken. steps.value_step quote (state self.old) byte ≡
+            taken_as taken (state self.new)) }
     {
         if byte == quote.byte() {
             let name = replace(&mut self.attribute, Vec::new(alloc));
@@ -203,7 +205,8 @@ impl TagState {
     }
 
     fn reference(&mut self, quote: Quote, byte: u8) -> Result<bool, AllocError>
-        ensures { IfOk result (λ taken. steps.reference_step quote (state self.old) byte ≡ taken_as taken (state self.new)) }
+        ensures { IfOk result (λ taken. steps.reference_step quote (state self.old) byte ≡
+            taken_as taken (state self.new)) }
     {
         if byte == b';' {
             return self.resolve(quote);
@@ -217,7 +220,8 @@ impl TagState {
 
     /// Puts the character in place of a reference that is complete.
     fn resolve(&mut self, quote: Quote) -> Result<bool, AllocError>
-        ensures { let s = state self.old in IfOk result (λ taken. steps.resolved quote s (referenced s.reference) ≡ taken_as taken (state self.new)) }
+        ensures { let s = state self.old in IfOk result
+            (λ taken. steps.resolved quote s (referenced s.reference) ≡ taken_as taken (state self.new)) }
     {
         let Some(character) = referenced(&self.reference) else {
             return Ok(false);

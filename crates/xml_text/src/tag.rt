@@ -8,8 +8,8 @@ use crate::fault::ReadError;
 use crate::state::TagState;
 use std::alloc::Global;
 
-/// The tag with which a text begins, and how many bytes it has. The text is characters of XML, and its lines end in line feeds alone
-/// (section 2.11).
+/// The tag with which a text begins, and how many bytes it has. The text is characters of XML, and its lines end in
+/// line feeds alone (section 2.11).
 pub fn read_tag(alloc: Global, text: &[u8]) -> Result<(Tag, usize), ReadError>
     ensures read { IfOk result (λ read. IsTag (take read.1 text.now) (tag read.0)) }
     ensures within { IfOk result (λ read. read.1 ≤ length text.now) }
