@@ -1,5 +1,5 @@
 -- The Bidi rule of a whole name: of its labels as they are decoded, and of its code points, octets and numbers.
-use Rattle.std.proofs.Common.{◌≡◌, ◌≢◌, ℕ, Bool, true, false, not, ◌&&◌, ◌||◌, ◌<◌, nat_lt, cond, List, [], ◌∷◌, map, chars, All, Option, Some, None, Result, Ok, Err, refl, sym, ap, ap₂, subst, ◌∙◌, inl, inr, eqb-true, arith}
+use Rattle.std.proofs.Common.{◌≡◌, ◌≢◌, ℕ, Bool, true, false, not, ◌&&◌, ◌||◌, ◌<◌, cond, List, [], ◌∷◌, map, chars, All, Option, Some, None, Result, Ok, Err, refl, sym, ap, ap₂, subst, ◌∙◌, inl, inr, eqb-true, le-leb, ◌≤◌, arith}
 use Rattle.std.specs.Char.{encode_utf8, to_ascii_lowercase}
 use Rattle.std.specs.List.{AllByRecursion, list_any, list_all, onto_first}
 use Rattle.std.specs.Str.{IsAscii, IsUtf8, is_utf8}
@@ -7,12 +7,15 @@ use Rattle.std.proofs.lemmas.Bool.{and_parts, cases_Bool, cases_lt, cond-true, c
 use Rattle.std.proofs.lemmas.Bool.Decides.{nat_tests}
 use Rattle.std.proofs.lemmas.List.Folds.{list_all-append, list_any_none}
 use Rattle.std.proofs.lemmas.List.Elements.{All-head, All-weaker, All-from_recursion, recursion_from_All}
+use Rattle.ucd_bidi.specs.declared.BidiClass.{BidiClass}
 use Rattle.ucd_bidi.specs.declared.BidiClass.TheVariants.{LeftToRight}
 use Rattle.ucd_bidi.specs.BidiClass.{bidi_class}
 use Rattle.ucd_bidi.specs.BidiClassRows.{bidi_class_rows}
 use Rattle.ucd_bidi.proofs.BidiClassLemmas.{bidi_class_stepped}
 use Rattle.ucd_table.proofs.Computing.{tables}
-use Rattle.ucd_table.proofs.Facts.{Stepped-below}
+use Rattle.ucd_table.proofs.Facts.{Stepped-below, Stepped-always}
+use Rattle.ucd_table.proofs.Stepped.{of_ranges, zip_stepped}
+use Rattle.ucd_table.specs.Rows.{Range, in_ranges}
 use Rattle.std.proofs.lemmas.Str.{IsUtf8-from_is_utf8, chars-encodes}
 use Rattle.std.proofs.lemmas.Str.Ascii.{All-from_ascii}
 use Rattle.idna.specs.BidiRule.{is_rtl, is_bidi_domain, passes_by_first, passes_bidi_rule}
@@ -41,7 +44,7 @@ use Rattle.idn_label.specs.Decode.{decoded_label, decoded_labels, decoded_name, 
 use Rattle.idn_label.specs.FirstFault.{IsRegistrable, fault_of_class}
 use Rattle.idn_label.specs.Register.{u_label_answer}
 use Rattle.idn_label.specs.Steps.{begins_with_prefix, in_utf8}
-use Rattle.idn_label.specs.inner.BidiNames.{PassesIfRtl, shown}
+use Rattle.idn_label.specs.inner.BidiNames.{PassesIfRtl, is_no_rtl_lead, lacks_rtl_leads, shown}
 use Rattle.idn_label.specs.inner.DecodedNames.{KeepsLeftToRight, decoded_utf8}
 use Rattle.idn_label.proofs.ALabels.{registrable_scalars, decoded_name-a_label}
 use Rattle.idn_label.proofs.AnswerLemmas.{u_label_answer-from, spelled_by}
@@ -68,32 +71,62 @@ right-ascii name ascii =
     ap (list_any right) (points_from_utf8 name name (ascii_points name ascii))
     ∙ list_any_none right name (All-weaker (λ c. c < 128) (λ c. right c ≡ false) (λ c few. right-before_hebrew c (omega arith)) name (All-from_ascii name ascii))
 
--- nor does a text have one of which no octet is 0xD6 or more, since 0xD6 begins U+0580
-abbrev pub is_before : ℕ → Bool
-is_before octet = nat_lt octet 0xD6
+-- nor is one from Devanagari to the spaces, nor from the dashes to the presentation forms
+abbrev apart : BidiClass → Bool → Bool
+apart class within = not (is_rtl class && within)
 
-before-encoded : (c : ℕ) → list_all is_before (encode_utf8 c) ≡ true → c < 0x590
-before-encoded c all = elim (cases_lt c 0x80) [
-  | inl ascii ↦ omega (arith, ascii)
+abbrev letters : List Range
+letters = (0x900, 0x200E) ∷ []
+
+rtl_outside_letters : (c : ℕ) → c ≤ 0x10_FFFF → apart (bidi_class c) (in_ranges letters c) ≡ true
+unfolding tables bidi_class_stepped
+rtl_outside_letters = Stepped-always (λ c. apart (bidi_class c) (in_ranges letters c)) (zip_stepped apart bidi_class (in_ranges letters) bidi_class_stepped (of_ranges letters refl)) refl
+
+pub right-before_dashes : (c : ℕ) → 0x900 ≤ c → c ≤ 0x200E → right c ≡ false
+unfolding in_ranges
+right-before_dashes c low high =
+    let outside = rw (le-leb 0x900 c low, le-leb c 0x200E high) at (rtl_outside_letters c (omega arith)) in grind arith
+
+abbrev after_dashes : List Range
+after_dashes = (0x2010, 0xFB1C) ∷ []
+
+rtl_outside_dashes : (c : ℕ) → c ≤ 0x10_FFFF → apart (bidi_class c) (in_ranges after_dashes c) ≡ true
+unfolding tables bidi_class_stepped
+rtl_outside_dashes = Stepped-always (λ c. apart (bidi_class c) (in_ranges after_dashes c)) (zip_stepped apart bidi_class (in_ranges after_dashes) bidi_class_stepped (of_ranges after_dashes refl)) refl
+
+pub right-after_dashes : (c : ℕ) → 0x2010 ≤ c → c ≤ 0xFB1C → right c ≡ false
+unfolding in_ranges
+right-after_dashes c low high =
+    let outside = rw (le-leb 0x2010 c low, le-leb c 0xFB1C high) at (rtl_outside_dashes c (omega arith)) in grind arith
+
+-- nor does a text have one of which no octet may begin one
+right-encoded : (c : ℕ) → list_all is_no_rtl_lead (encode_utf8 c) ≡ true → right c ≡ false
+right-encoded c all = elim (cases_lt c 0x80) [
+  | inl ascii ↦ right-before_hebrew c (omega (arith, ascii))
   | inr more ↦ elim (cases_lt c 0x800) [
-    | inl two ↦ let parts = ap (list_all is_before) (sym (encode_utf8-two c more two)) ∙ all in grind (arith, nat_tests)
+    | inl two ↦ let parts = ap (list_all is_no_rtl_lead) (sym (encode_utf8-two c more two)) ∙ all in right-before_hebrew c (grind (arith, nat_tests))
     | inr other ↦ elim (cases_lt c 0x1_0000) [
-      | inl three ↦ let parts = ap (list_all is_before) (sym (encode_utf8-three c other three)) ∙ all in grind (arith, nat_tests)
-      | inr four ↦ let parts = ap (list_all is_before) (sym (encode_utf8-four c four)) ∙ all in grind (arith, nat_tests)
+      | inl three ↦
+          let parts = ap (list_all is_no_rtl_lead) (sym (encode_utf8-three c other three)) ∙ all in
+          elim (cases_lt c 0x2000) [
+            | inl low ↦ right-before_dashes c (grind (arith, nat_tests)) (omega arith)
+            | inr high ↦ right-after_dashes c (grind (arith, nat_tests)) (grind (arith, nat_tests))
+          ]
+      | inr four ↦ let parts = ap (list_all is_no_rtl_lead) (sym (encode_utf8-four c four)) ∙ all in absurd (grind (arith, nat_tests))
     ]
   ]
 ]
 
-right-before_points : (points : List ℕ) → list_all is_before (utf8_of points) ≡ true → list_any right points ≡ false
-right-before_points [] all = refl
-right-before_points (c ∷ points) all =
-    let parts = and_parts _ _ (sym (list_all-append is_before (encode_utf8 c) (utf8_of points)) ∙ all) in
-    ap₂ (λ a b. a || b) (right-before_hebrew c (before-encoded c parts.0)) (right-before_points points parts.1)
+right-no_leads_points : (points : List ℕ) → list_all is_no_rtl_lead (utf8_of points) ≡ true → list_any right points ≡ false
+right-no_leads_points [] all = refl
+right-no_leads_points (c ∷ points) all =
+    let parts = and_parts _ _ (sym (list_all-append is_no_rtl_lead (encode_utf8 c) (utf8_of points)) ∙ all) in
+    ap₂ (λ a b. a || b) (right-encoded c parts.0) (right-no_leads_points points parts.1)
 
-pub right-before_octets : (name : List ℕ) → IsUtf8 name → list_all is_before name ≡ true → list_any right (chars name) ≡ false
-right-before_octets name utf8 all =
+pub right-no_leads : (name : List ℕ) → IsUtf8 name → lacks_rtl_leads name ≡ true → list_any right (chars name) ≡ false
+right-no_leads name utf8 all =
     ap (list_any right) (ap chars (sym utf8.1.1) ∙ chars-encodes utf8.0 utf8.1.0)
-    ∙ right-before_points utf8.0 (ap (list_all is_before) utf8.1.1 ∙ all)
+    ∙ right-no_leads_points utf8.0 (ap lacks_rtl_leads utf8.1.1 ∙ all)
 
 -- no code point that lacks the fact is R, AL or AN
 right-lacks : (label : List ℕ) → Lacks RightToLeft label → list_any right label ≡ false

@@ -7,10 +7,11 @@ ghost use Rattle.idna.specs.Labels.{labels_of};
 ghost use Rattle.idna.specs.Validity.{passes_bidi};
 ghost use Rattle.idn_label.specs.Decode.{name_fault};
 ghost use Rattle.idn_label.specs.inner.BidiNames.{EachPassesIfRtl, PassesIfRtl, begins_rtl};
-ghost use Rattle.idn_label.specs.inner.BidiNames.{is_lowercase, is_lowercase_or_digit, is_rtl_letter};
+ghost use Rattle.idn_label.specs.inner.BidiNames.{are_rtl_letter, is_lowercase, is_lowercase_or_digit};
 
 use crate::bidi::passes_bidi_rule;
 use crate::full_stops::label_end;
+use crate::octets::lacks_rtl_leads;
 use arrayvec::ArrayVec;
 use idn_class::Properties;
 use idn_text::{MAX_LINE_LEN, Refusal, character_at};
@@ -73,7 +74,7 @@ pub(crate) fn holds_rtl_in_utf8(name: &[u8]) -> bool
     requires { IsUtf8 name.now }
     ensures { result ≡ list_any (λ c. is_rtl (bidi_class c)) (chars name.now) }
 {
-    if is_before_hebrew(name) {
+    if is_told_by_octets(name) {
         return false;
     }
     let mut at = 0;
@@ -89,22 +90,17 @@ pub(crate) fn holds_rtl_in_utf8(name: &[u8]) -> bool
     false
 }
 
-/// Whether each character of a name in UTF-8 is before U+0580, as those of Latin, Greek and Cyrillic are: none of its
-/// octets is 0xD6 or more. It looks at each octet, which is faster than to stop at the first other one.
+/// Whether no octet of a name in UTF-8 may begin R, AL or AN.
 #[inline]
-fn is_before_hebrew(name: &[u8]) -> bool
+fn is_told_by_octets(name: &[u8]) -> bool
     requires { IsUtf8 name.now }
     ensures { IsTrue result → list_any (λ c. is_rtl (bidi_class c)) (chars name.now) ≡ false }
 {
-    // Names past Cyrillic mostly begin so.
-    if let [0xD6..=0xFF, ..] = name {
+    // Right-to-left names mostly begin so.
+    if let [0xD6..=0xDF, ..] = name {
         return false;
     }
-    let mut is_before = true;
-    for octet in name {
-        is_before &= *octet < 0xD6;
-    }
-    is_before
+    lacks_rtl_leads(name)
 }
 
 /// Whether each label of a name in UTF-8 meets the rule.
@@ -180,27 +176,35 @@ fn is_lowercase_or_digit(octet: u8) -> bool
 /// Whether a label in UTF-8 has only letters of Hebrew and Arabic, which are R or AL, and so meets the rule.
 #[inline]
 fn has_rtl_letters_alone(label: &[u8]) -> bool
-    requires { IsUtf8 label.now }
     ensures { IsTrue result → passes_bidi_rule (chars label.now) ≡ true }
 {
     let mut at = 0;
     while at < label.len() {
-        let Some((c, next)) = character_at(label, at) else {
-            unreachable!()
-        };
-        if !is_rtl_letter(c) {
+        if at + 1 >= label.len() {
             return false;
         }
-        at = next;
+        if !is_rtl_letter(label[at], label[at + 1]) {
+            return false;
+        }
+        at += 2;
     }
     true
 }
 
+/// Whether two octets are a letter of Hebrew or Arabic. It takes fewer instructions than to read the character.
 #[inline]
-fn is_rtl_letter(c: char) -> bool
-    ensures { result ≡ is_rtl_letter c }
+fn is_rtl_letter(first: u8, second: u8) -> bool
+    ensures { IsTrue result → are_rtl_letter first second ≡ true }
 {
-    matches!(c, '\u{5D0}'..='\u{5EA}' | '\u{620}'..='\u{64A}' | '\u{671}'..='\u{6D3}')
+    match first {
+        // U+05D0 to 05EA, 0620 to 063F, 0640 to 064A, 0671 to 067F, 0680 to 06BF, 06C0 to 06D3.
+        0xD7 => matches!(second, 0x90..=0xAA),
+        0xD8 => matches!(second, 0xA0..=0xBF),
+        0xD9 => matches!(second, 0x80..=0x8A | 0xB1..=0xBF),
+        0xDA => matches!(second, 0x80..=0xBF),
+        0xDB => matches!(second, 0x80..=0x93),
+        _ => false,
+    }
 }
 
 /// Whether a label in UTF-8 begins with R, AL or AN.
@@ -298,8 +302,12 @@ fn holds_rtl(name: &[char]) -> bool
 fn is_rtl(c: char) -> bool
     ensures { result ≡ is_rtl (bidi_class c) }
 {
-    // None is before Hebrew, nor from the dashes to the presentation forms. So most characters need no look-up.
+    // None is before Hebrew, nor from Devanagari to the presentation forms but for one mark among the spaces. So most
+    // characters need no look-up.
     if c < '\u{590}' {
+        return false;
+    }
+    if c >= '\u{900}' && c <= '\u{200E}' {
         return false;
     }
     if c >= '\u{2010}' && c <= '\u{FB1C}' {
