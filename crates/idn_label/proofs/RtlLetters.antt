@@ -1,8 +1,10 @@
 -- Labels of letters of Hebrew and Arabic meet the Bidi rule.
-use Rattle.std.proofs.Common.{◌≡◌, ℕ, ◌<◌, Bool, true, false, not, ◌&&◌, ◌||◌, List, [], ◌∷◌, map, fold, if◌then◌else◌, refl, ap, ap₂, ◌∙◌, arith}
+use Rattle.std.proofs.Common.{◌≡◌, ℕ, ◌+◌, ◌-◌, ◌*◌, ◌<◌, ◌≤◌, Bool, true, false, not, ◌&&◌, ◌||◌, List, [], ◌∷◌, ◌++◌, map, fold, length, take, get_or, if◌then◌else◌, refl, ap, ap₂, ◌∙◌, append_assoc, arith}
+use Rattle.std.specs.Char.{encode_utf8}
 use Rattle.std.specs.List.{list_all}
 use Rattle.std.proofs.lemmas.Bool.{and_parts}
 use Rattle.std.proofs.lemmas.Bool.Decides.{nat_tests}
+use Rattle.std.proofs.lemmas.List.{take_more}
 use Rattle.ucd_bidi.specs.declared.BidiClass.{BidiClass}
 use Rattle.ucd_bidi.specs.declared.BidiClass.TheVariants.{RightToLeft, ArabicLetter, EuropeanNumber, NonspacingMark}
 use Rattle.ucd_bidi.specs.BidiClass.{bidi_class, bidi_class_eq}
@@ -11,7 +13,9 @@ use Rattle.ucd_table.proofs.Computing.{tables}
 use Rattle.idna.specs.BidiRule.{has_class, is_rtl, is_allowed_in_both, passes_as_rtl, passes_by_first, passes_bidi_rule}
 use Rattle.idn_class.specs.Tests.{all_places}
 use Rattle.idn_class.proofs.TestLemmas.{all_places-at}
-use Rattle.idn_label.specs.inner.BidiNames.{is_rtl_letter}
+use Rattle.idn_text.specs.Points.{IsScalarValue}
+use Rattle.idn_text.proofs.Utf8Lemmas.{encode_utf8-two}
+use Rattle.idn_label.specs.inner.BidiNames.{are_rtl_letter, is_rtl_letter}
 
 -- R or AL
 abbrev is_letter : BidiClass → Bool
@@ -98,3 +102,43 @@ letters-pass (c ∷ label) letters =
     let last = last_letter label _ (ap is_letter (counts NonspacingMark (bidi_class c) own) ∙ own) others in
     by_first (bidi_class c) (map bidi_class (c ∷ label)) own
     (all_three _ _ _ _ (all_allowed (c ∷ label) letters) (ends _ last) (no_numbers (c ∷ label) letters))
+
+rtl : (k : BidiClass) → is_letter k ≡ true → is_rtl k ≡ true
+rtl RightToLeft is = refl
+rtl ArabicLetter is = refl
+rtl _ is = let clash : false ≡ true = is in cc
+
+pub letter-rtl : (c : ℕ) → is_rtl_letter c ≡ true → is_rtl (bidi_class c) ≡ true
+letter-rtl c is = rtl (bidi_class c) (letter_class c is)
+
+-- ---- the letter of two octets
+
+pub record IsLetterOf (first second c : ℕ) : Type 0 where
+  pub letter : is_rtl_letter c ≡ true
+  pub scalar_value : IsScalarValue c
+  pub encoded : encode_utf8 c ≡ first ∷ second ∷ []
+
+pub letter_of : (first second : ℕ) → are_rtl_letter first second ≡ true → (c : ℕ) × IsLetterOf first second c
+letter_of first second is =
+    let c = (first - 0xC0) * 0x40 + (second - 0x80) in
+    let letter : is_rtl_letter c ≡ true = grind (arith, nat_tests) in
+    let lead : 0xC0 ≤ first = grind (arith, nat_tests) in
+    let low : 0x80 ≤ second = grind (arith, nat_tests) in
+    let high : second ≤ 0xBF = grind (arith, nat_tests) in
+    let few : c < 0x6D4 = grind (arith, nat_tests) in
+    let many : 0x5D0 ≤ c = grind (arith, nat_tests) in (
+      c,
+      record {
+        letter = letter;
+        scalar_value = grind (arith, nat_tests);
+        encoded = encode_utf8-two c (omega arith) (omega arith) ∙ ap₂ (λ a b. a ∷ b ∷ []) (omega arith) (omega arith);
+      },
+    )
+
+-- two octets more
+pub two_more : (text : List ℕ) (at first second : ℕ) → at + 1 < length text → get_or text at 0 ≡ first → get_or text (at + 1) 0 ≡ second → take (at + 2) text ≡ take at text ++ first ∷ second ∷ []
+two_more text at first second within one two =
+    ap (λ n. take n text) (let e : at + 2 ≡ at + 1 + 1 = omega arith in e)
+    ∙ take_more text (at + 1) 0 within
+    ∙ ap₂ (λ front c. front ++ c ∷ []) (take_more text at 0 (omega arith) ∙ ap (λ c. take at text ++ c ∷ []) one) two
+    ∙ append_assoc (take at text) (first ∷ []) (second ∷ [])

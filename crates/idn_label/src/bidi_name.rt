@@ -74,6 +74,9 @@ pub(crate) fn holds_rtl_in_utf8(name: &[u8]) -> bool
     requires { IsUtf8 name.now }
     ensures { result ≡ list_any (λ c. is_rtl (bidi_class c)) (chars name.now) }
 {
+    if begins_with_rtl_letter(name) {
+        return true;
+    }
     if is_told_by_octets(name) {
         return false;
     }
@@ -96,11 +99,19 @@ fn is_told_by_octets(name: &[u8]) -> bool
     requires { IsUtf8 name.now }
     ensures { IsTrue result → list_any (λ c. is_rtl (bidi_class c)) (chars name.now) ≡ false }
 {
-    // Right-to-left names mostly begin so.
-    if let [0xD6..=0xDF, ..] = name {
+    lacks_rtl_leads(name)
+}
+
+/// Whether a name begins with a letter of Hebrew or Arabic, as right-to-left names mostly do.
+#[inline]
+fn begins_with_rtl_letter(name: &[u8]) -> bool
+    requires { IsUtf8 name.now }
+    ensures { IsTrue result → list_any (λ c. is_rtl (bidi_class c)) (chars name.now) ≡ true }
+{
+    if name.len() < 2 {
         return false;
     }
-    lacks_rtl_leads(name)
+    is_rtl_letter(name[0], name[1])
 }
 
 /// Whether each label of a name in UTF-8 meets the rule.
