@@ -488,6 +488,11 @@ def tells_which_words_cannot_be_used(folder):
         (["--json", "--foo", "--bar"], "unknown option '--foo'"),
         (["-x"], "unknown option '-x'"),
         (["-rx", "y"], "unknown option '-x'"),
+        (["-rlé", "y"], "unknown option '-é'"),
+        (["-r=x"], "unknown option '-='"),
+        (["--=x"], "unknown option '--'"),
+        (["-", "x", "--limits"], "unknown option '--limits'"),
+        (["--limit", "--foo"], "unknown option '--foo'"),
         (["--a\nb"], "unknown option '--a\\u{a}b'"),
         (["--limit"], "--limit takes a value"),
         (["--variants", "t", "--limit", "--json", "x"], "--limit takes a value"),
@@ -518,6 +523,7 @@ def tells_which_words_cannot_be_used(folder):
         expect(words, b"", b"", b"idn2: 50 usage\n", 2)
         expect([*words, "--", "--explain"], b"", b"", b"idn2: 50 usage\n", 2)
     expect(["--explain", "--explain", "x"], b"", b"", b"idn2: 50 usage: --explain is given twice\n", 2)
+    expect(["--explain", "-r", "-r", "--", "--foo"], b"", b"", b"idn2: 50 usage: --register is given twice\n", 2)
     # No option of the help is taken for the unknown one, in none of its forms.
     rows = re.findall(r"^ +(?:(-\w), )?(--[\w-]+)( <\w+>)?  ", run(["--help"]).stdout.decode(), re.MULTILINE)
     assert len(rows) > 12, rows

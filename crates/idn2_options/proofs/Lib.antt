@@ -6,7 +6,9 @@ mod EntryLemmas
 mod CountLemmas
 -- Options that the rules allow are within the limits of a run.
 mod LimitLemmas
--- The definition of a command without subcommands names one kind of error at most.
+-- What becomes of one use of an option.
+mod KindLemmas
+-- The definition of a command without subcommands names one kind of error at most: that of an unknown argument where one is.
 mod SingleErrorKind
 -- From what `clap` gives to the answer.
 mod AnswerLemmas
@@ -16,3 +18,5 @@ pub mod SuitLemmas
 pub mod ModeLemmas
 -- A rule is broken exactly where the words are not allowed.
 mod CauseLemmas
+-- The first option that the command line hasn't, found step by step.
+mod MissingLemmas

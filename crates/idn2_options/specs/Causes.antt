@@ -1,9 +1,11 @@
--- Why words are refused: `clap` refuses them, or they break a rule of the program, of which the first is told.
-use Rattle.std.specs.Prelude.{◌≡◌, ◌≢◌, ◌&&◌, not, List, Option, Some, None, IfSome, if◌then◌else◌}
+-- Why words are refused: `clap` refuses them, for an option that it doesn't know or in another way, or they break a rule of the
+-- program, of which the first is told.
+use Rattle.std.specs.Prelude.{◌≡◌, ◌≢◌, not, List, Option, Some, None, IfSome, if◌then◌else◌, string_bytes}
 use Rattle.clap.specs.Words.{Row, Text, matches_of}
 use Rattle.idn2_options.specs.CommandLine.{app}
-use Rattle.idn2_options.specs.Names.{after_name, jump_name, limit_name, steps_name, tries_name}
-use Rattle.idn2_options.specs.Words.{bad, checks_alone, has_counts, has_flag, has_short_start, has_value, is_count_if_given, jumps_by_table, listing_options_fit, lists, names_one_mode, options_of, suits_among}
+use Rattle.idn2_options.specs.Names.{after_name, limit_name, steps_name, tries_name}
+use Rattle.idn2_options.specs.Unknown.{unknown_option}
+use Rattle.idn2_options.specs.Words.{bad, checks_alone, has_counts, has_short_start, has_value, is_count_if_given, jumps_by_table, listing_options_fit, lists, names_one_mode, options_of, suits_among}
 use Rattle.idn2_options.specs.declared.command_line.broken_rule.BrokenRule.{BrokenRule}
 use Rattle.idn2_options.specs.declared.command_line.broken_rule.BrokenRule.TheVariants as rules
 use Rattle.idn2_options.specs.declared.command_line.broken_rule.ListingOption.{ListingOption}
@@ -54,8 +56,16 @@ abbrev pub rule_of : UsageCause → Option BrokenRule
 rule_of (causes.Rule rule) = Some rule
 rule_of _ = None
 
--- there is a cause exactly of words that are refused, and a rule that it tells is the first that is broken
+-- the option that a cause tells as unknown
+abbrev pub unknown_of : UsageCause → Option Text
+unknown_of (causes.Unknown option) = Some (string_bytes option)
+unknown_of _ = None
+
+-- there is a cause exactly of words that are refused; a rule that it tells is the first that is broken, and it tells of an unknown
+-- option exactly where `clap` refuses the words for one: of the first
 abbrev pub IsUsageCause : List Text → Option UsageCause → Type 0
 IsUsageCause words None = options_of words ≢ bad
 IsUsageCause words (Some cause) =
-    (options_of words ≡ bad) × IfSome (rule_of cause) (λ rule. broken_rule (matches_of app words) ≡ Some rule)
+    (options_of words ≡ bad)
+    × IfSome (rule_of cause) (λ rule. broken_rule (matches_of app words) ≡ Some rule)
+    × (unknown_of cause ≡ unknown_option words)

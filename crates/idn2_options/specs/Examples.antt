@@ -1,8 +1,9 @@
 -- Worked examples of the definitions, by computation.
-use Rattle.std.specs.Prelude.{◌≡◌, ℕ, List, [], ◌∷◌, false, true, None, codes}
+use Rattle.std.specs.Prelude.{◌≡◌, ℕ, List, [], ◌∷◌, false, true, Option, Some, None, codes}
 use Rattle.idn_class.specs.declared.properties.Properties.TheVariants.{Profile, Unicode}
 use Rattle.variant_table.specs.declared.version.Notation.TheVariants.{Table, Ruleset}
 use Rattle.idn2_options.specs.Settings.{Settings}
+use Rattle.idn2_options.specs.Unknown.{unknown_option}
 use Rattle.idn2_options.specs.Words.{Answer, options_of, chosen, bad}
 use Rattle.idn2_options.specs.declared.command_line.form.Form.TheVariants.{Plain, Json}
 use Rattle.idn2_options.specs.declared.command_line.mode.Mode.{Mode}
@@ -17,6 +18,10 @@ plain_run mode strings =
 abbrev pub asked : List (List ℕ) → Answer
 asked words = options_of (codes "idn2" ∷ words)
 
+-- the unknown option for which they are refused
+abbrev pub unknown_in : List (List ℕ) → Option (List ℕ)
+unknown_in words = unknown_option (codes "idn2" ∷ words)
+
 pub record ExamplesOfWords : Type 0 where
   pub two_modes : asked (codes "-r" ∷ codes "-d" ∷ codes "x" ∷ []) ≡ bad
   pub switches : asked (codes "-N" ∷ codes "--quiet" ∷ codes "x" ∷ []) ≡ chosen (plain_run Lookup (codes "x" ∷ []))
@@ -29,3 +34,7 @@ pub record ExamplesOfWords : Type 0 where
   pub checked_ruleset : asked (codes "--check-ruleset" ∷ codes "f" ∷ []) ≡ chosen (record (plain_run CheckTable []) { file = codes "f"; notation = Ruleset })
   pub table_and_ruleset : asked (codes "--variants" ∷ codes "f" ∷ codes "--ruleset" ∷ codes "g" ∷ codes "x" ∷ []) ≡ bad
   pub after_alone : asked (codes "--after" ∷ [] ∷ codes "x" ∷ []) ≡ bad
+  pub unknown_name : unknown_in (codes "--json" ∷ codes "--foo=x" ∷ codes "--bar" ∷ []) ≡ Some (codes "--foo")
+  pub unknown_letter : unknown_in (codes "-rx" ∷ codes "y" ∷ []) ≡ Some (codes "-x")
+  pub no_value : unknown_in (codes "--limit" ∷ codes "--json" ∷ codes "--foo" ∷ []) ≡ None
+  pub after_dashes : unknown_in (codes "-r" ∷ codes "-r" ∷ codes "--" ∷ codes "--foo" ∷ []) ≡ None

@@ -6,4 +6,5 @@ pub mod Words
 pub mod Inputs
 pub mod Laws
 pub mod Examples
+pub mod Unknown
 pub mod Causes

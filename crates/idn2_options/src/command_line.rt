@@ -9,6 +9,7 @@ pub(crate) mod mode;
 pub(crate) mod options;
 pub(crate) mod rules;
 pub(crate) mod strings;
+pub(crate) mod unknown;
 pub(crate) mod usage;
 pub(crate) mod usage_cause;
 pub(crate) mod words;

@@ -1,9 +1,12 @@
 //! Why words are refused, in the words of a message.
-ghost use Rattle.std.specs.Prelude.{◌≡◌, IfOk, None};
-ghost use Rattle.idn2_options.specs.Causes.{rule_of};
+ghost use Rattle.std.specs.Prelude.{◌≡◌, IfOk, None, if◌then◌else◌, map, option_map, string_bytes};
+ghost use Rattle.clap.specs.Words.{kind_of};
+ghost use Rattle.idn2_options.specs.Causes.{rule_of, unknown_of};
+ghost use Rattle.idn2_options.specs.Unknown.{first_unknown, is_unknown};
 
-use crate::command_line::arguments::{EXPLAIN, LETTERS, OPTIONS};
+use crate::command_line::arguments::EXPLAIN;
 use crate::command_line::broken_rule::BrokenRule;
+use crate::command_line::unknown::first_unknown;
 use clap::Error;
 use clap::error::ErrorKind;
 use std::alloc::{AllocError, Global};
@@ -13,7 +16,9 @@ use std::alloc::{AllocError, Global};
 pub enum UsageCause {
     /// They break a rule of the program.
     Rule(BrokenRule),
-    /// `clap` refuses them, for this reason.
+    /// There is no such option, as it was written: `--foo`, or `-x`.
+    Unknown(String),
+    /// `clap` refuses them for another reason, which is this.
     Words(String),
 }
 
@@ -25,33 +30,62 @@ impl UsageCause {
                 let (option, text) = rule.parts();
                 format!(in alloc; "{option}{text}")
             }
+            UsageCause::Unknown(option) => {
+                let mut text = String::from_str(alloc, "unknown option '")?;
+                push_escaped(&mut text, option)?;
+                text.push_str("'")?;
+                Ok(text)
+            }
             UsageCause::Words(text) => String::from_str(alloc, text.as_str()),
         }
     }
 }
 
-/// What `clap` refuses: an option that it doesn't know, by its name, or one that is used in a wrong way.
+/// What `clap` refuses: an option that it doesn't know, or one that is used in a wrong way.
 pub(crate) fn refused_by_clap(
     alloc: Global,
     words: &[String],
     error: &Error,
 ) -> Result<UsageCause, AllocError>
-    ensures { IfOk result (λ cause. rule_of cause ≡ None) }
+    ensures rule { IfOk result (λ cause. rule_of cause ≡ None) }
+    ensures unknown { IfOk result (λ cause. unknown_of cause
+        ≡ (if is_unknown (kind_of error.now) then first_unknown (map string_bytes words.now) else None)) }
 {
+    match unknown_option(alloc, words, error)? {
+        Some(option) => Ok(UsageCause::Unknown(option)),
+        None => Ok(UsageCause::Words(misuse_text(alloc, error)?)),
+    }
+}
+
+/// The option that `clap` doesn't know, if that is what it refuses.
+fn unknown_option(
+    alloc: Global,
+    words: &[String],
+    error: &Error,
+) -> Result<Option<String>, AllocError>
+    ensures { IfOk result (λ option. option_map string_bytes option
+        ≡ (if is_unknown (kind_of error.now) then first_unknown (map string_bytes words.now) else None)) }
+{
+    match error.kind() {
+        ErrorKind::UnknownArgument => first_unknown(alloc, words),
+        _ => Ok(None),
+    }
+}
+
+/// How an option is used in a wrong way.
+fn misuse_text(alloc: Global, error: &Error) -> Result<String, AllocError> {
     let message = format!(in alloc; "{error}")?;
-    let text = match error.kind() {
-        ErrorKind::UnknownArgument => unknown_text(alloc, words)?,
-        ErrorKind::InvalidValue => option_text(alloc, message.split_once('\''), " takes a value")?,
+    match error.kind() {
+        ErrorKind::InvalidValue => option_text(alloc, message.split_once('\''), " takes a value"),
         ErrorKind::ArgumentConflict => {
-            option_text(alloc, message.split_once('\''), " is given twice")?
+            option_text(alloc, message.split_once('\''), " is given twice")
         }
         // The value stands before the option, and may have any text.
         ErrorKind::TooManyValues => {
-            option_text(alloc, message.rsplit_once("' for '"), " takes no value")?
+            option_text(alloc, message.rsplit_once("' for '"), " takes no value")
         }
-        _ => String::from_str(alloc, "the words can't be read")?,
-    };
-    Ok(UsageCause::Words(text))
+        _ => String::from_str(alloc, "the words can't be read"),
+    }
 }
 
 /// Whether causes are asked for among the words, which may be refused: `--explain` stands before `--`.
@@ -65,53 +99,6 @@ pub fn asks_for_causes(words: &[String]) -> bool {
         }
     }
     false
-}
-
-/// The first option that `clap` doesn't know.
-fn unknown_text(alloc: Global, words: &[String]) -> Result<String, AllocError> {
-    let mut text = String::from_str(alloc, "unknown option '")?;
-    for word in words {
-        if word.as_str() == "--" {
-            break;
-        }
-        if push_if_unknown(&mut text, word)? {
-            break;
-        }
-    }
-    text.push_str("'")?;
-    Ok(text)
-}
-
-/// Appends the option that a word names, if there is no such option, and returns whether it did.
-fn push_if_unknown(text: &mut String, word: &str) -> Result<bool, AllocError> {
-    match (word.strip_prefix("--"), word.strip_prefix('-')) {
-        (Some(rest), _) => {
-            let name = match rest.split_once('=') {
-                Some((name, _)) => name,
-                None => rest,
-            };
-            if OPTIONS.contains(&name) {
-                return Ok(false);
-            }
-            text.push_str("--")?;
-            push_escaped(text, name)?;
-            Ok(true)
-        }
-        (None, Some(letters)) => push_if_letter(text, letters),
-        (None, None) => Ok(false),
-    }
-}
-
-/// Appends the first letter after a dash that is no option, if there is one, and returns whether it did.
-fn push_if_letter(text: &mut String, letters: &str) -> Result<bool, AllocError> {
-    for letter in letters.chars() {
-        if !LETTERS.contains(&letter) {
-            text.push_str("-")?;
-            push_letter(text, letter)?;
-            return Ok(true);
-        }
-    }
-    Ok(false)
 }
 
 /// Appends a text in one line.

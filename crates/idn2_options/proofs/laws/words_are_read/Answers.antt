@@ -6,4 +6,4 @@ use Rattle.idn2_options.proofs.laws.words_are_read.Goals as goal
 
 pub returns : goal.returns
 unfolding options_of app clap_on_literals
-returns c = record { two_modes = refl; switches = refl; explained = refl; explained_twice = refl; by_standard = refl; in_json = refl; in_json_twice = refl; by_ruleset = refl; checked_ruleset = refl; table_and_ruleset = refl; after_alone = refl }
+returns c = record { two_modes = refl; switches = refl; explained = refl; explained_twice = refl; by_standard = refl; in_json = refl; in_json_twice = refl; by_ruleset = refl; checked_ruleset = refl; table_and_ruleset = refl; after_alone = refl; unknown_name = refl; unknown_letter = refl; no_value = refl; after_dashes = refl }

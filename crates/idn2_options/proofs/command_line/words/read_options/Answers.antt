@@ -5,12 +5,13 @@ use Rattle.idn2_options.specs.Settings.{IsWithinLimits, SuitsMode}
 use Rattle.idn2_options.specs.Words.{bad, chosen, settings_of}
 use Rattle.idn2_options.proofs.AnswerLemmas.{answer-Err, answer-Ok}
 use Rattle.idn2_options.proofs.LimitLemmas.{within_limits}
+use Rattle.idn2_options.proofs.SingleErrorKind.{texts}
 use Rattle.idn2_options.proofs.SuitLemmas.{suits_mode}
 use Rattle.idn2_options.proofs.command_line.words.read_options.Goals as goal
 
 pub returns-in-Err-clause-answer : goal.returns-in-Err-clause-answer
 returns-in-Err-clause-answer c =
-    answer-Err (map string_bytes c.args.words.now) c.in-Err.error c.usage_of.result c.in-Err.ensures.fault c.usage_of.ensures
+    answer-Err (map string_bytes c.args.words.now) c.in-Err.error c.usage_of.result (texts c.args.words.now) c.in-Err.ensures.fault c.usage_of.ensures
 
 pub returns-then-not-is_allowed-clause-answer : goal.returns-then-not-is_allowed-clause-answer
 returns-then-not-is_allowed-clause-answer c =
