@@ -1,5 +1,6 @@
 """What is said of a label: the objects of the commands and of the library."""
 
+import math
 import re
 from collections.abc import Mapping
 from dataclasses import dataclass, field
@@ -8,6 +9,8 @@ from typing import Any
 
 Object = dict[str, Any]
 CONTROL_CHARACTER = re.compile(r"[\x00-\x1f\x7f-\x9f]")
+# Refusals by a table: a label that isn't made of its entries, and one that is, but isn't valid.
+NOT_MADE, NOT_VALID = 40, 41
 
 
 class Status(Enum):
@@ -111,11 +114,22 @@ class Refusal:
         return f"{words}: {where.strip()}" if where else words
 
 
+def furthest_first(refusals: Mapping[str, Refusal]) -> dict[str, Refusal]:
+    """Why tables refuse a label, by their names. First comes what says most of the label: that it isn't valid, though it is made
+    of entries; then the refusal whose place is the furthest. A broken demand, which has no place, is found after all places.
+    Tables that say as much stay in their order."""
+    def order(each: tuple[str, Refusal]) -> tuple[bool, float]:
+        return each[1].number != NOT_VALID, -each[1].details.get("place", math.inf)
+
+    return dict(sorted(refusals.items(), key=order))
+
+
 @dataclass(frozen=True)
 class Answer:
     """What is said of one label. Only members that its status has are told.
 
-    `reason` says why an answer isn't known. `after` is where a listing that isn't `complete` goes on."""
+    `reason` says why an answer isn't known, and `lasts` whether it stays so until an operator mends something. `after` is where a
+    listing that isn't `complete` goes on."""
 
     label: str
     status: Status
@@ -128,6 +142,7 @@ class Answer:
     variants: tuple[Variant, ...] | None = None
     after: str | None = None
     reason: str | None = None
+    lasts: bool = False
 
     @property
     def complete(self) -> bool:

@@ -6,7 +6,7 @@ from dataclasses import dataclass
 from functools import cached_property
 from typing import Any, TypeVar
 
-from .answers import ExitStatus, Refusal
+from .answers import ExitStatus, Refusal, furthest_first
 from .collisions import Collisions, found_in_audit, refusals_in
 from .configuration import Configuration
 from .faults import Unknown
@@ -44,16 +44,23 @@ class AdmissionTask:
     admitting: tuple[Table, ...]
 
     def done(self, part: bytes) -> bytes:
-        """The refusals by the last table of what all others refuse, too."""
+        """The refusals of what all of them refuse, of each label the furthest."""
         labels = part.split(b"\n")[:-1]
-        for table in self.admitting:
-            words, files = admission_words(table)
+        runs = {table.name: admission_words(table) for table in self.admitting}
+        for words, files in runs.values():
             output, refused = self.program.plain(words, part, files)
             # No label has a number sign, with which the last line of each answer begins.
             check_answered(output.count(b"#") + len(refused), len(labels))
             labels = labels_at(part, refused)
             part = lines_of(labels)
-        return json.dumps(causes(self.program, (words, files), labels)).encode()
+        told = {name: causes(self.program, run, labels) for name, run in runs.items()}
+        return json.dumps({label: furthest(told, label).object() for label in map(bytes.decode, labels)}).encode()
+
+
+def furthest(told: dict[str, Refused], label: str) -> Refusal:
+    """Of the refusals of a label by several tables the furthest."""
+    each = furthest_first({name: Refusal.read(refused[label]) for name, refused in told.items()})
+    return next(iter(each.values()))
 
 
 @dataclass(frozen=True)

@@ -4,14 +4,13 @@ import json
 import re
 from collections.abc import Callable, Sequence
 
-from .answers import Object, Refusal
+from .answers import NOT_MADE, NOT_VALID, Object, Refusal
 from .faults import Unknown
 from .processes import Pool, Question, only
 from .program import HeldFile, Program
 from .tables import Table
 
 ALLOCATABLE = "allocatable"
-NOT_ADMITTED, NOT_VALID = 40, 41
 # The line that ends a block, and that of a label which collides with another than itself.
 END = b"#end "
 COLLIDING = re.compile(rb"#end (?!1\n)(\d+)\n")
@@ -48,7 +47,7 @@ class Collisions:
         if "refusal" not in answer:
             return None
         refusal = Refusal.read(answer["refusal"])
-        if refusal.number not in (NOT_ADMITTED, NOT_VALID):
+        if refusal.number not in (NOT_MADE, NOT_VALID):
             raise Unknown(f"the program gave another answer than it should: {refusal}")
         return refusal
 

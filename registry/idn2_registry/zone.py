@@ -6,8 +6,8 @@ from collections.abc import Callable
 from dataclasses import replace
 from types import TracebackType
 
-from .answers import Answer, Object, Refusal, RegisteredLabel, Status, Variant, bytes_of
-from .collisions import NOT_VALID, Collisions
+from .answers import Answer, Object, Refusal, RegisteredLabel, Status, Variant, bytes_of, furthest_first
+from .collisions import Collisions
 from .configuration import DEFAULT_PATH, Configuration, Limits, read_configuration
 from .faults import Unknown, Unusable
 from .join import lacking
@@ -54,13 +54,16 @@ class Tables:
         if "refusal" in told:
             return Answer(label, Status.REFUSED, refusal=Refusal.read(told["refusal"]))
         answer = Answer(label, Status.ADMITTED, told["ulabel"], told["alabel"])
-        refusals = {name: self.refusal(name, told["ulabel"]) for name in self.admitting}
-        tables = tuple(name for name, refusal in refusals.items() if refusal is None)
+        refusals = self.refusals(told["ulabel"])
+        tables = tuple(name for name in self.admitting if name not in refusals)
         if tables:
             return replace(answer, tables=tables)
-        # That a label isn't valid says more than that it isn't made of the table.
-        told_first = max(filter(None, refusals.values()), key=lambda refusal: refusal.number == NOT_VALID)
-        return replace(answer, status=Status.REFUSED, tables=(), refusal=told_first)
+        return replace(answer, status=Status.REFUSED, tables=(), refusal=next(iter(refusals.values())))
+
+    def refusals(self, ulabel: str) -> dict[str, Refusal]:
+        """Why the tables that don't admit a label refuse it, the furthest first."""
+        told = {name: self.refusal(name, ulabel) for name in self.admitting}
+        return furthest_first({name: refusal for name, refusal in told.items() if refusal is not None})
 
     def refusal(self, name: str, ulabel: str) -> Refusal | None:
         """Why a table refuses a label; None if it admits it."""
@@ -229,13 +232,25 @@ class Zone:
             answer = replace(tested, status=Status.LISTED, table=name, variants=found, after=rest)
             if rest is None or page is not None:
                 return answer
-            return replace(answer, status=Status.UNKNOWN, reason="more variants than the limits allow: ask for pages")
+            return replace(answer, status=Status.UNKNOWN, reason="more variants than the limits allow: ask for pages", lasts=True)
 
         return self._answered(label, asked)
 
     def tables_of(self, label: str) -> Answer:
         """Which tables admit a label."""
         return self._answered(label, lambda tables: tables.tested(label))
+
+    def doubt(self) -> Answer | None:
+        """Why no label would be known to be available; None if labels are answered. All is asked that answers a label."""
+
+        def asked(tables: Tables) -> Answer:
+            tested = tables.tested("a")
+            with self._register.reading() as transaction:
+                transaction.first_from("a")
+            return replace(tested, status=Status.UNKNOWN, reason=tables.doubt, lasts=True) if tables.doubt else tested
+
+        answer = self._answered("a", asked)
+        return answer if answer.status is Status.UNKNOWN else None
 
     def _with_variants(self, tables: Tables, answer: Answer) -> Answer:
         """An answer with the variants under the first table that admits the label."""
@@ -251,7 +266,7 @@ class Zone:
             with tables.pool.request():
                 return asked(tables)
         except (Unknown, Unusable) as error:
-            return Answer(label, Status.UNKNOWN, reason=str(error))
+            return Answer(label, Status.UNKNOWN, reason=str(error), lasts=isinstance(error, Unusable))
 
 
 def fixed(configuration: Configuration) -> tuple[object, ...]:
@@ -279,7 +294,7 @@ def decided(tables: Tables, tested: Answer, holder: str | None, transaction: Tra
     if taken_by and not (may_have and all(tables.is_offered(label, each.ulabel) for each in taken_by)):
         return replace(tested, status=Status.TAKEN, taken_by=taken_by)
     if tables.doubt:
-        return replace(tested, status=Status.UNKNOWN, reason=tables.doubt)
+        return replace(tested, status=Status.UNKNOWN, reason=tables.doubt, lasts=True)
     return replace(tested, status=Status.AVAILABLE)
 
 

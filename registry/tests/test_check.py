@@ -1,7 +1,9 @@
 """Which labels are available, and what else is said of one label."""
 
 import json
+from collections.abc import Mapping
 
+import pytest
 from conftest import TABLES, Place
 
 from idn2_registry import Status, Variant
@@ -101,17 +103,46 @@ def test_asks_each_table_and_the_table_of_the_zone(bare: Place) -> None:
     bare.load("cop\tH1")
     bare.expect(["tables-of", "сор"], "сор: cyrillic\n", 0)
     bare.expect(["tables-of", "2026"], "2026: latin, cyrillic\n", 0)
-    bare.expect(["tables-of", "сop"], "сop: refused: 40 not made of table entries: U+0441 at place 1\n", 1)
+    # Latin has no first letter of it, Cyrillic no second one.
+    bare.expect(["tables-of", "сop"], "сop: refused: 40 not made of table entries: U+006F at place 2\n", 1)
     bare.expect(["check", "сор"], "сор: taken by cop, held by H1\n", 1)
     bare.expect(["check", "--holder", "H1", "сор"], "сор: taken by cop, held by H1\n", 1)
     bare.expect(["check", "copy"], "copy: available (copy)\n", 0)
-    bare.expect(["check", "сop"], "сop: refused: 40 not made of table entries: U+0441 at place 1\n", 1)
+    bare.expect(["check", "сop"], "сop: refused: 40 not made of table entries: U+006F at place 2\n", 1)
     # A pair that the table of the zone doesn't have yet.
     bare.write("latin.txt", "%version 2\n002D\n0030..0039\n0061..0078\n0079|!007A\n007A|!0079\n")
     told = "the table zone lacks 0079|007A of latin: join the tables again"
     bare.expect(["check", "copy", "сор"], f"copy: not known: {told}\nсор: taken by cop, held by H1\n", 75)
     done = bare.run("check-config")
     assert done.returncode == 1 and f"zone.txt: {told}: no label is told to be available\n" in done.stdout.decode(), done
+
+
+AFTER_B = "%version 3\n%rule after_b 0062 _\n0061..0063\n0064 when after_b\n"
+NO_AD = "%version 3\n%never 0061 0064\n0061..0064\n"
+FURTHEST: tuple[tuple[str, tuple[str, str], Mapping[str, object]], ...] = (
+    ("abz", ("%version 2\n0061\n", "%version 2\n0061..0062\n"), {"number": 40, "place": 3}),
+    # All letters are in the ruleset, which says more than any place in a table.
+    ("adez", ("%version 2\n0061..0065\n", AFTER_B), {"number": 40, "place": 4}),
+    ("acd", ("%version 2\n0061..0063\n", AFTER_B), {"number": 41, "place": 3, "rule": "after_b"}),
+    # A demand is asked after all places.
+    ("ad", (NO_AD, AFTER_B), {"number": 41, "demand": 1}),
+    ("bd", (AFTER_B, "0061\n"), {}),
+)
+
+
+@pytest.mark.parametrize("label, tables, said", FURTHEST)
+def test_of_several_refusals_the_furthest_is_told(bare: Place, label: str, tables: tuple[str, str],
+                                                  said: Mapping[str, object]) -> None:
+    """By each command and by an audit, in whatever order the tables stand."""
+    paths = {name: bare.write(f"{name}.txt", text) for name, text in zip(("one", "two"), tables, strict=True)}
+    joined = bare.write("zone.txt", "%version 2\n0061..007A\n")
+    bare.configure('zone = "zone"', zone=joined, **paths)
+    bare.load(label)
+    for names in (("one", "two"), ("two", "one")):
+        bare.configure('zone = "zone"', zone=joined, **{name: paths[name] for name in names})
+        for words in (["check", "--json", label], ["audit", "--json"]):
+            told = json.loads(bare.run(*words).stdout.splitlines()[0]).get("refusal", {})
+            assert bool(told) == bool(said) and said.items() <= told.items(), (names, words, told)
 
 
 def test_offers_allocatable_variants_to_the_holder_alone(bare: Place) -> None:

@@ -6,7 +6,6 @@ from dataclasses import dataclass, field, replace
 from urllib.parse import urlencode
 
 from ..answers import Answer, Refusal, RegisteredLabel, Status, Variant
-from ..collisions import NOT_VALID
 from ..faults import Unknown, Unusable
 from ..tables import Table
 from ..zone import Tables, Zone
@@ -90,14 +89,11 @@ def found(zone: Zone, classes: Classes, asked: Asked) -> Found:
 
 
 def refusals_of(tables: Tables, answer: Answer) -> dict[str, Refusal]:
-    """What each table says of a label that none of them admits. First comes the one that says most: that the label isn’t
-    valid, else the one whose place is the furthest."""
+    """What each table says of a label that none of them admits, the furthest first."""
     if answer.status is not Status.REFUSED or answer.ulabel is None:
         return {}
     with tables.pool.request():
-        told = [(name, tables.refusal(name, answer.ulabel)) for name in tables.admitting]
-    refusals = [(name, refusal) for name, refusal in told if refusal is not None]
-    return dict(sorted(refusals, key=lambda each: (each[1].number != NOT_VALID, -each[1].details.get("place", 0))))
+        return tables.refusals(answer.ulabel)
 
 
 def label_page(frame: Frame, asked: Asked | None, told: Found | None) -> bytes:
