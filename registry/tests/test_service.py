@@ -83,15 +83,51 @@ def test_what_is_not_known_is_never_a_200(bare: Place) -> None:
     bare.load("a")
     with Served(bare) as served:
         told = served.ask("GET", "/v1/check?label=b")
-        assert (told.status, told.headers["Retry-After"]) == (503, "1")
+        # It lasts until the table is mended.
+        assert (told.status, told.headers["Retry-After"]) == (503, "60")
         assert told.object == {"label": "b", "status": "unknown", "ulabel": "b", "alabel": "b", "tables": ["gap"],
                                "reason": "the table gap has 1 gap"}
         told = served.ask("POST", "/v1/check", {"labels": ["a", "b", "c"]})
         assert told.status == 503 and [each["status"] for each in told.object["answers"]] == ["taken", "unknown", "refused"]
-        assert served.ask("GET", "/v1/health").object["status"] == "ready"
-        bare.run("release", "a")
         told = served.ask("GET", "/v1/health")
-        assert (told.status, told.headers["Retry-After"], told.object["reason"]) == (503, "1", "the table gap has 1 gap")
+        assert (told.status, told.headers["Retry-After"], told.object["reason"]) == (503, "60", "the table gap has 1 gap")
+        assert served.end() == "idn2-registry: 1 answer not known, the last one because: the table gap has 1 gap\n"
+
+
+def test_tells_what_lasts_until_an_operator_mends_it(bare: Place) -> None:
+    """A table whose file is faulty now, and a register that is gone: also where no table admits the label that is asked for."""
+    bare.write("own.txt", "0062\n")
+    configure(bare, own="own.txt")
+    bare.load()
+    register = bare.folder / "register.db"
+    with Served(bare) as served:
+        assert served.ask("GET", "/v1/health").object["status"] == "ready"
+        bare.write("own.txt", "0062|\n")
+        served.process.send_signal(signal.SIGHUP)
+        until = time.monotonic() + LIMIT
+        while "stale" not in (told := served.ask("GET", "/v1/health")).object:
+            assert time.monotonic() < until
+        stale = "own.txt: line 1: 30 table syntax at byte 6: mend it (docs/NOTATION.md); the old tables stay"
+        assert (told.status, told.object["stale"]) == (200, stale)
+        assert "\nidn2_registry_tables_are_stale 1\n" in served.ask("GET", "/metrics").text
+        register.rename(bare.folder / "away.db")
+        for path in ("/v1/health", "/v1/check?label=b", "/?label=b"):
+            told = served.ask("GET", path)
+            assert (told.status, told.headers["Retry-After"]) == (503, "60") and "no longer the file that was opened" in told.text, path
+        told = served.ask("POST", "/v1/register", {"label": "b"}, **BEARER)
+        assert told.status == 503 and told.object["status"] == "unknown", told.bytes
+        (bare.folder / "away.db").rename(register)
+        bare.write("own.txt", "0062\n")
+        served.process.send_signal(signal.SIGHUP)
+        while "stale" in (told := served.ask("GET", "/v1/health")).object:
+            assert time.monotonic() < until
+        assert (told.status, told.object["status"]) == (200, "ready")
+        assert "\nidn2_registry_tables_are_stale 0\n" in served.ask("GET", "/metrics").text
+        assert served.ask("GET", "/v1/check?label=b").object["status"] == "available"
+        messages = served.end().splitlines()
+    # One for all answers of a minute.
+    assert messages == [f"idn2-registry: {stale}", "idn2-registry: 1 answer not known, the last one because: register.db: no longer "
+                        "the file that was opened: put that back, or start again"], messages
 
 
 FAULTS: list[tuple[str, str, Any, int]] = [
@@ -142,6 +178,9 @@ def test_tells_faulty_requests(place: Place) -> None:
             assert told.status == status, (method, path, told.status, told.bytes)
             assert method == "HEAD" or list(told.object) == ["fault"], (method, path, told.bytes)
         packed = {"Content_Encoding": "gzip"}
+        expecting = {"Expect": "200-ok"}
+        assert served.ask("GET", "/v1/check?label=a", **expecting).object == {"fault": "Expectation Failed"}
+        assert served.ask("GET", "/none", **expecting).status == 417
         for body, headers, status in ((b"[" * 100_000, {}, 400), (b'{"labels":["a"],"labels":["b"]}', {}, 400),
                                       (gzip.compress(b'{"labels":["a"]}'), packed, 415), (b"{", packed, 415)):
             told = served.ask("POST", "/v1/check", body, Content_Type="application/json", **headers)

@@ -6,8 +6,10 @@ from collections.abc import Callable, Sequence
 from typing import TypeVar
 
 from ..answers import Answer, Status
-from ..faults import Unknown
+from ..faults import Unknown, Unusable
+from ..output import complain
 from ..requests import Request
+from ..words import counted
 from ..zone import Zone
 from .metrics import Metrics
 from .workers import Workers
@@ -15,6 +17,24 @@ from .workers import Workers
 Result = TypeVar("Result")
 # So long several labels of one request may take. Those that are left are unknown then.
 BATCH_SECONDS = 30.0
+# So long after a line on answers that aren't known the next one comes at the earliest.
+QUIET_SECONDS = 60.0
+
+
+class Unknowns:
+    """Tells the operator of answers that aren't known: of the first at once, and then at most once a minute how many there were,
+    and why the last one."""
+
+    def __init__(self) -> None:
+        self._count = 0
+        self._next = 0.0
+
+    def add(self, answer: Answer) -> None:
+        """One more."""
+        self._count += 1
+        if time.monotonic() >= self._next:
+            complain(f"{counted(self._count, 'answer')} not known, the last one because: {answer.reason}")
+            self._count, self._next = 0, time.monotonic() + QUIET_SECONDS
 
 
 class Answering:
@@ -22,6 +42,9 @@ class Answering:
 
     def __init__(self, zone: Zone, metrics: Metrics) -> None:
         self.zone = zone
+        self.unknowns = Unknowns()
+        # Why the tables aren't those of the files.
+        self.stale: str | None = None
         self._metrics = metrics
         self._workers = Workers(zone.configuration.processes)
 
@@ -33,6 +56,8 @@ class Answering:
         except Unknown as error:
             answer = Answer(request.label, Status.UNKNOWN, reason=str(error))
         self._metrics.answered(request.job, answer.status.value, time.perf_counter() - start)
+        if answer.status is Status.UNKNOWN:
+            self.unknowns.add(answer)
         return answer
 
     async def ask_all(self, requests: Sequence[Request]) -> list[Answer]:
@@ -56,13 +81,14 @@ class Answering:
         return await self._workers.call(self.zone.limits.seconds, call, *given)
 
     async def reload(self) -> None:
-        """Reads the tables again. Raises Unusable; then the old ones stay."""
+        """Reads the tables again. Where one is faulty, the operator is told, and the old ones stay."""
         try:
             await asyncio.to_thread(self.zone.reload)
-        except BaseException:
-            self._metrics.reloaded(False)
-            raise
-        self._metrics.reloaded(True)
+            self.stale = None
+        except Unusable as error:
+            self.stale = f"{error}; the old tables stay"
+            complain(self.stale)
+        self._metrics.reloaded(self.stale is None)
 
     def close(self) -> None:
         """Waits for what is asked already."""

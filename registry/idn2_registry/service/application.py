@@ -12,8 +12,8 @@ from ..faults import Unknown, Unusable
 from ..output import complain
 from ..requests import Request
 from .answering import Answering
-from .bodies import (MOST_BYTES, Faulty, body_of, json_response, request_of_object, request_of_query, requests_of_labels,
-                     response_of)
+from .bodies import (FAILED, MOST_BYTES, Faulty, again, body_of, json_response, request_of_object, request_of_query,
+                     requests_of_labels, response_of)
 from .connections import Connections
 from .metrics import Metrics
 from .openapi import described
@@ -23,7 +23,6 @@ from .protocol import Protocol
 READING = ("check", "variants", "tables-of")
 CHANGING = ("register", "release")
 Handler = Callable[[web.Request], Awaitable[web.StreamResponse]]
-AGAIN = {"Retry-After": "1"}
 METRICS_TYPE = "text/plain; version=0.0.4; charset=utf-8"
 
 
@@ -77,13 +76,13 @@ class Service:
         except ValueError as error:
             return json_response({"fault": str(error)}, 400)
         except (Unknown, Unusable) as error:
-            return json_response({"fault": str(error)}, 503, AGAIN)
+            return json_response({"fault": str(error)}, 503, again(isinstance(error, Unusable)))
         except web.HTTPException as error:
             kept = {name: value for name, value in error.headers.items() if name == "Allow"}
             return json_response({"fault": error.reason}, error.status, kept)
         except Exception as error:
-            complain(f"it failed, which is a fault of idn2-registry: {type(error).__name__}: {error}")
-            return json_response({"fault": "it failed, which is a fault of idn2-registry"}, 500)
+            complain(f"{FAILED}: {type(error).__name__}: {error}")
+            return json_response({"fault": FAILED}, 500)
 
     def reading(self, job: str) -> Handler:
         """What answers a query."""
@@ -115,16 +114,14 @@ class Service:
             raise Faulty(401, "show the token: Authorization: Bearer ..", WWW_Authenticate="Bearer")
 
     async def health(self, request: web.Request) -> web.StreamResponse:
-        """Whether labels can be answered."""
-        told = await self.answering.call(self.state)
-        return json_response(told, 503 if "reason" in told else 200, AGAIN if "reason" in told else {})
-
-    def state(self) -> Object:
-        """What can be answered: the program is asked, and so is the register."""
-        zone = self.answering.zone
-        answer = zone.check("a")
+        """Whether labels can be answered; and why the tables aren't those of the files, if they couldn't be read again."""
+        zone, stale = self.answering.zone, self.answering.stale
         told: Object = {"status": "ready", "program": zone.program.version, "tables": list(zone.configuration.tables)}
-        return told if answer.reason is None else {**told, "status": "unknown", "reason": answer.reason}
+        told |= {} if stale is None else {"stale": stale}
+        doubt = await self.answering.call(zone.doubt)
+        if doubt is None:
+            return json_response(told)
+        return json_response({**told, "status": "unknown", "reason": doubt.reason}, 503, again(doubt.lasts))
 
     async def openapi(self, request: web.Request) -> web.StreamResponse:
         """The description."""

@@ -17,6 +17,9 @@ MOST_LABELS = 1_000
 BODY_SECONDS = 10.0
 TRUTH = {"true": True, "false": False}
 JSON = "application/json"
+FAILED = "it failed, which is a fault of idn2-registry"
+# After so many seconds ask again: what passes by itself, and what lasts until an operator mends it.
+PASSES, LASTS = 1, 60
 
 
 class Faulty(Exception):
@@ -106,6 +109,12 @@ def json_response(told: Object, status: int = 200, headers: dict[str, str] | Non
 
 def response_of(told: Object, answers: Sequence[Answer]) -> web.Response:
     """Answers as a response. If one of them isn't known, the response says so."""
-    if any(answer.status is Status.UNKNOWN for answer in answers):
-        return json_response(told, 503, {"Retry-After": "1"})
+    unknown = [answer for answer in answers if answer.status is Status.UNKNOWN]
+    if unknown:
+        return json_response(told, 503, again(all(answer.lasts for answer in unknown)))
     return json_response(told)
+
+
+def again(lasts: bool) -> dict[str, str]:
+    """When to ask again."""
+    return {"Retry-After": str(LASTS if lasts else PASSES)}

@@ -20,6 +20,7 @@ class Metrics:
     seconds: dict[str, float] = field(default_factory=lambda: defaultdict(float))
     responses: Counter[int] = field(default_factory=Counter)
     reloads: Counter[str] = field(default_factory=Counter)
+    is_stale: bool = False
     connections: int = 0
     turned_away: int = 0
     start: float = field(default_factory=time.time)
@@ -33,6 +34,7 @@ class Metrics:
 
     def reloaded(self, is_done: bool) -> None:
         """The tables were read again, or are faulty."""
+        self.is_stale = not is_done
         self.reloads["done" if is_done else "failed"] += 1
         self.read = time.time() if is_done else self.read
 
@@ -50,6 +52,8 @@ class Metrics:
             *metric("turned_away_total", "counter", "Connections above the limit.", {"": self.turned_away}),
             *metric("reloads_total", "counter", "How often tables were to be read again.",
                     {f'result="{result}"': count for result, count in sorted(self.reloads.items())}),
+            *metric("tables_are_stale", "gauge", "Whether they couldn't be read the last time, so that the old ones stay.",
+                    {"": int(self.is_stale)}),
             *metric("tables_read_timestamp_seconds", "gauge", "When the tables were read.", {"": self.read}),
             *metric("start_timestamp_seconds", "gauge", "When the service was started.", {"": self.start}),
             *metric("processor_seconds_total", "counter", "Processor time of this process, without the program's.",

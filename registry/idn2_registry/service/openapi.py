@@ -63,7 +63,8 @@ SCHEMAS: Object = {
                       reason=meant(TEXT, "Why it isn't known.")),
     "Answers": members("answers", answers=kind("array", items=named("Answer"), maxItems=MOST_LABELS)),
     "Health": members("status program tables", status=kind("string", enum=["ready", "unknown"]), program=TEXT,
-                      tables=kind("array", items=TEXT), reason=TEXT),
+                      tables=kind("array", items=TEXT), reason=TEXT,
+                      stale=meant(TEXT, "Why the tables couldn't be read the last time, so that the old ones stay.")),
     "Fault": members("fault", fault=TEXT),
 }
 

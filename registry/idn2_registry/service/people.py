@@ -1,8 +1,9 @@
 """The pages over HTTP."""
 
 import re
-from collections.abc import Awaitable, Callable
+from collections.abc import Awaitable, Callable, Mapping
 from dataclasses import dataclass, field
+from types import MappingProxyType
 
 from aiohttp import web
 
@@ -13,20 +14,18 @@ from ..pages.frame import ICON, SCRIPT, STYLE, Frame, file_of
 from ..pages.label_page import Asked, found, label_page
 from ..pages.table_page import Shown, View, table_page
 from .answering import Answering
-from .bodies import Faulty, query_of
+from .bodies import Faulty, again, query_of
 
 HEADERS = {
     "Content-Security-Policy": "default-src 'none'; style-src 'self'; script-src 'self'; img-src 'self'; form-action 'self'; "
                                "base-uri 'none'; frame-ancestors 'none'",
     "Referrer-Policy": "no-referrer", "X-Content-Type-Options": "nosniff", "Cache-Control": "no-store",
 }
-AGAIN = {"Retry-After": "1"}
 Handler = Callable[[web.Request], Awaitable[web.Response]]
 
 
-def html(body: bytes, status: int = 200) -> web.Response:
+def html(body: bytes, status: int = 200, more: Mapping[str, str] = MappingProxyType({})) -> web.Response:
     """A page."""
-    more = AGAIN if status == 503 else {}
     return web.Response(body=body, status=status, content_type="text/html", charset="utf-8", headers={**HEADERS, **more})
 
 
@@ -60,7 +59,7 @@ class Pages:
             except ValueError as error:
                 return html(self.frame.fault(str(error)), 400)
             except (Unknown, Unusable) as error:
-                return html(self.frame.fault(f"{error}: ask again"), 503)
+                return html(self.frame.fault(f"{error}: ask again"), 503, again(isinstance(error, Unusable)))
 
         return answered
 
@@ -81,7 +80,11 @@ class Pages:
             return html(label_page(self.frame, None, None))
         zone = self.answering.zone
         told = await self.answering.call(found, zone, Classes(zone.tables.pool), asked)
-        return html(label_page(self.frame, asked, told), 503 if told.answer.status is Status.UNKNOWN else 200)
+        page = label_page(self.frame, asked, told)
+        if told.answer.status is not Status.UNKNOWN:
+            return html(page)
+        self.answering.unknowns.add(told.answer)
+        return html(page, 503, again(told.answer.lasts))
 
     async def table(self, request: web.Request) -> web.Response:
         """The page of a table."""

@@ -1,5 +1,6 @@
-"""The protocol of aiohttp, with two things changed. What is no request of HTTP is told as other faults are, and counted: aiohttp
-tells it as plain text, and logs a part of it. And of a connection only so many requests wait: aiohttp reads on and on."""
+"""The protocol of aiohttp, with two things changed. What aiohttp refuses by itself, such as what is no request of HTTP, is told as
+other faults are, and counted: aiohttp tells it as plain text, and logs a part of it. And of a connection only so many requests
+wait: aiohttp reads on and on."""
 
 import asyncio
 from typing import Any
@@ -7,7 +8,7 @@ from typing import Any
 from aiohttp import web
 from aiohttp.web_protocol import RequestHandler
 
-from .bodies import json_response
+from .bodies import FAILED, json_response
 from .metrics import Metrics
 
 MOST_WAITING = 16
@@ -38,9 +39,22 @@ class Protocol(RequestHandler):
 
     def handle_error(self, request: web.BaseRequest, status: int = 500, exc: BaseException | None = None,
                      message: str | None = None) -> web.StreamResponse:
+        fault = "no request of HTTP, or its head is too long"
         if status >= 500:
-            return super().handle_error(request, status, exc, message)
-        self._metrics.responses[status] += 1
-        response = json_response({"fault": "no request of HTTP, or its head is too long"}, status)
+            # It tells the log, and raises ConnectionError where a part was sent.
+            super().handle_error(request, status, exc, message)
+            fault = FAILED
+        response = self._fault(fault, status)
         response.force_close()
         return response
+
+    async def finish_response(self, request: web.BaseRequest, resp: web.StreamResponse, start_time: float) -> bool:
+        if isinstance(resp, web.HTTPException):
+            # No handler was asked: its Expect is none that HTTP has.
+            resp = self._fault(resp.reason, resp.status)
+        return await super().finish_response(request, resp, start_time)
+
+    def _fault(self, fault: str, status: int) -> web.Response:
+        """What no path answers, as an object."""
+        self._metrics.responses[status] += 1
+        return json_response({"fault": fault}, status)

@@ -103,7 +103,7 @@ async def served(zone: Zone, token: bytes | None, listening: list[socket.socket]
 
 
 class Reloads:
-    """Reads the tables again when it is told to; faulty ones are told, and the old ones stay."""
+    """Reads the tables again when it is told to."""
 
     def __init__(self, answering: Answering) -> None:
         self._answering = answering
@@ -112,15 +112,9 @@ class Reloads:
 
     def begin(self) -> None:
         """Begins to read them."""
-        task = asyncio.get_running_loop().create_task(self._reload())
+        task = asyncio.get_running_loop().create_task(self._answering.reload())
         self._running.add(task)
         task.add_done_callback(self._running.discard)
-
-    async def _reload(self) -> None:
-        try:
-            await self._answering.reload()
-        except Unusable as error:
-            complain(f"{error}; the old tables stay")
 
 
 def tell_ready(listening: list[socket.socket]) -> None:
