@@ -14,6 +14,7 @@ from .register import Register, Result, Row, Transaction, checked_label, checked
 
 try:
     import psycopg
+    from psycopg import pq
 except ImportError as error:
     raise Unusable(f"{sys.executable} has no psycopg, which PostgreSQL needs: apt-get install python3-psycopg is for "
                    "/usr/bin/python3, and pip install psycopg for any other") from error
@@ -24,7 +25,10 @@ TABLE = """create table if not exists registered (
 )"""
 # So many labels are read at once.
 PAGE = 1_000_000
-FIRST = 'select label from registered where label >= %s collate "C" order by label collate "C" limit 1'
+FIRST = 'select label from registered where label >= $1 collate "C" order by label collate "C" limit 1'
+HOLDER = 'select holder from registered where label = $1 collate "C"'
+INSERT = "insert into registered (label, holder) values ($1, $2)"
+DELETE = 'delete from registered where label = $1 collate "C"'
 MISSING = "there is no register: idn2-registry load FILE makes it, and load /dev/null an empty one"
 # What PostgreSQL says to a transaction that another one got in the way of. It says so of a key that both insert, too.
 AGAIN = (psycopg.errors.SerializationFailure, psycopg.errors.DeadlockDetected, psycopg.errors.UniqueViolation)
@@ -32,25 +36,85 @@ READ, CHANGE = "repeatable read read only", "serializable"
 Connection = psycopg.Connection[Any]
 
 
-class PostgresqlTransaction(Transaction):
-    """A transaction of one connection."""
+class Session:
+    """A connection that no other thread uses. What each request asks goes to libpq as prepared statements: by psycopg's cursors
+    it takes five times the processor time where psycopg is in Python alone, as Debian has it."""
 
     def __init__(self, connection: Connection) -> None:
-        self._connection = connection
+        self.connection = connection
+        self._libpq = connection.pgconn
+        self._prepared: dict[str, bytes] = {}
+
+    def run(self, statement: str) -> pq.abc.PGresult:
+        """What a statement without parameters gives. Raises psycopg.Error."""
+        return done(self._libpq.exec_(statement.encode()))
+
+    def ask(self, statement: str, *given: str | None) -> pq.abc.PGresult:
+        """What a statement gives with texts in the place of $1 and so on. Raises psycopg.Error."""
+        name = self._prepared.get(statement)
+        if name is None:
+            name = f"idn2_registry_{len(self._prepared)}".encode()
+            done(self._libpq.prepare(name, statement.encode()))
+            self._prepared[statement] = name
+        # None is NULL, which the types of psycopg don't say.
+        texts: list[Any] = [None if text is None else parameter(text) for text in given]
+        return done(self._libpq.exec_prepared(name, texts))
+
+    def text(self, statement: str, *given: str) -> str | None:
+        """The first value of its first row, where there is one."""
+        result = self.ask(statement, *given)
+        value = result.get_value(0, 0) if result.ntuples else None
+        return None if value is None else value.decode()
+
+    def commit(self) -> None:
+        """Ends the transaction. Raises psycopg.Error where it is undone."""
+        if self.run("commit").command_status != b"COMMIT":
+            raise psycopg.OperationalError("the transaction was undone")
+
+    def rollback(self) -> None:
+        """Undoes what is not committed. Raises psycopg.Error."""
+        if self._libpq.transaction_status != pq.TransactionStatus.IDLE:
+            self.run("rollback")
+
+
+def parameter(text: str) -> bytes:
+    """A text as libpq takes it, for which a NUL ends it."""
+    if "\0" in text:
+        raise psycopg.DataError("a text of PostgreSQL has no NUL")
+    return text.encode()
+
+
+def done(result: pq.abc.PGresult) -> pq.abc.PGresult:
+    """The result of a statement that was done. Raises psycopg.Error by its code for another."""
+    if result.status in (pq.ExecStatus.COMMAND_OK, pq.ExecStatus.TUPLES_OK):
+        return result
+    code = result.error_field(pq.DiagnosticField.SQLSTATE)
+    try:
+        # Without a code the connection is broken.
+        fault = psycopg.errors.lookup(code.decode()) if code else psycopg.OperationalError
+    except KeyError:
+        fault = psycopg.DatabaseError
+    raise fault(result.error_message.decode("utf-8", "replace"))
+
+
+class PostgresqlTransaction(Transaction):
+    """A transaction of one session."""
+
+    def __init__(self, session: Session) -> None:
+        self._session = session
 
     def first_from(self, text: str) -> str | None:
-        row = self._connection.execute(FIRST, (text,)).fetchone()
-        return None if row is None else checked_label(row[0], text)
+        found = self._session.text(FIRST, text)
+        return None if found is None else checked_label(found, text)
 
     def holder_of(self, label: str) -> str | None:
-        row = self._connection.execute('select holder from registered where label = %s collate "C"', (label,)).fetchone()
-        return None if row is None else row[0]
+        return self._session.text(HOLDER, label)
 
     def insert(self, label: str, holder: str | None) -> None:
-        self._connection.execute("insert into registered (label, holder) values (%s, %s)", (label, holder))
+        self._session.ask(INSERT, label, holder)
 
     def delete(self, label: str) -> bool:
-        return self._connection.execute('delete from registered where label = %s collate "C"', (label,)).rowcount > 0
+        return bool(self._session.ask(DELETE, label).command_tuples)
 
 
 class PostgresqlRegister(Register):
@@ -69,51 +133,59 @@ class PostgresqlRegister(Register):
         self.name = "postgresql: " + ", ".join(f"{name} {told[name]}" for name in ("host", "port", "dbname") if name in told)
         self._seconds = seconds
         self._lock = threading.Lock()
-        self._idle: list[Connection] = []
+        self._idle: list[Session] = []
         if must_be:
-            with self._session(READ) as connection:
-                self._check(connection)
+            with self._session(READ) as session:
+                self._check(session.connection)
 
-    def _open(self) -> Connection:
-        """A connection, whose statements have the time of a request."""
+    def _open(self) -> Session:
+        """A session, whose statements have the time of a request. After a failure of the server another one may answer: so each
+        time it is asked whether it is a copy."""
         wait = f"-c statement_timeout={math.ceil(self._seconds * 1000)}"
         try:
             # Transactions are begun here, in one statement with their isolation.
-            return psycopg.connect(self.uri, autocommit=True, client_encoding="UTF8", connect_timeout=math.ceil(self._seconds),
-                                   options=wait)
+            connection = psycopg.connect(self.uri, autocommit=True, client_encoding="UTF8",
+                                         connect_timeout=math.ceil(self._seconds), options=wait)
+            is_copy = value(connection, "select pg_is_in_recovery()")
         except psycopg.Error as error:
             raise Unknown(f"{self.name}: {first_line(error)}: start the database, or mend register") from error
+        if is_copy:
+            connection.close()
+            raise Unusable(f"{self.name}: a copy, which may lag: name the server on which labels are registered")
+        return Session(connection)
 
     @contextlib.contextmanager
-    def _session(self, isolation: str) -> Iterator[Connection]:
-        """A transaction in a connection that no other thread uses; one that failed isn't used again."""
-        connection = self._begun(isolation)
+    def _session(self, isolation: str) -> Iterator[Session]:
+        """A transaction in a session that no other thread uses; one that failed isn't used again."""
+        session = self._begun(isolation)
         try:
-            yield connection
-            connection.rollback()
+            yield session
+            session.rollback()
         except AGAIN:
-            connection.close()
+            session.connection.close()
             raise
         except psycopg.Error as error:
-            connection.close()
+            session.connection.close()
+            if isinstance(error, psycopg.errors.UndefinedTable):
+                raise Unusable(f"{self.name}: {MISSING}") from error
             raise Unknown(f"{self.name}: {first_line(error)}") from error
         except BaseException:
-            connection.close()
+            session.connection.close()
             raise
         with self._lock:
-            self._idle.append(connection)
+            self._idle.append(session)
 
-    def _begun(self, isolation: str) -> Connection:
-        """A connection with a transaction. A session of before ends with a restart of the server; then there is a new one."""
+    def _begun(self, isolation: str) -> Session:
+        """A session with a transaction. One of before ends with a restart of the server; then there is a new one."""
         while True:
             with self._lock:
                 idle = self._idle.pop() if self._idle else None
-            connection = idle or self._open()
+            session = idle or self._open()
             try:
-                connection.execute(f"begin isolation level {isolation}")
-                return connection
+                session.run(f"begin isolation level {isolation}")
+                return session
             except psycopg.Error as error:
-                connection.close()
+                session.connection.close()
                 if idle is None:
                     raise Unknown(f"{self.name}: {first_line(error)}") from error
 
@@ -121,8 +193,6 @@ class PostgresqlRegister(Register):
         """That it is a register."""
         if value(connection, "show server_encoding") != "UTF8":
             raise Unusable(f"{self.name}: not in UTF-8: createdb --encoding=UTF8 --template=template0 makes one that is")
-        if value(connection, "select pg_is_in_recovery()"):
-            raise Unusable(f"{self.name}: a copy, which may lag: name the server on which labels are registered")
         if value(connection, "select to_regclass('registered')") is None:
             raise Unusable(f"{self.name}: {MISSING}")
         columns = connection.execute("select attname from pg_attribute where attrelid = 'registered'::regclass and attnum > 0"
@@ -132,8 +202,8 @@ class PostgresqlRegister(Register):
 
     @contextlib.contextmanager
     def reading(self) -> Iterator[Transaction]:
-        with self._session(READ) as connection:
-            yield PostgresqlTransaction(connection)
+        with self._session(READ) as session:
+            yield PostgresqlTransaction(session)
 
     def change(self, job: Callable[[Transaction], Result]) -> Result:
         until = time.monotonic() + self._seconds
@@ -149,19 +219,25 @@ class PostgresqlRegister(Register):
 
     def _changed(self, job: Callable[[Transaction], Result]) -> Result:
         """What a job gives in one transaction."""
-        with self._session(CHANGE) as connection:
-            result = job(PostgresqlTransaction(connection))
+        with self._session(CHANGE) as session:
+            result = job(PostgresqlTransaction(session))
             try:
-                connection.commit()
+                session.commit()
             except psycopg.OperationalError as error:
                 if isinstance(error, AGAIN):
                     raise
                 raise Unknown(f"{self.name}: {first_line(error)}: it may be done or not: ask again") from error
             return result
 
+    @contextlib.contextmanager
+    def _unbounded(self, isolation: str) -> Iterator[Connection]:
+        """A transaction for long work, which psycopg does."""
+        with self._session(isolation) as session:
+            session.run("set local statement_timeout = 0")
+            yield session.connection
+
     def rows(self) -> Iterator[Row]:
-        with self._session(READ) as connection:
-            connection.execute("set local statement_timeout = 0")
+        with self._unbounded(READ) as connection:
             with connection.cursor("labels") as cursor:
                 cursor.itersize = 10_000
                 cursor.execute('select label, holder from registered order by label collate "C"')
@@ -169,14 +245,12 @@ class PostgresqlRegister(Register):
 
     def texts(self) -> tuple[bytes, bytes]:
         # As rows a million labels take several times the time, and no text has more than 1 GB: so it is made in pages.
-        with self._session(READ) as connection:
-            connection.execute("set local statement_timeout = 0")
+        with self._unbounded(READ) as connection:
             labels = b"".join(pages(connection, "label", "true"))
             return labels, b"".join(pages(connection, "label || chr(9) || holder", "holder is not null"))
 
     def load(self, rows: Iterable[Row]) -> None:
-        with self._session(CHANGE) as connection:
-            connection.execute("set local statement_timeout = 0")
+        with self._unbounded(CHANGE) as connection:
             connection.execute(TABLE)
             self._check(connection)
             try:
@@ -188,13 +262,14 @@ class PostgresqlRegister(Register):
                 raise Unusable(f"{self.name}: {first_line(error)}: nothing was loaded") from error
 
     def is_made(self) -> bool:
-        with self._session(READ) as connection:
-            return value(connection, "select to_regclass('registered')") is not None
+        with self._session(READ) as session:
+            return value(session.connection, "select to_regclass('registered')") is not None
 
     def faults(self) -> list[str]:
-        with self._session(READ) as connection:
-            connection.execute("set local enable_seqscan = off")
-            plan = " ".join(line for line, in connection.execute(f"explain {FIRST.replace('%s', chr(39) * 2)}").fetchall())
+        with self._session(READ) as session:
+            session.connection.execute("set local enable_seqscan = off")
+            rows = session.connection.execute(f"explain {FIRST.replace('$1', chr(39) * 2)}").fetchall()
+        plan = " ".join(line for line, in rows)
         if "Index Cond" in plan and "Sort" not in plan:
             return []
         return [f"{self.name}: no index in byte order, so each look-up reads all labels: "
@@ -202,8 +277,8 @@ class PostgresqlRegister(Register):
 
     def close(self) -> None:
         with self._lock:
-            for connection in self._idle:
-                connection.close()
+            for session in self._idle:
+                session.connection.close()
             self._idle.clear()
 
 

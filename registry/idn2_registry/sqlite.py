@@ -1,6 +1,7 @@
 """A register in a file of SQLite."""
 
 import contextlib
+import os
 import sqlite3
 import threading
 from collections.abc import Callable, Iterable, Iterator
@@ -49,6 +50,8 @@ class SqliteRegister(Register):
         self._seconds = seconds
         self._lock = threading.Lock()
         self._idle: list[sqlite3.Connection] = []
+        # Device and number of the file that was opened.
+        self._file: tuple[int, int] | None = None
         if must_be:
             with self._connection() as connection:
                 self._check(connection)
@@ -56,11 +59,27 @@ class SqliteRegister(Register):
     def _open(self, mode: str = "rw") -> sqlite3.Connection:
         """A connection; a file is made only for a load, since under an empty register each label would be free."""
         uri = f"{Path(self.path).absolute().as_uri()}?mode={mode}"
-        return sqlite3.connect(uri, uri=True, timeout=self._seconds, isolation_level=None, check_same_thread=False)
+        opened = sqlite3.connect(uri, uri=True, timeout=self._seconds, isolation_level=None, check_same_thread=False)
+        self._file = self._file or self._file_there()
+        return opened
+
+    def _file_there(self) -> tuple[int, int] | None:
+        """The file that stands there now, if one does."""
+        try:
+            found = os.stat(self.path)
+        except OSError:
+            return None
+        return found.st_dev, found.st_ino
+
+    def _check_file(self) -> None:
+        """That it is the file that was opened. What is written to one that was deleted or replaced is lost, and nobody is told."""
+        if self._file and self._file_there() != self._file:
+            raise Unusable(f"{self.path}: no longer the file that was opened: put that back, or start again")
 
     @contextlib.contextmanager
     def _connection(self, mode: str = "rw") -> Iterator[sqlite3.Connection]:
         """A connection that no other thread uses; one that failed isn't used again."""
+        self._check_file()
         with self._lock:
             connection = self._idle.pop() if self._idle else None
         try:
@@ -86,6 +105,9 @@ class SqliteRegister(Register):
             return Unusable(f"{self.path}: {remedy}")
         if code in ("SQLITE_NOTADB", "SQLITE_CORRUPT"):
             return Unusable(f"{self.path}: {error}: put back its backup")
+        # There is no code of its own for it.
+        if str(error).startswith("no such table"):
+            return Unusable(f"{self.path}: {MISSING}")
         return Unknown(f"{self.path}: {error}")
 
     def _check(self, connection: sqlite3.Connection) -> None:

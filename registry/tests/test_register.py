@@ -1,5 +1,6 @@
 """Who registers a label, with SQLite and with PostgreSQL: one of many at once, and nothing half."""
 
+import contextlib
 import json
 import os
 import signal
@@ -12,7 +13,7 @@ from pathlib import Path
 import pytest
 from conftest import PROGRAM, Place
 
-from idn2_registry import Status, Unusable
+from idn2_registry import Status, Unknown, Unusable
 
 RACERS = 16
 ROUNDS = 12
@@ -207,6 +208,54 @@ def test_goes_on_after_a_session_has_ended(server: Callable[[str], str], bare: P
                           " and datname = current_database()")
         assert zone.check("straße").status is Status.TAKEN
         assert zone.register("maus").status is Status.REGISTERED
+
+
+def test_writes_nothing_into_a_file_that_is_not_there_any_more(place: Place) -> None:
+    """What SQLite writes into a file that was deleted, or in whose place another stands, is lost."""
+    place.load("haus")
+    file, backup = place.folder / "register.db", place.folder / "backup.db"
+    with place.zone() as zone:
+        assert zone.register("maus").status is Status.REGISTERED
+        file.rename(backup)
+        answer = zone.register("laus")
+        assert (answer.status, answer.lasts) == (Status.UNKNOWN, True) and "no longer the file that was opened" in str(answer.reason)
+        file.write_bytes(backup.read_bytes())
+        assert zone.check("haus").status is Status.UNKNOWN
+        backup.rename(file)
+        assert zone.check("haus").status is Status.TAKEN and zone.check("laus").status is Status.AVAILABLE
+
+
+def test_says_that_there_is_no_register_any_more(kind: Place) -> None:
+    with kind.zone() as zone:
+        assert zone.register("maus").status is Status.REGISTERED
+        drop(kind)
+        for answer in (zone.check("maus"), zone.register("laus"), zone.release("maus")):
+            assert (answer.status, answer.lasts) == (Status.UNKNOWN, True) and "there is no register" in str(answer.reason), answer
+
+
+def drop(place: Place) -> None:
+    """Somebody drops the table."""
+    if place.register.startswith("sqlite:"):
+        with contextlib.closing(sqlite3.connect(place.folder / "register.db")) as database:
+            database.execute("drop table registered")
+    else:
+        import psycopg
+
+        with psycopg.connect(place.register, autocommit=True) as other:
+            other.execute("drop table registered")
+
+
+def test_texts_that_postgresql_cannot_have_are_no_others(server: Callable[[str], str], bare: Place) -> None:
+    """To libpq a text ends with a NUL: what is before it isn't asked for in its place."""
+    bare.register = server("texts")
+    bare.configure()
+    bare.load("maus\tÄ 'x' \\ %s $1")
+    with bare.zone() as zone:
+        with zone.registered.reading() as transaction:
+            assert transaction.holder_of("maus") == "Ä 'x' \\ %s $1" and transaction.holder_of("haus") is None
+            assert transaction.first_from("") == "maus" and transaction.first_from("maut") is None
+        with pytest.raises(Unknown, match="no NUL"), zone.registered.reading() as transaction:
+            transaction.first_from("maus\0x")
 
 
 def test_knows_nothing_while_the_register_is_locked(place: Place) -> None:
