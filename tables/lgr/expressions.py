@@ -67,6 +67,9 @@ def choice(branches):
     flat = {}
     for branch in branches:
         flat.update(dict.fromkeys(branch.branches if isinstance(branch, Choice) else [branch]))
+    # An empty part matches already.
+    if any(is_everywhere(branch) for branch in flat if branch != EMPTY):
+        flat.pop(EMPTY, None)
     return next(iter(flat)) if len(flat) == 1 else Choice(tuple(flat))
 
 
