@@ -1,6 +1,7 @@
 """The pages, as they are sent: what they say is what the program says, and nothing of a request stands in them unescaped."""
 
 import html
+import itertools
 import re
 
 import pytest
@@ -12,6 +13,7 @@ from idn2_registry.answers import Answer, Refusal, Status
 from idn2_registry.faults import Unknown
 from idn2_registry.pages import label_page
 from idn2_registry.pages.classes import Classes
+from idn2_registry.pages.examples import told_of
 from idn2_registry.pages.frame import Frame
 from idn2_registry.pages.html import element
 from idn2_registry.pages.table_page import Shown, View, table_page, whole_page
@@ -77,7 +79,7 @@ def test_what_is_not_known_is_no_200_here_either(bare: Place) -> None:
     bare.load()
     with Served(bare) as served:
         told = served.ask("GET", "/?label=b")
-        assert (told.status, told.headers["Retry-After"]) == (503, "1")
+        assert (told.status, told.headers["Retry-After"]) == (503, "60")
         assert "It isn’t known whether b is available: the table gap has 1 gap." in words_of(told)
         told = served.ask("GET", "/tables/gap")
         assert "b U+0062 has no variant a U+0061: add 0062|0061" in words_of(told), words_of(told)
@@ -213,6 +215,34 @@ def test_examples_are_admitted_and_refused_by_the_program(place: Place) -> None:
                 assert done.returncode == status, (name, cause, label, done)
             assert all(f'"{member}":{value}' in done.stdout.decode().replace(f'"{value}"', str(value))
                        for member, value in cause.items()), (cause, done)
+
+
+# What each label has to have, a rule that asks for two letters before, and one that no label breaks, since its hyphen is refused first.
+WANTING = ("%version 3\n%set kana 3041..3043\n%rule start ^ _ / ^ . _\n%rule edge ^ _ / _ $\n%rule after_kana @kana _\n%rule kana_after "
+           "@kana . _ / ^ _ 0061 0061 $\n%always (@kana/4E00)\n%never 30FB 30FB\n0030 unless start\n0061\n002D unless edge\n3041..3043\n"
+           "30FB when kana_after\n30FC when after_kana\n4E00\n")
+# No letter may stand everywhere.
+FIXED = "%version 3\n%set two 0061..0062\n%rule first ^ _\n%rule after ^ @two _ / 0063 _\n0061..0062 when first\n0063 when after\n0064 unless first\n"
+
+
+@pytest.mark.parametrize("text", [WANTING, FIXED])
+def test_examples_are_found_where_a_short_label_is_one(place: Place, text: str) -> None:
+    """All labels of up to three code points are asked."""
+    program, view = Program(PROGRAM), view_of(place, text)
+    points = [point for entry in view.parsed.entries for point in entry.source.points]
+    labels = ["".join(map(chr, each)) for count in range(1, 4) for each in itertools.product(points, repeat=count)]
+    told = told_of(view.parsed.table, program, labels)
+    assert told is not None and len(told) == len(labels)
+    refused = [{name: value} for refusal in filter(None, told.values()) for name, value in refusal.items() if name in ("rule", "demand")]
+    admitted = [label for label, refusal in told.items() if refusal is None]
+    for rule in view.examples.rules:
+        found = view.examples.of(rule)
+        sources = [chr(entry.source.points[0]) for entry in view.parsed.entries if entry.source.condition and entry.source.condition.rule == rule]
+        assert bool(found.refused) == ({"rule": rule} in refused), (rule, found)
+        assert bool(found.admitted) == any(source in label for label in admitted for source in sources), (rule, found)
+    for number in range(1, len(view.examples.demands) + 1):
+        found = view.examples.of_number(number)
+        assert bool(found.refused) == ({"demand": number} in refused) and bool(found.admitted) == bool(admitted), (number, found)
 
 
 def test_examples_of_variants_are_listed_by_the_program(place: Place) -> None:

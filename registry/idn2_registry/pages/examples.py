@@ -6,7 +6,7 @@ import json
 import unicodedata
 from collections.abc import Iterable, Iterator
 from dataclasses import dataclass
-from typing import Any
+from typing import Any, TypeVar
 
 from ..answers import Object
 from ..collisions import refusals_in
@@ -14,14 +14,16 @@ from ..faults import Unknown
 from ..parsed_table import ParsedTable, Points
 from ..program import Program
 from ..tables import Table
-from .patterns import ANY, has_edge, samples
+from .patterns import ANY, Sample, has_edge, samples
 
-# So many labels are asked of a table in all, and of each rule; so many sources with a condition are tried of each rule.
-MOST, MOST_OF_RULE, SOURCES, FILLERS, LONGEST = 20_000, 300, 4, 3, 12
-# A label of which variants are asked has few; so many are listed, and tested.
-LISTED, TRIES = 64, 2_000
+# So many labels are asked of a table in all, and of each rule; so many sources with a condition are tried of each rule, each in
+# so many ways to satisfy it.
+MOST, MOST_OF_RULE, SOURCES, WAYS, FILLERS, LONGEST = 20_000, 500, 4, 24, 3, 12
+# Of so many labels of each rule variants are asked; such a label has few: so many are listed, and tested.
+MOST_LISTED, LISTED, TRIES = 300, 64, 2_000
 SECONDS = 10.0
 HYPHEN = (0x2D,)
+Each = TypeVar("Each")
 
 
 @dataclass(frozen=True)
@@ -69,12 +71,13 @@ class Examples:
     def __init__(self, parsed: ParsedTable, program: Program) -> None:
         self._ruleset = parsed.ruleset
         self._fillers = fillers(parsed)
-        self.beside: list[Points] = [(), *((filler,) for filler in self._fillers)]
+        self._beside = sorted(itertools.product(self.beside(), repeat=2), key=lambda pair: len(pair[0] + pair[1]))
         self.rules = {name: self.of_rule(name) for name in self._ruleset.rules}
         self.demands = [self.of_demand(demand) for demand in self._ruleset.demands]
-        drawn = [*self.rules.values(), *self.demands]
-        told = told_of(parsed.table, program, itertools.chain(*(each.labels for each in drawn)))
-        self.variants = {name: list(itertools.islice(self.of_variants(name), MOST_OF_RULE)) for name in self._ruleset.rules}
+        drawn = [each.labels for each in (*self.rules.values(), *self.demands)]
+        # Where there are too many, each rule has some.
+        told = told_of(parsed.table, program, in_turn(drawn))
+        self.variants = {name: list(itertools.islice(self.of_variants(name), MOST_LISTED)) for name in self._ruleset.rules}
         listed = listed_of(parsed.table, program, (label for each in self.variants.values() for label, _, _ in each))
         # Else the program didn't answer in time, and another time it may.
         self.are_whole = told is not None and listed is not None
@@ -100,7 +103,7 @@ class Examples:
         """Labels with sources that have a condition with this rule: where it holds, and elsewhere."""
         sources = [entry.source.points for entry in self._ruleset.entries.values()
                    if entry.source.condition and entry.source.condition.rule == name][:SOURCES]
-        labels = (text for source in sources for text in self.around(source, self._ruleset.rules[name]))
+        labels = in_turn(self.around(source, self._ruleset.rules[name]) for source in sources)
         return Drawn(list(itertools.islice(dict.fromkeys(labels), MOST_OF_RULE)), [spelled(source) for source in sources])
 
     def of_variants(self, name: str) -> Iterator[tuple[str, str, str]]:
@@ -110,23 +113,43 @@ class Examples:
                  if variant.condition and variant.condition.rule == name]
         # Those of one word, so that the examples say one thing.
         words = [variant.condition.word for _, variant in pairs]
-        for source, variant in [each for each, word in zip(pairs, words, strict=True) if word == max(words)][:SOURCES]:
-            old, new = spelled(source), spelled(variant.points)
-            disposition = "blocked" if variant.is_marked else "allocatable"
-            around = self.around(source, self._ruleset.rules[name])
-            yield from ((label, label.replace(old, new), disposition) for label in around if label.count(old) == 1)
+        told = [each for each, word in zip(pairs, words, strict=True) if word == max(words)][:SOURCES]
+        return in_turn(self.of_variant_of(source, variant, self._ruleset.rules[name]) for source, variant in told)
+
+    def of_variant_of(self, source: Points, variant: Any, contexts: Any) -> Iterator[tuple[str, str, str]]:
+        """Those of one source and its variant."""
+        old, new = spelled(source), spelled(variant.points)
+        disposition = "blocked" if variant.is_marked else "allocatable"
+        for label in self.around(source, contexts):
+            if label.count(old) == 1:
+                yield label, label.replace(old, new), disposition
 
     def around(self, source: Points, contexts: Any) -> Iterator[str]:
-        """Labels with a source in the contexts of a rule, and out of them."""
-        beside = self.beside
-        yield from (spelled((*first, *source, *last)) for first in beside for last in beside)
-        yield spelled((*source, *source))
-        for before, after in contexts:
-            firsts = beside[:1] if has_edge(before, "START") else beside
-            lasts = beside[:1] if has_edge(after, "END") else beside
-            for left, right in itertools.product(samples(before, self._ruleset.sets), samples(after, self._ruleset.sets)):
-                for first, last in itertools.product(firsts, lasts):
+        """Labels with a source in the contexts of a rule, and out of them, with ever more beside."""
+        ways = list(self.ways(contexts))
+        for first, last in self._beside:
+            yield spelled((*first, *source, *last))
+            yield spelled((*first, *source, *source, *last))
+            for left, right, (at_start, at_end) in ways:
+                if not (first and at_start or last and at_end):
                     yield spelled(self.filled((*first, *left, *source, *right, *last)))
+
+    def ways(self, contexts: Any) -> Iterator[tuple[Sample, Sample, tuple[bool, bool]]]:
+        """Some of what is before and after a place where the rule holds, and whether it is at the start and at the end."""
+        for before, after in contexts:
+            edges = has_edge(before, "START"), has_edge(after, "END")
+            lefts, rights = (samples(side, self._ruleset.sets) for side in (before, after))
+            # The first ones of both come first.
+            places = sorted(itertools.product(range(len(lefts)), range(len(rights))), key=sum)
+            yield from ((lefts[left], rights[right], edges) for left, right in places[:max(1, WAYS // len(contexts))])
+
+    def beside(self) -> list[Points]:
+        """What stands beside a source that is tried: nothing, letters, and what each label has to have."""
+        wanted = [samples(branch, self._ruleset.sets)[:1] for demand in self._ruleset.demands if demand.word == "%always"
+                  for branch in demand.pattern[:FILLERS]]
+        letters = [(filler,) for filler in self._fillers]
+        return list(dict.fromkeys([(), *letters, *(self.filled(sample) for sample in itertools.chain(*wanted)),
+                                   *((*letter, *letter) for letter in letters[:1])]))
 
     def filled(self, sample: Iterable[int | None]) -> Points:
         """A sample with a letter where any code point may be."""
@@ -135,12 +158,16 @@ class Examples:
     def of_demand(self, demand: Any) -> Drawn:
         """Labels that match its pattern, and others."""
         matched = [self.filled(sample) for branch in demand.pattern for sample in samples(branch, self._ruleset.sets)]
-        beside = self.beside
-        labels = [spelled((*first, *points, *last)) for points in matched for first in beside for last in beside]
+        labels = [spelled((*first, *points, *last)) for first, last in self._beside for points in matched]
         # One code point less, or one of them alone: so near to the pattern some are admitted.
         near = [spelled(points[:place] + points[place + 1:]) for points in matched for place in range(len(points))]
-        alone = [spelled(part * 2) for part in beside] + [chr(point) * 2 for points in matched for point in points]
+        alone = [spelled(part * 2) for part in self.beside()] + [chr(point) * 2 for points in matched for point in points]
         return Drawn(list(dict.fromkeys([*alone, *near, *labels]))[:MOST_OF_RULE], [""])
+
+
+def in_turn(each: Iterable[Iterable[Each]]) -> Iterator[Each]:
+    """The first ones of all, then the second ones, and so on."""
+    return (one for turn in itertools.zip_longest(*each) for one in turn if one is not None)
 
 
 def spelled(points: Iterable[int]) -> str:
