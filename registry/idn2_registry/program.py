@@ -46,7 +46,10 @@ class Program:
         if not self.path:
             raise Unusable(f"{path or name}: no such program: install it beside this one, or name it with --idn2 PROGRAM")
         self.options: tuple[str, ...] = ()
-        self.version = self.run(["--version"]).stdout.decode("utf-8", "replace").strip()
+        asked = self.run(["--version"])
+        if asked.returncode < 0:
+            raise Unusable(f"{self.path}: {ended(asked.returncode, asked.stderr)}: name another with --idn2 PROGRAM")
+        self.version = asked.stdout.decode("utf-8", "replace").strip()
         if not re.match(r"idn2 \d", self.version):
             raise Unusable(f"{self.path}: another program of this name: name the right one with --idn2 PROGRAM")
         self.options = OPTIONS[rules]
