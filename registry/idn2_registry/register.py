@@ -2,6 +2,7 @@
 PostgreSQL `postgresql.py`."""
 
 import abc
+import re
 from collections.abc import Callable, Iterable, Iterator
 from contextlib import AbstractContextManager
 from typing import TypeVar
@@ -13,6 +14,8 @@ from .faults import Unknown, Unusable
 Result = TypeVar("Result")
 Row = tuple[str, str | None]
 MOST_POINTS = 63
+# A control character, or a surrogate, which is no character.
+NO_HOLDER = re.compile(rf"{CONTROL_CHARACTER.pattern}|[\ud800-\udfff]")
 
 
 class Transaction(abc.ABC):
@@ -116,8 +119,6 @@ def checked_label(found: object, text: str) -> str:
 
 def checked_holder(holder: str | None) -> str | None:
     """A holder that can be stored. Raises ValueError for one that is empty, has a control character or isn't Unicode."""
-    if holder is not None:
-        holder.encode()
-        if not holder or CONTROL_CHARACTER.search(holder):
-            raise ValueError("a holder is a text without control characters")
+    if holder is not None and (not holder or NO_HOLDER.search(holder)):
+        raise ValueError("a holder is a text of Unicode without control characters")
     return holder

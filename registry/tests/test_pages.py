@@ -70,6 +70,8 @@ def test_says_of_a_label_what_the_program_says(place: Place) -> None:
             assert told.status == status, (label, words)
             for each in said:
                 assert each in words, (label, each, words)
+            # Bytes that aren't UTF-8 are no code points.
+            assert ("Code point by code point" in words) == (label not in ("", "\udcff")), (label, words)
 
 
 @needs_aiohttp

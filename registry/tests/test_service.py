@@ -167,6 +167,7 @@ FAULTS: list[tuple[str, str, Any, int]] = [
     ("POST", "/v1/check", {"labels": ["a" * 1_048_576]}, 413),
     ("POST", "/v1/release", {"label": ["a"]}, 400),
     ("POST", "/v1/release", {"label": "a", "holder": "H"}, 400),
+    ("POST", "/v1/register", {"label": "a", "holder": "\ud800"}, 400),
 ]
 
 
@@ -182,6 +183,7 @@ def test_tells_faulty_requests(place: Place) -> None:
         assert served.ask("GET", "/v1/check?label=a", **expecting).object == {"fault": "Expectation Failed"}
         assert served.ask("GET", "/none", **expecting).status == 417
         for body, headers, status in ((b"[" * 100_000, {}, 400), (b'{"labels":["a"],"labels":["b"]}', {}, 400),
+                                      ('{"labels":["a"]}'.encode("utf-16"), {}, 400), (b'{"labels":["\xff"]}', {}, 400),
                                       (gzip.compress(b'{"labels":["a"]}'), packed, 415), (b"{", packed, 415)):
             told = served.ask("POST", "/v1/check", body, Content_Type="application/json", **headers)
             assert told.status == status and list(told.object) == ["fault"], (body, told.status, told.bytes)

@@ -17,7 +17,7 @@ from .points import glyph_of, name_of, number_of
 from .sentences import holder_words, label_words, refusal_sentence, verdict
 from .table_page import parsed_table
 
-MOST_POINTS = 63
+MOST_POINTS, NOT_UTF_8 = 63, 1
 UNKNOWN_CLASS = Class("", "not known")
 MARKS = {Status.AVAILABLE: "✓", Status.TAKEN: "●", Status.REFUSED: "✕"}
 
@@ -54,6 +54,9 @@ class Found:
         """The label code point by code point: what it stands for, where that is known."""
         shown = self.answer.ulabel or self.answer.label
         refusal = self.answer.refusal
+        if refusal and refusal.number == NOT_UTF_8:
+            # Its bytes are no code points.
+            return ""
         if refusal and refusal.details.get("decoded") and shown.lower().startswith("xn--"):
             try:
                 decoded = shown[4:].encode("ascii").decode("punycode")

@@ -66,7 +66,8 @@ async def body_of(request: web.Request) -> Object:
     except ConnectionError as error:
         raise ValueError("the body isn't whole") from error
     try:
-        told: Any = json.loads(body, object_pairs_hook=object_of)
+        # UTF-8 alone, by which every reader has the same text (RFC 8259, section 8.1).
+        told: Any = json.loads(body.decode("utf-8-sig"), object_pairs_hook=object_of)
     except (ValueError, RecursionError) as error:
         raise ValueError(f"the body is no JSON: {error}") from error
     if not isinstance(told, dict):
