@@ -12,6 +12,7 @@ from pathlib import Path
 
 import pytest
 from conftest import PROGRAM, Place
+from postgresql import restart
 
 from idn2_registry import Status, Unknown, Unusable
 
@@ -208,6 +209,28 @@ def test_goes_on_after_a_session_has_ended(server: Callable[[str], str], bare: P
                           " and datname = current_database()")
         assert zone.check("straße").status is Status.TAKEN
         assert zone.register("maus").status is Status.REGISTERED
+
+
+def test_asks_no_copy_after_a_failure(server: Callable[[str], str], bare: Place) -> None:
+    """A server that is a copy answers in the place of the one that was asked before, and then that one again."""
+    bare.register = server("failed")
+    bare.configure()
+    bare.load("haus")
+    folder = Path(bare.register.partition("host=")[2])
+    copy = folder / "data" / "standby.signal"
+    with bare.zone() as zone:
+        assert zone.check("haus").status is Status.TAKEN
+        copy.touch()
+        try:
+            restart(str(folder))
+            answer = zone.check("maus")
+            assert (answer.status, answer.lasts) == (Status.UNKNOWN, True) and "a copy, which may lag" in str(answer.reason), answer
+            done = bare.run("check", "maus")
+            assert done.returncode == 75 and b"a copy, which may lag" in done.stderr, done
+        finally:
+            copy.unlink()
+            restart(str(folder))
+        assert zone.check("haus").status is Status.TAKEN and zone.check("maus").status is Status.AVAILABLE
 
 
 def test_writes_nothing_into_a_file_that_is_not_there_any_more(place: Place) -> None:

@@ -53,8 +53,9 @@ SCHEMAS: Object = {
     "RegisteredLabel": members("ulabel alabel holder", ulabel=TEXT, alabel=TEXT, holder={"type": ["string", "null"]}),
     "Variant": members("ulabel alabel", ulabel=TEXT, alabel=TEXT, disposition=kind("string", enum=["allocatable", "blocked"])),
     "Refusal": kind("object", properties={"number": kind("integer"), "text": TEXT}, required=["text"],
-                    description="Why a label is refused; a control character has no number. Other members tell where and by "
-                                "which rule, as the text needs them: code_point, place, byte, rule and others."),
+                    description="Why a label is refused, of several tables by the one that comes furthest in it; a control "
+                                "character has no number. Other members tell where and by which rule, as the text needs "
+                                "them: code_point, place, byte, rule and others."),
     "Answer": members("status", label=TEXT, label_hex=meant(TEXT, "The bytes of a label that is no UTF-8."), status=STATUS,
                       ulabel=TEXT, alabel=TEXT, tables=kind("array", items=TEXT), refusal=named("Refusal"),
                       taken_by=kind("array", items=named("RegisteredLabel")), table=TEXT,
