@@ -8,6 +8,7 @@ from conftest import PROGRAM, TABLES, Place
 
 from idn2_registry import Unusable, Zone
 from idn2_registry.configuration import LabelRules, Limits, read_configuration
+from idn2_registry.program import Program
 
 GERMAN = TABLES / "german.txt"
 HEAD = f'register = "sqlite:register.db"\n[tables]\nde = "{GERMAN}"\n'
@@ -150,3 +151,13 @@ def test_tests_labels_by_the_rules_in_each_run(bare: Place, monkeypatch: pytest.
     os.chmod(bare.write("older", "#!/bin/sh\n[ \"$1\" = --version ] && exec echo idn2 0.1.0\nexit 2\n"), 0o755)
     with pytest.raises(Unusable, match="can't test labels by labels = \"standard\""):
         Zone.open(bare.folder / "registry.toml", bare.folder / "older")
+
+
+@pytest.mark.parametrize(("script", "told"), [("kill -SEGV $$", "the program ended with status -11: name another"),
+                                              ("echo other 1.0", "another program of this name: name the right one"),
+                                              ("test $1 = --version && echo idn2 0", "can't test labels by")])
+def test_says_why_a_program_is_of_no_use(bare: Place, script: str, told: str) -> None:
+    path = bare.write("program", f"#!/bin/sh\n{script}\n")
+    path.chmod(0o755)
+    with pytest.raises(Unusable, match=told):
+        Program(path)
