@@ -3,6 +3,7 @@
 import contextlib
 import math
 import random
+import select
 import sys
 import threading
 import time
@@ -36,29 +37,56 @@ READ, CHANGE = "repeatable read read only", "serializable"
 Connection = psycopg.Connection[Any]
 
 
+class TooSlow(psycopg.OperationalError):
+    """A server that doesn't even say that a statement took too long."""
+
+
 class Session:
     """A connection that no other thread uses. What each request asks goes to libpq as prepared statements: by psycopg's cursors
-    it takes five times the processor time where psycopg is in Python alone, as Debian has it."""
+    it takes several times the processor time where psycopg is in Python alone, as Debian has it, and no server that hangs is
+    noticed."""
 
-    def __init__(self, connection: Connection) -> None:
+    def __init__(self, connection: Connection, seconds: float) -> None:
         self.connection = connection
         self._libpq = connection.pgconn
+        self._seconds = seconds
+        self._poll = select.poll()
+        self._poll.register(self._libpq.socket, select.POLLIN)
         self._prepared: dict[str, bytes] = {}
 
     def run(self, statement: str) -> pq.abc.PGresult:
         """What a statement without parameters gives. Raises psycopg.Error."""
-        return done(self._libpq.exec_(statement.encode()))
+        self._libpq.send_query(statement.encode())
+        return self._result()
+
+    def _result(self) -> pq.abc.PGresult:
+        """What comes for what was sent. Raises psycopg.Error."""
+        until = time.monotonic() + self._seconds
+        # No statement is longer than what a socket takes at once.
+        self._libpq.flush()
+        results: list[pq.abc.PGresult] = []
+        while True:
+            while self._libpq.is_busy():
+                if not self._poll.poll(max(0, until - time.monotonic()) * 1000):
+                    raise TooSlow(f"no answer within {self._seconds:g} seconds")
+                self._libpq.consume_input()
+            result = self._libpq.get_result()
+            if result is None:
+                return done(results[-1])
+            results.append(result)
 
     def ask(self, statement: str, *given: str | None) -> pq.abc.PGresult:
         """What a statement gives with texts in the place of $1 and so on. Raises psycopg.Error."""
         name = self._prepared.get(statement)
         if name is None:
             name = f"idn2_registry_{len(self._prepared)}".encode()
-            done(self._libpq.prepare(name, statement.encode()))
+            self._libpq.send_prepare(name, statement.encode())
+            self._result()
             self._prepared[statement] = name
         # None is NULL, which the types of psycopg don't say.
         texts: list[Any] = [None if text is None else parameter(text) for text in given]
-        return done(self._libpq.exec_prepared(name, texts))
+        self._libpq.send_query_prepared(name, texts)
+        return self._result()
 
     def text(self, statement: str, *given: str) -> str | None:
         """The first value of its first row, where there is one."""
@@ -152,7 +180,8 @@ class PostgresqlRegister(Register):
         if is_copy:
             connection.close()
             raise Unusable(f"{self.name}: a copy, which may lag: name the server on which labels are registered")
-        return Session(connection)
+        # The server itself ends a statement after that time.
+        return Session(connection, self._seconds + 1)
 
     @contextlib.contextmanager
     def _session(self, isolation: str) -> Iterator[Session]:
@@ -186,7 +215,7 @@ class PostgresqlRegister(Register):
                 return session
             except psycopg.Error as error:
                 session.connection.close()
-                if idle is None:
+                if idle is None or isinstance(error, TooSlow):
                     raise Unknown(f"{self.name}: {first_line(error)}") from error
 
     def _check(self, connection: Connection) -> None:

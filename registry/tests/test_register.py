@@ -7,6 +7,7 @@ import signal
 import sqlite3
 import subprocess
 import sys
+import time
 from collections.abc import Callable, Iterator
 from pathlib import Path
 
@@ -208,6 +209,29 @@ def test_goes_on_after_a_session_has_ended(server: Callable[[str], str], bare: P
             other.execute("select pg_terminate_backend(pid) from pg_stat_activity where pid <> pg_backend_pid()"
                           " and datname = current_database()")
         assert zone.check("straße").status is Status.TAKEN
+        assert zone.register("maus").status is Status.REGISTERED
+
+
+def test_a_server_that_hangs_makes_requests_unknown(server: Callable[[str], str], bare: Place) -> None:
+    bare.register = server("hangs")
+    bare.configure("[limits]\nseconds = 1")
+    bare.load("haus")
+    import psycopg
+
+    with bare.zone() as zone, psycopg.connect(bare.register, autocommit=True) as other:
+        query = "select pid from pg_stat_activity where pid <> pg_backend_pid() and datname = current_database()"
+        for ask in (zone.check, zone.register):
+            assert zone.check("haus").status is Status.TAKEN
+            stopped = [pid for pid, in other.execute(query)]
+            assert stopped
+            for pid in stopped:
+                os.kill(pid, signal.SIGSTOP)
+            start = time.monotonic()
+            answer = ask("maus")
+            assert answer.status is Status.UNKNOWN and "no answer within 2 seconds" in str(answer.reason), answer
+            assert time.monotonic() - start < 10
+            for pid in stopped:
+                os.kill(pid, signal.SIGCONT)
         assert zone.register("maus").status is Status.REGISTERED
 
 
