@@ -4,7 +4,8 @@ ghost use Rattle.std.specs.Result.{is_ok};
 ghost use Rattle.idn_text.specs.Points.{AreScalarValues};
 ghost use Rattle.idn_label.specs.FirstFault.{first_fault};
 ghost use Rattle.idn_label.specs.Register.{confirmed, u_label_answer};
-ghost use Rattle.idn_cause.specs.ALabelCauses.{a_label_cause, code_fault, decoded_cause, other_a_label, past_ascii, undecoded_cause};
+ghost use Rattle.idn_cause.specs.ALabelCauses.{a_label_cause, code_fault, decoded_cause, other_a_label, past_ascii};
+ghost use Rattle.idn_cause.specs.ALabelCauses.{undecoded_cause};
 
 use crate::cause::Cause;
 use crate::label::cause_of;
@@ -31,8 +32,8 @@ pub enum ALabelCause {
     Copied(Cause),
 }
 
-/// What gives a label that begins with `xn--` this fault, as the answers of registration and decoding have it. `None` where
-/// no cause is told for the fault. It takes memory.
+/// What gives a label that begins with `xn--` this fault, as the answers of registration and decoding have it. `None`
+/// where no cause is told for the fault. It takes memory.
 #[cold]
 #[tactic(auto, unfolding(crate::specs::ALabelCauses::a_label_cause))]
 pub fn a_label_cause(

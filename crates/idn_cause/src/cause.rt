@@ -7,8 +7,8 @@ use idn_class::{BarringLine, BidiClass, Broken};
 pub enum Cause {
     /// A place, the code point there, and the line of RFC 5892, section 3, that bars it.
     Barred(usize, u32, BarringLine),
-    /// The first place at which the label and its Normalization Form C differ, and what the two have there. The form may
-    /// end there.
+    /// The first place at which the label and its Normalization Form C differ, and what the two have there. The form
+    /// may end there.
     Changed(usize, u32, Option<u32>),
     /// The place of a hyphen, and how many code points the label has.
     Hyphen(usize, usize),

@@ -41,7 +41,8 @@ fn confirmed_label(
     properties: Properties,
 ) -> Result<Option<LabelUtf8>, AllocError>
     requires { AreScalarValues label.now }
-    ensures { IfOk result (λ utf8. option_map (λ u. u.items) utf8 ≡ answered_utf8 (confirmed properties given.now label.now)) }
+    ensures { IfOk result (λ utf8. option_map (λ u. u.items) utf8 ≡
+        answered_utf8 (confirmed properties given.now label.now)) }
 {
     if is_confirmed(alloc, given, label, properties)? {
         Ok(Some(utf8_of(label)))

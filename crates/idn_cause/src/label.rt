@@ -2,7 +2,8 @@
 ghost use Rattle.std.specs.Prelude.{◌≡◌, IfOk};
 ghost use Rattle.std.specs.Result.{IsOk};
 ghost use Rattle.idn_text.specs.Points.{AreScalarValues};
-ghost use Rattle.idn_cause.specs.Causes.{IsFoundWithoutMemory, barred_at, barred_place, cause_of, condition_at, hyphen_at, leading_place, point_at};
+ghost use Rattle.idn_cause.specs.Causes.{IsFoundWithoutMemory, barred_at, barred_place, cause_of, condition_at};
+ghost use Rattle.idn_cause.specs.Causes.{hyphen_at, leading_place, point_at};
 
 use crate::cause::Cause;
 use crate::lengths::length_at;
@@ -16,9 +17,9 @@ use idn_label::code_point_at;
 use idn_text::Refusal;
 use std::alloc::{AllocError, Global};
 
-/// What gives a label this fault: the first place at which the rule is broken. `None` where no cause is told for the fault.
-/// Memory is taken only for a code point that may not be registered, or whose class no look-up tells; for Normalization
-/// Form C; and for the A-label of a label that is not all ASCII.
+/// What gives a label this fault: the first place at which the rule is broken. `None` where no cause is told for the
+/// fault. Memory is taken only for a code point that may not be registered, or whose class no look-up tells; for
+/// Normalization Form C; and for the A-label of a label that is not all ASCII.
 #[cold]
 #[tactic(auto, unfolding(crate::specs::Causes::cause_of))]
 pub fn cause_of(

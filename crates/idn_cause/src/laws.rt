@@ -20,14 +20,16 @@ ghost use Rattle.idn_cause.specs.Causes.{cause_of, IsCause, IsPermitted};
 ghost use Rattle.idn_cause.specs.NameCauses.{name_cause, query_cause, IsNameCause, IsQueryCause};
 ghost use Rattle.idn_cause.specs.Examples.{HaveCauses, ExamplesOfALabels, ExamplesOfLengths, causes};
 
-/// What is told of a fault is its cause, and nothing else is. The class of the code point that is told says which fault it is.
-/// The first fault of a label has a cause, unless the label is empty.
+/// What is told of a fault is its cause, and nothing else is. The class of the code point that is told says which fault
+/// it is. The first fault of a label has a cause, unless the label is empty.
 pub fn causes_are_told()
     ensures exactly { (properties : Properties) (label : List ℕ) (refusal : Refusal) (cause : Cause) →
         (cause_of properties label refusal ≡ Some cause) ↔ IsCause properties label refusal cause }
-    ensures kind { (properties : Properties) (label : List ℕ) (place : ℕ) → IsFirstFailing label (IsPermitted properties label) place →
+    ensures kind { (properties : Properties) (label : List ℕ) (place : ℕ) →
+        IsFirstFailing label (IsPermitted properties label) place →
         code_point_fault properties label ≡ fault_of_class (class_of properties (slice_index label place)) }
-    ensures always { (properties : Properties) (label : List ℕ) (refusal : Refusal) → first_fault properties label ≡ Some refusal →
+    ensures always { (properties : Properties) (label : List ℕ) (refusal : Refusal) →
+        first_fault properties label ≡ Some refusal →
         refusal ≢ Empty → cause_of properties label refusal ≢ None }
     ensures examples { HaveCauses causes }
 {}
@@ -37,15 +39,18 @@ pub fn causes_are_told()
 pub fn a_label_causes_are_told()
     ensures exactly { (properties : Properties) (given : List ℕ) (refusal : Refusal) (cause : ALabelCause) →
         (a_label_cause properties given refusal ≡ Some cause) ↔ IsALabelCause properties given refusal cause }
-    ensures always { (properties : Properties) (given : List ℕ) (refusal : Refusal) → u_label_answer properties given ≡ Err refusal →
+    ensures always { (properties : Properties) (given : List ℕ) (refusal : Refusal) →
+        u_label_answer properties given ≡ Err refusal →
         refusal ≢ Empty → a_label_cause properties given refusal ≢ None }
     ensures examples { ExamplesOfALabels }
 {}
 
-/// What is told of what begins with `xn--` where a U-label is wanted is the label of which it is the A-label, if there is one.
+/// What is told of what begins with `xn--` where a U-label is wanted is the label of which it is the A-label, if there
+/// is one.
 pub fn coded_labels_are_told()
     ensures exactly { (properties : Properties) (given utf8 : List ℕ) →
-        (coded_label properties given ≡ Some utf8) ↔ ((label : List ℕ) × IsALabelOf properties given label × (utf8 ≡ utf8_of label)) }
+        (coded_label properties given ≡ Some utf8) ↔
+        ((label : List ℕ) × IsALabelOf properties given label × (utf8 ≡ utf8_of label)) }
 {}
 
 /// What is told of a fault of a name that is decoded is its cause, and nothing else is. Each fault but `Empty` has a
@@ -53,7 +58,8 @@ pub fn coded_labels_are_told()
 pub fn name_causes_are_told()
     ensures exactly { (properties : Properties) (name : List ℕ) (refusal : Refusal) (cause : NameCause) →
         (name_cause properties name refusal ≡ Some cause) ↔ IsNameCause properties name refusal cause }
-    ensures always { (properties : Properties) (name : List ℕ) (refusal : Refusal) → decode_answer properties name ≡ Err refusal →
+    ensures always { (properties : Properties) (name : List ℕ) (refusal : Refusal) →
+        decode_answer properties name ≡ Err refusal →
         refusal ≢ Empty → name_cause properties name refusal ≢ None }
 {}
 

@@ -5,7 +5,8 @@ ghost use Rattle.idna.specs.Labels.{labels_of};
 ghost use Rattle.idn_label.specs.Decode.{decoded_labels};
 ghost use Rattle.idn_label.specs.Steps.{begins_with_prefix};
 ghost use Rattle.idn_cause.specs.NameLabels.{first_failing_label};
-ghost use Rattle.idn_cause.specs.NameCauses.{breaks_none, broken_at_label, cause_at_label, label_of_number, of_decoded, is_decoded, name_cause, whole_name_cause};
+ghost use Rattle.idn_cause.specs.NameCauses.{breaks_none, broken_at_label, cause_at_label, label_of_number, of_decoded};
+ghost use Rattle.idn_cause.specs.NameCauses.{is_decoded, name_cause, whole_name_cause};
 ghost use Rattle.std.specs.Result.{IsOk};
 
 use crate::a_label::{ALabelCause, a_label_cause, is_a_label};
@@ -16,8 +17,8 @@ use idn_label::{decode_labels, has_ace_prefix_in_any_case, label_end, name_fault
 use idn_text::{MAX_LINE_LEN, Refusal};
 use std::alloc::{AllocError, Global};
 
-/// What gives a name its fault: the first label that is refused, counted from 0, and the cause. Where each label is decoded, but the
-/// name as a whole breaks the Bidi rule, it is the first decoded label that breaks a condition.
+/// What gives a name its fault: the first label that is refused, counted from 0, and the cause. Where each label is
+/// decoded, but the name as a whole breaks the Bidi rule, it is the first decoded label that breaks a condition.
 #[derive(Drop)]
 pub struct NameCause {
     /// The number of the label, at most 1,024.
@@ -26,8 +27,8 @@ pub struct NameCause {
     pub cause: ALabelCause,
 }
 
-/// What gives a name this fault, as the answer of decoding has it. `None` where no cause is told for the fault. It takes
-/// memory, but not for an empty name.
+/// What gives a name this fault, as the answer of decoding has it. `None` where no cause is told for the fault. It
+/// takes memory, but not for an empty name.
 #[cold]
 #[tactic(auto, unfolding(crate::specs::NameCauses::name_cause), using(crate::proofs::NameSteps::empty_names))]
 pub fn name_cause(
@@ -68,7 +69,8 @@ fn whole_name_cause(
     properties: Properties,
 ) -> Result<Option<NameCause>, AllocError>
     requires { length name.now ≤ MAX_LINE_LEN }
-    ensures { IfOk result (λ cause. cause ≡ whole_name_cause properties name.now refusal (decoded_labels properties (labels_of name.now))) }
+    ensures { IfOk result (λ cause. cause ≡
+        whole_name_cause properties name.now refusal (decoded_labels properties (labels_of name.now))) }
 {
     let Refusal::Bidi = refusal else {
         return Ok(None);
@@ -85,10 +87,12 @@ fn whole_name_cause(
     }
 }
 
-/// The first label that breaks a condition of the Bidi rule, once a name is decoded, and the first condition that it breaks.
+/// The first label that breaks a condition of the Bidi rule, once a name is decoded, and the first condition that it
+/// breaks.
 fn broken_label(name: &[u32], decoded: &[u32], properties: Properties) -> Option<NameCause>
     requires { length decoded.now ≤ MAX_LINE_LEN }
-    ensures { result ≡ broken_at_label properties name.now (first_failing_label (breaks_none properties) 0 (labels_of decoded.now)) }
+    ensures { result ≡ broken_at_label properties name.now
+        (first_failing_label (breaks_none properties) 0 (labels_of decoded.now)) }
 {
     let mut start = 0;
     let mut number: u16 = 0;

@@ -9,7 +9,8 @@ ghost use Rattle.idna.specs.Labels.{labels_of};
 ghost use Rattle.idna.specs.Uts46.{to_ascii};
 ghost use Rattle.idn_label.specs.Lookup.{deny_list};
 ghost use Rattle.idn_cause.specs.NameLabels.{first_failing_label};
-ghost use Rattle.idn_cause.specs.NameCauses.{has_label_length, length_cause, length_cause_of, query_cause, without_root};
+ghost use Rattle.idn_cause.specs.NameCauses.{has_label_length, length_cause, length_cause_of, query_cause};
+ghost use Rattle.idn_cause.specs.NameCauses.{without_root};
 
 use idn_class::MAX_LABEL_LEN;
 use idn_label::{MAX_NAME_LEN, code_point_at, deny_list, label_end};
@@ -26,8 +27,8 @@ pub enum LengthCause {
     NameOctets(usize),
 }
 
-/// What gives a name in UTF-8 this fault at its lookup. `None` where no cause is told for the fault: ToASCII has one error
-/// for all that it refuses.
+/// What gives a name in UTF-8 this fault at its lookup. `None` where no cause is told for the fault: ToASCII has one
+/// error for all that it refuses.
 #[cold]
 #[tactic(auto, unfolding(crate::specs::NameCauses::query_cause))]
 pub fn query_cause(
@@ -89,7 +90,8 @@ fn without_root(name: &[u8]) -> &[u8]
 
 /// The number of the first label of a wrong length, and its octets.
 fn wrong_label(name: &[u8]) -> Option<(usize, usize)>
-    ensures { result ≡ option_map (λ found. (found.0, length found.1)) (first_failing_label has_label_length 0 (labels_of name.now)) }
+    ensures { result ≡ option_map (λ found. (found.0, length found.1))
+        (first_failing_label has_label_length 0 (labels_of name.now)) }
 {
     let mut start = 0;
     let mut number = 0;

@@ -94,7 +94,7 @@ fn points_in_context(context: &PatternTree, seen: &SeenLabel) -> u64
     requires { HasItsSets (length seen.now.sets) (pattern context.now) }
     ensures { (i : _) → Has result i ↔
         ((i < length seen.now.label) × EndsBefore seen.now (pattern context.now) i ×
-            BeginsAfter seen.now (pattern context.now) (i + 1)) }
+        BeginsAfter seen.now (pattern context.now) (i + 1)) }
 {
     before(places_after(context, seen), places_before(context, seen))
 }

@@ -40,8 +40,11 @@ pub(crate) struct Board {
 impl Model for Board {
     ghost Value = { Cells };
 
-    ghost view = { λ board. record { has = board.has.items; lacks = board.lacks.items;
-        reached = board.reached.items } };
+    ghost view = { λ board. record {
+      has = board.has.items;
+      lacks = board.lacks.items;
+      reached = board.reached.items;
+    } };
 
     ghost invariant = { λ board. (vec_len board.lacks ≡ vec_len board.has) × (vec_len board.reached ≡ 64) };
 }

@@ -33,7 +33,7 @@ impl Model for Readings {
 
     ghost invariant = { λ r. AreSubstitutions r.substitutions × (length r.substitutions ≤ 63) × (r.count ≤ 63) ×
         IsRight r.substitutions (take r.count r.label) r.board r.count ×
-            (length r.board.has ≡ (length r.substitutions + 1) * 64) };
+        (length r.board.has ≡ (length r.substitutions + 1) * 64) };
 }
 
 impl Readings {

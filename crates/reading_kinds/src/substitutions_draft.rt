@@ -23,9 +23,11 @@ pub struct SubstitutionsDraft {
 impl Model for SubstitutionsDraft {
     ghost Value = { Draft };
 
-    ghost view = { λ draft. record { done = lists_of
-        (map (substitution_of draft.points.items) draft.substitutions.items) draft.places.items;
-            begun = drop draft.start (map (substitution_of draft.points.items) draft.substitutions.items) } };
+    ghost view = { λ draft. record {
+      done = lists_of
+          (map (substitution_of draft.points.items) draft.substitutions.items) draft.places.items;
+      begun = drop draft.start (map (substitution_of draft.points.items) draft.substitutions.items);
+    } };
 
     ghost invariant = { λ draft. IsKept draft.points.items draft.substitutions.items draft.places.items draft.longest ×
         (draft.start ≤ length draft.substitutions.items) };

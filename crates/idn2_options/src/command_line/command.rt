@@ -2,7 +2,8 @@
 //! No argument has a rule on another, so that `clap`'s definition gives what the words mean.
 ghost use Rattle.std.specs.Prelude.{◌≡◌, IfOk, false, map, string_bytes};
 ghost use Rattle.clap.specs.Words.{FailsBy, app_of, fault_of, found_of, matches_of, rows_of, rule_of, with_rule};
-ghost use Rattle.idn2_options.specs.CommandLine.{app, flag_rule, short_flag_rule, value_rule, strings_rule, with_modes, with_tables, with_collisions, with_switches, with_bounds};
+ghost use Rattle.idn2_options.specs.CommandLine.{app, flag_rule, short_flag_rule, value_rule, strings_rule, with_modes};
+ghost use Rattle.idn2_options.specs.CommandLine.{with_tables, with_collisions, with_switches, with_bounds};
 
 use crate::command_line::arguments::{
     AFTER, AMONG, CHECK_RULESET, CHECK_TABLE, DECODE, EXPLAIN, JSON, JUMP, LIMIT, LOOKUP, QUIET,

@@ -4,7 +4,8 @@ ghost use Rattle.std.specs.Str.{chars};
 ghost use Rattle.clap.specs.Words.{found_of, kind_of, rows_of};
 ghost use Rattle.idn2_options.specs.Causes.{IsUsageCause};
 ghost use Rattle.idn2_options.specs.Settings.{IsWithinLimits, SuitsMode};
-ghost use Rattle.idn2_options.specs.Words.{IsAnswer, IsUsage, count_of, form_of, mode_of, options_of, properties_of, settings_of, start_of, steps_of, strings_of, value_of};
+ghost use Rattle.idn2_options.specs.Words.{IsAnswer, IsUsage, count_of, form_of, mode_of, options_of, properties_of};
+ghost use Rattle.idn2_options.specs.Words.{settings_of, start_of, steps_of, strings_of, value_of};
 
 use crate::command_line::arguments::{
     AMONG, DECODE, EXPLAIN, JSON, JUMP, LIMIT, REGISTER, STANDARD, STD3, STEPS, STRINGS, TRIES,
