@@ -1,6 +1,6 @@
 -- The default actions.
-use Rattle.std.proofs.Common.{◌≡◌, ◌↔◌, inl, inr, ℕ, zero, suc, ◌+◌, ◌<◌, ◌≤◌, Bool, true, false, List, refl, sym, ap, ◌∙◌, subst, arith}
-use Rattle.std.specs.Prelude.{bit_and, filter, Option, Some, None, nat_lt, unwrap_or}
+use Rattle.std.proofs.Common.{◌≡◌, ◌↔◌, inl, inr, ℕ, zero, suc, Bool, true, List, refl, sym, ap, ◌∙◌, subst, arith}
+use Rattle.std.specs.Prelude.{bit_and, filter, Option, Some, None, unwrap_or}
 use Rattle.std.specs.List.{Contains}
 use Rattle.std.specs.Int.{bit_at}
 use Rattle.std.proofs.lemmas.Bool.{lt-ltb, ltb-true}
@@ -10,7 +10,7 @@ use Rattle.reading_kinds.proofs.ListMembers.{Contains-filter}
 use Rattle.variant_dispositions.specs.declared.action.Action.{Action}
 use Rattle.variant_dispositions.specs.declared.disposition.Disposition.{Disposition}
 use Rattle.variant_dispositions.specs.declared.disposition.Disposition.TheVariants.{Valid}
-use Rattle.variant_dispositions.specs.Kinds.{Kind, kind_at, kinds_in}
+use Rattle.variant_dispositions.specs.Kinds.{kind_at, kinds_in}
 use Rattle.variant_dispositions.specs.Actions.{default_actions, default_disposition, disposition, first_triggered, is_predefined}
 use Rattle.variant_dispositions.specs.Laws.{AreTheSame}
 use Rattle.variant_dispositions.proofs.KindLemmas.{bit_of, both-bits, Contains-kinds_in, kind_at-bit_of}

@@ -1,6 +1,6 @@
 -- Laws of dispositions.
-use Rattle.std.proofs.Common.{◌≡◌, ◌↔◌, inl, inr, ℕ, zero, suc, ◌+◌, ◌<◌, ◌≤◌, Bool, true, false, List, [], ◌∷◌, ◌++◌, refl, sym, ap, ◌∙◌, subst, arith}
-use Rattle.std.specs.Prelude.{◌==◌, ◌&&◌, IsSome, filter, nat_lt, Option, Some, None, option_map, unwrap_or, if◌then◌else◌}
+use Rattle.std.proofs.Common.{◌≡◌, inl, inr, ℕ, ◌+◌, ◌<◌, Bool, true, false, List, [], ◌∷◌, refl, sym, ap, ◌∙◌, arith}
+use Rattle.std.specs.Prelude.{◌&&◌, IsSome, filter, Option, Some, None, option_map, unwrap_or, if◌then◌else◌}
 use Rattle.std.specs.List.{AllByRecursion, Contains, find, list_all, list_any}
 use Rattle.std.specs.Int.{bit_at}
 use Rattle.std.specs.Option.{option_or}
@@ -8,7 +8,7 @@ use Rattle.std.proofs.lemmas.Bool.Decides.{Decides-eqb}
 use Rattle.std.proofs.lemmas.Bool.{and_from, and_parts, cases_lt, lt-ltb}
 use Rattle.std.proofs.lemmas.List.Folds.{find-append}
 use Rattle.std.proofs.lemmas.Nat.Bits.{bit_at_above}
-use Rattle.reading_kinds.proofs.ListMembers.{Contains-filter, Contains-head, Contains-later}
+use Rattle.reading_kinds.proofs.ListMembers.{Contains-filter, Contains-head}
 use Rattle.variant_dispositions.specs.declared.action.Action.{Action}
 use Rattle.variant_dispositions.specs.declared.action.TypeTrigger.{TypeTrigger}
 use Rattle.variant_dispositions.specs.declared.action.TypeTrigger.TheVariants as trigger
@@ -16,7 +16,7 @@ use Rattle.variant_dispositions.specs.declared.disposition.Disposition.{Disposit
 use Rattle.variant_dispositions.specs.declared.disposition.Disposition.TheVariants.{Invalid, Blocked, Allocatable, Activated, Valid}
 use Rattle.variant_dispositions.specs.Kinds.{Kind, is_mapped, recorded}
 use Rattle.variant_dispositions.specs.Kinds.Kind.{Unmapped, Untyped, Typed}
-use Rattle.variant_dispositions.specs.Actions.{by_types, default_actions, default_disposition, disposition, first_triggered, has_types, is_allocatable, is_of, is_predefined, is_triggered, meets}
+use Rattle.variant_dispositions.specs.Actions.{by_types, default_disposition, disposition, first_triggered, has_types, is_allocatable, is_of, is_predefined, is_triggered, meets}
 use Rattle.variant_dispositions.specs.Laws.{AreTheSame, OneIfClear, ThereIsOne, ByRulesAlone, BlockedBlocks, TwoDefaultsCount, OnlyIsAll}
 use Rattle.variant_dispositions.proofs.MemberLemmas.{all-told, any-told, bool_same}
 use Rattle.variant_dispositions.proofs.SetLemmas.{KindsAreASet-holds}
@@ -33,10 +33,10 @@ abbrev by_tests : Bool → Bool → Bool → Bool → Option Disposition
 by_tests one two three four =
     option_map (λ (action : Action). action.disposition)
     (if one && true then Some (by_types Invalid (Some (trigger.Any 4)))
-      else if two && true then Some (by_types Blocked (Some (trigger.Any 8)))
-      else if three && true then Some (by_types Allocatable (Some (trigger.Any 16)))
-      else if four && true then Some (by_types Activated (Some (trigger.All 32)))
-      else Some (by_types Valid None))
+    else if two && true then Some (by_types Blocked (Some (trigger.Any 8)))
+    else if three && true then Some (by_types Allocatable (Some (trigger.Any 16)))
+    else if four && true then Some (by_types Activated (Some (trigger.All 32)))
+    else Some (by_types Valid None))
 
 some-tests : (one two three four : Bool) → IsSome (by_tests one two three four)
 some-tests true two three four = refl
@@ -69,10 +69,10 @@ module _ (kinds : List Kind) (none : (number : ℕ) → ¬ Contains kinds (Typed
   no_all : (types : ℕ) → (list_any is_mapped (filter is_predefined kinds) && list_all (is_of types) (filter is_mapped (filter is_predefined kinds))) ≡ false
   no_all types = bool_same (list_any is_mapped (filter is_predefined kinds) && list_all (is_of types) (filter is_mapped (filter is_predefined kinds))) false
       (λ h.
-          let parts = and_parts (list_any is_mapped (filter is_predefined kinds)) (list_all (is_of types) (filter is_mapped (filter is_predefined kinds))) h in
-          let g = (any-told is_mapped (filter is_predefined kinds)).0 parts.0 in
-          let one = (all-told (is_of types) (filter is_mapped (filter is_predefined kinds))).0 parts.1 g.0 ((Contains-filter is_mapped (filter is_predefined kinds) g.0).1 (g.1, g.2)) in
-          absurd (no_type types g.0 ((Contains-filter is_predefined kinds g.0).0 g.1).0 one))
+      let parts = and_parts (list_any is_mapped (filter is_predefined kinds)) (list_all (is_of types) (filter is_mapped (filter is_predefined kinds))) h in
+      let g = (any-told is_mapped (filter is_predefined kinds)).0 parts.0 in
+      let one = (all-told (is_of types) (filter is_mapped (filter is_predefined kinds))).0 parts.1 g.0 ((Contains-filter is_mapped (filter is_predefined kinds) g.0).1 (g.1, g.2)) in
+      absurd (no_type types g.0 ((Contains-filter is_predefined kinds g.0).0 g.1).0 one))
       (λ h. let clash : false ≡ true = h in cc)
 
   default-valid : (matched : ℕ → Bool) → default_disposition matched kinds ≡ Some Valid
@@ -168,8 +168,8 @@ OnlyIsAll-holds types kind kinds =
     let some = any-told is_mapped (kind ∷ kinds) in (
       λ h. (
         and_from (list_any is_mapped (kind ∷ kinds)) (list_all (is_of types) (filter is_mapped (kind ∷ kinds)))
-        (some.1 (kind, Contains-head kind kinds, typed types kind (all.0 h kind (Contains-head kind kinds))))
-        (kept.1 (λ other c. all.0 h other ((Contains-filter is_mapped (kind ∷ kinds) other).0 c).0)),
+            (some.1 (kind, Contains-head kind kinds, typed types kind (all.0 h kind (Contains-head kind kinds))))
+            (kept.1 (λ other c. all.0 h other ((Contains-filter is_mapped (kind ∷ kinds) other).0 c).0)),
         λ c. (let clash : false ≡ true = all.0 h Unmapped c in cc),
       ),
       λ h. (let parts = and_parts (list_any is_mapped (kind ∷ kinds)) (list_all (is_of types) (filter is_mapped (kind ∷ kinds))) h.0 in

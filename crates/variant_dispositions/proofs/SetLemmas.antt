@@ -1,7 +1,7 @@
 -- Kinds as a set: neither their order nor how often one is there makes a difference.
-use Rattle.std.proofs.Common.{◌≡◌, ◌↔◌, ℕ, Bool, true, false, List, [], ◌∷◌, refl, sym, ap, ◌∙◌}
+use Rattle.std.proofs.Common.{◌≡◌, ℕ, Bool, List, [], ◌∷◌, refl, ap, ◌∙◌}
 use Rattle.std.specs.Prelude.{◌&&◌, filter, Option, Some, None, option_map, unwrap_or, if◌then◌else◌}
-use Rattle.std.specs.List.{Contains, find, list_all, list_any}
+use Rattle.std.specs.List.{find, list_all, list_any}
 use Rattle.reading_kinds.proofs.ListMembers.{Contains-filter}
 use Rattle.variant_dispositions.specs.declared.action.Action.{Action}
 use Rattle.variant_dispositions.specs.declared.action.TypeTrigger.{TypeTrigger}
@@ -9,7 +9,7 @@ use Rattle.variant_dispositions.specs.declared.action.TypeTrigger.TheVariants.{A
 use Rattle.variant_dispositions.specs.declared.disposition.Disposition.{Disposition}
 use Rattle.variant_dispositions.specs.declared.disposition.Disposition.TheVariants.{Valid}
 use Rattle.variant_dispositions.specs.Kinds.{Kind, is_mapped}
-use Rattle.variant_dispositions.specs.Actions.{default_actions, disposition, first_triggered, has_types, is_of, is_predefined, is_triggered, meets}
+use Rattle.variant_dispositions.specs.Actions.{default_actions, first_triggered, has_types, is_of, is_predefined, is_triggered, meets}
 use Rattle.variant_dispositions.specs.Laws.{AreTheSame, KindsAreASet}
 use Rattle.variant_dispositions.proofs.MemberLemmas.{all-told, any-told, bool_same}
 

@@ -1,15 +1,14 @@
 -- What actions ask of words.
-use Rattle.std.proofs.Common.{◌≡◌, ◌↔◌, inl, inr, ℕ, zero, suc, ◌+◌, ◌^◌, ◌<◌, ◌≤◌, Bool, true, false, List, refl, sym, ap, ◌∙◌, subst, arith}
+use Rattle.std.proofs.Common.{◌≡◌, ◌↔◌, ℕ, zero, suc, ◌+◌, ◌^◌, ◌<◌, Bool, true, false, refl, sym, ap, ◌∙◌, subst, arith}
 use Rattle.std.specs.Prelude.{◌==◌, ◌&&◌, not, bit_and, filter}
 use Rattle.std.specs.List.{Contains, list_all, list_any}
 use Rattle.std.specs.Int.{bit_at, bit_not, w64}
 use Rattle.std.proofs.lemmas.Bool.Decides.{Decides-eqb}
-use Rattle.std.proofs.lemmas.Bool.{and_from, and_parts, eq-eqb, eqb-false, ne_eqb, not-true}
+use Rattle.std.proofs.lemmas.Bool.{eq-eqb, eqb-false, ne_eqb, not-true}
 use Rattle.std.proofs.lemmas.Nat.{and_le_l, and_le_r}
 use Rattle.std.proofs.lemmas.Nat.Bits.{bit_at_mask_inside}
 use Rattle.reading_kinds.proofs.ListMembers.{Contains-filter}
 use Rattle.variant_dispositions.specs.Kinds.{Kind, is_mapped, kind_at, kinds_in}
-use Rattle.variant_dispositions.specs.Kinds.Kind.{Unmapped, Untyped, Typed}
 use Rattle.variant_dispositions.specs.Actions.{is_of}
 use Rattle.variant_dispositions.proofs.MemberLemmas.{all-told, any-told, bool_same}
 use Rattle.variant_dispositions.proofs.KindLemmas.{bit-none, bit-some, bit_of, both-bits, Contains-kinds_in, kind_at-bit_of, left-none}
@@ -45,15 +44,15 @@ any-bits word set test small tests =
     let any = any-told test (kinds_in word) in
     let below = and_le_l word set in
     let there : not (bit_and word set == 0) ≡ true → list_any test (kinds_in word) ≡ true = λ h.
-        let g = bit-some (bit_and word set) (omega (arith, below, small)) (told.0 h) in
-        let both = (both-bits word set g.0).0 g.2 in
-        any.1 (kind_at g.0, (Contains-kinds_in word g.0).1 (g.1, both.0), (tests g.0 g.1).0 both.1)
+    let g = bit-some (bit_and word set) (omega (arith, below, small)) (told.0 h) in
+    let both = (both-bits word set g.0).0 g.2 in
+    any.1 (kind_at g.0, (Contains-kinds_in word g.0).1 (g.1, both.0), (tests g.0 g.1).0 both.1)
     in
     let back : list_any test (kinds_in word) ≡ true → not (bit_and word set == 0) ≡ true = λ h.
-        let g = any.0 h in
-        let kind : kind_at (bit_of g.0) ≡ g.0 = kind_at-bit_of g.0 in
-        let inside = (Contains-kinds_in word (bit_of g.0)).0 (subst (Contains (kinds_in word)) (sym kind) g.1) in
-        told.1 (λ none. bit-none (bit_and word set) (bit_of g.0) none ((both-bits word set (bit_of g.0)).1 (inside.1, (tests (bit_of g.0) inside.0).1 (ap test kind ∙ g.2))))
+    let g = any.0 h in
+    let kind : kind_at (bit_of g.0) ≡ g.0 = kind_at-bit_of g.0 in
+    let inside = (Contains-kinds_in word (bit_of g.0)).0 (subst (Contains (kinds_in word)) (sym kind) g.1) in
+    told.1 (λ none. bit-none (bit_and word set) (bit_of g.0) none ((both-bits word set (bit_of g.0)).1 (inside.1, (tests (bit_of g.0) inside.0).1 (ap test kind ∙ g.2))))
     in
     bool_same (not (bit_and word set == 0)) (list_any test (kinds_in word)) there back
 
@@ -65,9 +64,9 @@ all-bits word set test small few tests =
     let decided = Decides-eqb (bit_and word (bit_not w64 set)) 0 in
     let all = all-told test (kinds_in word) in
     let passes : (bit_and word (bit_not w64 set) == 0) ≡ true → (kind : Kind) → Contains (kinds_in word) kind → test kind ≡ true = λ h kind inside.
-        let there = kind_at-bit_of kind in
-        let g = (Contains-kinds_in word (bit_of kind)).0 (subst (Contains (kinds_in word)) (sym there) inside) in
-        ap test (sym there) ∙ (tests (bit_of kind) g.0).0 (none.0 (decided.0 h) (bit_of kind) g.0 g.1)
+    let there = kind_at-bit_of kind in
+    let g = (Contains-kinds_in word (bit_of kind)).0 (subst (Contains (kinds_in word)) (sym there) inside) in
+    ap test (sym there) ∙ (tests (bit_of kind) g.0).0 (none.0 (decided.0 h) (bit_of kind) g.0 g.1)
     in
     bool_same (bit_and word (bit_not w64 set) == 0) (list_all test (kinds_in word)) (λ h. all.1 (passes h))
     (λ h. decided.1 (none.1 (λ bit l one. (tests bit l).1 (all.0 h (kind_at bit) ((Contains-kinds_in word bit).1 (l, one))))))
@@ -95,16 +94,16 @@ mapped-all kinds types =
     let one = all-told (is_of types) (kinds_in mapped) in
     let other = all-told (is_of types) (filter is_mapped (kinds_in kinds)) in
     let there : list_all (is_of types) (kinds_in mapped) ≡ true → (kind : Kind) → Contains (filter is_mapped (kinds_in kinds)) kind → is_of types kind ≡ true = λ h kind c.
-        let same = kind_at-bit_of kind in
-        let f = (Contains-filter is_mapped (kinds_in kinds) kind).0 c in
-        let g = (Contains-kinds_in kinds (bit_of kind)).0 (subst (Contains (kinds_in kinds)) (sym same) f.0) in
-        one.0 h kind (subst (Contains (kinds_in mapped)) same ((Contains-kinds_in mapped (bit_of kind)).1 (g.0, (mapped-bits kinds (bit_of kind) g.0).1 (g.1, ap is_mapped same ∙ f.1))))
+    let same = kind_at-bit_of kind in
+    let f = (Contains-filter is_mapped (kinds_in kinds) kind).0 c in
+    let g = (Contains-kinds_in kinds (bit_of kind)).0 (subst (Contains (kinds_in kinds)) (sym same) f.0) in
+    one.0 h kind (subst (Contains (kinds_in mapped)) same ((Contains-kinds_in mapped (bit_of kind)).1 (g.0, (mapped-bits kinds (bit_of kind) g.0).1 (g.1, ap is_mapped same ∙ f.1))))
     in
     let back : list_all (is_of types) (filter is_mapped (kinds_in kinds)) ≡ true → (kind : Kind) → Contains (kinds_in mapped) kind → is_of types kind ≡ true = λ h kind c.
-        let same = kind_at-bit_of kind in
-        let g = (Contains-kinds_in mapped (bit_of kind)).0 (subst (Contains (kinds_in mapped)) (sym same) c) in
-        let m = (mapped-bits kinds (bit_of kind) g.0).0 g.1 in
-        other.0 h kind ((Contains-filter is_mapped (kinds_in kinds) kind).1 (subst (Contains (kinds_in kinds)) same ((Contains-kinds_in kinds (bit_of kind)).1 (g.0, m.0)), ap is_mapped (sym same) ∙ m.1))
+    let same = kind_at-bit_of kind in
+    let g = (Contains-kinds_in mapped (bit_of kind)).0 (subst (Contains (kinds_in mapped)) (sym same) c) in
+    let m = (mapped-bits kinds (bit_of kind) g.0).0 g.1 in
+    other.0 h kind ((Contains-filter is_mapped (kinds_in kinds) kind).1 (subst (Contains (kinds_in kinds)) same ((Contains-kinds_in kinds (bit_of kind)).1 (g.0, m.0)), ap is_mapped (sym same) ∙ m.1))
     in
     bool_same (list_all (is_of types) (kinds_in mapped)) (list_all (is_of types) (filter is_mapped (kinds_in kinds))) (λ h. other.1 (there h)) (λ h. one.1 (back h))
 

@@ -1,6 +1,5 @@
 -- The disposition of a label by its words.
-use Rattle.std.proofs.Common.{◌≡◌, ◌↔◌, inl, inr, ℕ, ◌^◌, ◌<◌, ◌≤◌, Bool, true, List, [], refl, sym, ap, ◌∙◌, subst, arith}
-use Rattle.std.specs.Prelude.{IsTrue}
+use Rattle.std.proofs.Common.{◌≡◌, ◌↔◌, inl, inr, ℕ, ◌<◌, Bool, List, [], refl, sym, ap, ◌∙◌, subst, arith}
 use Rattle.std.specs.List.{Contains}
 use Rattle.std.specs.Int.{bit_at}
 use Rattle.reading_kinds.specs.Readings.{Substitution, HasKind, IsReading, SubstitutionsSpell}
@@ -58,15 +57,15 @@ module _ (substitutions : List (List Substitution)) (v : List ℕ) (has lacks : 
     λ h.
         let g = (are.lacks_are 3 (omega arith)).0 h in
         let none : (number : ℕ) → ¬ Contains (recorded g.0) (Typed number) = λ number c.
-            g.2 ((Contains-recorded g.0 3).0 (subst (λ n. Contains (recorded g.0) (Typed n)) (alone g.0 g.1 number c) c)).1
+        g.2 ((Contains-recorded g.0 3).0 (subst (λ n. Contains (recorded g.0) (Typed n)) (alone g.0 g.1 number c) c)).1
         in
         (disposition matched [] (recorded g.0), (g.0, g.1, refl), ap is_allocatable (ByRulesAlone-holds matched [] (recorded g.0) tt none)),
     λ h.
         let reading = h.1 in
         let lacking : ¬ HasKind reading.0 3 = λ there.
-            let blocked = BlockedBlocks-holds matched (recorded reading.0) ((Contains-recorded reading.0 3).1 (omega arith, there)) in
-            let clash = sym blocked ∙ ap is_allocatable reading.2 ∙ h.2 in
-            cc
+        let blocked = BlockedBlocks-holds matched (recorded reading.0) ((Contains-recorded reading.0 3).1 (omega arith, there)) in
+        let clash = sym blocked ∙ ap is_allocatable reading.2 ∙ h.2 in
+        cc
         in
         (are.lacks_are 3 (omega arith)).1 (reading.0, reading.1, lacking),
   )

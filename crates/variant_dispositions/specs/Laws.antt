@@ -1,14 +1,13 @@
 -- Laws of dispositions.
-use Rattle.std.specs.Prelude.{◌≡◌, ◌≢◌, ℕ, ◌↔◌, ◌||◌, ◌&&◌, Bool, true, false, not, IsTrue, IsSome, List, [], ◌∷◌, ◌++◌, Option, Some, None, Contains, All, unwrap_or}
-use Rattle.std.specs.List.{list_any, AllByRecursion}
+use Rattle.std.specs.Prelude.{◌≡◌, ℕ, ◌↔◌, Bool, true, false, IsSome, List, [], ◌∷◌, ◌++◌, Some, None, Contains, unwrap_or}
+use Rattle.std.specs.List.{AllByRecursion}
 use Rattle.reading_kinds.specs.Readings.{Substitution, SubstitutionsSpell}
 use Rattle.variant_dispositions.specs.declared.action.Action.{Action}
-use Rattle.variant_dispositions.specs.declared.action.TypeTrigger.{TypeTrigger}
 use Rattle.variant_dispositions.specs.declared.action.TypeTrigger.TheVariants as trigger
 use Rattle.variant_dispositions.specs.declared.disposition.Disposition.{Disposition}
 use Rattle.variant_dispositions.specs.declared.disposition.Disposition.TheVariants.{Invalid, Blocked, Valid}
-use Rattle.variant_dispositions.specs.Kinds.{Kind, is_mapped}
-use Rattle.variant_dispositions.specs.Kinds.Kind.{Unmapped, Untyped, Typed}
+use Rattle.variant_dispositions.specs.Kinds.{Kind}
+use Rattle.variant_dispositions.specs.Kinds.Kind.{Unmapped, Typed}
 use Rattle.variant_dispositions.specs.Actions.{by_types, default_disposition, disposition, first_triggered, has_types, is_allocatable}
 use Rattle.variant_dispositions.specs.Readings.{IsClear, IsDisposition}
 

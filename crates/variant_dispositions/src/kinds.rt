@@ -6,9 +6,13 @@ pub const UNMAPPED: u64 = 1;
 pub const UNTYPED: u64 = 1 << 1;
 /// The predefined types (RFC 7940, section 7.3).
 pub const INVALID: u64 = 1 << 2;
+
 pub const BLOCKED: u64 = 1 << BLOCKED_BIT;
+
 pub const ALLOCATABLE: u64 = 1 << 4;
+
 pub const ACTIVATED: u64 = 1 << 5;
+
 pub const VALID: u64 = 1 << 6;
 
 pub(crate) const BLOCKED_BIT: u32 = 3;

@@ -1,4 +1,3 @@
-use Rattle.std.proofs.Common.{◌≡◌, ◌↔◌}
 use Rattle.variant_dispositions.proofs.WordLemmas.{some-allocatable}
 use Rattle.variant_dispositions.proofs.variant.is_allocatable_in_some.Goals as goal
 

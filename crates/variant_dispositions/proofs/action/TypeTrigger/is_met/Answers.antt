@@ -1,4 +1,4 @@
-use Rattle.std.proofs.Common.{◌≡◌, Some, sym, ap, ◌∙◌}
+use Rattle.std.proofs.Common.{Some, sym, ap, ◌∙◌}
 use Rattle.variant_dispositions.specs.Kinds.{kinds_in}
 use Rattle.variant_dispositions.specs.Actions.{has_types}
 use Rattle.variant_dispositions.proofs.TypeLemmas.{all-none, all-some, any-met, only-met}
