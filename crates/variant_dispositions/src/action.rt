@@ -8,12 +8,12 @@ use crate::kinds::{TYPES, UNMAPPED};
 use crate::label_rules::LabelRules;
 use label_patterns::{Condition, ConditionKind};
 
-/// Which types have to be recorded (RFC 7940, section 7.2). A set of types is a word with a bit for each.
+/// Which types have to be recorded (RFC 7940, section 7.2). A set of types is a word with the bits of their kinds.
 #[derive(Clone, Copy, Debug, PartialEq, Eq)]
 pub enum TypeTrigger {
     /// One of these.
     Any(u64),
-    /// One or more of these, and sources that stay without a reflexive type.
+    /// One or more of these, and nothing else but sources that stay without a reflexive type.
     All(u64),
     /// These alone.
     Only(u64),

@@ -3,15 +3,15 @@
 /// What becomes of a label (RFC 7940, section 7.3).
 #[derive(Clone, Copy, Debug, PartialEq, Eq)]
 pub enum Disposition {
-    /// Nobody can have the label.
+    /// No valid label.
     Invalid,
-    /// Nobody is given the label, since a label has it as a variant.
+    /// A valid label that nobody is given.
     Blocked,
-    /// The holder of the label may have it.
+    /// Kept for the holder of the label of which it is a variant.
     Allocatable,
-    /// The holder of the label gets it.
+    /// Given to the holder of that label.
     Activated,
-    /// The label may be had.
+    /// A valid label, as most that are asked about are.
     Valid,
 }
 
