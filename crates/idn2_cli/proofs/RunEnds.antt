@@ -5,7 +5,8 @@ use Rattle.idn_text.specs.Reading.{Reading, IsUnread}
 use Rattle.idn_text.specs.declared.refusal.Refusal.{Refusal}
 use Rattle.idn_text.proofs.ReadingLemmas.{has_read_nothing}
 use Rattle.std.proofs.lemmas.Bool.{false≢true}
-use Rattle.idn2_options.specs.Settings.{Settings, keeping, tells_causes}
+use Rattle.variant_table.specs.Entries.{TableValue}
+use Rattle.idn2_options.specs.Settings.{Settings, tells_causes}
 use Rattle.idn2_cli.specs.Memory.{reads_table}
 use Rattle.idn2_answers.specs.Transcript.{TableGiven, IsReadAs, IsTableOf, check_output, check_status}
 use Rattle.idn2_output.specs.OutputLines.{OutputLine}
@@ -14,7 +15,10 @@ use Rattle.idn2_refusals.specs.Reports.{TakesText, closing_message}
 use Rattle.idn2_cli.specs.Ends.{Job, Does, Ends, Closes, mode_job}
 use Rattle.idn2_options.specs.declared.command_line.form.Form.{Form}
 use Rattle.idn2_options.specs.declared.command_line.mode.Mode.{Mode}
-use Rattle.idn2_options.specs.declared.command_line.mode.Mode.TheVariants.{Variants, Jump, CheckTable}
+use Rattle.idn2_options.specs.declared.command_line.mode.Mode.TheVariants.{CheckTable}
+use Rattle.idn2_cli.specs.inner.ServedModes.{Serves, mode_of}
+use Rattle.idn2_cli.specs.declared.session.run.TableMode.{TableMode}
+use Rattle.idn2_cli.specs.declared.session.run.TableMode.TheVariants as work
 use Rattle.idn2_output.specs.declared.status.Status.{Status}
 use Rattle.idn2_output.specs.declared.stop.Stop.{Stop}
 use Rattle.idn2_output.specs.declared.stop.Stop.TheVariants as stop
@@ -31,14 +35,20 @@ use Rattle.idn2_output.specs.declared.status.Status.TheVariants.{Unusable}
 
 -- ---- a mode that answers lines
 
--- the table, and the job that its mode makes of it
+-- the job of the mode
+pub does_mode : (o : Settings) (mode : Mode) (given : TableGiven) (job : Job) (start now : Reading) (old new : Held) (r : Result Status Stop)
+    → o.mode ≡ mode → job ≡ mode_job (record o { mode = mode }) given → Does job start now old new r → Does (mode_job o given) start now old new r
+does_mode o mode given job start now old new r e same done =
+    subst (λ (j : Job). Does j start now old new r) (same ∙ ap (λ (m : Mode). mode_job (record o { mode = m }) given) (sym e)) done
+
+-- with the table by which it works
 pub as_mode : (o : Settings) (mode : Mode) (text : List ℕ) (given : TableGiven) (job : Job) (start now : Reading) (old new : Held) (r : Result Status Stop)
     → o.mode ≡ mode → IsTableOf o.properties mode o.notation text given → job ≡ mode_job (record o { mode = mode }) given → Does job start now old new r
-    → (table : TableGiven) × IsTableOf o.properties o.mode o.notation text table × Does (mode_job o table) start now old new r
+    → Serves o text start now old new r
 as_mode o mode text given job start now old new r e table same done = (
   given,
   subst (λ (m : Mode). IsTableOf o.properties m o.notation text given) (sym e) table,
-  subst (λ (j : Job). Does j start now old new r) (same ∙ ap (λ (m : Mode). mode_job (record o { mode = m }) given) (sym e)) done,
+  does_mode o mode given job start now old new r e same done,
 )
 
 -- ---- a mode that reads no line
@@ -65,23 +75,20 @@ with_false : (r : Result Status Stop) (status : Status) → IfOk r (λ s. s ≡ 
 with_false (Ok s) status e = (refl, e)
 with_false (Err why) status e = tt
 
--- the check of a table, whatever its text is
-pub checked : (o : Settings) (text : List ℕ) (given : TableGiven) (start : Reading) (old new : Held) (r : Result Status Stop)
-    → o.mode ≡ CheckTable → IsReadAs o.properties o.notation text given → IsUnread start → Emits old new (check_output o.form (tells_causes o) given) r → IfOk r (λ status. status ≡ check_status given)
-    → (table : TableGiven) × IsTableOf o.properties o.mode o.notation text table × Does (mode_job o table) start start old new r
-checked o text (Ok table) start old new r e read unread writes answered =
+-- the check of a table
+pub checked : (o : Settings) (table : TableValue) (start : Reading) (old new : Held) (r : Result Status Stop)
+    → o.mode ≡ CheckTable → IsUnread start → Emits old new (check_output o.form (tells_causes o) (Ok table)) r → IfOk r (λ status. status ≡ check_status (Ok table))
+    → Does (mode_job o (Ok table)) start start old new r
+checked o table start old new r e unread writes answered =
     let job = mode_job (record o { mode = CheckTable }) (Ok table) in
-    as_mode o CheckTable text (Ok table) job start start old new r e read refl (does_unread job start old new r unread writes (with_false r _ answered) refl)
-checked o text (Err fault) start old new r e read unread writes answered =
-    let job = mode_job (record o { mode = CheckTable }) (Err fault) in
-    as_mode o CheckTable text (Err fault) job start start old new r e read refl (does_unread job start old new r unread writes (with_false r _ answered) refl)
+    does_mode o CheckTable (Ok table) job start start old new r e refl (does_unread job start old new r unread writes (with_false r _ answered) refl)
 
 -- lack of memory before any output line
 pub emits_memory : {A : Type 0} (old : Held) (output_lines : List OutputLine) (r : Result A Stop) (why : Stop) → r ≡ Err why → why ≡ stop.Memory → Emits old old output_lines r
 emits_memory {A} old output_lines r why e memory =
     subst (λ (s : Result A Stop). Emits old old output_lines s) (sym (e ∙ ap Err memory)) (stops_first old output_lines)
 
--- ---- a mode that answers lines by a table, as the listing does
+-- ---- a mode that works by a table
 
 -- its table is the one that the text spells
 pub record WorksByTable (o : Settings) (mode : Mode) : Type 0 where
@@ -89,16 +96,19 @@ pub record WorksByTable (o : Settings) (mode : Mode) : Type 0 where
   pub reads : (text : List ℕ) (given : TableGiven) → IsReadAs o.properties o.notation text given → IsTableOf o.properties mode o.notation text given
   pub by_table : reads_table mode ≡ true
 
-pub lists_by_table : (o : Settings) → o.mode ≡ Variants → WorksByTable o Variants
-lists_by_table o is = record { named = is; reads = λ text given read. read; by_table = refl }
+pub works_by_table : (o : Settings) (mode : TableMode) → o.mode ≡ mode_of mode → WorksByTable o (mode_of mode)
+works_by_table o work.Variants is = record { named = is; reads = λ text given read. read; by_table = refl }
+works_by_table o work.Jump is = record { named = is; reads = λ text given read. read; by_table = refl }
+works_by_table o work.CheckTable is = record { named = is; reads = λ text given read. read; by_table = refl }
 
-pub jumps_by_table : (o : Settings) → o.mode ≡ Jump → WorksByTable o Jump
-jumps_by_table o is = record { named = is; reads = λ text given read. read; by_table = refl }
+pub table_read : (o : Settings) (mode : TableMode) (text : List ℕ) (given : TableGiven) → o.mode ≡ mode_of mode → IsReadAs o.properties o.notation text given → IsTableOf o.properties o.mode o.notation text given
+table_read o mode text given is read =
+    subst (λ (m : Mode). IsTableOf o.properties m o.notation text given) (sym is) ((works_by_table o mode is).reads text given read)
 
 module _ (o : Settings) (mode : Mode) (works : WorksByTable o mode) (text : List ℕ) (start : Reading) where
   -- memory was refused while the table was read
-  pub unread_stopped : (old : Held) (r : Result Status Stop) (why : Stop) → IsUnread start → r ≡ Err why → why ≡ stop.Memory
-      → (table : TableGiven) × IsTableOf o.properties o.mode o.notation text table × Does (mode_job o table) start start old old r
+  unread_stopped : (old : Held) (r : Result Status Stop) (why : Stop) → IsUnread start → r ≡ Err why → why ≡ stop.Memory
+      → Serves o text start start old old r
   unread_stopped old r why unread is memory =
       let t = some_table o.properties o.notation text in
       let job = mode_job (record o { mode = mode }) t.0 in
@@ -109,7 +119,7 @@ module _ (o : Settings) (mode : Mode) (works : WorksByTable o mode) (text : List
   -- the fault of the table is told
   faulty : (told : ℕ × Refusal × Option LineCause) (old new : Held) (r : Result Status Stop)
       → IsReadAs o.properties o.notation text (Err told) → IsUnread start → Emits old new (check_output o.form (tells_causes o) (Err told)) r → IfOk r (λ status. status ≡ check_status (Err told))
-      → (table : TableGiven) × IsTableOf o.properties o.mode o.notation text table × Does (mode_job o table) start start old new r
+      → Serves o text start start old new r
   faulty told old new r read unread writes answered =
       let job = mode_job (record o { mode = mode }) (Err told) in
       as_mode o mode text (Err told) job start start old new r works.named (works.reads text (Err told) read) refl
@@ -119,52 +129,21 @@ module _ (o : Settings) (mode : Mode) (works : WorksByTable o mode) (text : List
   pub refused_lines : (fault : TableFault) (old new : Held) (r : Result Status Stop) → IsUnread start → IsToldOf o.properties o.notation text fault
       → IsTold o.properties o.form (tells_causes o) o.notation text fault old new r (told_of fault)
       → IfOk r (λ status. status ≡ Unusable)
-      → (table : TableGiven) × IsTableOf o.properties o.mode o.notation text table × Does (mode_job o table) start start old new r
+      → Serves o text start start old new r
   refused_lines fault old new r unread is told answered = by (refused_table o.properties o.form (tells_causes o) o.notation text fault old new r is told)
     where
       by : ((r ≡ Err stop.Memory) × (new ≡ old)) ⊎ ((told : ℕ × Refusal × Option LineCause) × IsReadAs o.properties o.notation text (Err told) × Emits old new (check_output o.form (tells_causes o) (Err told)) r)
-          → (table : TableGiven) × IsTableOf o.properties o.mode o.notation text table × Does (mode_job o table) start start old new r
+          → Serves o text start start old new r
       by (inl memory) =
-          subst (λ (h : Held). (table : TableGiven) × IsTableOf o.properties o.mode o.notation text table × Does (mode_job o table) start start old h r) (sym memory.1)
+          subst (λ (h : Held). Serves o text start start old h r) (sym memory.1)
           (unread_stopped old r stop.Memory unread memory.0 refl)
       by (inr t) = faulty t.0 old new r t.1 unread t.2 answered
 
 -- the same job under another name
-pub does_as : (job other : Job) (start now : Reading) (old new : Held) (r : Result Status Stop) → job ≡ other → Does job start now old new r → Does other start now old new r
-does_as job other start now old new r same done = subst (λ (j : Job). Does j start now old new r) same done
-
 pub ends_as : (job other : Job) (start now : Reading) (old new : Held) (status : Status) → job ≡ other → Ends job start now old new status → Ends other start now old new status
 ends_as job other start now old new status same done = subst (λ (j : Job). Ends j start now old new status) same done
 
--- to answer requests, whatever labels listings are kept to
-pub jump_job-kept : (o : Settings) (labels : Option (List (List ℕ))) (given : TableGiven) → o.mode ≡ Jump → mode_job o given ≡ mode_job (keeping labels o) given
-jump_job-kept o labels given is =
-    ap (λ (m : Mode). mode_job (record o { mode = m }) given) is ∙ kept given
-    ∙ sym (ap (λ (m : Mode). mode_job (record (keeping labels o) { mode = m }) given) is)
-  where
-    kept : (given : TableGiven) → mode_job (record o { mode = Jump }) given ≡ mode_job (record (keeping labels o) { mode = Jump }) given
-    kept (Err fault) = refl
-    kept (Ok table) = refl
-
 module _ (properties : Properties) where
-  -- a table that is not read, in the check of a table
-  pub refused_check : (form : Form) (wanted : Bool) (n : Notation) (text : List ℕ) (fault : TableFault) (old new : Held) (r : Result Status Stop) → IsToldOf properties n text fault
-      → IsTold properties form wanted n text fault old new r (told_of fault)
-      → IfOk r (λ status. status ≡ Unusable)
-      → (given : TableGiven) × IsReadAs properties n text given × Emits old new (check_output form wanted given) r × IfOk r (λ status. status ≡ check_status given)
-  refused_check form wanted n text fault old new r is told answered = by (refused_table properties form wanted n text fault old new r is told)
-    where
-      by : ((r ≡ Err stop.Memory) × (new ≡ old)) ⊎ ((told : ℕ × Refusal × Option LineCause) × IsReadAs properties n text (Err told) × Emits old new (check_output form wanted (Err told)) r)
-          → (given : TableGiven) × IsReadAs properties n text given × Emits old new (check_output form wanted given) r × IfOk r (λ status. status ≡ check_status given)
-      by (inl memory) =
-          let t = some_table properties n text in (
-            t.0,
-            t.1,
-            subst (λ (h : Held). Emits old h (check_output form wanted t.0) r) (sym memory.1) (emits_memory old (check_output form wanted t.0) r stop.Memory memory.0 refl),
-            subst (λ (s : Result Status Stop). IfOk s (λ status. status ≡ check_status t.0)) (sym memory.0) tt,
-          )
-      by (inr t) = (Err t.0, t.1, t.2, answered)
-
   -- the form, whether causes are wanted and the notation, read from the options
   pub in_form : (text : List ℕ) (fault : TableFault) (f g : Form) (a b : Bool) (m n : Notation) (others : Properties) (old new : Held) (r : Result Status Stop) → f ≡ g → a ≡ b → m ≡ n → others ≡ properties
       → IsTold others f a m text fault old new r (told_of fault) → IsTold properties g b n text fault old new r (told_of fault)

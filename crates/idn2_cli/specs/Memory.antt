@@ -4,8 +4,9 @@ use Rattle.idn_class.specs.declared.properties.Properties.{Properties}
 use Rattle.idna.specs.Labels.{labels_of}
 use Rattle.idn_label.specs.FirstFault.{first_fault}
 use Rattle.idn_label.specs.Memory.{NeedsNoMemory, LooksUpWithoutMemory, RegistersWithoutMemory, DecodesWithoutMemory}
+use Rattle.variant_table.specs.Entries.{TableValue}
 use Rattle.variant_list.specs.Spelled.{spelled}
-use Rattle.idn2_answers.specs.Answers.{LineAnswer, filter_of, tested_after, mode_answer, text_answer}
+use Rattle.idn2_answers.specs.Answers.{Filter, LineAnswer, filter_of, tested_after, mode_answer, text_answer}
 use Rattle.idn2_refusals.specs.Requests.{requested_label}
 use Rattle.idn2_refusals.specs.Explained.{Explained, TextCauseNeedsNone}
 use Rattle.idn2_answers.specs.Transcript.{explained_in, TableGiven}
@@ -52,10 +53,17 @@ abbrev pub ServesWithoutMemory : Mode → Settings → TableGiven → List ℕ �
 ServesWithoutMemory mode o (Ok table) line = NeedsNone (explained_in mode o table) (mode_answer mode o table) (AnswersWithoutMemory mode o) line
 ServesWithoutMemory mode o (Err fault) line = AnswersWithoutMemory mode o line
 
--- the bytes of a line of which the listing, once begun, goes on without memory: no label that it may test needs any; what else is
--- answered does so whatever the line is
+-- no label of these that a listing may test needs memory
+abbrev pub TestsWithoutMemory : Filter → Settings → List (List ℕ) → Type 0
+TestsWithoutMemory filter o labels = All NeedsNoMemory (tested_after filter o labels)
+
+-- the listing of a label, once begun, goes on without memory
+abbrev pub ListsWithoutMemory : Settings → TableValue → List ℕ → Type 0
+ListsWithoutMemory o table label = TestsWithoutMemory (filter_of o.properties table) o (spelled table label)
+
+-- the bytes of a line whose answer, once begun, goes on without memory; all but a listing do so whatever the line is
 abbrev pub GoesOnWithoutMemory : Mode → Settings → TableGiven → List ℕ → Type 0
-GoesOnWithoutMemory Variants o (Ok table) line = All NeedsNoMemory (tested_after (filter_of o.properties table) o (spelled table (chars line)))
+GoesOnWithoutMemory Variants o (Ok table) line = ListsWithoutMemory o table (chars line)
 GoesOnWithoutMemory mode o given line = Unit {0}
 
 -- the body of a line; one that is too long is refused without memory

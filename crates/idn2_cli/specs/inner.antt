@@ -1,5 +1,7 @@
 -- Words of inner functions and of private fields. No public contract cites them.
 pub mod LineAnswers
+pub mod Blocks
+pub mod ServedModes
 pub mod Dispositions
 pub mod GapSequences
 pub mod CachedLines

@@ -1,8 +1,10 @@
-//! The command `idn2` as a library: one run. Its options are those of `idn2_options`, its messages those of `idn2_refusals`.
+//! The command `idn2` as a library: one run. Its options are those of `idn2_options`, its messages those of
+//! `idn2_refusals`.
 #![tactic(auto)]
 
 mod modes;
 mod session;
+mod settings;
 
 pub use idn2_options::{
     Form, Mode, Notation, Options, Usage, asks_for_causes, input_text, push_escaped, read_options,

@@ -1,14 +1,18 @@
 -- What the modes answer to a line, and when a listing has as many variants as it may.
-use Rattle.std.specs.Prelude.{◌≡◌, ℕ, ◌==◌, Bool, false, List, [], ◌∷◌, ◌++◌, length, Option, Some, None, if◌then◌else◌, Result, Ok, Err}
+use Rattle.std.specs.Prelude.{◌≡◌, ℕ, ◌==◌, Bool, true, false, List, [], ◌∷◌, ◌++◌, length, chars, Option, Some, None, if◌then◌else◌, Result, Ok, Err}
 use Rattle.idn_class.specs.declared.properties.Properties.{Properties}
 use Rattle.idn_text.specs.declared.refusal.Refusal.{Refusal}
 use Rattle.idn_text.specs.declared.refusal.Refusal.TheVariants.{Empty}
 use Rattle.idn_text.specs.Lines.{Numbered}
 use Rattle.idn_label.specs.Decode.{decode_utf8_answer}
 use Rattle.idn_label.specs.Lookup.{utf8_answer}
+use Rattle.idn_label.specs.Register.{u_label_answer}
+use Rattle.idna.specs.Validity.{has_ace_prefix}
 use Rattle.idn2_options.specs.declared.command_line.form.Form.{Form}
-use Rattle.idn2_answers.specs.Answers.{LineAnswer}
-use Rattle.idn2_answers.specs.Said.{Said, LookedUp, Decoded, said_text}
+use Rattle.idn2_answers.specs.Answers.{LineAnswer, least_answer, u_label_of}
+use Rattle.idn2_refusals.specs.Requests.{requested_label, requested_text}
+use Rattle.variant_table.specs.Entries.{TableValue}
+use Rattle.idn2_answers.specs.Said.{Said, LookedUp, Registered, Decoded, said_text}
 use Rattle.idn2_output.specs.OutputLines.{OutputLine, outputs}
 use Rattle.idn2_output.specs.Writing.{Held}
 use Rattle.idn2_output.specs.declared.stop.Stop.{Stop}
@@ -33,7 +37,20 @@ query_answer bytes std3 = if length bytes == 0 then Err Empty else utf8_answer b
 unfoldable pub decoded_answer : Properties → List ℕ → Result (List ℕ) Refusal
 decoded_answer properties bytes = if length bytes == 0 then Err Empty else decode_utf8_answer properties bytes
 
+-- this is what the bytes of a label stand for, if they are an A-label
+abbrev pub IsULabelOf : Properties → (bytes u_label : List ℕ) → Type 0
+IsULabelOf properties bytes u_label =
+    has_ace_prefix (chars bytes) ≡ true → u_label_answer properties (chars bytes) ≡ Ok u_label
+
+-- the answer to a request whose label may be registered
+abbrev pub request_answer : TableValue → List ℕ → LineAnswer
+request_answer table request = least_answer table (requested_label request) (requested_text request)
+
 -- ---- an answer of one text
+
+-- of the bytes of a label that is registered as this A-label
+abbrev pub registered_as : Properties → (bytes a_label : List ℕ) → Said
+registered_as properties bytes a_label = Registered (u_label_of properties (chars bytes)) a_label
 
 abbrev pub said_by : Kind → List ℕ → Said
 said_by kind.LookedUp text = LookedUp text

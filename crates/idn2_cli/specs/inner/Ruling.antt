@@ -33,6 +33,10 @@ abbrev pub filter_by : Properties → Option TableValue → Filter
 filter_by properties None = registrable_labels properties
 filter_by properties (Some table) = ruled_labels properties table
 
+-- the same by a test, if there is one
+abbrev pub filter_in : Properties → Option Testing → Filter
+filter_in properties test = filter_by properties (ruling_in test)
+
 -- a label that may be registered is accepted so
 abbrev pub passes : Option TableValue → List ℕ → Bool
 passes None v = true

@@ -7,7 +7,8 @@ ghost use Rattle.valid_labels.specs.Validity.{IsAdmitted, IsSound};
 ghost use Rattle.variant_list.specs.Spelled.{spelled};
 ghost use Rattle.variant_list.specs.Variants.{in_order};
 ghost use Rattle.idn2_answers.specs.Answers.{IsRefusedAs};
-ghost use Rattle.idn2_cli.specs.inner.Ruling.{IsValidityBy, KeepsOf, KeepsShared, lesser_count, dead_prefix_in, passes, ruling_in, ruling_of};
+ghost use Rattle.idn2_cli.specs.inner.Ruling.{IsValidityBy, KeepsOf, KeepsShared, lesser_count, dead_prefix_in, passes};
+ghost use Rattle.idn2_cli.specs.inner.Ruling.{ruling_in, ruling_of};
 
 use idn_text::Refusal;
 use std::alloc::{AllocError, Global};

@@ -37,7 +37,8 @@ impl<'l> Model for AllocationTest<'l> {
 
     ghost view = { λ t. record { table = t.table.now; label = t.label.now } };
 
-    ghost invariant = { λ t. IsWellFormed t.table.now.entries × (t.readings ≡ substitutions_of Whole t.table.now t.label.now) };
+    ghost invariant = { λ t. IsWellFormed t.table.now.entries
+        × (t.readings ≡ substitutions_of Whole t.table.now t.label.now) };
 }
 
 impl<'l> AllocationTest<'l> {
@@ -59,8 +60,8 @@ impl<'l> AllocationTest<'l> {
         })
     }
 
-    /// Whether a variant of at most 63 code points may be allocated. A label may be itself, whatever tags its sources have.
-    /// Takes no memory. Not inlined, so that variants without a disposition need no stack space for it.
+    /// Whether a variant of at most 63 code points may be allocated. A label may be itself, whatever tags its sources
+    /// have. Takes no memory. Not inlined, so that variants without a disposition need no stack space for it.
     #[inline(never)]
     pub fn allows(&mut self, variant: &[u32]) -> bool
         requires { length variant.now ≤ 63 }
@@ -76,7 +77,8 @@ impl<'l> AllocationTest<'l> {
     /// Whether the label spells the variant under some sub-table of the table.
     fn is_spelled_under_one(&mut self, variant: &[u32]) -> bool
         requires { length variant.now ≤ 63 }
-        ensures told { IsTrue result ↔ ((part : Part) × IsSubTable self.old.table part × PartSpells part self.old.table self.old.label variant.now) }
+        ensures told { IsTrue result ↔ ((part : Part) × IsSubTable self.old.table part
+            × PartSpells part self.old.table self.old.label variant.now) }
         ensures same { self.new ≡ self.old }
     {
         match self.readings.words_of(variant) {

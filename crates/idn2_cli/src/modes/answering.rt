@@ -1,16 +1,15 @@
 //! What a mode does with one line.
 
-ghost use Rattle.std.specs.Prelude.{◌≡◌, ◌≢◌, ◌≤◌, ℕ, Bool, List, [], ◌∷◌, ◌++◌, length, IsUtf8, IfOk, IfErr, Some, false};
-ghost use Rattle.idn2_answers.specs.Answers.{LineAnswer, text_answer};
+ghost use Rattle.std.specs.Prelude.{◌≡◌, ◌≢◌, ◌≤◌, ℕ, Bool, List, [], ◌∷◌, ◌++◌, length, IsUtf8, IfErr, false};
 ghost use Rattle.answer_json.specs.Answers.{line_of};
-ghost use Rattle.answer_json.specs.Inputs.{told_of};
-ghost use Rattle.idn2_answers.specs.Said.{Decoded, LookedUp, said_object, said_text};
-ghost use Rattle.idn2_output.specs.OutputLines.{Output};
-ghost use Rattle.idn2_cli.specs.inner.Asked.{asked_line};
-ghost use Rattle.idn2_cli.specs.inner.LineAnswers.{KeepsIfRefused, longest, refusal_in, reply_output, said_by};
-ghost use Rattle.idn2_cli.specs.inner.ServedLines.{answered_as, result_of};
+ghost use Rattle.idn2_answers.specs.Answers.{LineAnswer, text_answer};
+ghost use Rattle.idn2_answers.specs.Said.{Decoded, LookedUp};
 ghost use Rattle.idn2_output.specs.Objects.{HasSpace, object_told};
+ghost use Rattle.idn2_output.specs.OutputLines.{Output};
 ghost use Rattle.idn2_output.specs.Writing.{Emits, StopsForMemory};
+ghost use Rattle.idn2_cli.specs.inner.Asked.{object_to, reply_to, said_to};
+ghost use Rattle.idn2_cli.specs.inner.LineAnswers.{KeepsIfRefused, longest, said_by};
+ghost use Rattle.idn2_cli.specs.inner.ServedLines.{IsServedAs, answered_as, result_of};
 ghost use Rattle.idn2_cli.specs.declared.modes.answering.Served.TheVariants as served;
 ghost use Rattle.idn2_output.specs.declared.stop.Stop.TheVariants as stop;
 
@@ -61,11 +60,12 @@ pub(crate) trait Answering {
         requires ready { is_ready self.now }
         requires few { length asked.now.text.now ≤ MAX_LINE_LEN }
         ensures written { Emits console.old console.new
-            (reply_output asked.now.form (asked_line asked.now) (text_answer (answer_of self.now) asked.now.text.now)) (result_of result) }
-        ensures refused { IfOk (result_of result) (λ refusal. refusal ≡ refusal_in (text_answer (answer_of self.now) asked.now.text.now)) }
+            (reply_to asked.now (text_answer (answer_of self.now) asked.now.text.now)) (result_of result) }
+        ensures refused { IsServedAs (text_answer (answer_of self.now) asked.now.text.now) result }
         ensures kept { KeepsIfRefused console.old console.new (result_of result) }
         ensures no_memory { needs_none self.now asked.now.text.now → result ≢ served.Stopped stop.Memory }
-        ensures begun { StopsForMemory (goes_on self.now asked.now.text.now) console.old console.new (result_of result) };
+        ensures begun { StopsForMemory (goes_on self.now asked.now.text.now)
+            console.old console.new (result_of result) };
 }
 
 /// That a line is refused. Refused memory is no refusal of the line: the run stops.
@@ -123,7 +123,7 @@ pub(crate) fn reply<W: Sink, E: Sink>(
     requires filled { 1 ≤ length line.now }
     requires short { length line.now ≤ longest kind }
     ensures written { (text : List ℕ) → line.now ≡ text ++ 10 ∷ [] →
-        Emits console.old console.new (Output (said_text asked.now.form (asked_line asked.now) (said_by kind text)) ∷ []) result }
+        Emits console.old console.new (said_to asked.now (said_by kind text) ∷ []) result }
     ensures why { IfErr result (λ why. why ≡ stop.Output) }
 {
     match asked.form {
@@ -147,7 +147,7 @@ fn write_object_of<W: Sink, E: Sink>(
     requires filled { 1 ≤ length line.now }
     requires short { length line.now ≤ longest kind }
     ensures written { (text : List ℕ) → line.now ≡ text ++ 10 ∷ [] →
-        Emits console.old console.new (Output (line_of (said_object asked.entry.number (told_of (Some asked.entry.text.now)) (said_by kind text))) ∷ []) result }
+        Emits console.old console.new (Output (line_of (object_to asked.entry (said_by kind text))) ∷ []) result }
     ensures why { IfErr result (λ why. why ≡ stop.Output) }
 {
     match kind {
@@ -164,7 +164,7 @@ fn looked_up_of<'a>(asked: Asked<'a>, line: &'a [u8]) -> Object<'a>
     requires filled { 1 ≤ length line.now }
     requires short { length line.now ≤ 255 }
     ensures told { (text : List ℕ) → line.now ≡ text ++ 10 ∷ [] →
-        object_told result ≡ said_object asked.entry.number (told_of (Some asked.entry.text.now)) (LookedUp text) }
+        object_told result ≡ object_to asked.entry (LookedUp text) }
     ensures space { HasSpace result }
 {
     let text = &line[..line.len() - 1];
@@ -178,7 +178,7 @@ fn decoded_of<'a>(asked: Asked<'a>, line: &'a [u8]) -> Object<'a>
     requires filled { 1 ≤ length line.now }
     requires short { length line.now ≤ 4097 }
     ensures told { (text : List ℕ) → line.now ≡ text ++ 10 ∷ [] →
-        object_told result ≡ said_object asked.entry.number (told_of (Some asked.entry.text.now)) (Decoded text) }
+        object_told result ≡ object_to asked.entry (Decoded text) }
     ensures space { HasSpace result }
 {
     let text = &line[..line.len() - 1];

@@ -1,27 +1,26 @@
 //! The block of a label: a line for each of its variants, and a trailer.
 
-ghost use Rattle.std.specs.Prelude.{◌≡◌, ◌≤◌, ℕ, ◌∷◌, [], ◌++◌, List, length, codes, decimal, All, None, Some, IfOk, IfErr, IsOk, OnErr};
+ghost use Rattle.std.specs.Prelude.{◌≡◌, ◌≤◌, ℕ, ◌∷◌, [], ◌++◌, List, length, codes, decimal, All, None, Some};
+ghost use Rattle.std.specs.Prelude.{IfOk, IfErr, IsOk, OnErr};
 ghost use Rattle.idn_text.specs.Points.{AreScalarValues};
-ghost use Rattle.idn_class.specs.Known.{AreKnown};
 ghost use Rattle.idn_class.specs.declared.properties.Properties.{Properties};
-ghost use Rattle.idn_punycode.specs.Cached.{IsTakenApart};
 ghost use Rattle.idn_label.specs.ALabel.{a_label_of};
 ghost use Rattle.idn_label.specs.FirstFault.{IsRegistrable};
 ghost use Rattle.idn_label.specs.Memory.{NeedsNoMemory};
 ghost use Rattle.variant_list.specs.Beginnings.{shortest_hopeless};
 ghost use Rattle.variant_list.specs.Sharing.{IsKeptOf};
-ghost use Rattle.variant_list.specs.Tested.{tested_among};
 ghost use Rattle.variant_list.specs.Verdicts.{IsVerdict};
 ghost use Rattle.idn2_options.specs.Settings.{IsWithinLimits, keeping};
-ghost use Rattle.idn2_output.specs.OutputLines.{outputs, Output};
-ghost use Rattle.idn2_answers.specs.Said.{BlockEnd, Listed, disposition_field, said_text, variant_line};
-ghost use Rattle.idn2_cli.specs.inner.Asked.{asked_line};
-ghost use Rattle.idn2_cli.specs.inner.ForGood.{none_accepted};
-ghost use Rattle.idn2_cli.specs.inner.Ruling.{KeepsOf, filter_by, ruling_in};
-ghost use Rattle.idn2_cli.specs.inner.Dispositions.{block_by, field_by};
-ghost use Rattle.idn2_cli.specs.inner.CachedLines.{IsBegun};
-ghost use Rattle.idn2_cli.specs.inner.LineAnswers.{reaches};
+ghost use Rattle.idn2_output.specs.OutputLines.{Output};
 ghost use Rattle.idn2_output.specs.Writing.{Emits, StopsForMemory};
+ghost use Rattle.idn2_answers.specs.Said.{BlockEnd, Listed, disposition_field, variant_line};
+ghost use Rattle.idn2_cli.specs.Memory.{TestsWithoutMemory};
+ghost use Rattle.idn2_cli.specs.inner.Asked.{said_to};
+ghost use Rattle.idn2_cli.specs.inner.Blocks.{KnowsLabel, TellsALabel, block_output, filter_of_judge};
+ghost use Rattle.idn2_cli.specs.inner.CachedLines.{IsBegun};
+ghost use Rattle.idn2_cli.specs.inner.ForGood.{none_accepted};
+ghost use Rattle.idn2_cli.specs.inner.LineAnswers.{reaches};
+ghost use Rattle.idn2_cli.specs.inner.Ruling.{KeepsOf, filter_by, filter_in, ruling_in};
 ghost use Rattle.idn2_output.specs.declared.stop.Stop.TheVariants as stop;
 
 use crate::modes::admission::{dead_prefix_by, lesser, validity_by};
@@ -57,8 +56,11 @@ pub(crate) fn write_block<W: Sink, E: Sink>(
     requires spelled { All AreScalarValues net.now.spelled }
     requires new { (v : List ℕ) → KeepsOf v validity }
     ensures written { Emits console.old console.new
-        (outputs (said_text asked.now.form (asked_line asked.now)) (block_by (filter_by options.now.properties (ruling_in validity.entry)) (field_by dispositions.old) (keeping None options.now) net.now.spelled)) result }
-    ensures begun { StopsForMemory (All NeedsNoMemory (tested_among (filter_by options.now.properties (ruling_in validity.entry)).hopeless net.now.spelled options.now.after))
+        (block_output asked.now (filter_in options.now.properties validity.entry) dispositions.old
+        (keeping None options.now) net.now.spelled) result }
+    ensures begun { StopsForMemory
+        (TestsWithoutMemory (filter_in options.now.properties validity.entry) (keeping None options.now)
+        net.now.spelled)
         console.old console.new result }
 {
     let mut cursor = Cursor::new(alloc, net, &options.after)?;
@@ -103,7 +105,8 @@ pub(crate) fn write_block<W: Sink, E: Sink>(
 }
 
 /// Only labels that may be registered are listed (RFC 5891 section 4.2), and under a ruleset only valid ones (RFC 7940
-/// section 8). What a label shares at its start with the one before is neither tested nor taken apart nor written again.
+/// section 8). What a label shares at its start with the one before is neither tested nor taken apart nor written
+/// again.
 #[derive(Drop)]
 struct VariantJudge<'p> {
     beginnings: CachedPrefixes,
@@ -118,9 +121,9 @@ impl<'p> Judge for VariantJudge<'p> {
 
     ghost dead = { λ judge label. (filter_by judge.properties (ruling_in judge.validity)).hopeless label };
 
-    ghost tells = { λ judge label. judge.test.text ≡ a_label_of label };
+    ghost tells = { λ judge label. TellsALabel judge label };
 
-    ghost keeps = { λ judge label. AreKnown judge.properties label judge.beginnings × IsTakenApart label judge.test × IsBegun label judge.line × KeepsOf label judge.validity };
+    ghost keeps = { λ judge label. KnowsLabel judge label };
 
     ghost needs_none = { λ _ label. NeedsNoMemory label };
 
@@ -129,10 +132,12 @@ impl<'p> Judge for VariantJudge<'p> {
     /// Judges a label. It takes no memory for one of which the test needs none.
     fn judge(&mut self, alloc: Global, label: &[u32], shared: usize) -> Result<Verdict, AllocError>
         requires short { length label.now ≤ 63 }
-        requires kept { IsKeptOf (λ v. AreKnown self.old.properties v self.old.beginnings × IsTakenApart v self.old.test × IsBegun v self.old.line × KeepsOf v self.old.validity) shared label.now }
-        ensures kept { AreKnown self.new.properties label.now self.new.beginnings × IsTakenApart label.now self.new.test × IsBegun label.now self.new.line × KeepsOf label.now self.new.validity }
-        ensures verdict { IfOk result (IsVerdict (filter_by self.old.properties (ruling_in self.old.validity)).accepts (filter_by self.old.properties (ruling_in self.old.validity)).hopeless (λ v. self.new.test.text ≡ a_label_of v) label.now) }
-        ensures memory { OnErr result (shortest_hopeless (filter_by self.old.properties (ruling_in self.old.validity)).hopeless label.now ≡ None) }
+        requires kept { IsKeptOf (KnowsLabel self.old) shared label.now }
+        ensures kept { KnowsLabel self.new label.now }
+        ensures verdict { IfOk result
+            (IsVerdict (filter_of_judge self.old).accepts (filter_of_judge self.old).hopeless (TellsALabel self.new)
+            label.now) }
+        ensures memory { OnErr result (shortest_hopeless (filter_of_judge self.old).hopeless label.now ≡ None) }
         ensures no_memory { NeedsNoMemory label.now → IsOk result }
         ensures same_ruling { ruling_in self.new.validity ≡ ruling_in self.old.validity }
         ensures same_properties { self.new.properties ≡ self.old.properties }
@@ -184,7 +189,7 @@ pub(crate) fn write_variant<W: Sink, E: Sink>(
     requires begun { IsBegun label.now line.old }
     ensures begun { IsBegun label.now line.new }
     ensures written { Emits console.old console.new
-        (Output (said_text asked.now.form (asked_line asked.now) (Listed disposition label.now)) ∷ []) result }
+        (said_to asked.now (Listed disposition label.now) ∷ []) result }
     ensures why { IfErr result (λ why. why ≡ stop.Output) }
 {
     match asked.form {
@@ -210,7 +215,8 @@ fn write_variant_line<W: Sink, E: Sink>(
     requires a_label { a_label.now.bytes ≡ a_label_of label.now }
     requires begun { IsBegun label.now line.old }
     ensures begun { IsBegun label.now line.new }
-    ensures written { Emits console.old console.new (Output (variant_line disposition label.now ++ 10 ∷ []) ∷ []) result }
+    ensures written { Emits console.old console.new
+        (Output (variant_line disposition label.now ++ 10 ∷ []) ∷ []) result }
     ensures why { IfErr result (λ why. why ≡ stop.Output) }
 {
     line.begin(label);
@@ -251,7 +257,7 @@ pub(crate) fn write_stop<W: Sink, E: Sink>(
     requires scalar_values { AreScalarValues last.now }
     requires begun { IsBegun last.now cached.old }
     ensures written { Emits console.old console.new
-        (Output (said_text asked.now.form (asked_line asked.now) (BlockEnd count (Some last.now))) ∷ []) result }
+        (said_to asked.now (BlockEnd count (Some last.now)) ∷ []) result }
     ensures why { IfErr result (λ why. why ≡ stop.Output) }
 {
     cached.begin(last);
@@ -291,7 +297,7 @@ pub(crate) fn write_end<W: Sink, E: Sink>(
 ) -> Result<(), Stop>
     requires few { length asked.now.text.now ≤ MAX_LINE_LEN }
     ensures written { Emits console.old console.new
-        (Output (said_text asked.now.form (asked_line asked.now) (BlockEnd count None)) ∷ []) result }
+        (said_to asked.now (BlockEnd count None) ∷ []) result }
     ensures why { IfErr result (λ why. why ≡ stop.Output) }
 {
     match asked.form {

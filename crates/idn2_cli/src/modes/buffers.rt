@@ -9,7 +9,8 @@ use idn_text::MAX_LINE_LEN;
 /// The most octets of an answer: four for each of 1,024 code points, and a line feed.
 pub(crate) const MAX_ANSWER_LEN: usize = 4 * MAX_LINE_LEN + 1;
 
-/// The most octets of the answer of lookup: a name with a full stop at its end, and a line feed. Registration answers at most 63.
+/// The most octets of the answer of lookup: a name with a full stop at its end, and a line feed. Registration answers
+/// at most 63.
 const MAX_QUERY_LINE_LEN: usize = MAX_NAME_LEN + 2;
 
 /// Buffers that are used again from line to line. What is left in them says nothing of the next line.

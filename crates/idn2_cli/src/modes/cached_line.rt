@@ -52,7 +52,8 @@ impl CachedLine {
     #[inline]
     pub(crate) fn keep(&mut self, count: usize)
         ensures count { self.new.count ≡ min self.old.count count }
-        ensures begun { (before label : List ℕ) → IsBegun before self.old → take count before ≡ take count label → IsBegun label self.new }
+        ensures begun { (before label : List ℕ) → IsBegun before self.old → take count before ≡ take count label →
+            IsBegun label self.new }
     {
         self.count = self.count.min(count);
     }
@@ -95,7 +96,8 @@ impl CachedLine {
     /// Cuts off what stands after the code points with which the line begins.
     fn cut(&mut self)
         ensures count { self.new.count ≡ self.old.count }
-        ensures cut { (label : List ℕ) → IsBegun label self.old → IsBegun label self.new × (self.new.line ≡ utf8_of (take self.old.count label)) }
+        ensures cut { (label : List ℕ) → IsBegun label self.old →
+            IsBegun label self.new × (self.new.line ≡ utf8_of (take self.old.count label)) }
     {
         self.len = usize::from(self.ends[self.count]);
     }

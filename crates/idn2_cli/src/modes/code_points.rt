@@ -1,12 +1,12 @@
 //! Modes that answer a line by its code points.
 
-ghost use Rattle.std.specs.Prelude.{◌≡◌, ◌≢◌, ◌≤◌, ℕ, Bool, false, List, length, chars, IfOk};
+ghost use Rattle.std.specs.Prelude.{◌≢◌, ◌≤◌, ℕ, Bool, false, List, length, chars};
 ghost use Rattle.idn_text.specs.Points.{AreScalarValues};
 ghost use Rattle.idn2_answers.specs.Answers.{LineAnswer};
-ghost use Rattle.idn2_cli.specs.inner.Asked.{asked_line};
 ghost use Rattle.idn2_output.specs.Writing.{Emits, StopsForMemory};
-ghost use Rattle.idn2_cli.specs.inner.LineAnswers.{KeepsIfRefused, refusal_in, reply_output};
-ghost use Rattle.idn2_cli.specs.inner.ServedLines.{result_of};
+ghost use Rattle.idn2_cli.specs.inner.Asked.{reply_to};
+ghost use Rattle.idn2_cli.specs.inner.LineAnswers.{KeepsIfRefused};
+ghost use Rattle.idn2_cli.specs.inner.ServedLines.{IsServedAs, result_of};
 ghost use Rattle.idn2_cli.specs.declared.modes.answering.Served.TheVariants as served;
 ghost use Rattle.idn2_output.specs.declared.stop.Stop.TheVariants as stop;
 
@@ -47,8 +47,8 @@ pub(crate) trait PointAnswering {
         requires few_points { length points.now ≤ MAX_LINE_LEN }
         requires scalar_values { AreScalarValues points.now }
         ensures written { Emits console.old console.new
-            (reply_output asked.now.form (asked_line asked.now) (answer_of self.now points.now)) (result_of result) }
-        ensures refused { IfOk (result_of result) (λ refusal. refusal ≡ refusal_in (answer_of self.now points.now)) }
+            (reply_to asked.now (answer_of self.now points.now)) (result_of result) }
+        ensures refused { IsServedAs (answer_of self.now points.now) result }
         ensures kept { KeepsIfRefused console.old console.new (result_of result) }
         ensures no_memory { needs_none self.now points.now → result ≢ served.Stopped stop.Memory }
         ensures begun { StopsForMemory (goes_on self.now points.now) console.old console.new (result_of result) };

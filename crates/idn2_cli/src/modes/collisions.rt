@@ -4,11 +4,8 @@ ghost use Rattle.std.specs.Prelude.{◌≡◌, ◌≤◌, ℕ, List, Some, All, 
 ghost use Rattle.idn_text.specs.Points.{AreScalarValues};
 ghost use Rattle.registered_labels.specs.Registered.{AreRegistered};
 ghost use Rattle.idn2_options.specs.Settings.{IsWithinLimits, keeping};
-ghost use Rattle.idn2_answers.specs.Said.{said_text};
-ghost use Rattle.idn2_output.specs.OutputLines.{outputs};
-ghost use Rattle.idn2_cli.specs.inner.Asked.{asked_line};
-ghost use Rattle.idn2_cli.specs.inner.Ruling.{KeepsOf, filter_by, ruling_in};
-ghost use Rattle.idn2_cli.specs.inner.Dispositions.{block_by, field_by};
+ghost use Rattle.idn2_cli.specs.inner.Blocks.{block_output};
+ghost use Rattle.idn2_cli.specs.inner.Ruling.{KeepsOf, filter_in};
 ghost use Rattle.idn2_output.specs.Writing.{Emits};
 ghost use Rattle.idn2_output.specs.declared.stop.Stop.TheVariants as stop;
 
@@ -45,7 +42,8 @@ pub(crate) fn write_collisions<W: Sink, E: Sink>(
     requires all { AreRegistered options.now.properties registered.now }
     requires new { (v : List ℕ) → KeepsOf v validity.old }
     ensures written { Emits console.old console.new
-        (outputs (said_text asked.now.form (asked_line asked.now)) (block_by (filter_by options.now.properties (ruling_in validity.old)) (field_by dispositions.old) (keeping (Some registered.now) options.now) net.now.spelled)) result }
+        (block_output asked.now (filter_in options.now.properties validity.old) dispositions.old
+        (keeping (Some registered.now) options.now) net.now.spelled) result }
     ensures begun { result ≡ Err stop.Memory → console.new ≡ console.old }
 {
     // How many there are is more than the count ever is.

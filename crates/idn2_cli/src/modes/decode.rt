@@ -54,8 +54,8 @@ impl Answering for Decode {
     }
 }
 
-/// Writes into `line` a name with U-labels in place of its A-labels and a line feed, and returns the length of that. Where
-/// the name is refused, what is left says nothing. `u_label` is room for what an A-label stands for.
+/// Writes into `line` a name with U-labels in place of its A-labels and a line feed, and returns the length of that.
+/// Where the name is refused, what is left says nothing. `u_label` is room for what an A-label stands for.
 // Always inline: it is called once for each line.
 #[inline(always)]
 fn fill_line(

@@ -1,21 +1,20 @@
-//! The least label that a label spells from a text on. A database that has its labels in byte order finds by it which of
-//! them are variants of a label.
+//! The least label that a label spells from a text on. A database that has its labels in byte order finds by it which
+//! of them are variants of a label.
 
-ghost use Rattle.std.specs.Prelude.{◌≡◌, ◌≤◌, ◌∷◌, [], true, length, slice_get, All, IfOk, IfErr, Err, None, Some};
+ghost use Rattle.std.specs.Prelude.{◌≡◌, ◌≤◌, ◌∷◌, [], true, length, slice_get, All, IfErr, Err, None, Some};
 ghost use Rattle.idn_text.specs.Points.{AreScalarValues};
 ghost use Rattle.idn_label.specs.FirstFault.{IsRegistrable};
 ghost use Rattle.valid_labels.specs.Validity.{IsSound};
 ghost use Rattle.variant_list.specs.Jumps.{candidates_among_from};
-ghost use Rattle.idn2_answers.specs.Answers.{jump_answer, least_answer};
-ghost use Rattle.idn2_refusals.specs.Requests.{requested_label, requested_text};
-ghost use Rattle.idn2_cli.specs.Memory.{IsRefusedWithoutMemory};
-ghost use Rattle.idn2_answers.specs.Said.{Least, said_text};
-ghost use Rattle.idn2_output.specs.OutputLines.{Output};
-ghost use Rattle.idn2_cli.specs.inner.Asked.{asked_line};
+ghost use Rattle.idn2_answers.specs.Answers.{jump_answer};
+ghost use Rattle.idn2_answers.specs.Said.{Least};
+ghost use Rattle.idn2_refusals.specs.Requests.{requested_label};
 ghost use Rattle.idn2_output.specs.Writing.{Emits};
-ghost use Rattle.idn2_cli.specs.inner.LineAnswers.{KeepsIfRefused, refusal_in, reply_output};
+ghost use Rattle.idn2_cli.specs.Memory.{IsRefusedWithoutMemory};
+ghost use Rattle.idn2_cli.specs.inner.Asked.{reply_to, said_to};
+ghost use Rattle.idn2_cli.specs.inner.LineAnswers.{KeepsIfRefused, request_answer};
 ghost use Rattle.idn2_cli.specs.inner.Ruling.{ruling_of};
-ghost use Rattle.idn2_cli.specs.inner.ServedLines.{result_of};
+ghost use Rattle.idn2_cli.specs.inner.ServedLines.{IsServedAs, result_of};
 ghost use Rattle.idn2_cli.specs.declared.modes.answering.Served.TheVariants as served;
 ghost use Rattle.idn2_output.specs.declared.stop.Stop.TheVariants as stop;
 
@@ -81,8 +80,8 @@ fn answer_least<W: Sink, E: Sink>(
     requires scalar_values { AreScalarValues points.now }
     requires registrable { IsRegistrable mode.now.properties (requested_label points.now) }
     ensures written { Emits console.old console.new
-        (reply_output asked.now.form (asked_line asked.now) (least_answer mode.now.table.now (requested_label points.now) (requested_text points.now))) (result_of result) }
-    ensures refused { IfOk (result_of result) (λ refusal. refusal ≡ refusal_in (least_answer mode.now.table.now (requested_label points.now) (requested_text points.now))) }
+        (reply_to asked.now (request_answer mode.now.table.now points.now)) (result_of result) }
+    ensures refused { IsServedAs (request_answer mode.now.table.now points.now) result }
     ensures kept { KeepsIfRefused console.old console.new (result_of result) }
     ensures begun { result ≡ served.Stopped stop.Memory → console.new ≡ console.old }
 {
@@ -107,8 +106,8 @@ fn write_least<W: Sink, E: Sink>(
     requires few { length asked.now.text.now ≤ MAX_LINE_LEN }
     requires spelled { All AreScalarValues net.now.spelled }
     ensures begun { result ≡ Err stop.Memory → console.new ≡ console.old }
-    ensures written { Emits console.old console.new (Output (said_text asked.now.form (asked_line asked.now)
-        (Least (slice_get (candidates_among_from net.now.spelled text.now) 0))) ∷ []) result }
+    ensures written { Emits console.old console.new
+        (said_to asked.now (Least (slice_get (candidates_among_from net.now.spelled text.now) 0)) ∷ []) result }
 {
     let mut cursor = Cursor::new(alloc, net, text)?;
     let Some(_shared) = cursor.jump(text) else {
@@ -127,7 +126,7 @@ fn write_label<W: Sink, E: Sink>(
     requires short { length label.now ≤ 63 }
     requires scalar_values { AreScalarValues label.now }
     ensures written { Emits console.old console.new
-        (Output (said_text asked.now.form (asked_line asked.now) (Least (Some label.now))) ∷ []) result }
+        (said_to asked.now (Least (Some label.now)) ∷ []) result }
     ensures why { IfErr result (λ why. why ≡ stop.Output) }
 {
     let mut line = CachedLine::new();
@@ -151,7 +150,7 @@ fn write_none<W: Sink, E: Sink>(
 ) -> Result<(), Stop>
     requires few { length asked.now.text.now ≤ MAX_LINE_LEN }
     ensures written { Emits console.old console.new
-        (Output (said_text asked.now.form (asked_line asked.now) (Least None)) ∷ []) result }
+        (said_to asked.now (Least None) ∷ []) result }
     ensures why { IfErr result (λ why. why ≡ stop.Output) }
 {
     match asked.form {

@@ -1,24 +1,18 @@
 //! The variants of a label under a table, all of them or those that are registered.
 
-ghost use Rattle.std.specs.Prelude.{◌≡◌, ◌≤◌, ℕ, List, true, All, IfOk, IfSome, length};
+ghost use Rattle.std.specs.Prelude.{◌≡◌, ◌≤◌, ℕ, List, true, All, length};
 ghost use Rattle.idn_text.specs.Points.{AreScalarValues};
 ghost use Rattle.idn_label.specs.FirstFault.{IsRegistrable};
-ghost use Rattle.idn_label.specs.Memory.{NeedsNoMemory};
-ghost use Rattle.registered_labels.specs.Registered.{AreRegistered};
 ghost use Rattle.valid_labels.specs.Validity.{IsSound};
-ghost use Rattle.variant_list.specs.Spelled.{spelled};
-ghost use Rattle.std.specs.Option.{option_copied};
-ghost use Rattle.idn2_options.specs.Settings.{IsWithinLimits, keeping};
-ghost use Rattle.idn2_answers.specs.Answers.{filter_of, variants_answer, listing_answer, tested_after};
-ghost use Rattle.idn2_cli.specs.inner.Dispositions.{AreOfTable, block_by, field_by};
-ghost use Rattle.idn2_cli.specs.Memory.{IsRefusedWithoutMemory};
-ghost use Rattle.idn2_answers.specs.Said.{said_text};
-ghost use Rattle.idn2_output.specs.OutputLines.{outputs};
-ghost use Rattle.idn2_cli.specs.inner.Asked.{asked_line};
+ghost use Rattle.idn2_answers.specs.Answers.{listing_answer, variants_answer};
 ghost use Rattle.idn2_output.specs.Writing.{Emits, StopsForMemory};
-ghost use Rattle.idn2_cli.specs.inner.LineAnswers.{KeepsIfRefused, refusal_in, reply_output};
-ghost use Rattle.idn2_cli.specs.inner.Ruling.{KeepsOf, filter_by, ruling_in, ruling_of};
-ghost use Rattle.idn2_cli.specs.inner.ServedLines.{result_of};
+ghost use Rattle.idn2_cli.specs.Memory.{IsRefusedWithoutMemory, ListsWithoutMemory, TestsWithoutMemory};
+ghost use Rattle.idn2_cli.specs.inner.Asked.{reply_to};
+ghost use Rattle.idn2_cli.specs.inner.Blocks.{block_output};
+ghost use Rattle.idn2_cli.specs.inner.Dispositions.{AreOfTable};
+ghost use Rattle.idn2_cli.specs.inner.LineAnswers.{KeepsIfRefused};
+ghost use Rattle.idn2_cli.specs.inner.Ruling.{KeepsOf, filter_in, ruling_of};
+ghost use Rattle.idn2_cli.specs.inner.ServedLines.{IsServedAs, result_of};
 
 use crate::modes::admission::{admitted_net, validity_test_by};
 use crate::modes::allocation_test::AllocationTest;
@@ -28,39 +22,36 @@ use crate::modes::block::write_block;
 use crate::modes::code_points::PointAnswering;
 use crate::modes::collisions::write_collisions;
 use crate::modes::dispositions::Dispositions;
+use crate::settings::RunSettings;
 use idn_label::test_label_by;
 use idn_text::{MAX_LINE_LEN, Sink};
-use idn2_options::Options;
 use idn2_output::{Console, Stop};
-use registered_labels::RegisteredLabels;
 use std::alloc::Global;
 use valid_labels::{Segments, ValidityTest};
 use variant_list::Net;
 use variant_table::Table;
 
-/// The listing of variants by a table (RFC 7940 section 8). The options say after which text it
-/// begins and where it stops. It is kept to the registered labels, if there are some.
+/// The listing of variants by a table (RFC 7940 section 8). The settings say after which text it
+/// begins, where it stops, and to which registered labels it is kept, if it is.
 #[derive(Drop)]
 pub(crate) struct Variants<'t, 'p, 'r, 'b> {
     pub table: &'t Table,
     pub ruling: &'p Option<Segments<'t>>,
     pub dispositions: &'t Dispositions<()>,
-    pub options: &'t Options,
-    pub registered: Option<&'r RegisteredLabels<'b>>,
+    pub settings: &'t RunSettings<'r, 'b>,
 }
 
 impl<'t, 'p, 'r, 'b> PointAnswering for Variants<'t, 'p, 'r, 'b> {
-    ghost answer_of = { λ mode label. variants_answer (keeping (option_copied mode.registered) mode.options.now) mode.table.now label };
+    ghost answer_of = { λ mode label. variants_answer mode.settings.now mode.table.now label };
 
-    ghost is_ready = { λ mode. IsWithinLimits mode.options.now × IsSound mode.table.now
-        × (mode.ruling.now ≡ ruling_of mode.table.now) × AreOfTable mode.table.now mode.dispositions.now
-        × IfSome (option_copied mode.registered) (AreRegistered mode.options.now.properties) };
+    ghost is_ready = { λ mode. IsSound mode.table.now × (mode.ruling.now ≡ ruling_of mode.table.now)
+        × AreOfTable mode.table.now mode.dispositions.now };
 
     ghost reads_table = { λ _. true };
 
-    ghost needs_none = { λ mode label. IsRefusedWithoutMemory mode.options.now.properties label };
+    ghost needs_none = { λ mode label. IsRefusedWithoutMemory mode.settings.now.properties label };
 
-    ghost goes_on = { λ mode label. All NeedsNoMemory (tested_after (filter_of mode.options.now.properties mode.table.now) (keeping (option_copied mode.registered) mode.options.now) (spelled mode.table.now label)) };
+    ghost goes_on = { λ mode label. ListsWithoutMemory mode.settings.now mode.table.now label };
 
     fn answer_points<W: Sink, E: Sink>(
         &self,
@@ -69,7 +60,8 @@ impl<'t, 'p, 'r, 'b> PointAnswering for Variants<'t, 'p, 'r, 'b> {
         points: &[u32],
         console: &mut Console<'_, '_, W, E>,
     ) -> Served {
-        let options = self.options;
+        let settings = self.settings;
+        let options = settings.options;
         match test_label_by(alloc, points, options.properties) {
             Ok(_) => list(alloc, self, asked, points, console),
             Err(refusal) => refused(refusal),
@@ -80,7 +72,7 @@ impl<'t, 'p, 'r, 'b> PointAnswering for Variants<'t, 'p, 'r, 'b> {
 /// Writes the block of a variant graph's label: its variants up to the stop, or those that are registered.
 fn write_block_or_collisions<W: Sink, E: Sink>(
     alloc: Global,
-    mode: &Variants<'_, '_, '_, '_>,
+    settings: &RunSettings<'_, '_>,
     asked: &Asked<'_>,
     net: &Net,
     mut validity: Option<ValidityTest<'_>>,
@@ -88,22 +80,22 @@ fn write_block_or_collisions<W: Sink, E: Sink>(
     console: &mut Console<'_, '_, W, E>,
 ) -> Result<(), Stop>
     requires few { length asked.now.text.now ≤ MAX_LINE_LEN }
-    requires limits { IsWithinLimits mode.now.options.now }
     requires spelled { All AreScalarValues net.now.spelled }
     requires new { (v : List ℕ) → KeepsOf v validity }
-    requires registered { IfSome (option_copied mode.now.registered) (AreRegistered mode.now.options.now.properties) }
     ensures written { Emits console.old console.new
-        (outputs (said_text asked.now.form (asked_line asked.now)) (block_by (filter_by mode.now.options.now.properties (ruling_in validity.entry)) (field_by dispositions.old) (keeping (option_copied mode.now.registered) mode.now.options.now) net.now.spelled)) result }
+        (block_output asked.now (filter_in settings.now.properties validity.entry) dispositions.old settings.now
+        net.now.spelled) result }
     ensures begun { StopsForMemory
-        (All NeedsNoMemory (tested_after (filter_by mode.now.options.now.properties (ruling_in validity.entry)) (keeping (option_copied mode.now.registered) mode.now.options.now) net.now.spelled))
+        (TestsWithoutMemory (filter_in settings.now.properties validity.entry) settings.now net.now.spelled)
         console.old console.new result }
 {
-    match mode.registered {
+    let options = settings.options;
+    match settings.registered {
         Some(registered) => {
             write_collisions(
                 alloc,
                 asked,
-                mode.options,
+                options,
                 net,
                 registered,
                 &mut validity,
@@ -111,15 +103,7 @@ fn write_block_or_collisions<W: Sink, E: Sink>(
                 console,
             )
         }
-        None => write_block(
-            alloc,
-            asked,
-            mode.options,
-            net,
-            validity,
-            dispositions,
-            console,
-        ),
+        None => write_block(alloc, asked, options, net, validity, dispositions, console),
     }
 }
 
@@ -131,22 +115,17 @@ fn list<W: Sink, E: Sink>(
     label: &[u32],
     console: &mut Console<'_, '_, W, E>,
 ) -> Served
-    requires limits { IsWithinLimits mode.now.options.now }
     requires sound { IsSound mode.now.table.now }
     requires ruling { mode.now.ruling.now ≡ ruling_of mode.now.table.now }
     requires dispositions { AreOfTable mode.now.table.now mode.now.dispositions.now }
-    requires registered { IfSome (option_copied mode.now.registered) (AreRegistered mode.now.options.now.properties) }
     requires few { length asked.now.text.now ≤ MAX_LINE_LEN }
     requires scalar_values { AreScalarValues label.now }
-    requires registrable { IsRegistrable mode.now.options.now.properties label.now }
+    requires registrable { IsRegistrable mode.now.settings.now.properties label.now }
     ensures written { Emits console.old console.new
-        (reply_output asked.now.form (asked_line asked.now)
-        (listing_answer (keeping (option_copied mode.now.registered) mode.now.options.now) mode.now.table.now label.now)) (result_of result) }
-    ensures refused { IfOk (result_of result)
-        (λ refusal. refusal ≡ refusal_in (listing_answer (keeping (option_copied mode.now.registered) mode.now.options.now) mode.now.table.now label.now)) }
+        (reply_to asked.now (listing_answer mode.now.settings.now mode.now.table.now label.now)) (result_of result) }
+    ensures refused { IsServedAs (listing_answer mode.now.settings.now mode.now.table.now label.now) result }
     ensures kept { KeepsIfRefused console.old console.new (result_of result) }
-    ensures begun { StopsForMemory
-        (All NeedsNoMemory (tested_after (filter_of mode.now.options.now.properties mode.now.table.now) (keeping (option_copied mode.now.registered) mode.now.options.now) (spelled mode.now.table.now label.now)))
+    ensures begun { StopsForMemory (ListsWithoutMemory mode.now.settings.now mode.now.table.now label.now)
         console.old console.new (result_of result) }
 {
     let Ok(mut validity) = validity_test_by(alloc, mode.ruling) else {
@@ -156,7 +135,7 @@ fn list<W: Sink, E: Sink>(
         Ok(net) => match mode.dispositions.of_label(alloc, mode.table, label) {
             Ok(mut dispositions) => answered(write_block_or_collisions(
                 alloc,
-                mode,
+                mode.settings,
                 asked,
                 &net,
                 validity,

@@ -3,15 +3,14 @@
 ghost use Rattle.std.specs.Prelude.{◌≡◌, ◌≢◌, IfOk, Err};
 ghost use Rattle.std.specs.Result.{is_err};
 ghost use Rattle.idn_text.specs.Reading.{IsUnread, line_at};
+ghost use Rattle.idn2_answers.specs.Transcript.{line_output};
 ghost use Rattle.idn2_output.specs.Writing.{Emits, StopsForMemory};
 ghost use Rattle.idn2_refusals.specs.Explaining.{explained_by};
-ghost use Rattle.idn2_cli.specs.inner.LineAnswers.{KeepsIfRefused, refusal_in, reply_output};
-ghost use Rattle.idn2_cli.specs.inner.ServedLines.{result_of};
-ghost use Rattle.idn2_cli.specs.declared.modes.answering.Served.TheVariants as served;
-ghost use Rattle.idn2_answers.specs.Answers.{line_answer};
-ghost use Rattle.idn2_answers.specs.Transcript.{line_output};
 ghost use Rattle.idn2_cli.specs.Ends.{Does, lines_job};
-ghost use Rattle.idn2_cli.specs.Memory.{BodyNeedsNone, NeedsNone};
+ghost use Rattle.idn2_cli.specs.Memory.{NeedsNone};
+ghost use Rattle.idn2_cli.specs.inner.LineAnswers.{KeepsIfRefused, reply_output};
+ghost use Rattle.idn2_cli.specs.inner.ServedLines.{IsServedAs, LineNeedsNone, answer_at, result_of};
+ghost use Rattle.idn2_cli.specs.declared.modes.answering.Served.TheVariants as served;
 ghost use Rattle.idn2_output.specs.declared.stop.Stop.TheVariants as stop;
 
 use crate::modes::answering::{Answering, Served};
@@ -34,7 +33,10 @@ pub(crate) fn serve_lines<M: Answering, R: Source, W: Sink, E: Sink>(
 ) -> Result<Status, Stop>
     requires ready { M.is_ready mode.now }
     requires unread { IsUnread input.old }
-    ensures { Does (lines_job form (explained_by explaining.now) (M.answer_of mode.now) (M.reads_table mode.now) (M.needs_none mode.now) (M.goes_on mode.now)) input.old input.new console.old console.new result }
+    ensures { Does
+        (lines_job form (explained_by explaining.now) (M.answer_of mode.now) (M.reads_table mode.now)
+        (M.needs_none mode.now) (M.goes_on mode.now))
+        input.old input.new console.old console.new result }
 {
     let mut buffers = Buffers::new();
     let mut has_refused = false;
@@ -64,9 +66,11 @@ fn serve_line<M: Answering, R: Source, W: Sink, E: Sink>(
     requires { M.is_ready mode.now }
     ensures written { Emits console.old console.new
         (line_output form (explained_by explaining.now) (M.answer_of mode.now) (line_at input.now)) result }
-    ensures refused { IfOk result (λ refused. refused ≡ is_err (line_answer (M.answer_of mode.now) (line_at input.now).body)) }
-    ensures no_memory { BodyNeedsNone (NeedsNone (explained_by explaining.now) (M.answer_of mode.now) (M.needs_none mode.now)) (line_at input.now).body → result ≢ Err stop.Memory }
-    ensures begun { StopsForMemory (BodyNeedsNone (M.goes_on mode.now) (line_at input.now).body) console.old console.new result }
+    ensures refused { IfOk result (λ refused. refused ≡ is_err (answer_at (M.answer_of mode.now) input.now)) }
+    ensures no_memory { LineNeedsNone
+        (NeedsNone (explained_by explaining.now) (M.answer_of mode.now) (M.needs_none mode.now)) input.now →
+        result ≢ Err stop.Memory }
+    ensures begun { StopsForMemory (LineNeedsNone (M.goes_on mode.now) input.now) console.old console.new result }
 {
     match answer_line(alloc, form, mode, input, buffers, console) {
         Served::Answered => Ok(false),
@@ -90,11 +94,12 @@ fn answer_line<M: Answering, R: Source, W: Sink, E: Sink>(
 ) -> Served
     requires { M.is_ready mode.now }
     ensures written { Emits console.old console.new
-        (reply_output form (line_at input.now) (line_answer (M.answer_of mode.now) (line_at input.now).body)) (result_of result) }
-    ensures refused { IfOk (result_of result) (λ refusal. refusal ≡ refusal_in (line_answer (M.answer_of mode.now) (line_at input.now).body)) }
+        (reply_output form (line_at input.now) (answer_at (M.answer_of mode.now) input.now)) (result_of result) }
+    ensures refused { IsServedAs (answer_at (M.answer_of mode.now) input.now) result }
     ensures kept { KeepsIfRefused console.old console.new (result_of result) }
-    ensures no_memory { BodyNeedsNone (M.needs_none mode.now) (line_at input.now).body → result ≢ served.Stopped stop.Memory }
-    ensures begun { StopsForMemory (BodyNeedsNone (M.goes_on mode.now) (line_at input.now).body) console.old console.new (result_of result) }
+    ensures no_memory { LineNeedsNone (M.needs_none mode.now) input.now → result ≢ served.Stopped stop.Memory }
+    ensures begun { StopsForMemory (LineNeedsNone (M.goes_on mode.now) input.now)
+        console.old console.new (result_of result) }
 {
     let number = input.number();
     match input.text() {

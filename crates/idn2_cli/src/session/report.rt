@@ -10,8 +10,8 @@ use registered_labels::RegisteredFileFault;
 use std::alloc::Global;
 
 /// Writes why a file of this text is not read as registered labels, and answers the status. A wrong line is told by a
-/// message, or by an object of the output, with its cause, if causes are wanted. Where the writer fails, a proper prefix of
-/// that stands, and the status is that of a fault. A cause alone may take memory.
+/// message, or by an object of the output, with its cause, if causes are wanted. Where the writer fails, a proper
+/// prefix of that stands, and the status is that of a fault. A cause alone may take memory.
 pub fn report_registered<W: Sink, E: Sink>(
     alloc: Global,
     options: &Options,
@@ -20,7 +20,8 @@ pub fn report_registered<W: Sink, E: Sink>(
     out: &mut W,
     err: &mut E,
 ) -> Status
-    ensures { TellsUnread options.now text.now fault.now (held (W.state out.old) (E.state err.old)) (held (W.state out.new) (E.state err.new)) result }
+    ensures { TellsUnread options.now text.now fault.now (held (W.state out.old) (E.state err.old))
+        (held (W.state out.new) (E.state err.new)) result }
 {
     match fault {
         RegisteredFileFault::Memory => report(&Refusal::Memory, err),

@@ -1,19 +1,21 @@
 //! A whole run.
 
-ghost use Rattle.std.specs.Prelude.{◌≡◌, ℕ, List, IfOk, IfSome};
+ghost use Rattle.std.specs.Prelude.{◌≡◌, ℕ, List, IfSome};
 ghost use Rattle.std.specs.Option.{option_copied};
 ghost use Rattle.idn_text.specs.Reading.{IsUnread};
 ghost use Rattle.idn_label.specs.FirstFault.{IsRegistrable};
 ghost use Rattle.registered_labels.specs.Registered.{AreRegistered};
+ghost use Rattle.valid_labels.specs.Validity.{IsSound};
 ghost use Rattle.variant_table.specs.Entries.{TableValue};
 ghost use Rattle.idn2_options.specs.Settings.{IsWithinLimits, keeping};
 ghost use Rattle.idn2_answers.specs.Answers.{jump_answer, variants_answer, IsJumpAnswer, IsListing};
+ghost use Rattle.idn2_answers.specs.Transcript.{TableGiven, IsCheck, IsReadAs, IsTableOf, check_findings};
 ghost use Rattle.idn2_refusals.specs.Requests.{requested_label};
-ghost use Rattle.idn2_output.specs.Writing.{held, refusal_of, Emits};
 ghost use Rattle.idn2_refusals.specs.Reports.{closing_status};
+ghost use Rattle.idn2_output.specs.Writing.{held, refusal_of};
 ghost use Rattle.idn2_cli.specs.Ends.{Does, Ends, Closes, mode_job};
-ghost use Rattle.idn2_answers.specs.Transcript.{TableGiven, IsCheck, IsReadAs, IsTableOf, check_findings, check_output, check_status};
 ghost use Rattle.idn2_cli.specs.Headline.{PrintsListings};
+ghost use Rattle.idn2_cli.specs.inner.ServedModes.{Runs, Serves, mode_of};
 ghost use Rattle.idn2_options.specs.declared.command_line.mode.Mode.TheVariants as modes;
 
 use crate::modes::code_points::ByPoints;
@@ -21,15 +23,15 @@ use crate::modes::{
     Decode, Dispositions, Jumps, Lookup, Register, Variants, check_table, ruling_of_table,
 };
 use crate::session::lines::serve_lines;
+use crate::settings::RunSettings;
 use answer_json::MAX_OBJECT_LEN;
-use idn_class::Properties;
 use idn_text::{Lines, Sink, Source};
-use idn2_options::{Form, Mode, Options};
+use idn2_options::{Mode, Options};
 use idn2_output::{Console, Status, Stop};
 use idn2_refusals::{Explaining, refuse_table, report};
 use registered_labels::RegisteredLabels;
 use std::alloc::Global;
-use variant_table::{Notation, Table};
+use variant_table::Table;
 
 /// Runs a mode over its input, of which no line was read yet. Where nothing fails, the output lines of the transcript
 /// are written, and the status says whether something was refused. A fault of a reader, of a writer or of memory ends
@@ -45,18 +47,26 @@ pub fn run<R: Source, W: Sink, E: Sink>(
 ) -> Status
     requires limits { IsWithinLimits options.now }
     requires unread { IsUnread input.old }
-    ensures ends { (given : TableGiven) × IsTableOf options.now.properties options.now.mode options.now.notation table.now given
+    ensures ends { (given : TableGiven)
+        × IsTableOf options.now.properties options.now.mode options.now.notation table.now given
         × Ends (mode_job options.now given) input.old input.new
         (held (W.state out.old) (E.state err.old)) (held (W.state out.new) (E.state err.new)) result }
     // The theorem of a listing: these bytes of this output are the lines of these labels.
-    ensures headline { (given : TableValue) → options.now.mode ≡ modes.Variants → IsReadAs options.now.properties options.now.notation table.now (Ok given) →
-        PrintsListings options.now given input.old input.new (W.state out.old).contents (W.state out.new).contents result }
+    ensures headline { (given : TableValue) → options.now.mode ≡ modes.Variants →
+        IsReadAs options.now.properties options.now.notation table.now (Ok given) →
+        PrintsListings options.now given input.old input.new
+        (W.state out.old).contents (W.state out.new).contents result }
     // What the transcript has for a label that may be registered, for a request, and for the check of a table.
-    ensures listing { (given : TableValue) (label : List ℕ) → IsReadAs options.now.properties options.now.notation table.now (Ok given) → IsRegistrable options.now.properties label →
+    ensures listing { (given : TableValue) (label : List ℕ) →
+        IsReadAs options.now.properties options.now.notation table.now (Ok given) →
+        IsRegistrable options.now.properties label →
         IsListing options.now given label (variants_answer options.now given label) }
-    ensures jump { (given : TableValue) (request : List ℕ) → IsReadAs options.now.properties options.now.notation table.now (Ok given) → IsRegistrable options.now.properties (requested_label request) →
+    ensures jump { (given : TableValue) (request : List ℕ) →
+        IsReadAs options.now.properties options.now.notation table.now (Ok given) →
+        IsRegistrable options.now.properties (requested_label request) →
         IsJumpAnswer given request (jump_answer options.now.properties given request) }
-    ensures check { (given : TableValue) → IsReadAs options.now.properties options.now.notation table.now (Ok given) → IsCheck given.entries (check_findings given.entries) }
+    ensures check { (given : TableValue) → IsReadAs options.now.properties options.now.notation table.now (Ok given) →
+        IsCheck given.entries (check_findings given.entries) }
 {
     // Only for the proof: where a field is read, it is known what contracts see of the options: no registered labels.
     let _ = &options.mode;
@@ -77,25 +87,36 @@ pub fn run_among<R: Source, W: Sink, E: Sink>(
     requires limits { IsWithinLimits options.now }
     requires registered { IfSome (option_copied registered) (AreRegistered options.now.properties) }
     requires unread { IsUnread input.old }
-    ensures ends { (given : TableGiven) × IsTableOf options.now.properties options.now.mode options.now.notation table.now given
+    ensures ends { (given : TableGiven)
+        × IsTableOf options.now.properties options.now.mode options.now.notation table.now given
         × Ends (mode_job (keeping (option_copied registered.entry) options.now) given) input.old input.new
         (held (W.state out.old) (E.state err.old)) (held (W.state out.new) (E.state err.new)) result }
-    ensures headline { (given : TableValue) → options.now.mode ≡ modes.Variants → IsReadAs options.now.properties options.now.notation table.now (Ok given) →
+    ensures headline { (given : TableValue) → options.now.mode ≡ modes.Variants →
+        IsReadAs options.now.properties options.now.notation table.now (Ok given) →
         PrintsListings (keeping (option_copied registered.entry) options.now) given input.old input.new
         (W.state out.old).contents (W.state out.new).contents result }
-    ensures listing { (given : TableValue) (label : List ℕ) → IsReadAs options.now.properties options.now.notation table.now (Ok given) → IsRegistrable options.now.properties label →
+    ensures listing { (given : TableValue) (label : List ℕ) →
+        IsReadAs options.now.properties options.now.notation table.now (Ok given) →
+        IsRegistrable options.now.properties label →
         IsListing (keeping (option_copied registered.entry) options.now) given label
         (variants_answer (keeping (option_copied registered.entry) options.now) given label) }
-    ensures jump { (given : TableValue) (request : List ℕ) → IsReadAs options.now.properties options.now.notation table.now (Ok given) → IsRegistrable options.now.properties (requested_label request) →
+    ensures jump { (given : TableValue) (request : List ℕ) →
+        IsReadAs options.now.properties options.now.notation table.now (Ok given) →
+        IsRegistrable options.now.properties (requested_label request) →
         IsJumpAnswer given request (jump_answer options.now.properties given request) }
-    ensures check { (given : TableValue) → IsReadAs options.now.properties options.now.notation table.now (Ok given) → IsCheck given.entries (check_findings given.entries) }
+    ensures check { (given : TableValue) → IsReadAs options.now.properties options.now.notation table.now (Ok given) →
+        IsCheck given.entries (check_findings given.entries) }
 {
+    let settings = RunSettings {
+        options,
+        registered,
+    };
     let mut console = Console {
         output: out,
         messages: err,
         room: [0; MAX_OBJECT_LEN],
     };
-    let status = serve(alloc, options, table, registered, input, &mut console);
+    let status = serve(alloc, &settings, table, input, &mut console);
     // Only for the proof: the two writers are given back, so that the contract can say what they hold.
     let (_output, _messages) = (console.output, console.messages);
     status
@@ -104,19 +125,15 @@ pub fn run_among<R: Source, W: Sink, E: Sink>(
 /// Runs a mode over its input, as `run_among` does, with the two writers as one value.
 fn serve<R: Source, W: Sink, E: Sink>(
     alloc: Global,
-    options: &Options,
+    settings: &RunSettings<'_, '_>,
     table: &[u8],
-    registered: Option<&RegisteredLabels<'_>>,
     input: &mut Lines<R>,
     console: &mut Console<'_, '_, W, E>,
 ) -> Status
-    requires limits { IsWithinLimits options.now }
-    requires registered { IfSome (option_copied registered) (AreRegistered options.now.properties) }
     requires unread { IsUnread input.old }
-    ensures { (given : TableGiven) × IsTableOf options.now.properties options.now.mode options.now.notation table.now given
-        × Ends (mode_job (keeping (option_copied registered.entry) options.now) given) input.old input.new console.old console.new result }
+    ensures { Runs settings.now table.now input.old input.new console.old console.new result }
 {
-    match serve_mode(alloc, options, table, registered, input, console) {
+    match serve_mode(alloc, settings, table, input, console) {
         Ok(status) => status,
         Err(why) => close(why, console),
     }
@@ -125,70 +142,75 @@ fn serve<R: Source, W: Sink, E: Sink>(
 /// Runs the mode to its end, and gives the status, or to a stop.
 fn serve_mode<R: Source, W: Sink, E: Sink>(
     alloc: Global,
-    options: &Options,
+    settings: &RunSettings<'_, '_>,
     table: &[u8],
-    registered: Option<&RegisteredLabels<'_>>,
     input: &mut Lines<R>,
     console: &mut Console<'_, '_, W, E>,
 ) -> Result<Status, Stop>
-    requires limits { IsWithinLimits options.now }
-    requires registered { IfSome (option_copied registered) (AreRegistered options.now.properties) }
     requires unread { IsUnread input.old }
-    ensures { (given : TableGiven) × IsTableOf options.now.properties options.now.mode options.now.notation table.now given
-        × Does (mode_job (keeping (option_copied registered.entry) options.now) given) input.old input.new console.old console.new result }
+    ensures { Serves settings.now table.now input.old input.new console.old console.new result }
 {
+    let options = settings.options;
+    let wanted = options.tells_causes();
     match options.mode {
         Mode::Lookup => {
-            let explaining = Explaining::Query(options.std3).if_wanted(options.tells_causes());
+            let explaining = Explaining::Query(options.std3).if_wanted(wanted);
             let mode = Lookup { std3: options.std3 };
             serve_lines(alloc, options.form, &explaining, &mode, input, console)
         }
         Mode::Register => {
-            let explaining = Explaining::Label(options.properties).if_wanted(
-                options.tells_causes(),
-            );
+            let explaining = Explaining::Label(options.properties).if_wanted(wanted);
             let mode = Register {
                 properties: options.properties,
             };
             serve_lines(alloc, options.form, &explaining, &mode, input, console)
         }
         Mode::Decode => {
-            let explaining = Explaining::Name(options.properties).if_wanted(options.tells_causes());
+            let explaining = Explaining::Name(options.properties).if_wanted(wanted);
             let mode = Decode {
                 properties: options.properties,
             };
             serve_lines(alloc, options.form, &explaining, &mode, input, console)
         }
-        Mode::Variants => serve_variants(alloc, options, table, registered, input, console),
-        Mode::Jump => serve_jumps(alloc, options, table, input, console),
-        Mode::CheckTable => serve_check(
-            alloc,
-            options.form,
-            options.tells_causes(),
-            options.notation,
-            options.properties,
-            table,
-            console,
-        ),
+        Mode::Variants => {
+            serve_by_table(alloc, settings, TableMode::Variants, table, input, console)
+        }
+        Mode::Jump => serve_by_table(alloc, settings, TableMode::Jump, table, input, console),
+        Mode::CheckTable => {
+            serve_by_table(
+                alloc,
+                settings,
+                TableMode::CheckTable,
+                table,
+                input,
+                console,
+            )
+        }
     }
 }
 
-/// Lists the variants of each line by the table that a text spells, or reports the fault of the text.
-fn serve_variants<R: Source, W: Sink, E: Sink>(
+/// A mode that works by a table.
+#[derive(Clone, Copy)]
+enum TableMode {
+    Variants,
+    Jump,
+    CheckTable,
+}
+
+/// Runs a mode by the table that a text spells, or reports the fault of the text.
+fn serve_by_table<R: Source, W: Sink, E: Sink>(
     alloc: Global,
-    options: &Options,
+    settings: &RunSettings<'_, '_>,
+    mode: TableMode,
     text: &[u8],
-    registered: Option<&RegisteredLabels<'_>>,
     input: &mut Lines<R>,
     console: &mut Console<'_, '_, W, E>,
 ) -> Result<Status, Stop>
-    requires limits { IsWithinLimits options.now }
-    requires registered { IfSome (option_copied registered) (AreRegistered options.now.properties) }
-    requires mode { options.now.mode ≡ modes.Variants }
+    requires mode { settings.now.mode ≡ mode_of mode }
     requires unread { IsUnread input.old }
-    ensures { (given : TableGiven) × IsTableOf options.now.properties options.now.mode options.now.notation text.now given
-        × Does (mode_job (keeping (option_copied registered.entry) options.now) given) input.old input.new console.old console.new result }
+    ensures { Serves settings.now text.now input.old input.new console.old console.new result }
 {
+    let options = settings.options;
     let table = match Table::read_by(alloc, options.notation, text, options.properties) {
         Ok(table) => table,
         Err(refusal) => {
@@ -196,73 +218,65 @@ fn serve_variants<R: Source, W: Sink, E: Sink>(
             return refuse_table(alloc, options.form, wanted, text, &refusal, console);
         }
     };
-    let ruling = ruling_of_table(&table);
-    let dispositions = Dispositions::of_table(&table);
+    match mode {
+        TableMode::Variants => serve_variants(alloc, settings, &table, input, console),
+        TableMode::Jump => serve_jumps(alloc, settings, &table, input, console),
+        TableMode::CheckTable => check_table(alloc, options.form, &table, console),
+    }
+}
+
+/// Lists the variants of each line by a table.
+fn serve_variants<R: Source, W: Sink, E: Sink>(
+    alloc: Global,
+    settings: &RunSettings<'_, '_>,
+    table: &Table,
+    input: &mut Lines<R>,
+    console: &mut Console<'_, '_, W, E>,
+) -> Result<Status, Stop>
+    requires mode { settings.now.mode ≡ modes.Variants }
+    requires sound { IsSound table.now }
+    requires unread { IsUnread input.old }
+    ensures { Does (mode_job settings.now (Ok table.now)) input.old input.new console.old console.new result }
+{
+    let options = settings.options;
+    let ruling = ruling_of_table(table);
+    let dispositions = Dispositions::of_table(table);
     let mode = Variants {
-        table: &table,
+        table,
         ruling: &ruling,
         dispositions: &dispositions,
-        options,
-        registered,
+        settings,
     };
-    let explaining = Explaining::Table(options.properties, &table).if_wanted(
-        options.tells_causes(),
-    );
+    let explaining = Explaining::Table(options.properties, table).if_wanted(options.tells_causes());
     let by_points = ByPoints { mode: &mode };
     serve_lines(alloc, options.form, &explaining, &by_points, input, console)
 }
 
-/// Answers the request of each line by the table that a text spells, or reports the fault of the text.
+/// Answers the request of each line by a table.
 fn serve_jumps<R: Source, W: Sink, E: Sink>(
     alloc: Global,
-    options: &Options,
-    text: &[u8],
+    settings: &RunSettings<'_, '_>,
+    table: &Table,
     input: &mut Lines<R>,
     console: &mut Console<'_, '_, W, E>,
 ) -> Result<Status, Stop>
-    requires mode { options.now.mode ≡ modes.Jump }
+    requires mode { settings.now.mode ≡ modes.Jump }
+    requires sound { IsSound table.now }
     requires unread { IsUnread input.old }
-    ensures { (given : TableGiven) × IsTableOf options.now.properties options.now.mode options.now.notation text.now given
-        × Does (mode_job options.now given) input.old input.new console.old console.new result }
+    ensures { Does (mode_job settings.now (Ok table.now)) input.old input.new console.old console.new result }
 {
-    let table = match Table::read_by(alloc, options.notation, text, options.properties) {
-        Ok(table) => table,
-        Err(refusal) => {
-            let wanted = options.tells_causes();
-            return refuse_table(alloc, options.form, wanted, text, &refusal, console);
-        }
-    };
-    let ruling = ruling_of_table(&table);
+    let options = settings.options;
+    let ruling = ruling_of_table(table);
     let mode = Jumps {
-        table: &table,
+        table,
         ruling: &ruling,
         properties: options.properties,
     };
-    let explaining = Explaining::Request(options.properties, &table).if_wanted(
+    let explaining = Explaining::Request(options.properties, table).if_wanted(
         options.tells_causes(),
     );
     let by_points = ByPoints { mode: &mode };
     serve_lines(alloc, options.form, &explaining, &by_points, input, console)
-}
-
-/// Checks the table that a text spells, or reports the fault of the text.
-fn serve_check<W: Sink, E: Sink>(
-    alloc: Global,
-    form: Form,
-    wanted: bool,
-    notation: Notation,
-    properties: Properties,
-    text: &[u8],
-    console: &mut Console<'_, '_, W, E>,
-) -> Result<Status, Stop>
-    ensures { (given : TableGiven) × IsReadAs properties notation text.now given
-        × Emits console.old console.new (check_output form wanted given) result
-        × IfOk result (λ status. status ≡ check_status given) }
-{
-    match Table::read_by(alloc, notation, text, properties) {
-        Ok(table) => check_table(alloc, form, &table, console),
-        Err(refusal) => refuse_table(alloc, form, wanted, text, &refusal, console),
-    }
 }
 
 /// Writes the last message of a run that stops, and gives its status.

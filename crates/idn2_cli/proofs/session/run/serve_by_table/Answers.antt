@@ -1,0 +1,50 @@
+use Rattle.std.proofs.Common.{Ok, ap, subst, ◌∙◌}
+use Rattle.std.specs.Option.{option_copied}
+use Rattle.variant_table.specs.Texts.{IsTextOf, IsToldOf}
+use Rattle.idn2_options.specs.Settings.{Settings, keeping, tells_causes}
+use Rattle.idn2_options.specs.declared.command_line.form.Form.{Form}
+use Rattle.idn2_answers.specs.Transcript.{check_output}
+use Rattle.idn2_output.specs.Writing.{Emits}
+use Rattle.idn2_cli.specs.inner.ServedModes.{mode_of}
+use Rattle.idn2_cli.proofs.RunEnds.{checked, in_form, refused_lines, table_read, works_by_table}
+use Rattle.idn2_cli.proofs.session.run.serve_by_table.Goals as goal
+
+pub returns-in-Err : goal.returns-in-Err
+returns-in-Err g c =
+    let o : Settings = c.args.settings.now in
+    let seen = ap (keeping (option_copied c.settings.inside.registered)) c.options.view_is ∙ c.settings.view_is in
+    refused_lines o (mode_of c.args.mode) (works_by_table o c.args.mode c.requires.mode) c.args.text.now _ c.in-Err.refusal.fault _ _ c.refuse_table.result c.requires.unread
+    (subst (λ (v : Settings). IsToldOf v.properties v.notation c.args.text.now c.in-Err.refusal.fault) seen c.in-Err.ensures.fault)
+    (in_form o.properties c.args.text.now c.in-Err.refusal.fault _ _ _ _ _ _ _ _ _ c.refuse_table.result (ap (λ (v : Settings). v.form) seen)
+    (c.tells_causes-wanted.ensures ∙ ap tells_causes c.settings.view_is) (ap (λ (v : Settings). v.notation) seen) (ap (λ (v : Settings). v.properties) seen)
+    (c.refuse_table.ensures.told _ _ c.in-Err.ensures.line))
+    c.refuse_table.ensures.status
+
+pub returns-in-Variants : goal.returns-in-Variants
+returns-in-Variants g c =
+    let o : Settings = c.args.settings.now in
+    let seen = ap (keeping (option_copied c.settings.inside.registered)) c.options.view_is ∙ c.settings.view_is in (
+      Ok c.in-Ok.table,
+      table_read o c.args.mode c.args.text.now (Ok c.in-Ok.table) c.requires.mode (subst (λ (v : Settings). IsTextOf v.properties v.notation c.args.text.now c.in-Ok.table) seen c.in-Ok.ensures.table),
+      c.serve_variants.ensures,
+    )
+
+pub returns-in-Jump : goal.returns-in-Jump
+returns-in-Jump g c =
+    let o : Settings = c.args.settings.now in
+    let seen = ap (keeping (option_copied c.settings.inside.registered)) c.options.view_is ∙ c.settings.view_is in (
+      Ok c.in-Ok.table,
+      table_read o c.args.mode c.args.text.now (Ok c.in-Ok.table) c.requires.mode (subst (λ (v : Settings). IsTextOf v.properties v.notation c.args.text.now c.in-Ok.table) seen c.in-Ok.ensures.table),
+      c.serve_jumps.ensures,
+    )
+
+pub returns : goal.returns
+returns g c =
+    let o : Settings = c.args.settings.now in
+    let seen = ap (keeping (option_copied c.settings.inside.registered)) c.options.view_is ∙ c.settings.view_is in (
+      Ok c.in-Ok.table,
+      table_read o c.args.mode c.args.text.now (Ok c.in-Ok.table) c.requires.mode (subst (λ (v : Settings). IsTextOf v.properties v.notation c.args.text.now c.in-Ok.table) seen c.in-Ok.ensures.table),
+      checked o c.in-Ok.table _ _ _ c.check_table.result (c.requires.mode ∙ ap mode_of c.in-CheckTable.is) c.requires.unread
+          (subst (λ (f : Form). Emits c.args.console.now c.check_table.new.console (check_output f (tells_causes o) (Ok c.in-Ok.table)) c.check_table.result) (ap (λ (v : Settings). v.form) seen) c.check_table.ensures.written)
+          c.check_table.ensures.status,
+    )
