@@ -93,7 +93,8 @@ fn answer(
     output: &RefCell<Output<Stdout>>,
 ) -> Status
     requires { IsWithinLimits options.now }
-    ensures { HasAnswered options.now table.now (option_map (λ text. text.now) file.entry) (option_map (λ text. text.now) given.entry) result }
+    ensures { HasAnswered options.now table.now (option_map (λ text. text.now) file.entry)
+        (option_map (λ text. text.now) given.entry) result }
 {
     let mut out = Device::new(Answers::new(output));
     let mut err = Device::new(Messages::new(rt.stderr(), output));

@@ -1,5 +1,5 @@
-//! The standard output: a buffer before a writer. It is flushed before anyone waits for more input, and before a message is
-//! written, so that neither overtakes an answer.
+//! The standard output: a buffer before a writer. It is flushed before anyone waits for more input, and before a
+//! message is written, so that neither overtakes an answer.
 ghost use Rattle.std.specs.Prelude.{◌≡◌, ◌⊎◌, [], Some, true, false, IsErr, IfErr, IfOk, OnOk};
 ghost use Rattle.std.specs.Io.{ReadsAtMost, WritesAtMost};
 ghost use Rattle.std.specs.Io.Buffered.{writer_buffer, writer_contents};
@@ -107,8 +107,8 @@ impl<W: Write + Drop> Output<W> {
         Ok(count)
     }
 
-    /// Writes what waits in the buffer, and gives the writer back. Where some answer was lost, what the buffer still holds is
-    /// dropped with it: by itself the buffer would try once more to write it.
+    /// Writes what waits in the buffer, and gives the writer back. Where some answer was lost, what the buffer still
+    /// holds is dropped with it: by itself the buffer would try once more to write it.
     pub fn end(mut self) -> Result<W>
         ensures { IfOk result (λ writer. Keeps self.bytes (W.contents writer)) }
     {

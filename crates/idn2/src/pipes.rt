@@ -1,5 +1,5 @@
-//! Pipes. What they hold is gone once it is read, so whoever reads a pipe second finds nothing, and registered labels that
-//! are not found would seem free.
+//! Pipes. What they hold is gone once it is read, so whoever reads a pipe second finds nothing, and registered labels
+//! that are not found would seem free.
 
 use crate::fault::Fault;
 use idn2_cli::{Mode, Options};
@@ -33,8 +33,8 @@ pub fn check_read_once(
     Err(Fault::Usage(cause))
 }
 
-/// Whether two of these are the same pipe: the table, the registered labels, and the lines, where these are read from the
-/// standard input. Words that name no file read nothing but lines.
+/// Whether two of these are the same pipe: the table, the registered labels, and the lines, where these are read from
+/// the standard input. Words that name no file read nothing but lines.
 fn is_read_twice(rt: &HostRuntime, options: &Options, has_strings: bool) -> bool {
     if options.file.is_empty() {
         return false;

@@ -11,8 +11,8 @@ const TABLE_BYTES: u64 = 1_048_577;
 /// One byte more than a ruleset's text may have: no later byte changes what is wrong with it.
 const RULESET_BYTES: u64 = 8_388_609;
 
-/// As many bytes of the file of registered labels as can matter: 2^32, and after these a line of 1,024 bytes with its line
-/// feed, so that the first line that ends too late is there as far as it is tested.
+/// As many bytes of the file of registered labels as can matter: 2^32, and after these a line of 1,024 bytes with its
+/// line feed, so that the first line that ends too late is there as far as it is tested.
 const REGISTERED_BYTES: u64 = 4_294_968_321;
 
 /// How many bytes of the output are kept until they are written.

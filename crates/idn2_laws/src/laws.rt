@@ -3,12 +3,15 @@ ghost use Rattle.std.specs.Prelude.{ℕ, List};
 ghost use Rattle.idn2_answers.specs.Answers.{LineAnswer};
 ghost use Rattle.idn2_laws.specs.Laws.{CausesAreTold, DispositionsAreTold, FormsSayTheSame};
 ghost use Rattle.idn2_laws.specs.ToldAlike.{CausesAreToldAlike};
-ghost use Rattle.idn2_laws.specs.ListingLaws.{AdmittedAreListed, ListedAreMutual, NotValidIsNeverTold, RulesetsSayTheSame, SpelledAreValid};
+ghost use Rattle.idn2_laws.specs.ListingLaws.{AdmittedAreListed, ListedAreMutual, NotValidIsNeverTold};
+ghost use Rattle.idn2_laws.specs.ListingLaws.{RulesetsSayTheSame, SpelledAreValid};
 ghost use Rattle.idn2_laws.specs.LineCauses.{RefusalsAreExplained};
-ghost use Rattle.idn2_laws.specs.ReadBack.{FindingsAreReadBack, RefusalsAreReadBack, RegisteredFaultsAreReadBack, SaidIsReadBack, TableFaultsAreReadBack};
+ghost use Rattle.idn2_laws.specs.ReadBack.{FindingsAreReadBack, RefusalsAreReadBack, RegisteredFaultsAreReadBack};
+ghost use Rattle.idn2_laws.specs.ReadBack.{SaidIsReadBack, TableFaultsAreReadBack};
 ghost use Rattle.idn2_laws.specs.ListingExamples.{ListingsOfExamples};
 ghost use Rattle.idn2_laws.specs.CauseExamples.{ExamplesOfCauses};
-ghost use Rattle.idn2_laws.specs.Examples.{ExamplesOfAllocations, ExamplesOfARun, ExamplesOfBlocks, ExamplesOfLines, ExamplesOfRefusals, ExamplesOfTranscripts};
+ghost use Rattle.idn2_laws.specs.Examples.{ExamplesOfAllocations, ExamplesOfARun, ExamplesOfBlocks, ExamplesOfLines};
+ghost use Rattle.idn2_laws.specs.Examples.{ExamplesOfRefusals, ExamplesOfTranscripts};
 
 /// The disposition of a variant, by what the table blocks.
 pub fn dispositions_are_told()
@@ -58,20 +61,21 @@ pub fn forms_say_the_same()
     ensures { FormsSayTheSame }
 {}
 
-/// Each object in answer to a line is read back by the grammar of JSON as it is meant, is one line, and is UTF-8, whatever
-/// the line holds. The number of the line is below 2^64; so is that of the registered labels to which a listing is kept.
+/// Each object in answer to a line is read back by the grammar of JSON as it is meant, is one line, and is UTF-8,
+/// whatever the line holds. The number of the line is below 2^64; so is that of the registered labels to which a
+/// listing is kept.
 pub fn said_is_read_back()
     ensures { SaidIsReadBack }
 {}
 
-/// So is the object of each line that a mode refuses, with its cause. The octets that a cause tells, of an A-label or of a
-/// name, are fewer than 2^64; each other number is within the line or the table.
+/// So is the object of each line that a mode refuses, with its cause. The octets that a cause tells, of an A-label or
+/// of a name, are fewer than 2^64; each other number is within the line or the table.
 pub fn refusals_are_read_back()
     ensures { RefusalsAreReadBack }
 {}
 
-/// So are the objects of the check of a table, and that of the fault of a table or of the registered labels. Fewer than 2^64
-/// pairs are missing, and the number of the line and the place in it are small.
+/// So are the objects of the check of a table, and that of the fault of a table or of the registered labels. Fewer than
+/// 2^64 pairs are missing, and the number of the line and the place in it are small.
 pub fn tables_are_read_back()
     ensures findings { FindingsAreReadBack }
     ensures faults { TableFaultsAreReadBack }

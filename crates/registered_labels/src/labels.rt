@@ -1,5 +1,6 @@
 //! Registered labels in memory.
-ghost use Rattle.std.specs.Prelude.{◌≡◌, ◌≢◌, ◌<◌, ◌≤◌, ℕ, List, length, take, chars, slice_get, slice_range, option_map, true, Some, [], IfOk, IfErr, IsOk};
+ghost use Rattle.std.specs.Prelude.{◌≡◌, ◌≢◌, ◌<◌, ◌≤◌, ℕ, List, length, take, chars, slice_get, slice_range};
+ghost use Rattle.std.specs.Prelude.{option_map, true, Some, [], IfOk, IfErr, IsOk};
 ghost use Rattle.idn_text.specs.Lines.{body_of};
 ghost use Rattle.std.specs.Ordering.{is_lt};
 ghost use Rattle.std.specs.List.{list_all};
@@ -29,8 +30,8 @@ const MAX_TEXT_LEN: usize = 0xFFFF_FFFF;
 /// Why a text is not read as registered labels. Lines are numbered from 1.
 #[derive(Clone, Copy, Debug, PartialEq, Eq)]
 pub enum RegisteredFileFault {
-    /// The first line that is wrong: it is no label that may be registered, it is not greater than the one before it, or
-    /// it ends after byte 4,294,967,295 of the text.
+    /// The first line that is wrong: it is no label that may be registered, it is not greater than the one before it,
+    /// or it ends after byte 4,294,967,295 of the text.
     Refused { line: u64, refusal: Refusal },
     /// Memory was refused.
     Memory,
@@ -74,8 +75,8 @@ impl<'a> Model for RegisteredLabels<'a> {
 impl<'a> RegisteredLabels<'a> {
     ghost use Rattle.registered_labels.specs.Texts.{IsTextOf, IsFaultOf};
 
-    /// The labels of a text, one on each line, each greater than the one before; or the first fault of the text. An empty text
-    /// takes no memory.
+    /// The labels of a text, one on each line, each greater than the one before; or the first fault of the text. An
+    /// empty text takes no memory.
     pub fn read(
         alloc: Global,
         text: &'a [u8],
@@ -161,8 +162,8 @@ impl<'a> RegisteredLabels<'a> {
         self.line(index).cmp(&key).is_lt()
     }
 
-    /// Two numbers between which the first label from number `from` on is that is no less than the label of this UTF-8. It
-    /// looks at one label after each step, and each step is twice as long as the one before.
+    /// Two numbers between which the first label from number `from` on is that is no less than the label of this UTF-8.
+    /// It looks at one label after each step, and each step is twice as long as the one before.
     fn enclose(&self, from: usize, key: &[u8]) -> (usize, usize)
         requires { from ≤ length self.now }
         ensures { (label : List ℕ) → utf8_of label ≡ key.now → IsBetween self.now from label result.0 result.1 }
@@ -180,8 +181,8 @@ impl<'a> RegisteredLabels<'a> {
         (low, self.len())
     }
 
-    /// The number of the first label from number `from` on that is no less than this label, or how many labels there are if
-    /// all are less. It looks at few labels if that one is near.
+    /// The number of the first label from number `from` on that is no less than this label, or how many labels there
+    /// are if all are less. It looks at few labels if that one is near.
     pub fn first_from(&self, from: usize, label: &[u32]) -> usize
         requires from { from ≤ length self.now }
         requires short { length label.now ≤ 63 }
@@ -265,9 +266,9 @@ fn feed_from(text: &[u8], at: usize) -> usize
     }
 }
 
-/// Tests a line as a label that may be registered, and returns how many of its bytes are the label: one carriage return at
-/// its end doesn't count. Of some lines it is known that they are lower-case letters, digits and hyphens of ASCII. `room`
-/// is room for the work.
+/// Tests a line as a label that may be registered, and returns how many of its bytes are the label: one carriage return
+/// at its end doesn't count. Of some lines it is known that they are lower-case letters, digits and hyphens of ASCII.
+/// `room` is room for the work.
 fn read_label(
     alloc: Global,
     line: &[u8],
@@ -277,7 +278,8 @@ fn read_label(
 ) -> Result<usize, Refusal>
     requires { is_ldh ≡ true → list_all is_ldh_point line.now ≡ true }
     ensures read { IfOk result (λ len. IsReadAs properties line.now len (chars (take len line.now))) }
-    ensures refused { IfErr result (λ refusal. refusal ≢ Refusal.Memory → line_refusal properties (body_of line.now) ≡ Some refusal) }
+    ensures refused { IfErr result (λ refusal. refusal ≢ Refusal.Memory →
+        line_refusal properties (body_of line.now) ≡ Some refusal) }
 {
     if line.len() > MAX_LINE_LEN {
         return Err(Refusal::LineTooLong);

@@ -19,14 +19,15 @@ use variant_table::Table;
 #[derive(Clone, Copy, Debug, PartialEq, Eq)]
 pub enum ValidityCause {
     /// The longest-first cut of the label ends at this place of it, from 0. This is the condition of the longest source
-    /// there, and the conditions of all sources there fail. Without one no source is there by which the label may be cut.
+    /// there, and the conditions of all sources there fail. Without one no source is there by which the label may be
+    /// cut.
     NotEligible(usize, Option<Condition>),
     /// The label breaks the demand of this number, from 0, of this kind, and no earlier one.
     Broken(usize, DemandKind),
 }
 
-/// Why a label of at most 63 code points that is made of sources of a table may not be asked about. `None` where it may.
-/// It is an `Err` only where memory was refused.
+/// Why a label of at most 63 code points that is made of sources of a table may not be asked about. `None` where it
+/// may. It is an `Err` only where memory was refused.
 pub fn invalid_cause(
     alloc: Global,
     table: &Table,

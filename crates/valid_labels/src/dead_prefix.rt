@@ -25,7 +25,8 @@ pub fn shortest_dead_prefix(
     requires short { length label.now ≤ 63 }
     requires seen { seen.now ≡ seen_under segments.now label.now }
     requires singles { AreSingles (length label.now) segments.now label.now singles.now }
-    ensures { MatchOption result (HasNoDeadPrefixUnder segments.now label.now) (IsShortestDeadUnder segments.now label.now) }
+    ensures { MatchOption result (HasNoDeadPrefixUnder segments.now label.now)
+        (IsShortestDeadUnder segments.now label.now) }
 {
     segments.recall_soundness();
     let table = segments.table();
@@ -42,7 +43,8 @@ pub fn shortest_dead_prefix(
 /// The least place where a part of a label ends that no label may have, whatever follows.
 fn refused_by(table: &Table, seen: &SeenLabel<'_>) -> Option<usize>
     requires { seen.now.sets ≡ table.now.definitions.sets }
-    ensures { MatchOption result (NoneRefuses seen.now table.now.definitions.demands) (IsRefusedAt seen.now table.now.definitions.demands) }
+    ensures { MatchOption result (NoneRefuses seen.now table.now.definitions.demands)
+        (IsRefusedAt seen.now table.now.definitions.demands) }
 {
     let demands = table.definitions().demands();
     refused_end(demands, seen)

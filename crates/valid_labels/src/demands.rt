@@ -40,7 +40,8 @@ pub(crate) fn is_met(wanted: &Demand, seen: &SeenLabel) -> bool
 /// part.
 pub fn refused_end(demands: &[Demand], seen: &SeenLabel) -> Option<usize>
     requires { AllByRecursion (λ d. HasItsSets (length seen.now.sets) d.pattern) (map demand demands.now) }
-    ensures { MatchOption result (NoneRefuses seen.now (map demand demands.now)) (IsRefusedAt seen.now (map demand demands.now)) }
+    ensures { MatchOption result (NoneRefuses seen.now (map demand demands.now))
+        (IsRefusedAt seen.now (map demand demands.now)) }
 {
     let mut least = None;
     for wanted in demands {

@@ -2,7 +2,8 @@
 ghost use Rattle.valid_labels.specs.CauseLaws.{CauseIsExact};
 ghost use Rattle.valid_labels.specs.Examples.{ValidityOfExamples};
 ghost use Rattle.valid_labels.specs.Furthest.{FurthestIsTold};
-ghost use Rattle.valid_labels.specs.Laws.{AdmittedAreValid, DeadForGood, LongestFirst, NothingIsAsked, OneCut, SegmentationsAgree, TestsAgree};
+ghost use Rattle.valid_labels.specs.Laws.{AdmittedAreValid, DeadForGood, LongestFirst, NothingIsAsked, OneCut};
+ghost use Rattle.valid_labels.specs.Laws.{SegmentationsAgree, TestsAgree};
 
 /// Longest first accepts no more labels than any cut, and the same where each source is one code point.
 pub fn longest_first()
@@ -34,8 +35,8 @@ pub fn admitted_are_valid()
     ensures { AdmittedAreValid }
 {}
 
-/// Under a table without conditions and demands, as each of version 1 or 2 is, a label that is made of sources may be asked
-/// about, so none is refused as not valid, and what is made of sources and variants is valid.
+/// Under a table without conditions and demands, as each of version 1 or 2 is, a label that is made of sources may be
+/// asked about, so none is refused as not valid, and what is made of sources and variants is valid.
 pub fn nothing_is_asked()
     ensures { NothingIsAsked }
 {}

@@ -59,7 +59,8 @@ fn next_place(
     requires place { place ≤ length label.now }
     requires seen { seen.now ≡ seen_under table.now label.now }
     requires steps { AreSteps (LongestLeads sources table.now label.now) (length label.now) steps }
-    ensures next { MatchOption result ((j : ℕ) → ¬ LongestLeads sources table.now label.now place j) (LongestLeads sources table.now label.now place) }
+    ensures next { MatchOption result ((j : ℕ) → ¬ LongestLeads sources table.now label.now place j)
+        (LongestLeads sources table.now label.now place) }
     ensures on { MatchOption result (Unit {0}) (λ j. (place < j) × (j ≤ length label.now)) }
 {
     if has(steps.known, place) {

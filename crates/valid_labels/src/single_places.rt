@@ -72,7 +72,8 @@ impl SinglePlaces {
     /// Leaves out the places from this one on.
     fn keep_first(&mut self, shared: usize)
         requires { shared ≤ 63 }
-        ensures first { (i : ℕ) (c : Option Condition) → Has (asked_at self.new c) i → (i < shared) × Has (asked_at self.old c) i }
+        ensures first { (i : ℕ) (c : Option Condition) → Has (asked_at self.new c) i →
+            (i < shared) × Has (asked_at self.old c) i }
         ensures room { (n : ℕ) → HasRoom n self.old → HasRoom n self.new }
     {
         self.free = both(self.free, point_places(shared));
@@ -83,7 +84,8 @@ impl SinglePlaces {
     /// Adds a place at which this is asked.
     fn add(&mut self, place: usize, condition: Option<Condition>)
         requires { place < 64 }
-        ensures added { (i : ℕ) (c : Option Condition) → Has (asked_at self.new c) i → Has (asked_at self.old c) i ⊎ ((c ≡ condition) × (i ≡ place)) }
+        ensures added { (i : ℕ) (c : Option Condition) → Has (asked_at self.new c) i →
+            Has (asked_at self.old c) i ⊎ ((c ≡ condition) × (i ≡ place)) }
         ensures room { (n : ℕ) → HasRoom n self.old → HasRoom n self.new }
     {
         match condition {
@@ -147,7 +149,8 @@ fn keep_first(sets: &mut [u64], shared: usize)
 /// Adds a place to the set of this number.
 fn add_place(sets: &mut [u64], number: usize, place: usize)
     requires { place < 64 }
-    ensures added { (m i : ℕ) → Has (slice_index sets.new m) i → Has (slice_index sets.old m) i ⊎ ((m ≡ number) × (i ≡ place)) }
+    ensures added { (m i : ℕ) → Has (slice_index sets.new m) i →
+        Has (slice_index sets.old m) i ⊎ ((m ≡ number) × (i ≡ place)) }
     ensures room { length sets.new ≡ length sets.old }
 {
     if number < sets.len() {

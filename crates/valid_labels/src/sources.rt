@@ -68,9 +68,9 @@ pub(crate) fn last_place(places: u64, len: usize) -> usize
     place
 }
 
-/// Whether a table asks nothing of its labels: no source has a condition, there is no demand, and it is of version 1 or 2, or
-/// each source is one code point and each variant is made of sources. Then each label that is made of sources may be asked
-/// about, and each label that it spells is valid.
+/// Whether a table asks nothing of its labels: no source has a condition, there is no demand, and it is of version 1 or
+/// 2, or each source is one code point and each variant is made of sources. Then each label that is made of sources may
+/// be asked about, and each label that it spells is valid.
 pub fn asks_nothing(table: &Table) -> bool
     ensures { IsTrue result ↔ AsksNothing table.now }
 {

@@ -35,7 +35,9 @@ impl<'a> Model for ValidityTest<'a> {
 
     ghost view = { λ t. record { table = t.points; cached = t.cached } };
 
-    ghost invariant = { λ t. AreMasks t.points.definitions.sets t.cached t.masks.items × HasRoom (length t.points.definitions.rules) t.singles × AreSingles (length t.cached) t.points t.cached t.singles };
+    ghost invariant = { λ t. AreMasks t.points.definitions.sets t.cached t.masks.items ×
+        HasRoom (length t.points.definitions.rules) t.singles ×
+        AreSingles (length t.cached) t.points t.cached t.singles };
 }
 
 impl<'a> ValidityTest<'a> {
@@ -83,8 +85,8 @@ impl<'a> ValidityTest<'a> {
     }
 
     /// Whether a label of at most 63 code points is valid, and if it isn't, how long its shortest dead prefix is. It
-    /// has the first `shared` code points of the label that was tested last, or all of them if that has fewer. It takes no
-    /// memory.
+    /// has the first `shared` code points of the label that was tested last, or all of them if that has fewer. It takes
+    /// no memory.
     pub fn judge(&mut self, label: &[u32], shared: usize) -> Validity
         requires short { length label.now ≤ 63 }
         requires kept { SharesCached shared self.old.cached label.now }

@@ -1,5 +1,6 @@
 //! Laws of dispositions. The functions are empty, and their contracts are the laws.
-ghost use Rattle.variant_dispositions.specs.Laws.{KindsAreASet, OneIfClear, ThereIsOne, ByRulesAlone, BlockedBlocks, TwoDefaultsCount, OnlyIsAll};
+ghost use Rattle.variant_dispositions.specs.Laws.{KindsAreASet, OneIfClear, ThereIsOne, ByRulesAlone, BlockedBlocks};
+ghost use Rattle.variant_dispositions.specs.Laws.{TwoDefaultsCount, OnlyIsAll};
 ghost use Rattle.variant_dispositions.specs.Examples.{TypesOfExamples};
 
 /// The order in which kinds are recorded makes no difference, nor how often.

@@ -20,7 +20,8 @@ pub enum VariantDisposition {
     Unclear,
 }
 
-/// The disposition of a label of at most 63 code points by its readings. `None` if they don't spell it. Takes no memory.
+/// The disposition of a label of at most 63 code points by its readings. `None` if they don't spell it. Takes no
+/// memory.
 pub fn disposition_of_variant<R: LabelRules>(
     readings: &mut Readings,
     actions: &[Action],
@@ -44,7 +45,9 @@ pub fn disposition_of_words<R: LabelRules>(
     words: Words,
     rules: &R,
 ) -> VariantDisposition
-    ensures { (substitutions : List (List Substitution)) (v : List ℕ) → SubstitutionsSpell substitutions v → AreWordsOf substitutions v words.has words.lacks → IsTold (R.matched rules.now) actions.now substitutions v result }
+    ensures { (substitutions : List (List Substitution)) (v : List ℕ) → SubstitutionsSpell substitutions v →
+        AreWordsOf substitutions v words.has words.lacks →
+        IsTold (R.matched rules.now) actions.now substitutions v result }
 {
     if are_apart(words.has, words.lacks) {
         VariantDisposition::Clear(disposition_of(actions, words.has, rules))
@@ -63,7 +66,9 @@ fn are_apart(has: u64, lacks: u64) -> bool
 /// Whether the holder may have a label by some of its readings, by the default actions, where no type but blocked is
 /// recorded. So tables of version 2 are read, in which a label is never unclear.
 pub fn is_allocatable_in_some(words: Words) -> bool
-    ensures { (matched : ℕ → Bool) (substitutions : List (List Substitution)) (v : List ℕ) → AreWordsOf substitutions v words.has words.lacks → HasNoTypeButBlocked substitutions v → IsTrue result ↔ IsAllocatableInSome matched [] substitutions v }
+    ensures { (matched : ℕ → Bool) (substitutions : List (List Substitution)) (v : List ℕ) →
+        AreWordsOf substitutions v words.has words.lacks → HasNoTypeButBlocked substitutions v →
+        IsTrue result ↔ IsAllocatableInSome matched [] substitutions v }
 {
     words.lacks(BLOCKED_BIT)
 }

@@ -90,7 +90,9 @@ impl NetDraft {
         requires some { 1 ≤ found.covers }
         requires within { found.covers ≤ length self.old.places }
         requires filled { 1 ≤ length found.points.now }
-        ensures { OnOk result (HasTaken self.old (record { covers = found.entry.covers; kinds = found.entry.kinds; points = found.entry.points.now } ∷ []) self.new) }
+        ensures { OnOk result (HasTaken self.old
+            (record { covers = found.entry.covers; kinds = found.entry.kinds; points = found.entry.points.now } ∷
+            []) self.new) }
     {
         let to = self.places[self.places.len() - found.covers];
         let edge = self.layout.add_chain(found.points, to)?;

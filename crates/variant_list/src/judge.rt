@@ -27,8 +27,8 @@ pub trait Judge {
     /// Which labels are judged without memory.
     ghost needs_none: { Self → List ℕ → Type 0 } = { λ _ _. ⊥ };
 
-    /// The verdict on a label of at most 63 code points, of which the first `shared` are those of a label that the judge
-    /// keeps something of. Memory is needed only for a label without a dead prefix.
+    /// The verdict on a label of at most 63 code points, of which the first `shared` are those of a label that the
+    /// judge keeps something of. Memory is needed only for a label without a dead prefix.
     fn judge(&mut self, alloc: Global, label: &[u32], shared: usize) -> Result<Verdict, AllocError>
         requires short { length label.now ≤ 63 }
         requires kept { IsKeptOf (keeps self.old) shared label.now }

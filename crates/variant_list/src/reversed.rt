@@ -3,7 +3,8 @@ ghost use Rattle.std.specs.Prelude.{◌≡◌, ◌≤◌, ◌↔◌, ℕ, [], �
 ghost use Rattle.variant_table.specs.Gaps.{IsPair};
 ghost use Rattle.variant_list.specs.Reversed.{AreReversedOf, AreFew, IsCrowded, sources_of};
 ghost use Rattle.variant_list.specs.declared.reversed.ReversedFault.TheVariants.{TooManySources};
-ghost use Rattle.variant_list.specs.inner.Turned.{sequences_of, groups_of, AreSound, AreTurned, Adds, Puts, Turns, HasNoRoom};
+ghost use Rattle.variant_list.specs.inner.Turned.{sequences_of, groups_of, AreSound, AreTurned, Adds, Puts, Turns};
+ghost use Rattle.variant_list.specs.inner.Turned.{HasNoRoom};
 
 use std::alloc::{AllocError, Global};
 use std::collections::BTreeMap;

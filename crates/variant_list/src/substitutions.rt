@@ -6,7 +6,8 @@ ghost use Rattle.reading_kinds.specs.Drafts.{with_substitutions};
 ghost use Rattle.reading_kinds.specs.Readings.{AreSubstitutions};
 ghost use Rattle.variant_list.specs.Parts.{are_of, full_replacements, kinds_of};
 ghost use Rattle.variant_list.specs.Parts.Part.{Whole};
-ghost use Rattle.variant_list.specs.Substitutions.{holds_for, may_stand, may_replace, substitutions_of_entry, substitutions_at, substitutions_of};
+ghost use Rattle.variant_list.specs.Substitutions.{holds_for, may_stand, may_replace, substitutions_of_entry};
+ghost use Rattle.variant_list.specs.Substitutions.{substitutions_at, substitutions_of};
 ghost use Rattle.variant_list.specs.inner.Asking.{CanAsk};
 
 use label_patterns::{SeenLabel, condition_holds};
@@ -14,7 +15,8 @@ use reading_kinds::{LabelSubstitutions, SubstitutionsDraft};
 use std::alloc::{AllocError, Global};
 use variant_table::{Entry, Table};
 
-/// The kind of what is blocked. The kinds after it are those of what isn't in the sub-tables of the tags, in their order.
+/// The kind of what is blocked. The kinds after it are those of what isn't in the sub-tables of the tags, in their
+/// order.
 pub const BLOCKED: u32 = 0;
 
 /// How many kinds there are: a table has at most 8 tags.
@@ -59,7 +61,8 @@ impl<'a> Substitutions<'a> {
     /// The substitutions, place by place.
     fn found(&self, alloc: Global) -> Result<LabelSubstitutions, AllocError>
         requires asked { CanAsk self.now.table.now self.now.label.now self.now.seen }
-        ensures { IfOk result (λ substitutions. substitutions ≡ substitutions_of Whole self.now.table.now self.now.label.now) }
+        ensures { IfOk result (λ substitutions. substitutions ≡
+            substitutions_of Whole self.now.table.now self.now.label.now) }
     {
         let mut draft = SubstitutionsDraft::new(alloc);
         for place in 0..self.label.len() {
@@ -73,7 +76,8 @@ impl<'a> Substitutions<'a> {
     fn add_at(&self, draft: &mut SubstitutionsDraft, place: usize) -> Result<(), AllocError>
         requires asked { CanAsk self.now.table.now self.now.label.now self.now.seen }
         requires place { place < length self.now.label.now }
-        ensures { OnOk result (draft.new ≡ with_substitutions draft.old (substitutions_at Whole self.now.table.now self.now.label.now place)) }
+        ensures { OnOk result (draft.new ≡
+            with_substitutions draft.old (substitutions_at Whole self.now.table.now self.now.label.now place)) }
     {
         for entry in self.table.entries_at(self.label, place) {
             if self.may_stand(&entry, place) {
@@ -105,7 +109,8 @@ impl<'a> Substitutions<'a> {
         requires asked { CanAsk self.now.table.now self.now.label.now self.now.seen }
         requires in_table { Contains self.now.table.now.entries entry.now }
         requires within { place + length entry.now.source ≤ length self.now.label.now }
-        ensures { OnOk result (draft.new ≡ with_substitutions draft.old (substitutions_of_entry Whole self.now.table.now self.now.label.now place entry.now)) }
+        ensures { OnOk result (draft.new ≡ with_substitutions draft.old
+            (substitutions_of_entry Whole self.now.table.now self.now.label.now place entry.now)) }
     {
         let covers = entry.source().len();
         for number in 0..entry.replacements() {
@@ -123,7 +128,8 @@ impl<'a> Substitutions<'a> {
         requires number { number < length (replacements entry.now) }
         requires in_table { Contains self.now.table.now.entries entry.now }
         requires within { place + length entry.now.source ≤ length self.now.label.now }
-        ensures { slice_get (map (may_replace Whole self.now.table.now self.now.label.now place entry.now) (full_replacements entry.now)) number ≡ Some result }
+        ensures { slice_get (map (may_replace Whole self.now.table.now self.now.label.now place entry.now)
+            (full_replacements entry.now)) number ≡ Some result }
     {
         // The source has its condition as a source, and none as a replacement of itself.
         number == 0 || self.holds_for(entry, number, place)
@@ -135,7 +141,8 @@ impl<'a> Substitutions<'a> {
         requires number { number < length (replacements entry.now) }
         requires in_table { Contains self.now.table.now.entries entry.now }
         requires within { place + length entry.now.source ≤ length self.now.label.now }
-        ensures { slice_get (map (λ r. holds_for self.now.table.now self.now.label.now place entry.now r.condition) (whole entry.now)) number ≡ Some result }
+        ensures { slice_get (map (λ r. holds_for self.now.table.now self.now.label.now place entry.now r.condition)
+            (whole entry.now)) number ≡ Some result }
     {
         let Some(seen) = &self.seen else {
             return true;
