@@ -1,5 +1,5 @@
-//! Tests of what is called from outside, of the crates of a run: its options, objects and messages, and writers that fail.
-//! Runs of the whole program are tested as rows of conformance/. Each file is named for what it shows.
+//! Tests of what is called from outside, of the crates of a run: its options, objects and messages, and writers that
+//! fail. Runs of the whole program are tested as rows of conformance/. Each file is named for what it shows.
 #![tactic(auto)]
 
 #[cfg(test)]

@@ -1,5 +1,5 @@
-//! What no run can show of the messages of one that ends early: a file of registered labels that is too long, and the texts of
-//! the errors of streams.
+//! What no run can show of the messages of one that ends early: a file of registered labels that is too long, and the
+//! texts of the errors of streams.
 use idn_text::hostile::StopWriter;
 use idn_text::{Device, ReadFault, Refusal, WriteFault};
 use idn2_cli::report_registered;

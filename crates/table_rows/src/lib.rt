@@ -1,5 +1,5 @@
-//! Tests of what is called from outside, of the crates of tables, rulesets, listings and registered labels. Each file is named
-//! for what it shows.
+//! Tests of what is called from outside, of the crates of tables, rulesets, listings and registered labels. Each file
+//! is named for what it shows.
 #![tactic(auto)]
 
 #[cfg(test)]

@@ -1,5 +1,5 @@
-//! The labels that are near a label, so that may collide with it at all. The expected ones were worked out by hand: each
-//! part of the label is replaced by itself, by its variants or by the sources of which it is a variant.
+//! The labels that are near a label, so that may collide with it at all. The expected ones were worked out by hand:
+//! each part of the label is replaced by itself, by its variants or by the sources of which it is a variant.
 ghost use Rattle.std.specs.Prelude.{◌≤◌, length};
 
 use crate::collisions::push_label;

@@ -91,8 +91,8 @@ const ONE_WAY: &[u8] = b"%version 2\n0061|!0062\n0061-0061|0062-0062\n";
 /// b has the first tag, and c the second one.
 const TAGGED: &[u8] = b"%version 3\n%tag simp\n%tag trad\n0061|0062 as simp:0063 as trad\n";
 
-/// Labels that aa gives, and which of the first three kinds its readings have, and which they lack: a bit for what is blocked,
-/// and one for what isn't of each of two tags.
+/// Labels that aa gives, and which of the first three kinds its readings have, and which they lack: a bit for what is
+/// blocked, and one for what isn't of each of two tags.
 const KINDS: [(Notation, &[u8], &str, (u64, u64)); 10] = [
     (Notation::Table, MARKED, "aa", (0, 0b111)),
     (Notation::Table, MARKED, "cc", (0, 0b111)),

@@ -112,7 +112,8 @@ fn tables(rt: HostRuntime) -> Result<(), Fail> {
     Ok(())
 }
 
-/// Tables with their version, and the text of the same table without its blocked variants. A ruleset defines what it did.
+/// Tables with their version, and the text of the same table without its blocked variants. A ruleset defines what it
+/// did.
 const UNBLOCKED: [(Notation, &str, u8, &str); 3] = [
     (
         Notation::Table,
