@@ -63,7 +63,7 @@ Contains-insert_key : (xs : List Pair) (k q : Pair) → Contains (insert_key pai
 Contains-insert_key [] k q = (λ c. inr (sym (Contains-one k q c)), λ d. elim d [ inl m ↦ Contains-later k [] q m | inr s ↦ subst (Contains (k ∷ [])) (sym s) (Contains-head k []) ])
 Contains-insert_key (x ∷ xs) k q = placed x xs k q (pair_cmp k x) refl (Contains-insert_key xs k q)
 
-Contains-inserted : (xs more : List Pair) (q : Pair) → Contains (inserted xs more) q ↔ (Contains xs q ⊎ Contains more q)
+pub Contains-inserted : (xs more : List Pair) (q : Pair) → Contains (inserted xs more) q ↔ (Contains xs q ⊎ Contains more q)
 Contains-inserted xs [] q = (λ c. inl c, λ d. elim d [ inl c ↦ c | inr m ↦ absurd (Contains-none q m) ])
 Contains-inserted xs (k ∷ more) q = step (Contains-inserted (insert_key pair_cmp xs k) more q) (Contains-insert_key xs k q)
   where
@@ -76,7 +76,7 @@ Contains-inserted xs (k ∷ more) q = step (Contains-inserted (insert_key pair_c
 
 -- ---- members of lists that are made of others
 
-flat_map-cases : {X Y : Type 0} (f : X → List Y) (xs : List X) (y : Y) → Contains (flat_map f xs) y → (x : X) × Contains xs x × Contains (f x) y
+pub flat_map-cases : {X Y : Type 0} (f : X → List Y) (xs : List X) (y : Y) → Contains (flat_map f xs) y → (x : X) × Contains xs x × Contains (f x) y
 flat_map-cases f [] y h = absurd (Contains-none y h)
 flat_map-cases {X = X} f (x ∷ xs) y h = step (Contains-append_cases (f x) (flat_map f xs) y h) (flat_map-cases f xs y)
   where
@@ -84,7 +84,7 @@ flat_map-cases {X = X} f (x ∷ xs) y h = step (Contains-append_cases (f x) (fla
     step (inl m) rest = (x, Contains-head x xs, m)
     step (inr m) rest = let r = rest m in (r.0, Contains-later x xs r.0 r.1, r.2)
 
-flat_map-member : {X Y : Type 0} (f : X → List Y) (xs : List X) (x : X) (y : Y) → Contains xs x → Contains (f x) y → Contains (flat_map f xs) y
+pub flat_map-member : {X Y : Type 0} (f : X → List Y) (xs : List X) (x : X) (y : Y) → Contains xs x → Contains (f x) y → Contains (flat_map f xs) y
 flat_map-member f [] x y h k = absurd (Contains-none x h)
 flat_map-member f (z ∷ xs) x y h k = step (Contains-cases z xs x h) (λ m. flat_map-member f xs x y m k)
   where
@@ -111,7 +111,7 @@ any-member v (x ∷ xs) h = step (bytes_eq v x) refl (Contains-cases x xs v h) (
 
 -- ---- gaps
 
-contradicts : {X : Type 0} (b : Bool) → b ≡ true → b ≡ false → X
+pub contradicts : {X : Type 0} (b : Bool) → b ≡ true → b ≡ false → X
 contradicts b e f = absurd (let g : true ≡ false = sym e ∙ f in cc)
 
 module _ (table : List Entry) (well : IsWellFormed table) where
@@ -120,7 +120,7 @@ module _ (table : List Entry) (well : IsWellFormed table) where
   unlike e v h m same = unlike_source e v (All-contains IsEntry table e well.entries h) m (sym same)
 
   -- the variants of a source are those of its one entry
-  of_source : (e : Entry) (s v : List ℕ) → Contains table e → e.source ≡ s → IsPair table s v → Contains (sequences_in e.variants) v
+  pub of_source : (e : Entry) (s v : List ℕ) → Contains table e → e.source ≡ s → IsPair table s v → Contains (sequences_in e.variants) v
   of_source e s v h is p = subst (λ x. Contains (sequences_in x.variants) v) (same_entry table p.0 e well.sources p.1 h (p.2 ∙ sym is)) p.3
 
   -- two pairs that are equal

@@ -66,3 +66,5 @@ pub mod GrownLemmas
 pub mod DefiningLemmas
 -- Members of lists that are made of others, and tests of all members.
 pub mod MemberLists
+-- The differences of a table.
+pub mod DifferenceLemmas

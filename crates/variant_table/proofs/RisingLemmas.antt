@@ -41,11 +41,11 @@ rising-insert_key (r ∷ qs) q h = placed (pair_cmp q r) refl (rising-insert_key
     placed Equal e rest = h
     placed Greater e rest = (inserted_above r q qs (pairs_total.antisymm r q ∙ ap ordering_reverse e) h.0, rest)
 
-rising-inserted : (qs more : List Pair) → IsStrictlySortedBy pair_cmp qs → IsStrictlySortedBy pair_cmp (inserted qs more)
+pub rising-inserted : (qs more : List Pair) → IsStrictlySortedBy pair_cmp qs → IsStrictlySortedBy pair_cmp (inserted qs more)
 rising-inserted qs [] h = h
 rising-inserted qs (q ∷ more) h = rising-inserted (insert_key pair_cmp qs q) more (rising-insert_key qs q h)
 
-rising_none : IsStrictlySortedBy pair_cmp []
+pub rising_none : IsStrictlySortedBy pair_cmp []
 unfolding IsStrictlySortedBy
 rising_none = tt
 

@@ -16,6 +16,7 @@ pub mod Reading
 pub mod Faults
 pub mod FaultyLines
 pub mod Gaps
+pub mod Differences
 pub mod Segmentations
 pub mod ExampleTables
 pub mod inner

@@ -9,11 +9,11 @@ use crate::ordered_entries::OrderedEntries;
 use std::alloc::{AllocError, Global};
 use std::collections::BTreeSet;
 
-/// A source and a sequence that its entry lacks as a variant.
-pub type Gap = (Vec<u32>, Vec<u32>);
+/// Two sequences.
+pub type Pair = (Vec<u32>, Vec<u32>);
 
 /// The gaps of some entries, each once, by their first sequence, then by their second.
-pub fn gaps_in_order(alloc: Global, entries: &OrderedEntries) -> Result<Vec<Gap>, AllocError>
+pub fn gaps_in_order(alloc: Global, entries: &OrderedEntries) -> Result<Vec<Pair>, AllocError>
     ensures gaps { IfOk result (λ gaps. pairs_of gaps.items ≡ gaps_of entries.now) }
     ensures rising { IfOk result (λ gaps. IsStrictlySortedBy pair_cmp (pairs_of gaps.items)) }
 {
@@ -24,7 +24,7 @@ pub fn gaps_in_order(alloc: Global, entries: &OrderedEntries) -> Result<Vec<Gap>
     in_vector(alloc, gaps)
 }
 
-fn in_vector(alloc: Global, gaps: BTreeSet<Gap>) -> Result<Vec<Gap>, AllocError>
+pub(crate) fn in_vector(alloc: Global, gaps: BTreeSet<Pair>) -> Result<Vec<Pair>, AllocError>
     ensures gaps { IfOk result (λ list. list.items ≡ gaps.keys) }
     ensures rising { IfOk result (λ list. IsStrictlySortedBy pair_cmp (pairs_of list.items)) }
 {
@@ -39,7 +39,7 @@ fn add_gaps_of_entry(
     alloc: Global,
     entries: &OrderedEntries,
     entry: &Entry,
-    gaps: &mut BTreeSet<Gap>,
+    gaps: &mut BTreeSet<Pair>,
 ) -> Result<(), AllocError>
     ensures { OnOk result (pairs_of gaps.new.keys ≡ inserted (pairs_of gaps.old.keys) (gaps_of_entry entries.now entry.now)) }
 {
@@ -56,7 +56,7 @@ fn add_gaps_through(
     entries: &OrderedEntries,
     entry: &Entry,
     variant: &[u32],
-    gaps: &mut BTreeSet<Gap>,
+    gaps: &mut BTreeSet<Pair>,
 ) -> Result<(), AllocError>
     ensures { OnOk result (pairs_of gaps.new.keys ≡ inserted (pairs_of gaps.old.keys) (gaps_through entries.now entry.now variant.now)) }
 {
@@ -74,7 +74,7 @@ fn add_reverse(
     entry: &Entry,
     variant: &[u32],
     next: &Entry,
-    gaps: &mut BTreeSet<Gap>,
+    gaps: &mut BTreeSet<Pair>,
 ) -> Result<(), AllocError>
     ensures { OnOk result (pairs_of gaps.new.keys ≡ inserted (pairs_of gaps.old.keys) (reverse_gaps entry.now variant.now next.now)) }
 {
@@ -88,7 +88,7 @@ fn add_further(
     alloc: Global,
     entry: &Entry,
     next: &Entry,
-    gaps: &mut BTreeSet<Gap>,
+    gaps: &mut BTreeSet<Pair>,
 ) -> Result<(), AllocError>
     ensures { OnOk result (pairs_of gaps.new.keys ≡ inserted (pairs_of gaps.old.keys) (further_gaps entry.now next.now)) }
 {
@@ -103,7 +103,7 @@ fn add_wanted(
     alloc: Global,
     entry: &Entry,
     sequence: &[u32],
-    gaps: &mut BTreeSet<Gap>,
+    gaps: &mut BTreeSet<Pair>,
 ) -> Result<(), AllocError>
     ensures { OnOk result (pairs_of gaps.new.keys ≡ inserted (pairs_of gaps.old.keys) (wanted_gap entry.now sequence.now)) }
 {
@@ -114,9 +114,9 @@ fn add_wanted(
 }
 
 /// Adds a gap, unless it is already there.
-fn add(
+pub(crate) fn add(
     alloc: Global,
-    gaps: &mut BTreeSet<Gap>,
+    gaps: &mut BTreeSet<Pair>,
     first: &[u32],
     second: &[u32],
 ) -> Result<(), AllocError>

@@ -21,6 +21,7 @@ ghost use Rattle.variant_table.specs.Ranges.{point_entry, point_variant};
 ghost use Rattle.variant_table.specs.declared.version.Notation.{Notation};
 ghost use Rattle.variant_table.specs.declared.version.Notation.TheVariants as notations;
 ghost use Rattle.variant_table.specs.declared.version.Version.TheVariants as versions;
+ghost use Rattle.variant_table.specs.Differences.{AreDifferencesOf, differences_of};
 ghost use Rattle.variant_table.specs.Gaps.{AreGapsOf, gaps_of};
 ghost use Rattle.variant_table.specs.Limits.{text_limit};
 ghost use Rattle.variant_table.specs.Places.{entries_at};
@@ -103,6 +104,11 @@ pub fn canonical_text_is_never_longer()
 /// The list that is computed for a well-formed table has its gaps, each once and in order.
 pub fn gaps_of_are_the_gaps()
     ensures { (table : List Entry) → IsWellFormed table → AreGapsOf table (gaps_of table) }
+{}
+
+/// The list that is computed for a well-formed table has its differences, each once and in order.
+pub fn differences_of_are_the_differences()
+    ensures { (table : List Entry) → IsWellFormed table → AreDifferencesOf table (differences_of table) }
 {}
 
 /// Examples of version 1, which the definitions compute.
@@ -202,6 +208,8 @@ pub fn definitions_compute_the_examples_of_rulesets()
         ≡ codes "%version 3" ++ 10 ∷ codes "!0061-0062|!0063" ++ 10 ∷ [] }
     ensures outside_gaps { gaps_of (entry_from (point_variant false 0x61 ∷ point_variant true 0x430 ∷ []) ∷ point_entry false 0x62 ∷ entry_from (point_variant true 0x430 ∷ point_variant true 0x61 ∷ []) ∷ []) ≡ [] }
     ensures without_outside { gaps_of (entry_from (point_variant false 0x61 ∷ point_variant true 0x430 ∷ []) ∷ point_entry false 0x62 ∷ []) ≡ (0x430 ∷ [], 0x61 ∷ []) ∷ [] }
+    ensures conditional_differences { differences_of (entry_from (point_variant false 0x3C3 ∷ conditional 0x3C2 false (Some (kinds.When, 0)) ∷ []) ∷ entry_from (point_variant false 0x3C2 ∷ point_variant false 0x3C3 ∷ []) ∷ [])
+        ≡ (0x3C2 ∷ [], 0x3C3 ∷ []) ∷ [] }
     ensures conditional_gaps { gaps_of (entry_from (point_variant false 0x3C3 ∷ conditional 0x3C2 false (Some (kinds.When, 0)) ∷ []) ∷ entry_from (point_variant false 0x3C2 ∷ point_variant false 0x3C3 ∷ []) ∷ []) ≡ [] }
     ensures without_reverse { gaps_of (entry_from (point_variant false 0x647 ∷ conditional 0x629 true (Some (kinds.Unless, 0)) ∷ conditional 0x629 false (Some (kinds.When, 0)) ∷ []) ∷ point_entry false 0x629 ∷ []) ≡ (0x629 ∷ [], 0x647 ∷ []) ∷ [] }
     ensures tagged_gaps { gaps_of (entry_from (tagged 0x56FD (0 ∷ []) ∷ tagged 0x570B (1 ∷ []) ∷ []) ∷ entry_from (tagged 0x570B (1 ∷ []) ∷ tagged 0x56FD (0 ∷ []) ∷ []) ∷ []) ≡ [] }

@@ -5,6 +5,7 @@
 mod canonical;
 mod checks;
 mod definition_lines;
+mod differences;
 mod entries;
 mod entry;
 mod fault;
