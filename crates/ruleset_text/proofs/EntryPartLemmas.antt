@@ -64,7 +64,7 @@ point_word w c word.When is e = no_point (codes "when") w c refl is e
 point_word w c word.Unless is e = no_point (codes "unless") w c refl is e
 point_word w c word.Other is e = tt
 
-no_word_lacking : (parts : EntryParts) (first : Bool) (e : EntryWord) → IsNoWord e → is_lacking parts first e ≡ false
+pub no_word_lacking : (parts : EntryParts) (first : Bool) (e : EntryWord) → IsNoWord e → is_lacking parts first e ≡ false
 no_word_lacking parts true word.Other is = refl
 no_word_lacking parts false word.Other is = refl
 no_word_lacking parts first word.Mark is = absurd is
@@ -86,7 +86,7 @@ spelled_as parts first text w b e is = ap (λ v. is_lacking parts first (word_of
 no_name : (text w : List ℕ) → is_name text ≡ false → w ≡ text → is_name w ≡ true → ⊥
 no_name text w none is e = let bad : true ≡ false = sym e ∙ ap is_name is ∙ none in cc
 
-name_kept : (parts : EntryParts) (first : Bool) (w : List ℕ) (e : EntryWord) → parts.named ≡ true → is_name w ≡ true → IsSpelled e w → is_lacking parts first e ≡ false
+pub name_kept : (parts : EntryParts) (first : Bool) (w : List ℕ) (e : EntryWord) → parts.named ≡ true → is_name w ≡ true → IsSpelled e w → is_lacking parts first e ≡ false
 name_kept parts first w word.Mark named name is = absurd (no_name (codes "!") w refl is name)
 name_kept parts first w word.Range named name is = absurd (no_name (codes "..") w refl is name)
 name_kept parts true w word.As named name is = ap not named

@@ -36,6 +36,7 @@ pub mod EntrySpelledLemmas
 pub mod EntryExactLemmas
 pub mod EntryBackLemmas
 pub mod EntryPartLemmas
+mod EntryWordLemmas
 pub mod EntryStopLemmas
 pub mod DefinitionsTextLemmas
 pub mod LineBytes

@@ -5,7 +5,7 @@ ghost use Rattle.ruleset_text.specs.EntryForms as forms;
 ghost use Rattle.ruleset_text.specs.EntryWords.{point_of};
 ghost use Rattle.ruleset_text.specs.EntrySteps as steps;
 ghost use Rattle.ruleset_text.specs.LineStops.{Gives};
-ghost use Rattle.ruleset_text.specs.inner.EntryTaken.{taken_as};
+ghost use Rattle.ruleset_text.specs.inner.EntryTaken.{is_before_name, is_before_word, taken_as};
 
 use crate::entry_form::{EntryForm, Mapped, NamedCondition};
 use crate::entry_parts::EntryParts;
@@ -118,36 +118,65 @@ impl EntryState {
         }
     }
 
-    /// A word of a part that is lacking may stand nowhere.
+    /// A word of a part that is lacking may stand nowhere. A code point is no word.
     #[inline(always)]
+    #[tactic(auto, using(crate::proofs::EntryWordLemmas::after_mark, crate::proofs::EntryWordLemmas::after_hyphen, crate::proofs::EntryWordLemmas::after_range))]
     fn step(&mut self, alloc: Global, parts: EntryParts, lexeme: &[u8]) -> Result<bool, AllocError>
+        ensures { IfOk result (λ taken. steps.step_in parts (steps.state self.old) lexeme.now ≡ taken_as taken (steps.state self.new)) }
+    {
+        match self.phase {
+            Phase::Mark | Phase::Hyphen => self.take_point(lexeme),
+            Phase::Range => Ok(self.take_last(lexeme)),
+            Phase::As | Phase::When | Phase::Unless => self.take_name(alloc, parts, lexeme),
+            Phase::Begin | Phase::Point | Phase::Last | Phase::Tag | Phase::Rule => self.take_word(
+                alloc, parts, lexeme,
+            ),
+        }
+    }
+
+    /// Takes a name, which may be any word of tags and conditions, if these are not lacking.
+    #[inline(always)]
+    #[tactic(auto, using(crate::proofs::EntryWordLemmas::name_lacks, crate::proofs::EntryWordLemmas::name_had, crate::proofs::EntryWordLemmas::name_free, crate::proofs::EntryWordLemmas::tag_next))]
+    fn take_name(
+        &mut self,
+        alloc: Global,
+        parts: EntryParts,
+        lexeme: &[u8],
+    ) -> Result<bool, AllocError>
+        requires { is_before_name self.old.phase ≡ true }
+        ensures { IfOk result (λ taken. steps.step_in parts (steps.state self.old) lexeme.now ≡ taken_as taken (steps.state self.new)) }
+    {
+        if !parts.named && is_lacking(parts, false, word_of(lexeme)) {
+            return Ok(false);
+        }
+        match self.phase {
+            Phase::When => self.take_rule(alloc, ConditionKind::When, lexeme),
+            Phase::Unless => self.take_rule(alloc, ConditionKind::Unless, lexeme),
+            _ => self.take_tag(alloc, lexeme),
+        }
+    }
+
+    /// Takes a word, or the first code point of a source or a variant.
+    #[inline(always)]
+    fn take_word(
+        &mut self,
+        alloc: Global,
+        parts: EntryParts,
+        lexeme: &[u8],
+    ) -> Result<bool, AllocError>
+        requires { is_before_word self.old.phase ≡ true }
         ensures { IfOk result (λ taken. steps.step_in parts (steps.state self.old) lexeme.now ≡ taken_as taken (steps.state self.new)) }
     {
         let word = word_of(lexeme);
         if is_lacking(parts, self.is_new(), word) {
             return Ok(false);
         }
-        self.take(alloc, word, lexeme)
-    }
-
-    /// Takes a lexeme, which is this word.
-    #[inline(always)]
-    fn take(&mut self, alloc: Global, word: EntryWord, lexeme: &[u8]) -> Result<bool, AllocError>
-        requires { word ≡ steps.word_of lexeme.now }
-        ensures { IfOk result (λ taken. steps.step (steps.state self.old) lexeme.now ≡ taken_as taken (steps.state self.new)) }
-    {
         match self.phase {
             Phase::Begin => self.begin(word, lexeme),
-            Phase::Mark => self.take_point(lexeme),
             Phase::Point => self.after_point(alloc, word),
-            Phase::Hyphen => self.take_point(lexeme),
-            Phase::Range => Ok(self.take_last(lexeme)),
             Phase::Last => self.after_points(alloc, word),
-            Phase::As => self.take_tag(alloc, lexeme),
             Phase::Tag => self.after_tag(alloc, word),
-            Phase::When => self.take_rule(alloc, ConditionKind::When, lexeme),
-            Phase::Unless => self.take_rule(alloc, ConditionKind::Unless, lexeme),
-            Phase::Rule => self.after_rule(alloc, word),
+            _ => self.after_rule(alloc, word),
         }
     }
 

@@ -1,0 +1,111 @@
+-- Where no word is looked for in reading an entry, none can be lacking.
+use Rattle.std.proofs.Common.{◌≡◌, ℕ, Bool, true, false, not, cond, ◌&&◌, List, [], ◌∷◌, ◌++◌, Option, Some, None, refl, sym, ap, ◌∙◌}
+use Rattle.std.proofs.Math.Bool.{and-false}
+use Rattle.ruleset_text.specs.declared.entry_parts.EntryParts.{EntryParts}
+use Rattle.ruleset_text.specs.declared.entry_reading.Phase.{Phase}
+use Rattle.ruleset_text.specs.declared.entry_reading.Phase.TheVariants as phase
+use Rattle.label_patterns.specs.declared.condition.ConditionKind.TheVariants as condition
+use Rattle.ruleset_text.specs.Entries.{Mapped}
+use Rattle.ruleset_text.specs.EntrySteps.{State, at_last, at_point, at_rule, at_tag, is_begin, is_first, is_lacking, is_new, step, step_by, step_in, word_of}
+use Rattle.ruleset_text.specs.EntryWords.{point_of}
+use Rattle.ruleset_text.specs.Names.{is_name, is_one_of}
+use Rattle.ruleset_text.specs.inner.EntryTaken.{is_before_name}
+use Rattle.ruleset_text.proofs.EntryPartLemmas.{name_kept, no_word_lacking, point_word}
+use Rattle.ruleset_text.proofs.EntryStateLemmas.{spelled}
+
+-- a step that a lacking word can't make needs no look at the word
+unasked : (b : Bool) (o : Option State) → (b ≡ true → o ≡ None) → cond b None o ≡ o
+unasked true o h = sym (h refl)
+unasked false o h = refl
+
+-- ---- code points
+
+lacks_point : (parts : EntryParts) (first : Bool) (w : List ℕ) → is_lacking parts first (word_of w) ≡ true → point_of w ≡ None
+lacks_point parts first w h = by (point_of w) refl
+  where
+    by : (o : Option ℕ) → point_of w ≡ o → o ≡ None
+    by None e = refl
+    by (Some c) e = absurd (let clash : true ≡ false = sym h ∙ no_word_lacking parts first (word_of w) (point_word w c (word_of w) (spelled w) e) in cc)
+
+module _ (parts : EntryParts) (s : State) (w : List ℕ) where
+  at_phase : (p : Phase) → s.phase ≡ p → step_in parts s w ≡ cond (is_lacking parts (is_new s) (word_of w)) None (step_by p s w)
+  at_phase p e = ap (λ q. cond (is_lacking parts (is_new s) (word_of w)) None (step_by q s w)) e
+
+  point_next : step_in parts s w ≡ cond (is_lacking parts (is_new s) (word_of w)) None (at_point s (point_of w)) → step_in parts s w ≡ at_point s (point_of w)
+  point_next e = e ∙ unasked (is_lacking parts (is_new s) (word_of w)) (at_point s (point_of w)) (λ h. ap (at_point s) (lacks_point parts (is_new s) w h))
+
+  pub after_mark : s.phase ≡ phase.Mark → step_in parts s w ≡ at_point s (point_of w)
+  after_mark e = point_next (at_phase phase.Mark e)
+
+  pub after_hyphen : s.phase ≡ phase.Hyphen → step_in parts s w ≡ at_point s (point_of w)
+  after_hyphen e = point_next (at_phase phase.Hyphen e)
+
+  pub after_range : s.phase ≡ phase.Range → step_in parts s w ≡ at_last s (point_of w)
+  after_range e =
+      at_phase phase.Range e ∙ unasked (is_lacking parts (is_new s) (word_of w)) (at_last s (point_of w)) (λ h. ap (at_last s) (lacks_point parts (is_new s) w h))
+
+  -- ---- names
+
+  not_new : (p : Phase) → s.phase ≡ p → is_before_name p ≡ true → is_new s ≡ false
+  not_new p e h = ap (λ q. is_first s.done && is_begin q) e ∙ by p h
+    where
+      by : (q : Phase) → is_before_name q ≡ true → (is_first s.done && is_begin q) ≡ false
+      by phase.Begin h = absurd cc
+      by phase.Mark h = and-false (is_first s.done)
+      by phase.Point h = and-false (is_first s.done)
+      by phase.Hyphen h = and-false (is_first s.done)
+      by phase.Range h = and-false (is_first s.done)
+      by phase.Last h = and-false (is_first s.done)
+      by phase.As h = and-false (is_first s.done)
+      by phase.Tag h = and-false (is_first s.done)
+      by phase.When h = and-false (is_first s.done)
+      by phase.Unless h = and-false (is_first s.done)
+      by phase.Rule h = and-false (is_first s.done)
+
+  -- the step before a name
+  named_step : is_before_name s.phase ≡ true → step_in parts s w ≡ cond (is_lacking parts false (word_of w)) None (step s w)
+  named_step h = ap (λ f. cond (is_lacking parts f (word_of w)) None (step s w)) (not_new s.phase refl h)
+
+  pub name_lacks : is_before_name s.phase ≡ true → is_lacking parts false (word_of w) ≡ true → step_in parts s w ≡ None
+  name_lacks h lacks = named_step h ∙ ap (λ b. cond b None (step s w)) lacks
+
+  pub name_had : is_before_name s.phase ≡ true → is_lacking parts false (word_of w) ≡ false → step_in parts s w ≡ step s w
+  name_had h had = named_step h ∙ ap (λ b. cond b None (step s w)) had
+
+  no_name_taken : (p : Phase) → is_before_name p ≡ true → is_name w ≡ false → step_by p s w ≡ None
+  no_name_taken phase.Begin h none = absurd cc
+  no_name_taken phase.Mark h none = absurd cc
+  no_name_taken phase.Point h none = absurd cc
+  no_name_taken phase.Hyphen h none = absurd cc
+  no_name_taken phase.Range h none = absurd cc
+  no_name_taken phase.Last h none = absurd cc
+  no_name_taken phase.Tag h none = absurd cc
+  no_name_taken phase.Rule h none = absurd cc
+  no_name_taken phase.As h none =
+      ap (λ b. cond (b && not (is_one_of s.current.tags w)) (Some (record s { current = record s.current { tags = s.current.tags ++ w ∷ [] }; phase = phase.Tag })) None) none
+  no_name_taken phase.When h none = ap (λ b. cond b (Some (record s { current = record s.current { condition = Some (record { kind = condition.When; rule = w }) }; phase = phase.Rule })) None) none
+  no_name_taken phase.Unless h none = ap (λ b. cond b (Some (record s { current = record s.current { condition = Some (record { kind = condition.Unless; rule = w }) }; phase = phase.Rule })) None) none
+
+  pub name_free : is_before_name s.phase ≡ true → parts.named ≡ true → step_in parts s w ≡ step s w
+  name_free h named = named_step h ∙ unasked (is_lacking parts false (word_of w)) (step s w) (λ lacks. by (is_name w) refl lacks)
+    where
+      by : (b : Bool) → is_name w ≡ b → is_lacking parts false (word_of w) ≡ true → step s w ≡ None
+      by false none lacks = no_name_taken s.phase h none
+      by true name lacks = absurd (let clash : true ≡ false = sym lacks ∙ name_kept parts false w (word_of w) named name (spelled w) in cc)
+
+  -- of the names only that of a tag is left
+  pub tag_next : is_before_name s.phase ≡ true → (s.phase ≡ phase.When → ⊥) → (s.phase ≡ phase.Unless → ⊥) → step s w ≡ at_tag s w
+  tag_next h not_when not_unless = by s.phase refl h
+    where
+      by : (p : Phase) → s.phase ≡ p → is_before_name p ≡ true → step_by p s w ≡ at_tag s w
+      by phase.As e h = refl
+      by phase.When e h = absurd (not_when e)
+      by phase.Unless e h = absurd (not_unless e)
+      by phase.Begin e h = absurd cc
+      by phase.Mark e h = absurd cc
+      by phase.Point e h = absurd cc
+      by phase.Hyphen e h = absurd cc
+      by phase.Range e h = absurd cc
+      by phase.Last e h = absurd cc
+      by phase.Tag e h = absurd cc
+      by phase.Rule e h = absurd cc
