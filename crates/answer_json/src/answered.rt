@@ -68,8 +68,8 @@ pub fn write_decoded<'a>(
     end_line(out, end)
 }
 
-/// Writes the object of a request that is answered by the least label from its text on, or by none where there is no such
-/// label, and a line feed.
+/// Writes the object of a request that is answered by the least label from its text on, or by none where there is no
+/// such label, and a line feed.
 #[inline(always)]
 pub fn write_least<'a>(
     out: &'a mut ObjectRoom,

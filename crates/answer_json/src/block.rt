@@ -67,8 +67,8 @@ fn put_disposition(out: &mut ObjectRoom, at: usize, disposition: Option<Disposit
     }
 }
 
-/// Writes the trailer of a block, and a line feed: how many variants it has, and the label after which there may be more,
-/// where it was stopped.
+/// Writes the trailer of a block, and a line feed: how many variants it has, and the label after which there may be
+/// more, where it was stopped.
 pub fn write_trailer<'a>(
     out: &'a mut ObjectRoom,
     line: u64,

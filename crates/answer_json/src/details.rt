@@ -2,7 +2,8 @@
 ghost use Rattle.std.specs.Prelude.{◌≡◌, ◌≤◌, ◌+◌, ◌*◌, ◌++◌, [], length, slice_index, take};
 ghost use Rattle.std.specs.Option.{option_copied};
 ghost use Rattle.answer_json.specs.Answers.{count, if_given, text};
-ghost use Rattle.answer_json.specs.Details.{HasShortTexts, decoded_field, demand_fields, details_of, given_len, length_fields, point, rule_fields, where_fields};
+ghost use Rattle.answer_json.specs.Details.{HasShortTexts, decoded_field, demand_fields, details_of, given_len};
+ghost use Rattle.answer_json.specs.Details.{length_fields, point, rule_fields, where_fields};
 ghost use Rattle.answer_json.specs.inner.Openings.{IsOpening, name_in};
 ghost use Rattle.answer_json.specs.inner.Texts.{fields_text};
 
@@ -80,7 +81,8 @@ fn put_number_if(out: &mut ObjectRoom, at: usize, opening: &str, number: Option<
     requires room { at + length opening.now + 40 ≤ MAX_OBJECT_LEN }
     requires opening { IsOpening opening.now }
     requires comma { slice_index opening.now 0 ≡ 44 }
-    ensures field { take result out.new ≡ take at out.old ++ fields_text (if_given (name_in opening.now) count number) [] }
+    ensures field { take result out.new ≡
+        take at out.old ++ fields_text (if_given (name_in opening.now) count number) [] }
     ensures end { result ≤ at + (length opening.now + 40) }
 {
     match number {
@@ -95,7 +97,8 @@ fn put_point_if(out: &mut ObjectRoom, at: usize, opening: &str, code_point: Opti
     requires room { at + length opening.now + 12 ≤ MAX_OBJECT_LEN }
     requires opening { IsOpening opening.now }
     requires comma { slice_index opening.now 0 ≡ 44 }
-    ensures field { take result out.new ≡ take at out.old ++ fields_text (if_given (name_in opening.now) point code_point) [] }
+    ensures field { take result out.new ≡
+        take at out.old ++ fields_text (if_given (name_in opening.now) point code_point) [] }
     ensures end { result ≤ at + (length opening.now + 12) }
 {
     match code_point {
@@ -110,7 +113,8 @@ fn put_text_if(out: &mut ObjectRoom, at: usize, opening: &str, told: Option<&[u8
     requires room { at + length opening.now + 6 * given_len (option_copied told) + 2 ≤ MAX_OBJECT_LEN }
     requires opening { IsOpening opening.now }
     requires comma { slice_index opening.now 0 ≡ 44 }
-    ensures field { take result out.new ≡ take at out.old ++ fields_text (if_given (name_in opening.now) text (option_copied told.entry)) [] }
+    ensures field { take result out.new ≡
+        take at out.old ++ fields_text (if_given (name_in opening.now) text (option_copied told.entry)) [] }
     ensures end { result ≤ at + (length opening.now + 6 * given_len (option_copied told.entry) + 2) }
 {
     match told {

@@ -11,8 +11,8 @@ use std::simd::prelude::*;
 /// How many bytes are copied and looked at at once.
 const WINDOW_LEN: usize = 16;
 
-/// Writes a text with the shortest escape of each byte that needs one: the quotation mark, the backslash, and what is below
-/// the space.
+/// Writes a text with the shortest escape of each byte that needs one: the quotation mark, the backslash, and what is
+/// below the space.
 #[tactic(auto, using(crate::proofs::Plain::escape_plain))]
 pub(crate) fn put_escaped(out: &mut ObjectRoom, at: usize, text: &[u8]) -> usize
     requires { at + 6 * length text.now ≤ MAX_OBJECT_LEN }

@@ -6,8 +6,8 @@ ghost use Rattle.answer_json.specs.Clear.{is_clear};
 ghost use Rattle.answer_json.specs.Examples.{HaveTexts, answers, escapes, refusals, tables};
 ghost use Rattle.answer_json.specs.Unicode.{HasUnicodeTexts};
 
-/// The text of each answer is read back as the object that is meant, by the grammar of JSON (RFC 8259), whatever its texts
-/// hold.
+/// The text of each answer is read back as the object that is meant, by the grammar of JSON (RFC 8259), whatever its
+/// texts hold.
 pub fn objects_are_read_back()
     ensures { (answer : Answer) → HasSmallNumbers answer → document (text_of (json_of answer)) ≡ Some (json_of answer) }
 {}

@@ -1,5 +1,5 @@
-//! Answers as objects of JSON (RFC 8259), one on each line. Each is written into a buffer of a fixed size, and no memory is
-//! taken.
+//! Answers as objects of JSON (RFC 8259), one on each line. Each is written into a buffer of a fixed size, and no
+//! memory is taken.
 #![tactic(auto)]
 
 mod answered;

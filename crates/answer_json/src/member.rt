@@ -17,13 +17,14 @@ const MAX_NUMBER_LEN: usize = 20;
 
 /// Writes what a member begins with: a brace or a comma, its name in quotes, and a colon.
 ///
-/// Always inline, as are the members that follow: what is written is known where they are called, and then it is copied at
-/// once.
+/// Always inline, as are the members that follow: what is written is known where they are called, and then it is copied
+/// at once.
 #[inline(always)]
 pub(crate) fn put_opening(out: &mut ObjectRoom, at: usize, opening: &str) -> usize
     requires room { at + length opening.now ≤ MAX_OBJECT_LEN }
     requires opening { IsOpening opening.now }
-    ensures name { take result out.new ≡ take at out.old ++ slice_index opening.now 0 ∷ (quoted (name_in opening.now) ++ 58 ∷ []) }
+    ensures name { take result out.new ≡
+        take at out.old ++ slice_index opening.now 0 ∷ (quoted (name_in opening.now) ++ 58 ∷ []) }
     ensures end { result ≡ at + length opening.now }
 {
     put_bytes(out, at, opening.as_bytes())
@@ -35,7 +36,8 @@ pub(crate) fn put_opening(out: &mut ObjectRoom, at: usize, opening: &str) -> usi
 pub(crate) fn put_number(out: &mut ObjectRoom, at: usize, opening: &str, number: u64) -> usize
     requires room { at + length opening.now + 20 ≤ MAX_OBJECT_LEN }
     requires opening { IsOpening opening.now }
-    ensures field { take result out.new ≡ take at out.old ++ slice_index opening.now 0 ∷ field_text (name_in opening.now, count number) }
+    ensures field { take result out.new ≡
+        take at out.old ++ slice_index opening.now 0 ∷ field_text (name_in opening.now, count number) }
     ensures end { result ≤ at + (length opening.now + 20) }
 {
     let value = put_opening(out, at, opening);
@@ -89,7 +91,8 @@ fn count_short(number: u64) -> usize
 pub(crate) fn put_count(out: &mut ObjectRoom, at: usize, opening: &str, number: u128) -> usize
     requires room { at + length opening.now + 40 ≤ MAX_OBJECT_LEN }
     requires opening { IsOpening opening.now }
-    ensures field { take result out.new ≡ take at out.old ++ slice_index opening.now 0 ∷ field_text (name_in opening.now, count number) }
+    ensures field { take result out.new ≡
+        take at out.old ++ slice_index opening.now 0 ∷ field_text (name_in opening.now, count number) }
     ensures end { result ≤ at + (length opening.now + 40) }
 {
     let value = put_opening(out, at, opening);
@@ -103,7 +106,8 @@ pub(crate) fn put_count(out: &mut ObjectRoom, at: usize, opening: &str, number: 
 pub(crate) fn put_text(out: &mut ObjectRoom, at: usize, opening: &str, bytes: &[u8]) -> usize
     requires room { at + length opening.now + 6 * length bytes.now + 2 ≤ MAX_OBJECT_LEN }
     requires opening { IsOpening opening.now }
-    ensures field { take result out.new ≡ take at out.old ++ slice_index opening.now 0 ∷ field_text (name_in opening.now, text bytes.now) }
+    ensures field { take result out.new ≡
+        take at out.old ++ slice_index opening.now 0 ∷ field_text (name_in opening.now, text bytes.now) }
     ensures end { result ≤ at + (length opening.now + 6 * length bytes.now + 2) }
 {
     let value = put_opening(out, at, opening);
@@ -117,7 +121,8 @@ pub(crate) fn put_text(out: &mut ObjectRoom, at: usize, opening: &str, bytes: &[
 pub(crate) fn put_octets(out: &mut ObjectRoom, at: usize, opening: &str, octets: &[u8]) -> usize
     requires room { at + length opening.now + 2 * length octets.now + 2 ≤ MAX_OBJECT_LEN }
     requires opening { IsOpening opening.now }
-    ensures field { take result out.new ≡ take at out.old ++ slice_index opening.now 0 ∷ field_text (name_in opening.now, text (hex_of octets.now)) }
+    ensures field { take result out.new ≡
+        take at out.old ++ slice_index opening.now 0 ∷ field_text (name_in opening.now, text (hex_of octets.now)) }
     ensures end { result ≤ at + (length opening.now + 2 * length octets.now + 2) }
 {
     let value = put_opening(out, at, opening);
@@ -131,7 +136,8 @@ pub(crate) fn put_octets(out: &mut ObjectRoom, at: usize, opening: &str, octets:
 pub(crate) fn put_point(out: &mut ObjectRoom, at: usize, opening: &str, code_point: u32) -> usize
     requires room { at + length opening.now + 12 ≤ MAX_OBJECT_LEN }
     requires opening { IsOpening opening.now }
-    ensures field { take result out.new ≡ take at out.old ++ slice_index opening.now 0 ∷ field_text (name_in opening.now, point code_point) }
+    ensures field { take result out.new ≡
+        take at out.old ++ slice_index opening.now 0 ∷ field_text (name_in opening.now, point code_point) }
     ensures end { result ≤ at + (length opening.now + 12) }
 {
     let value = put_opening(out, at, opening);
@@ -145,7 +151,8 @@ pub(crate) fn put_point(out: &mut ObjectRoom, at: usize, opening: &str, code_poi
 pub(crate) fn put_flag(out: &mut ObjectRoom, at: usize, opening: &str, is_true: bool) -> usize
     requires room { at + length opening.now + 5 ≤ MAX_OBJECT_LEN }
     requires opening { IsOpening opening.now }
-    ensures field { take result out.new ≡ take at out.old ++ slice_index opening.now 0 ∷ field_text (name_in opening.now, flag is_true) }
+    ensures field { take result out.new ≡
+        take at out.old ++ slice_index opening.now 0 ∷ field_text (name_in opening.now, flag is_true) }
     ensures end { result ≤ at + (length opening.now + 5) }
 {
     let value = put_opening(out, at, opening);
@@ -157,7 +164,8 @@ pub(crate) fn put_flag(out: &mut ObjectRoom, at: usize, opening: &str, is_true: 
 pub(crate) fn put_null(out: &mut ObjectRoom, at: usize, opening: &str) -> usize
     requires room { at + length opening.now + 4 ≤ MAX_OBJECT_LEN }
     requires opening { IsOpening opening.now }
-    ensures field { take result out.new ≡ take at out.old ++ slice_index opening.now 0 ∷ field_text (name_in opening.now, nothing) }
+    ensures field { take result out.new ≡
+        take at out.old ++ slice_index opening.now 0 ∷ field_text (name_in opening.now, nothing) }
     ensures end { result ≡ at + (length opening.now + 4) }
 {
     let value = put_opening(out, at, opening);

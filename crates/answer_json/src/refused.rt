@@ -65,7 +65,8 @@ pub fn write_registered_fault<'a>(
 fn put_refusal(out: &mut ObjectRoom, at: usize, refusal: Refusal, members: &RefusalMembers) -> usize
     requires texts { HasShortTexts (details_of members.now) }
     requires room { at + 6144 ≤ MAX_OBJECT_LEN }
-    ensures object { take result out.new ≡ take at out.old ++ refusal_text (Some (refusal_fields refusal (details_of members.now))) [] }
+    ensures object { take result out.new ≡
+        take at out.old ++ refusal_text (Some (refusal_fields refusal (details_of members.now))) [] }
     ensures end { result ≤ at + 6144 }
 {
     let object = put_opening(out, at, ",\"refusal\":");

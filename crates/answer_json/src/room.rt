@@ -6,9 +6,9 @@ pub const MAX_OBJECT_LEN: usize = 32_768;
 
 /// Room for an object and a line feed. What an object leaves in it says nothing of the next one.
 ///
-/// An object is written from its first place on. Each of the functions that write some of it is given the place at which that
-/// begins, and returns the place after it. What stands before the place stays; of what stands after the last byte that was
-/// written nothing is said.
+/// An object is written from its first place on. Each of the functions that write some of it is given the place at
+/// which that begins, and returns the place after it. What stands before the place stays; of what stands after the last
+/// byte that was written nothing is said.
 pub type ObjectRoom = [u8; MAX_OBJECT_LEN];
 
 /// Writes bytes as they are.

@@ -89,8 +89,8 @@ fn write_line<W: Sink>(output: &mut W, line: &[u8]) -> Result<(), WriteFault>
     write_answer(output, line)
 }
 
-/// Writes a text whole to the output. Texts and objects go through it, so that `write_text` has one caller for the output, and
-/// stands where lines are answered.
+/// Writes a text whole to the output. Texts and objects go through it, so that `write_text` has one caller for the
+/// output, and stands where lines are answered.
 #[inline(always)]
 fn write_answer<W: Sink>(output: &mut W, text: &[u8]) -> Result<(), WriteFault>
     ensures whole { OnOk result (TakesWhole (W.state output.old) (W.state output.new) text.now) }

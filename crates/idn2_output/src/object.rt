@@ -11,7 +11,8 @@ use answer_json::{
 };
 use idn_text::Refusal;
 
-/// What an object says. Where it begins with a number, that is the number of a line, and the input after it is that line.
+/// What an object says. Where it begins with a number, that is the number of a line, and the input after it is that
+/// line.
 #[derive(Clone, Copy)]
 pub enum Object<'a> {
     /// What a name is in a query.

@@ -1,4 +1,5 @@
-//! The cause that is told of a refused line. It is looked for only once the line is refused, and only if causes are wanted.
+//! The cause that is told of a refused line. It is looked for only once the line is refused, and only if causes are
+//! wanted.
 ghost use Rattle.std.specs.Prelude.{◌≡◌, ◌≢◌, ◌≤◌, false, ℕ, List, IfOk, None, length, option_map};
 ghost use Rattle.std.specs.Option.{option_copied};
 ghost use Rattle.std.specs.Result.{IsOk};
@@ -8,7 +9,11 @@ ghost use Rattle.answer_json.specs.Details.{given_len};
 ghost use Rattle.idn_cause.specs.NameCauses.{name_cause, query_cause};
 ghost use Rattle.idna.specs.Validity.{has_ace_prefix};
 ghost use Rattle.idn_cause.specs.Causes.{IsFoundWithoutMemory};
-ghost use Rattle.idn2_refusals.specs.Explained.{BodyCauseNeedsNone, PointsCauseNeedsNone, TableCauseNeedsNone, TextCauseNeedsNone, bad_byte, body_cause, coded_cause, if_wanted, not_in_table_cause, points_cause, registration_cause, table_cause, text_cause, u_label_cause, unless_unexplained, invalid_cause as invalid_cause_of, validity_cause as validity_cause_of};
+ghost use Rattle.idn2_refusals.specs.Explained.{BodyCauseNeedsNone, PointsCauseNeedsNone, TableCauseNeedsNone};
+ghost use Rattle.idn2_refusals.specs.Explained.{TextCauseNeedsNone, bad_byte, body_cause, coded_cause, if_wanted};
+ghost use Rattle.idn2_refusals.specs.Explained.{not_in_table_cause, points_cause, registration_cause, table_cause};
+ghost use Rattle.idn2_refusals.specs.Explained.{text_cause, u_label_cause, unless_unexplained};
+ghost use Rattle.idn2_refusals.specs.Explained.{invalid_cause as invalid_cause_of, validity_cause as validity_cause_of};
 ghost use Rattle.idn2_refusals.specs.Explaining.{explained_by};
 
 use crate::request::label_of_request;
@@ -68,8 +73,8 @@ pub enum LineCause {
     OfName(NameCause),
     /// A length that the DNS does not allow.
     OfQuery(LengthCause),
-    /// A source stands at this place of a label, with this code point, where its condition fails: so it is asked of the rule
-    /// of this name.
+    /// A source stands at this place of a label, with this code point, where its condition fails: so it is asked of the
+    /// rule of this name.
     Misplaced(usize, u32, ConditionKind, RuleName),
     /// No source of a ruleset is at this place of a label, with this code point, by which the label may be cut.
     NoEntry(usize, u32),
@@ -96,8 +101,8 @@ impl<'t> Explaining<'t> {
     }
 }
 
-/// The cause of the refusal of a line, if causes are wanted and one is told. Of a line that is too long there is no text,
-/// and its cause takes no memory.
+/// The cause of the refusal of a line, if causes are wanted and one is told. Of a line that is too long there is no
+/// text, and its cause takes no memory.
 pub(crate) fn cause_of_body(
     alloc: Global,
     text: Option<&[u8]>,
@@ -105,9 +110,11 @@ pub(crate) fn cause_of_body(
     explaining: &Explaining<'_>,
 ) -> Result<Option<LineCause>, AllocError>
     requires short { given_len (option_copied text) ≤ MAX_LINE_LEN }
-    ensures cause { IfOk result (λ cause. cause ≡ body_cause (explained_by explaining.now) (option_copied text.entry) refusal) }
+    ensures cause { IfOk result (λ cause. cause ≡
+        body_cause (explained_by explaining.now) (option_copied text.entry) refusal) }
     ensures long { option_copied text.entry ≡ None → IsOk result }
-    ensures no_memory { BodyCauseNeedsNone (explained_by explaining.now) (option_copied text.entry) refusal → IsOk result }
+    ensures no_memory { BodyCauseNeedsNone (explained_by explaining.now) (option_copied text.entry) refusal →
+        IsOk result }
 {
     match text {
         Some(text) => cause_of_text(alloc, text, refusal, explaining),
@@ -229,7 +236,8 @@ fn cause_of_name(
     properties: Properties,
 ) -> Result<Option<LineCause>, AllocError>
     requires { length name.now ≤ MAX_LINE_LEN }
-    ensures cause { IfOk result (λ cause. cause ≡ option_map LineCause.OfName (name_cause properties name.now refusal)) }
+    ensures cause { IfOk result (λ cause. cause ≡
+        option_map LineCause.OfName (name_cause properties name.now refusal)) }
     ensures no_memory { refusal ≡ Refusal.Empty → IsOk result }
 {
     match name_cause(alloc, name, refusal, properties)? {
@@ -247,7 +255,8 @@ fn cause_of_query(
 ) -> Result<Option<LineCause>, AllocError>
     requires short { length name.now ≤ MAX_LINE_LEN }
     requires scalar_values { AreScalarValues name.now }
-    ensures cause { IfOk result (λ cause. cause ≡ option_map LineCause.OfQuery (query_cause (utf8_of name.now) std3 refusal)) }
+    ensures cause { IfOk result (λ cause. cause ≡
+        option_map LineCause.OfQuery (query_cause (utf8_of name.now) std3 refusal)) }
     ensures no_memory { refusal ≢ Refusal.LookupLength → IsOk result }
 {
     let mut utf8 = ArrayVec::new();

@@ -4,7 +4,8 @@ ghost use Rattle.std.specs.Option.{option_copied, option_map};
 ghost use Rattle.arrayvec.specs.ArrayVec.{array_vec_len};
 ghost use Rattle.answer_json.specs.Details.{HasShortTexts, details_of, given_len};
 ghost use Rattle.idn2_refusals.specs.CauseParts.{IsShort};
-ghost use Rattle.idn2_refusals.specs.CauseWords.{before_place, cause_words, label_words, length_words, number_between, place_words, point_after, rule_words, subject_words, text_between};
+ghost use Rattle.idn2_refusals.specs.CauseWords.{before_place, cause_words, label_words, length_words, number_between};
+ghost use Rattle.idn2_refusals.specs.CauseWords.{place_words, point_after, rule_words, subject_words, text_between};
 ghost use Rattle.idn2_refusals.specs.ToldCauses.{told_parts};
 
 use crate::digits::push_code_point;
@@ -161,7 +162,8 @@ fn push_point(text: &mut ExplainedMessage, before: &[u8], point: Option<u32>)
 fn push_text(text: &mut ExplainedMessage, before: &[u8], told: Option<&[u8]>, after: &[u8])
     requires { array_vec_len text.old + length before.now + given_len (option_copied told) + length after.now ≤ 1280 }
     ensures items { text.new.items ≡ text.old.items ++ text_between before.now (option_copied told.entry) after.now }
-    ensures end { array_vec_len text.new ≤ array_vec_len text.old + (length before.now + given_len (option_copied told.entry) + length after.now) }
+    ensures end { array_vec_len text.new ≤ array_vec_len text.old +
+        (length before.now + given_len (option_copied told.entry) + length after.now) }
 {
     if let Some(told) = told {
         append(text, before);

@@ -2,7 +2,9 @@
 ghost use Rattle.std.specs.Prelude.{◌≡◌, IfOk, drop, false, take};
 ghost use Rattle.std.specs.List.{list_all};
 ghost use Rattle.std.specs.Result.{IsOk};
-ghost use Rattle.idn2_refusals.specs.TableCauses.{begins_with_mark, is_syntax_of_first, is_visible as is_visible_byte, may_be_quoted as may_be_quoted_text, quoted as quoted_of, quoted_at as quoted_in, refusal_cause, told_if};
+ghost use Rattle.idn2_refusals.specs.TableCauses.{begins_with_mark, is_syntax_of_first, is_visible as is_visible_byte};
+ghost use Rattle.idn2_refusals.specs.TableCauses.{may_be_quoted as may_be_quoted_text, quoted as quoted_of};
+ghost use Rattle.idn2_refusals.specs.TableCauses.{quoted_at as quoted_in, refusal_cause, told_if};
 ghost use Rattle.variant_table.specs.FaultyLines.{faulty_line_of};
 
 use crate::cause::{LineCause, Quoted};
@@ -22,7 +24,8 @@ pub(crate) fn fault_cause_if_wanted(
     text: &[u8],
     refusal: &TableRefusal<'_>,
 ) -> Result<Option<LineCause>, AllocError>
-    ensures cause { IfOk result (λ cause. cause ≡ told_if wanted (refusal_cause text.now refusal.now.fault (faulty_line_of refusal.now.line))) }
+    ensures cause { IfOk result (λ cause. cause ≡
+        told_if wanted (refusal_cause text.now refusal.now.fault (faulty_line_of refusal.now.line))) }
     ensures unwanted { wanted ≡ false → IsOk result }
 {
     if wanted {
@@ -38,7 +41,8 @@ fn cause_of_refusal(
     text: &[u8],
     refusal: &TableRefusal<'_>,
 ) -> Result<Option<LineCause>, AllocError>
-    ensures cause { IfOk result (λ cause. cause ≡ refusal_cause text.now refusal.now.fault (faulty_line_of refusal.now.line)) }
+    ensures cause { IfOk result (λ cause. cause ≡
+        refusal_cause text.now refusal.now.fault (faulty_line_of refusal.now.line)) }
 {
     if begins_with_mark(text) && is_syntax_of_first(refusal.fault) {
         return Ok(Some(LineCause::ByteOrderMark));

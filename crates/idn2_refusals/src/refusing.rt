@@ -34,8 +34,10 @@ pub fn refuse<R: Source, W: Sink, E: Sink>(
     console: &mut Console<'_, '_, W, E>,
 ) -> Result<(), Stop>
     ensures told { Emits console.old console.new
-        (refusal_piece form (line_at input.now) refusal (body_cause (explained_by explaining.now) (line_at input.now).body refusal) ∷ []) result }
-    ensures no_memory { BodyCauseNeedsNone (explained_by explaining.now) (line_at input.now).body refusal → IfErr result (λ why. why ≢ stop.Memory) }
+        (refusal_piece form (line_at input.now) refusal
+        (body_cause (explained_by explaining.now) (line_at input.now).body refusal) ∷ []) result }
+    ensures no_memory { BodyCauseNeedsNone (explained_by explaining.now) (line_at input.now).body refusal →
+        IfErr result (λ why. why ≢ stop.Memory) }
     ensures long { (line_at input.now).body ≡ None → IfErr result (λ why. why ≢ stop.Memory) }
     ensures begun { result ≡ Err stop.Memory → console.new ≡ console.old }
 {
@@ -47,8 +49,8 @@ pub fn refuse<R: Source, W: Sink, E: Sink>(
     }
 }
 
-/// Reports why a line of this number is refused, with the cause, if there is one. Of a line that is too long there is no
-/// text.
+/// Reports why a line of this number is refused, with the cause, if there is one. Of a line that is too long there is
+/// no text.
 ///
 /// Not inlined, and neither are some of the functions below: a refusal that is not explained needs no stack space for a
 /// cause.
@@ -64,8 +66,10 @@ fn explain<W: Sink, E: Sink>(
 ) -> Result<(), Stop>
     requires { given_len (option_copied text) ≤ MAX_LINE_LEN }
     ensures told { Emits console.old console.new
-        (refusal_piece form (record { number = number; body = option_copied text.entry }) refusal (body_cause (explained_by explaining.now) (option_copied text.entry) refusal) ∷ []) result }
-    ensures no_memory { BodyCauseNeedsNone (explained_by explaining.now) (option_copied text.entry) refusal → IfErr result (λ why. why ≢ stop.Memory) }
+        (refusal_piece form (record { number = number; body = option_copied text.entry }) refusal
+        (body_cause (explained_by explaining.now) (option_copied text.entry) refusal) ∷ []) result }
+    ensures no_memory { BodyCauseNeedsNone (explained_by explaining.now) (option_copied text.entry) refusal →
+        IfErr result (λ why. why ≢ stop.Memory) }
     ensures long { option_copied text.entry ≡ None → IfErr result (λ why. why ≢ stop.Memory) }
     ensures begun { result ≡ Err stop.Memory → console.new ≡ console.old }
 {
@@ -85,7 +89,8 @@ fn tell<W: Sink, E: Sink>(
 ) -> Result<(), Stop>
     requires { given_len (option_copied text) ≤ MAX_LINE_LEN }
     ensures told { Emits console.old console.new
-        (refusal_piece form (record { number = number; body = option_copied text.entry }) refusal (option_copied cause.entry) ∷ []) result }
+        (refusal_piece form (record { number = number; body = option_copied text.entry }) refusal
+        (option_copied cause.entry) ∷ []) result }
     ensures why { IfErr result (λ why. why ≢ stop.Memory) }
 {
     match form {
@@ -102,7 +107,8 @@ fn tell_message<W: Sink, E: Sink>(
     cause: Option<&LineCause>,
     console: &mut Console<'_, '_, W, E>,
 ) -> Result<(), Stop>
-    ensures told { Emits console.old console.new (Message (refused_message number refusal (tail_text refusal (option_copied cause.entry))) ∷ []) result }
+    ensures told { Emits console.old console.new
+        (Message (refused_message number refusal (tail_text refusal (option_copied cause.entry))) ∷ []) result }
     ensures why { IfErr result (λ why. why ≡ stop.Messages) }
 {
     match cause {
@@ -122,7 +128,8 @@ fn tell_explained<W: Sink, E: Sink>(
     cause: &LineCause,
     console: &mut Console<'_, '_, W, E>,
 ) -> Result<(), Stop>
-    ensures told { Emits console.old console.new (Message (refused_message number refusal (tail_text refusal (Some cause.now))) ∷ []) result }
+    ensures told { Emits console.old console.new
+        (Message (refused_message number refusal (tail_text refusal (Some cause.now))) ∷ []) result }
     ensures why { IfErr result (λ why. why ≡ stop.Messages) }
 {
     let message = explained_message(b"idn2: line ", number, &refusal, cause);
@@ -140,7 +147,8 @@ fn tell_object<W: Sink, E: Sink>(
 ) -> Result<(), Stop>
     requires few { given_len (option_copied text) ≤ MAX_LINE_LEN }
     ensures told { Emits console.old console.new
-        (Output (refused_object (record { number = number; body = option_copied text.entry }) refusal (option_copied cause.entry)) ∷ []) result }
+        (Output (refused_object (record { number = number; body = option_copied text.entry }) refusal
+        (option_copied cause.entry)) ∷ []) result }
     ensures why { IfErr result (λ why. why ≡ stop.Output) }
 {
     let members = members_of(&refusal, cause);

@@ -17,9 +17,9 @@ use idn2_options::Form;
 use idn2_output::{Object, Status, write_object};
 use std::alloc::Global;
 
-/// Writes why a line of a file of registered labels is wrong, and answers the status: by a message, or by an object of the
-/// output, with its cause, if causes are wanted. Where the writer fails, a proper prefix of that stands, and the status is
-/// that of a fault. A cause alone may take memory.
+/// Writes why a line of a file of registered labels is wrong, and answers the status: by a message, or by an object of
+/// the output, with its cause, if causes are wanted. Where the writer fails, a proper prefix of that stands, and the
+/// status is that of a fault. A cause alone may take memory.
 pub fn refuse_registered<W: Sink, E: Sink>(
     alloc: Global,
     form: Form,
@@ -31,7 +31,8 @@ pub fn refuse_registered<W: Sink, E: Sink>(
     out: &mut W,
     err: &mut E,
 ) -> Status
-    ensures { TellsUnreadLine form wanted properties text.now line refusal.now (held (W.state out.old) (E.state err.old)) (held (W.state out.new) (E.state err.new)) result }
+    ensures { TellsUnreadLine form wanted properties text.now line refusal.now
+        (held (W.state out.old) (E.state err.old)) (held (W.state out.new) (E.state err.new)) result }
 {
     match cause_if_wanted(alloc, wanted, text, line, *refusal, properties) {
         Ok(cause) => tell_wrong_line(form, line, refusal, cause.as_ref(), out, err),
@@ -48,7 +49,8 @@ fn tell_wrong_line<W: Sink, E: Sink>(
     out: &mut W,
     err: &mut E,
 ) -> Status
-    ensures { TellsWrongLine form line refusal.now (option_copied cause.entry) (held (W.state out.old) (E.state err.old)) (held (W.state out.new) (E.state err.new)) result }
+    ensures { TellsWrongLine form line refusal.now (option_copied cause.entry)
+        (held (W.state out.old) (E.state err.old)) (held (W.state out.new) (E.state err.new)) result }
 {
     match form {
         Form::Plain => report_wrong_line(line, refusal, cause, err),
@@ -72,7 +74,8 @@ fn report_wrong_line<E: Sink>(
     cause: Option<&LineCause>,
     err: &mut E,
 ) -> Status
-    ensures { TellsWrong (registered_message line refusal.now (tail_text refusal.now (option_copied cause.entry))) (E.state err.old) (E.state err.new) result }
+    ensures { TellsWrong (registered_message line refusal.now (tail_text refusal.now (option_copied cause.entry)))
+        (E.state err.old) (E.state err.new) result }
 {
     match cause {
         Some(cause) => {

@@ -1,10 +1,11 @@
-//! The cause of a wrong line of the registered labels. It is looked for only once the line is found, and only if causes are
-//! wanted.
+//! The cause of a wrong line of the registered labels. It is looked for only once the line is found, and only if causes
+//! are wanted.
 ghost use Rattle.std.specs.Prelude.{◌≡◌, ◌≤◌, ◌-◌, IfOk, OnErr, false, slice_get};
 ghost use Rattle.std.specs.Result.{IsOk};
 ghost use Rattle.std.specs.Option.{option_copied};
 ghost use Rattle.answer_json.specs.Details.{given_len};
-ghost use Rattle.idn2_refusals.specs.WrongLines.{MayTakeMemory, body_at, order_cause, points_at, told_of_wrong_line, wrong_line_cause};
+ghost use Rattle.idn2_refusals.specs.WrongLines.{MayTakeMemory, body_at, order_cause, points_at, told_of_wrong_line};
+ghost use Rattle.idn2_refusals.specs.WrongLines.{wrong_line_cause};
 
 use crate::cause::{Explaining, LineCause, cause_of_body};
 use arrayvec::ArrayVec;
@@ -33,8 +34,8 @@ pub(crate) fn cause_if_wanted(
     }
 }
 
-/// The cause of the line of this number, if one is told. It takes no memory for the order of two labels, nor where the file
-/// or the line is too long.
+/// The cause of the line of this number, if one is told. It takes no memory for the order of two labels, nor where the
+/// file or the line is too long.
 fn cause_of_wrong_line(
     alloc: Global,
     text: &[u8],

@@ -1,6 +1,7 @@
 //! The rules that refused labels break, as objects and messages name them: by document and section.
 ghost use Rattle.std.specs.Prelude.{◌≡◌, ◌≤◌, ◌++◌, codes, length};
-ghost use Rattle.idn2_refusals.specs.RuleTexts.{a_label_rule, appendix_rule, asked_text, barring_rule, bidi_rule, bidi_text, bidi_words, demand_text, named, punycode_rule, words_alone};
+ghost use Rattle.idn2_refusals.specs.RuleTexts.{a_label_rule, appendix_rule, asked_text, barring_rule, bidi_rule};
+ghost use Rattle.idn2_refusals.specs.RuleTexts.{bidi_text, bidi_words, demand_text, named, punycode_rule, words_alone};
 ghost use Rattle.idn2_refusals.specs.ToldCauses.{rule_of};
 
 use idn_class::{BarringLine, BidiClass, BidiCondition};

@@ -24,8 +24,8 @@ use idn2_output::{Console, Object, Status, Stop};
 use std::alloc::Global;
 use variant_table::{TableFault, TableRefusal};
 
-/// Tells the fault of the table that a text is to spell, with its cause, if causes are wanted, and gives the status of the
-/// run. Lack of memory is no fault of the table: nothing is reported, and the run stops. A cause may take memory.
+/// Tells the fault of the table that a text is to spell, with its cause, if causes are wanted, and gives the status of
+/// the run. Lack of memory is no fault of the table: nothing is reported, and the run stops. A cause may take memory.
 pub fn refuse_table<W: Sink, E: Sink>(
     alloc: Global,
     form: Form,
@@ -34,9 +34,12 @@ pub fn refuse_table<W: Sink, E: Sink>(
     refusal: &TableRefusal<'_>,
     console: &mut Console<'_, '_, W, E>,
 ) -> Result<Status, Stop>
-    ensures told { (properties : Properties) (notation : Notation) → IsRefusalOf properties notation text.now refusal.now →
+    ensures told { (properties : Properties) (notation : Notation) →
+        IsRefusalOf properties notation text.now refusal.now →
         MatchOption (told_of refusal.now.fault) ((result ≡ Err stop.Memory) × (console.new ≡ console.old))
-        (λ told. Emits console.old console.new (fault_piece form told.0 told.1 (told_if wanted (fault_cause properties notation text.now refusal.now.fault)) ∷ []) result) }
+        (λ told. Emits console.old console.new
+        (fault_piece form told.0 told.1
+        (told_if wanted (fault_cause properties notation text.now refusal.now.fault)) ∷ []) result) }
     ensures status { IfOk result (λ status. status ≡ statuses.Unusable) }
 {
     let Some((line, told)) = told_of(refusal.fault) else {
@@ -73,7 +76,8 @@ fn write_message<W: Sink, E: Sink>(
     cause: Option<&LineCause>,
     console: &mut Console<'_, '_, W, E>,
 ) -> Result<(), Stop>
-    ensures { Emits console.old console.new (Message (table_message_of line refusal.now (tail_text refusal.now (option_copied cause.entry))) ∷ []) result }
+    ensures { Emits console.old console.new
+        (Message (table_message_of line refusal.now (tail_text refusal.now (option_copied cause.entry))) ∷ []) result }
 {
     match cause {
         Some(cause) => {

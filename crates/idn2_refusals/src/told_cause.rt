@@ -2,7 +2,11 @@
 ghost use Rattle.std.specs.Prelude.{◌≡◌, ◌≤◌, ◌+◌, ◌++◌, Some, codes, length};
 ghost use Rattle.std.specs.Option.{option_copied};
 ghost use Rattle.answer_json.specs.Details.{HasShortTexts, details_of, no_details};
-ghost use Rattle.idn2_refusals.specs.CauseParts.{IsShort, a_label_parts, at_byte as at_byte_of, byte_text, changed_parts, code_point_text, decoded_parts, fault_place_parts, hyphen_text, label_parts, labelled, led, length_parts, lexeme_text, noted, parts_of, placed as placed_of, plain, point_at_byte as point_at_byte_of, point_parts, ruled, told_details};
+ghost use Rattle.idn2_refusals.specs.CauseParts.{IsShort, a_label_parts, at_byte as at_byte_of, byte_text};
+ghost use Rattle.idn2_refusals.specs.CauseParts.{changed_parts, code_point_text, decoded_parts, fault_place_parts};
+ghost use Rattle.idn2_refusals.specs.CauseParts.{hyphen_text, label_parts, labelled, led, length_parts, lexeme_text};
+ghost use Rattle.idn2_refusals.specs.CauseParts.{noted, parts_of, placed as placed_of, plain};
+ghost use Rattle.idn2_refusals.specs.CauseParts.{point_at_byte as point_at_byte_of, point_parts, ruled, told_details};
 ghost use Rattle.idn2_refusals.specs.RuleTexts.{asked_text, named};
 ghost use Rattle.idn2_refusals.specs.ToldCauses.{rule_of, told_parts};
 

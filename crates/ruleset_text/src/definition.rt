@@ -38,7 +38,8 @@ pub fn push_definition(
     sets: &[Name],
     definition: &Definition,
 ) -> Result<(), AllocError>
-    ensures { OnOk result (out.new.items ≡ out.old.items ++ definition_text sets.now (trees.definition definition.now)) }
+    ensures { OnOk result (out.new.items ≡
+        out.old.items ++ definition_text sets.now (trees.definition definition.now)) }
 {
     match definition {
         Definition::Tag(name) => push_tag(out, name),
@@ -72,7 +73,8 @@ pub fn push_rule(
     name: &Name,
     contexts: &PatternTree,
 ) -> Result<(), AllocError>
-    ensures { OnOk result (out.new.items ≡ out.old.items ++ definition_text sets.now (words.Rule name.now (pattern contexts.now))) }
+    ensures { OnOk result (out.new.items ≡
+        out.old.items ++ definition_text sets.now (words.Rule name.now (pattern contexts.now))) }
 {
     push_bytes(out, b"%rule ")?;
     push_bytes(out, name.as_slice())?;
@@ -87,7 +89,8 @@ pub fn push_demand(
     kind: DemandKind,
     tree: &PatternTree,
 ) -> Result<(), AllocError>
-    ensures { OnOk result (out.new.items ≡ out.old.items ++ definition_text sets.now (words.Demand kind (pattern tree.now))) }
+    ensures { OnOk result (out.new.items ≡
+        out.old.items ++ definition_text sets.now (words.Demand kind (pattern tree.now))) }
 {
     push_bytes(out, demand_word(kind))?;
     push_byte(out, b' ')?;

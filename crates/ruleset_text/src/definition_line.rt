@@ -22,15 +22,16 @@ pub struct DefinitionLine {
     pub len: usize,
 }
 
-/// What a line defines, by its keyword and the text after it. A set goes by its number among the names; one that none of
-/// them names gets a number after theirs.
+/// What a line defines, by its keyword and the text after it. A set goes by its number among the names; one that none
+/// of them names gets a number after theirs.
 pub fn read_line(
     alloc: Global,
     sets: &[Name],
     keyword: Keyword,
     text: &[u8],
 ) -> Result<DefinitionLine, ReadError>
-    ensures { GivesLine (names_on sets.now (lexemes text.now)) result (definition_read (names_on sets.now (lexemes text.now)) keyword (length text.now) (placed_lexemes text.now)) }
+    ensures { GivesLine (names_on sets.now (lexemes text.now)) result
+        (definition_read (names_on sets.now (lexemes text.now)) keyword (length text.now) (placed_lexemes text.now)) }
 {
     match with_other_names(alloc, sets, text)? {
         None => read_with_names(alloc, sets, keyword, text),
@@ -45,7 +46,8 @@ fn read_with_names(
     keyword: Keyword,
     text: &[u8],
 ) -> Result<DefinitionLine, ReadError>
-    ensures { GivesLine names.now result (definition_read names.now keyword (length text.now) (placed_lexemes text.now)) }
+    ensures { GivesLine names.now result
+        (definition_read names.now keyword (length text.now) (placed_lexemes text.now)) }
 {
     let definition = read_definition(alloc, names, keyword, PlacedLexemes::new(text), text.len())?;
     let mut line = Vec::new(alloc);

@@ -30,7 +30,8 @@ pub fn definition_on(alloc: Global, sets: &[Name], line: &[u8]) -> Result<Defini
     read_definition(alloc, sets, keyword, lexemes, line.len())
 }
 
-/// What the lexemes after a keyword define, to the end of a line of `end` bytes. A set goes by its number among the names.
+/// What the lexemes after a keyword define, to the end of a line of `end` bytes. A set goes by its number among the
+/// names.
 pub fn read_definition(
     alloc: Global,
     sets: &[Name],
@@ -98,7 +99,8 @@ fn read_demand(
     end: usize,
 ) -> Result<Definition, ReadError>
     requires { length lexemes < 2 ^ 63 }
-    ensures { Gives trees.definition result (map_read (demand_of kind) (reading.pattern_read false sets.now end lexemes.entry)) }
+    ensures { Gives trees.definition result
+        (map_read (demand_of kind) (reading.pattern_read false sets.now end lexemes.entry)) }
 {
     let pattern = read_pattern(alloc, false, sets, lexemes, end)?;
     Ok(Definition::Demand(kind, pattern))
@@ -106,7 +108,8 @@ fn read_demand(
 
 /// The name that stands next.
 fn read_name<'a>(lexemes: &mut PlacedLexemes<'a>, end: usize) -> Result<&'a [u8], FaultPlace>
-    ensures { MatchResult result (λ name. name_read end lexemes.old ≡ Ok (name.now, lexemes.new)) (λ place. name_read end lexemes.old ≡ Err place) }
+    ensures { MatchResult result (λ name. name_read end lexemes.old ≡ Ok (name.now, lexemes.new))
+        (λ place. name_read end lexemes.old ≡ Err place) }
 {
     let Some((place, word)) = lexemes.next() else {
         return Err(FaultPlace::End(end));

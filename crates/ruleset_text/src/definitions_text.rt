@@ -10,8 +10,8 @@ use crate::definitions::Definitions;
 use std::alloc::AllocError;
 
 impl Definitions {
-    /// Appends the canonical lines of the definitions, each with its line feed: tags, sets, rules, demands. After an `Err`
-    /// some may have been appended.
+    /// Appends the canonical lines of the definitions, each with its line feed: tags, sets, rules, demands. After an
+    /// `Err` some may have been appended.
     pub fn push_lines(&self, out: &mut Vec<u8>) -> Result<(), AllocError>
         ensures { OnOk result (out.new.items ≡ out.old.items ++ definitions_text self.now) }
     {
@@ -22,7 +22,8 @@ impl Definitions {
     }
 
     fn push_tags(&self, out: &mut Vec<u8>) -> Result<(), AllocError>
-        ensures { OnOk result (out.new.items ≡ out.old.items ++ lines_text (map (definition_text self.now.set_names) (map definition.Tag self.now.tags))) }
+        ensures { OnOk result (out.new.items ≡
+            out.old.items ++ lines_text (map (definition_text self.now.set_names) (map definition.Tag self.now.tags))) }
     {
         let tags = self.tags();
         for tag in tags {
@@ -33,7 +34,9 @@ impl Definitions {
     }
 
     fn push_sets(&self, out: &mut Vec<u8>) -> Result<(), AllocError>
-        ensures { OnOk result (out.new.items ≡ out.old.items ++ lines_text (map (definition_text self.now.set_names) (named definition.Set self.now.set_names self.now.sets))) }
+        ensures { OnOk result (out.new.items ≡
+            out.old.items ++ lines_text (map (definition_text self.now.set_names)
+            (named definition.Set self.now.set_names self.now.sets))) }
     {
         let names = self.set_names();
         let sets = self.sets();
@@ -45,7 +48,9 @@ impl Definitions {
     }
 
     fn push_rules(&self, out: &mut Vec<u8>) -> Result<(), AllocError>
-        ensures { OnOk result (out.new.items ≡ out.old.items ++ lines_text (map (definition_text self.now.set_names) (named definition.Rule self.now.rule_names self.now.rules))) }
+        ensures { OnOk result (out.new.items ≡
+            out.old.items ++ lines_text (map (definition_text self.now.set_names)
+            (named definition.Rule self.now.rule_names self.now.rules))) }
     {
         let sets = self.set_names();
         let names = self.rule_names();
@@ -58,7 +63,9 @@ impl Definitions {
     }
 
     fn push_demands(&self, out: &mut Vec<u8>) -> Result<(), AllocError>
-        ensures { OnOk result (out.new.items ≡ out.old.items ++ lines_text (map (definition_text self.now.set_names) (map (λ e. definition.Demand e.kind e.pattern) self.now.demands))) }
+        ensures { OnOk result (out.new.items ≡
+            out.old.items ++ lines_text (map (definition_text self.now.set_names)
+            (map (λ e. definition.Demand e.kind e.pattern) self.now.demands))) }
     {
         let sets = self.set_names();
         let demands = self.demands();

@@ -71,8 +71,8 @@ struct EntryState {
     phase: Phase,
 }
 
-/// The entry or the range that a line spells, with no other parts than these; or where the line stops being one, which law
-/// `reading_an_entry_is_exact` says. Tags and rules go by their names.
+/// The entry or the range that a line spells, with no other parts than these; or where the line stops being one, which
+/// law `reading_an_entry_is_exact` says. Tags and rules go by their names.
 // Always inline, so that it is where a table is read, whoever else calls it. So are each step and the end.
 #[inline(always)]
 #[tactic(auto, unfolding(crate::specs::EntrySteps::entry_read))]
@@ -122,7 +122,8 @@ impl EntryState {
     #[inline(always)]
     #[tactic(auto, using(crate::proofs::EntryWordLemmas::after_mark, crate::proofs::EntryWordLemmas::after_hyphen, crate::proofs::EntryWordLemmas::after_range))]
     fn step(&mut self, alloc: Global, parts: EntryParts, lexeme: &[u8]) -> Result<bool, AllocError>
-        ensures { IfOk result (λ taken. steps.step_in parts (steps.state self.old) lexeme.now ≡ taken_as taken (steps.state self.new)) }
+        ensures { IfOk result (λ taken. steps.step_in parts (steps.state self.old) lexeme.now ≡
+            taken_as taken (steps.state self.new)) }
     {
         match self.phase {
             Phase::Mark | Phase::Hyphen => self.take_point(lexeme),
@@ -144,7 +145,8 @@ impl EntryState {
         lexeme: &[u8],
     ) -> Result<bool, AllocError>
         requires { is_before_name self.old.phase ≡ true }
-        ensures { IfOk result (λ taken. steps.step_in parts (steps.state self.old) lexeme.now ≡ taken_as taken (steps.state self.new)) }
+        ensures { IfOk result (λ taken. steps.step_in parts (steps.state self.old) lexeme.now ≡
+            taken_as taken (steps.state self.new)) }
     {
         if !parts.named && is_lacking(parts, false, word_of(lexeme)) {
             return Ok(false);
@@ -165,7 +167,8 @@ impl EntryState {
         lexeme: &[u8],
     ) -> Result<bool, AllocError>
         requires { is_before_word self.old.phase ≡ true }
-        ensures { IfOk result (λ taken. steps.step_in parts (steps.state self.old) lexeme.now ≡ taken_as taken (steps.state self.new)) }
+        ensures { IfOk result (λ taken. steps.step_in parts (steps.state self.old) lexeme.now ≡
+            taken_as taken (steps.state self.new)) }
     {
         let word = word_of(lexeme);
         if is_lacking(parts, self.is_new(), word) {
@@ -197,7 +200,8 @@ impl EntryState {
     }
 
     fn begin(&mut self, word: EntryWord, lexeme: &[u8]) -> Result<bool, AllocError>
-        ensures { IfOk result (λ taken. steps.begin_by (steps.state self.old) word lexeme.now ≡ taken_as taken (steps.state self.new)) }
+        ensures { IfOk result (λ taken. steps.begin_by (steps.state self.old) word lexeme.now ≡
+            taken_as taken (steps.state self.new)) }
     {
         match word {
             EntryWord::Mark => {
@@ -210,7 +214,8 @@ impl EntryState {
     }
 
     fn take_point(&mut self, lexeme: &[u8]) -> Result<bool, AllocError>
-        ensures { IfOk result (λ taken. steps.at_point (steps.state self.old) (point_of lexeme.now) ≡ taken_as taken (steps.state self.new)) }
+        ensures { IfOk result (λ taken. steps.at_point (steps.state self.old) (point_of lexeme.now) ≡
+            taken_as taken (steps.state self.new)) }
     {
         let Some(point) = hex_point(without_prefix(lexeme)) else {
             return Ok(false);
@@ -221,7 +226,8 @@ impl EntryState {
     }
 
     fn after_point(&mut self, alloc: Global, word: EntryWord) -> Result<bool, AllocError>
-        ensures { IfOk result (λ taken. steps.after_point (steps.state self.old) word ≡ taken_as taken (steps.state self.new)) }
+        ensures { IfOk result (λ taken. steps.after_point (steps.state self.old) word ≡
+            taken_as taken (steps.state self.new)) }
     {
         match word {
             EntryWord::Hyphen => Ok(self.go_on(Phase::Hyphen)),
@@ -253,7 +259,8 @@ impl EntryState {
     }
 
     fn after_points(&mut self, alloc: Global, word: EntryWord) -> Result<bool, AllocError>
-        ensures { IfOk result (λ taken. steps.after_points (steps.state self.old) word ≡ taken_as taken (steps.state self.new)) }
+        ensures { IfOk result (λ taken. steps.after_points (steps.state self.old) word ≡
+            taken_as taken (steps.state self.new)) }
     {
         match word {
             EntryWord::As => Ok(!self.current.marked && self.go_on(Phase::As)),
@@ -263,7 +270,8 @@ impl EntryState {
 
     /// Takes the name of a tag, if there is none like it yet.
     fn take_tag(&mut self, alloc: Global, lexeme: &[u8]) -> Result<bool, AllocError>
-        ensures { IfOk result (λ taken. steps.at_tag (steps.state self.old) lexeme.now ≡ taken_as taken (steps.state self.new)) }
+        ensures { IfOk result (λ taken. steps.at_tag (steps.state self.old) lexeme.now ≡
+            taken_as taken (steps.state self.new)) }
     {
         if !is_name(lexeme) || is_one_of(&self.current.tags, lexeme) {
             return Ok(false);
@@ -274,7 +282,8 @@ impl EntryState {
     }
 
     fn after_tag(&mut self, alloc: Global, word: EntryWord) -> Result<bool, AllocError>
-        ensures { IfOk result (λ taken. steps.after_tag (steps.state self.old) word ≡ taken_as taken (steps.state self.new)) }
+        ensures { IfOk result (λ taken. steps.after_tag (steps.state self.old) word ≡
+            taken_as taken (steps.state self.new)) }
     {
         match word {
             EntryWord::Comma => Ok(self.go_on(Phase::As)),
@@ -283,7 +292,8 @@ impl EntryState {
     }
 
     fn after_tags(&mut self, alloc: Global, word: EntryWord) -> Result<bool, AllocError>
-        ensures { IfOk result (λ taken. steps.after_tags (steps.state self.old) word ≡ taken_as taken (steps.state self.new)) }
+        ensures { IfOk result (λ taken. steps.after_tags (steps.state self.old) word ≡
+            taken_as taken (steps.state self.new)) }
     {
         match word {
             EntryWord::When => Ok(self.go_on(Phase::When)),
@@ -299,7 +309,8 @@ impl EntryState {
         kind: ConditionKind,
         lexeme: &[u8],
     ) -> Result<bool, AllocError>
-        ensures { IfOk result (λ taken. steps.at_rule (steps.state self.old) kind lexeme.now ≡ taken_as taken (steps.state self.new)) }
+        ensures { IfOk result (λ taken. steps.at_rule (steps.state self.old) kind lexeme.now ≡
+            taken_as taken (steps.state self.new)) }
     {
         if !is_name(lexeme) {
             return Ok(false);
@@ -312,7 +323,8 @@ impl EntryState {
 
     /// Takes a separator: `|` after the source, `:` after a variant, nothing after a range.
     fn after_rule(&mut self, alloc: Global, word: EntryWord) -> Result<bool, AllocError>
-        ensures { IfOk result (λ taken. steps.after_rule (steps.state self.old) word ≡ taken_as taken (steps.state self.new)) }
+        ensures { IfOk result (λ taken. steps.after_rule (steps.state self.old) word ≡
+            taken_as taken (steps.state self.new)) }
     {
         let may_stand = match word {
             EntryWord::Bar => self.done.is_empty(),

@@ -1,11 +1,13 @@
 //! Laws of the definitions, each the contract of a function that does nothing.
-ghost use Rattle.std.specs.Prelude.{is_some, not, ◌≡◌, ◌≤◌, ◌↔◌, Ok, Err, ℕ, [], ◌∷◌, length, List, Option, Some, None, true, false, codes};
+ghost use Rattle.std.specs.Prelude.{is_some, not, ◌≡◌, ◌≤◌, ◌↔◌, Ok, Err, ℕ, [], ◌∷◌, length, List, Option, Some, None};
+ghost use Rattle.std.specs.Prelude.{true, false, codes};
 ghost use Rattle.label_patterns.specs.declared.span.Span.{Span};
 ghost use Rattle.label_patterns.specs.Patterns.{Pattern};
 ghost use Rattle.ruleset_text.specs.declared.definition.DemandKind.TheVariants as demand;
 ghost use Rattle.label_patterns.specs.declared.condition.ConditionKind.TheVariants as condition;
 ghost use Rattle.ruleset_text.specs.declared.fault.DefinitionFault.{DefinitionFault};
-ghost use Rattle.ruleset_text.specs.declared.fault.DefinitionFault.TheVariants.{BadClass, Limit, NoSuchName, SameName, Syntax};
+ghost use Rattle.ruleset_text.specs.declared.fault.DefinitionFault.TheVariants.{BadClass, Limit, NoSuchName, SameName};
+ghost use Rattle.ruleset_text.specs.declared.fault.DefinitionFault.TheVariants.{Syntax};
 ghost use Rattle.ruleset_text.specs.declared.keyword.Keyword.{Keyword};
 ghost use Rattle.ruleset_text.specs.declared.token.Token.{Token};
 ghost use Rattle.label_patterns.specs.Patterns as patterns;
@@ -13,7 +15,8 @@ ghost use Rattle.label_patterns.specs.Matches.{HasItsSets};
 ghost use Rattle.ruleset_text.specs.Canonical.{HasPoints, pattern_text};
 ghost use Rattle.ruleset_text.specs.Definition.{Definition, contexts_of, definition_of, demand_of};
 ghost use Rattle.ruleset_text.specs.Definition as definition;
-ghost use Rattle.ruleset_text.specs.Definitions.{Definitions, added, canonical_lines, canonical_size, defined, nothing_defined, with_lines, with_words};
+ghost use Rattle.ruleset_text.specs.Definitions.{Definitions, added, canonical_lines, canonical_size, defined};
+ghost use Rattle.ruleset_text.specs.Definitions.{nothing_defined, with_lines, with_words};
 ghost use Rattle.ruleset_text.specs.DefinitionOrder.{IsDefinitionFault, IsDefinitionLine, SpellsDefinition, SpellsLine};
 ghost use Rattle.ruleset_text.specs.DefinitionReading.{line_read};
 ghost use Rattle.ruleset_text.specs.LineStops.{IsLineStop};
@@ -38,54 +41,69 @@ pub fn reading_a_pattern_is_exact()
     ensures one { (ts : List Token) (p q : Pattern) → SpellsPattern ts p → SpellsPattern ts q → p ≡ q }
 {}
 
-/// The function that reads the spans of a set tells exactly what the grammar says; so lexemes spell one list of spans at most.
+/// The function that reads the spans of a set tells exactly what the grammar says; so lexemes spell one list of spans
+/// at most.
 pub fn reading_spans_is_exact()
     ensures exact { (words : List (List ℕ)) (spans : List Span) → (spans_in words ≡ Some spans) ↔ SpellSet words spans }
-    ensures one { (words : List (List ℕ)) (spans others : List Span) → SpellSet words spans → SpellSet words others → spans ≡ others }
+    ensures one { (words : List (List ℕ)) (spans others : List Span) → SpellSet words spans → SpellSet words others →
+        spans ≡ others }
 {}
 
-/// The function that reads a definition tells exactly what the grammar says of the line; so a line spells one definition at most.
+/// The function that reads a definition tells exactly what the grammar says of the line; so a line spells one
+/// definition at most.
 pub fn reading_a_definition_is_exact()
-    ensures exact { (names : List (List ℕ)) (keyword : Keyword) (words : List (List ℕ)) (x : Definition) → (definition_of names keyword words ≡ Some x) ↔ SpellsDefinition names keyword words x }
-    ensures one { (names : List (List ℕ)) (keyword : Keyword) (words : List (List ℕ)) (x y : Definition) → SpellsDefinition names keyword words x → SpellsDefinition names keyword words y → x ≡ y }
+    ensures exact { (names : List (List ℕ)) (keyword : Keyword) (words : List (List ℕ)) (x : Definition) →
+        (definition_of names keyword words ≡ Some x) ↔ SpellsDefinition names keyword words x }
+    ensures one { (names : List (List ℕ)) (keyword : Keyword) (words : List (List ℕ)) (x y : Definition) →
+        SpellsDefinition names keyword words x → SpellsDefinition names keyword words y → x ≡ y }
 {}
 
-/// What is read of a line is the definition that it spells; or the place where it stops defining something: some definition begins
-/// with the lexemes before, and none goes on with the one that stands there; or the line ends there too early. The place is the same
-/// however the sets are numbered.
+/// What is read of a line is the definition that it spells; or the place where it stops defining something: some
+/// definition begins with the lexemes before, and none goes on with the one that stands there; or the line ends there
+/// too early. The place is the same however the sets are numbered.
 pub fn a_line_stops_where_no_definition_goes_on()
-    ensures read { (names : List (List ℕ)) (end : ℕ) (ws : List Placed) (x : Definition) → (line_read names end ws ≡ Ok x) ↔ SpellsLine names (unplaced ws) x }
-    ensures place { (names : List (List ℕ)) (end : ℕ) (ws : List Placed) (place : FaultPlace) → (line_read names end ws ≡ Err place) ↔ IsLineStop (IsDefinitionLine names) ws end place }
-    ensures alike { (names : List (List ℕ)) (end : ℕ) (ws : List Placed) → result_err (line_read names end ws) ≡ result_err (line_read [] end ws) }
+    ensures read { (names : List (List ℕ)) (end : ℕ) (ws : List Placed) (x : Definition) →
+        (line_read names end ws ≡ Ok x) ↔ SpellsLine names (unplaced ws) x }
+    ensures place { (names : List (List ℕ)) (end : ℕ) (ws : List Placed) (place : FaultPlace) →
+        (line_read names end ws ≡ Err place) ↔ IsLineStop (IsDefinitionLine names) ws end place }
+    ensures alike { (names : List (List ℕ)) (end : ℕ) (ws : List Placed) →
+        result_err (line_read names end ws) ≡ result_err (line_read [] end ws) }
 {}
 
-/// A line that is to define something is refused exactly if some condition of a refusal holds for it, and the fault is that of
-/// the first one that holds.
+/// A line that is to define something is refused exactly if some condition of a refusal holds for it, and the fault is
+/// that of the first one that holds.
 pub fn the_first_condition_of_a_definition_is_told()
-    ensures { (limit : ℕ) (d : Definitions) (keyword : Keyword) (words : List (List ℕ)) (fault : DefinitionFault) → (defined limit d keyword words ≡ Err fault) ↔ IsDefinitionFault limit d keyword words fault }
+    ensures { (limit : ℕ) (d : Definitions) (keyword : Keyword) (words : List (List ℕ)) (fault : DefinitionFault) →
+        (defined limit d keyword words ≡ Err fault) ↔ IsDefinitionFault limit d keyword words fault }
 {}
 
-/// The canonical text of a pattern, cut into tokens, is read as that pattern, where its sets are among those that are named.
+/// The canonical text of a pattern, cut into tokens, is read as that pattern, where its sets are among those that are
+/// named.
 pub fn canonical_text_is_read_back()
-    ensures { (names : List (List ℕ)) (p : Pattern) → AreNames names → HasItsSets (length names) p → HasPoints p → Is Whole p →
+    ensures { (names : List (List ℕ)) (p : Pattern) → AreNames names → HasItsSets (length names) p → HasPoints p →
+        Is Whole p →
         pattern_of (tokens_of names (pattern_text names p)) ≡ Some p }
 {}
 
 /// What lines define has no fault: none is in what no line defines, and a line adds none.
 pub fn what_lines_define_has_no_fault()
     ensures nothing { (properties : Properties) → AreDefinitions (nothing_defined properties) }
-    ensures more { (d e : Definitions) (limit : ℕ) (keyword : Keyword) (words : List (List ℕ)) → AreDefinitions d → defined limit d keyword words ≡ Ok e → AreDefinitions e }
+    ensures more { (d e : Definitions) (limit : ℕ) (keyword : Keyword) (words : List (List ℕ)) → AreDefinitions d →
+        defined limit d keyword words ≡ Ok e → AreDefinitions e }
 {}
 
-/// Definitions without a fault are read back from their canonical lines, where the canonical text may have as many bytes
-/// as these.
+/// Definitions without a fault are read back from their canonical lines, where the canonical text may have as many
+/// bytes as these.
 pub fn canonical_lines_are_read_back()
-    ensures { (d : Definitions) (limit : ℕ) → AreDefinitions d → canonical_size d ≤ limit → with_lines limit (nothing_defined d.properties) (canonical_lines d) ≡ Ok d }
+    ensures { (d : Definitions) (limit : ℕ) → AreDefinitions d → canonical_size d ≤ limit →
+        with_lines limit (nothing_defined d.properties) (canonical_lines d) ≡ Ok d }
 {}
 
 /// Examples, which the definitions compute; one set is defined, with the name A.
 pub fn definitions_compute_the_examples()
-    ensures demand { demand_of (codes "A" ∷ []) (codes "(0030 /u+0031).*@A?") ≡ Some (patterns.Then (patterns.Group (patterns.Either (patterns.Point 48) (patterns.Point 49))) (patterns.Then (patterns.Many patterns.Any) (patterns.Optional (patterns.Set 0)))) }
+    ensures demand { demand_of (codes "A" ∷ []) (codes "(0030 /u+0031).*@A?") ≡
+        Some (patterns.Then (patterns.Group (patterns.Either (patterns.Point 48) (patterns.Point 49)))
+        (patterns.Then (patterns.Many patterns.Any) (patterns.Optional (patterns.Set 0)))) }
     ensures unknown { demand_of (codes "A" ∷ []) (codes "@B") ≡ Some (patterns.Set 1) }
     ensures no_item { demand_of (codes "A" ∷ []) (codes "()") ≡ None }
     ensures not_closed { demand_of (codes "A" ∷ []) (codes "(@A") ≡ None }
@@ -101,7 +119,9 @@ pub fn definitions_compute_the_examples()
     ensures word { demand_of (codes "A" ∷ []) (codes "A") ≡ None }
     ensures place { demand_of (codes "A" ∷ []) (codes "@A _") ≡ None }
     ensures nothing { demand_of (codes "A" ∷ []) (codes "") ≡ None }
-    ensures contexts { contexts_of (codes "A" ∷ []) (codes "^ _ / _ $") ≡ Some (patterns.Either (patterns.Then patterns.Start patterns.Anchor) (patterns.Then patterns.Anchor patterns.End)) }
+    ensures contexts { contexts_of (codes "A" ∷ []) (codes "^ _ / _ $") ≡
+        Some (patterns.Either (patterns.Then patterns.Start patterns.Anchor)
+        (patterns.Then patterns.Anchor patterns.End)) }
     ensures anchor_alone { contexts_of (codes "A" ∷ []) (codes "_") ≡ Some patterns.Anchor }
     ensures no_anchor { contexts_of (codes "A" ∷ []) (codes "@A") ≡ None }
     ensures two_anchors { contexts_of (codes "A" ∷ []) (codes "@A _ _") ≡ None }
@@ -128,12 +148,18 @@ pub fn definitions_compute_the_examples()
     ensures long_name { is_name (codes "nnnnnnnnnnnnnnnnnnnnnnnnnnnnnnnnn") ≡ false }
 {}
 
-/// Examples of lines, which the definitions compute; before them are defined the tags t and v, the set A and the rule r.
+/// Examples of lines, which the definitions compute; before them are defined the tags t and v, the set A and the rule
+/// r.
 pub fn definitions_compute_the_lines()
-    ensures tag { with_words 1000 some_defined (lexemes (codes "%tag a")) ≡ Ok (added some_defined (definition.Tag (codes "a"))) }
-    ensures capital { with_words 1000 some_defined (lexemes (codes "%tag R")) ≡ Ok (added some_defined (definition.Tag (codes "R"))) }
-    ensures rule { with_words 1000 some_defined (lexemes (codes "%rule U _ @A")) ≡ Ok (added some_defined (definition.Rule (codes "U") (patterns.Then patterns.Anchor (patterns.Set 0)))) }
-    ensures demand { with_words 1000 some_defined (lexemes (codes "%always @A .*")) ≡ Ok (added some_defined (definition.Demand demand.Always (patterns.Then (patterns.Set 0) (patterns.Many patterns.Any)))) }
+    ensures tag { with_words 1000 some_defined (lexemes (codes "%tag a")) ≡
+        Ok (added some_defined (definition.Tag (codes "a"))) }
+    ensures capital { with_words 1000 some_defined (lexemes (codes "%tag R")) ≡
+        Ok (added some_defined (definition.Tag (codes "R"))) }
+    ensures rule { with_words 1000 some_defined (lexemes (codes "%rule U _ @A")) ≡
+        Ok (added some_defined (definition.Rule (codes "U") (patterns.Then patterns.Anchor (patterns.Set 0)))) }
+    ensures demand { with_words 1000 some_defined (lexemes (codes "%always @A .*")) ≡
+        Ok (added some_defined (definition.Demand demand.Always
+        (patterns.Then (patterns.Set 0) (patterns.Many patterns.Any)))) }
     ensures no_word { with_words 1000 some_defined (lexemes (codes "")) ≡ Err Syntax }
     ensures version { with_words 1000 some_defined (lexemes (codes "%version 3")) ≡ Err Syntax }
     ensures capital_keyword { with_words 1000 some_defined (lexemes (codes "%Set C 0061")) ≡ Err Syntax }
@@ -149,7 +175,8 @@ pub fn definitions_compute_the_lines()
     ensures hyphen { with_words 1000 some_defined (lexemes (codes "%set C-D 0061")) ≡ Err Syntax }
     ensures no_tag { with_words 1000 some_defined (lexemes (codes "%tag")) ≡ Err Syntax }
     ensures two_tags { with_words 1000 some_defined (lexemes (codes "%tag a b")) ≡ Err Syntax }
-    ensures long_name { with_words 1000 some_defined (lexemes (codes "%tag nnnnnnnnnnnnnnnnnnnnnnnnnnnnnnnnn")) ≡ Err Syntax }
+    ensures long_name { with_words 1000 some_defined (lexemes (codes "%tag nnnnnnnnnnnnnnnnnnnnnnnnnnnnnnnnn")) ≡
+        Err Syntax }
     ensures no_anchor { with_words 1000 some_defined (lexemes (codes "%rule s @A")) ≡ Err Syntax }
     ensures two_anchors { with_words 1000 some_defined (lexemes (codes "%rule s @A _ _")) ≡ Err Syntax }
     ensures no_context { with_words 1000 some_defined (lexemes (codes "%rule s")) ≡ Err Syntax }
@@ -161,9 +188,12 @@ pub fn definitions_compute_the_lines()
     ensures first_branch { with_words 1000 some_defined (lexemes (codes "%always / @A")) ≡ Err Syntax }
     ensures groups { with_words 1000 some_defined (lexemes (codes "%never (((((((((@A)))))))))")) ≡ Err Limit }
     ensures stars { with_words 1000 some_defined (lexemes (codes "%never ((@A* @A)* @A)*")) ≡ Err Limit }
-    ensures limit_before_name { with_words 1000 some_defined (lexemes (codes "%never (((((((((@nope)))))))))")) ≡ Err Limit }
-    ensures form_before_limit { with_words 1000 some_defined (lexemes (codes "%never (((((((((@A))))))))) _")) ≡ Err Syntax }
-    ensures limit_before_class { with_words 1000 some_defined (lexemes (codes "%rule s (((((((((0041))))))))) _")) ≡ Err Limit }
+    ensures limit_before_name { with_words 1000 some_defined (lexemes (codes "%never (((((((((@nope)))))))))")) ≡
+        Err Limit }
+    ensures form_before_limit { with_words 1000 some_defined (lexemes (codes "%never (((((((((@A))))))))) _")) ≡
+        Err Syntax }
+    ensures limit_before_class { with_words 1000 some_defined (lexemes (codes "%rule s (((((((((0041))))))))) _")) ≡
+        Err Limit }
     ensures unknown { with_words 1000 some_defined (lexemes (codes "%rule s @B _")) ≡ Err NoSuchName }
     ensures no_set { with_words 1000 some_defined (lexemes (codes "%rule s @r _")) ≡ Err NoSuchName }
     ensures second { with_words 1000 some_defined (lexemes (codes "%never (@A @B)")) ≡ Err NoSuchName }
@@ -180,10 +210,29 @@ pub fn definitions_compute_the_lines()
 
 /// Examples of entries and of ranges, which the definitions compute.
 pub fn definitions_compute_the_entries()
-    ensures entry { entry_in (lexemes (codes "0061-0065 | ! u+00e4")) ≡ Some (record { mapped = written false (97 ∷ 101 ∷ []) [] None ∷ written true (228 ∷ []) [] None ∷ []; last = None }) }
-    ensures tags { entry_in (lexemes (codes "56FD as simp,trad|570B as trad:!0061")) ≡ Some (record { mapped = written false (22269 ∷ []) (codes "simp" ∷ codes "trad" ∷ []) None ∷ written false (22283 ∷ []) (codes "trad" ∷ []) None ∷ written true (97 ∷ []) [] None ∷ []; last = None }) }
-    ensures words_as_names { entry_in (lexemes (codes "0061 as as when when")) ≡ Some (record { mapped = written false (97 ∷ []) (codes "as" ∷ []) (Some (record { kind = condition.When; rule = codes "when" })) ∷ []; last = None }) }
-    ensures range { entry_in (lexemes (codes "!0062 .. 0063 unless r")) ≡ Some (record { mapped = written true (98 ∷ []) [] (Some (record { kind = condition.Unless; rule = codes "r" })) ∷ []; last = Some 99 }) }
+    ensures entry { entry_in (lexemes (codes "0061-0065 | ! u+00e4")) ≡
+        Some (record {
+          mapped = written false (97 ∷ 101 ∷ []) [] None ∷ written true (228 ∷ []) [] None ∷ [];
+          last = None;
+        }) }
+    ensures tags { entry_in (lexemes (codes "56FD as simp,trad|570B as trad:!0061")) ≡
+        Some (record {
+          mapped = written false (22269 ∷ []) (codes "simp" ∷ codes "trad" ∷ []) None ∷
+              written false (22283 ∷ []) (codes "trad" ∷ []) None ∷ written true (97 ∷ []) [] None ∷ [];
+          last = None;
+        }) }
+    ensures words_as_names { entry_in (lexemes (codes "0061 as as when when")) ≡
+        Some (record {
+          mapped = written false (97 ∷ []) (codes "as" ∷ [])
+              (Some (record { kind = condition.When; rule = codes "when" })) ∷ [];
+          last = None;
+        }) }
+    ensures range { entry_in (lexemes (codes "!0062 .. 0063 unless r")) ≡
+        Some (record {
+          mapped = written true (98 ∷ []) []
+              (Some (record { kind = condition.Unless; rule = codes "r" })) ∷ [];
+          last = Some 99;
+        }) }
     ensures mark_with_tags { entry_in (lexemes (codes "!0061 as t")) ≡ None }
     ensures blocked_with_tags { entry_in (lexemes (codes "0061|!0062 as t")) ≡ None }
     ensures tag_twice { entry_in (lexemes (codes "0061 as t,t")) ≡ None }

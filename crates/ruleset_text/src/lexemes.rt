@@ -1,5 +1,6 @@
 //! The lexemes of a line: marks, runs of full stops, and words.
-ghost use Rattle.std.specs.Prelude.{◌≡◌, ◌<◌, ◌≤◌, [], ◌∷◌, ◌++◌, length, take, drop, not, false, slice_index, MatchOption, IfSome};
+ghost use Rattle.std.specs.Prelude.{◌≡◌, ◌<◌, ◌≤◌, [], ◌∷◌, ◌++◌, length, take, drop, not, false, slice_index};
+ghost use Rattle.std.specs.Prelude.{MatchOption, IfSome};
 ghost use Rattle.std.specs.List.{position_or_len};
 ghost use Rattle.ruleset_text.specs.Lexemes as lexemes;
 ghost use Rattle.ruleset_text.specs.Lexemes.{lexemes as lexemes_of};
@@ -8,8 +9,10 @@ ghost use Rattle.ruleset_text.specs.Lexemes.{lexemes as lexemes_of};
 // Always inline, with all that it calls: reading an entry calls it for each lexeme.
 #[inline(always)]
 pub fn next_lexeme(line: &[u8]) -> Option<(&[u8], &[u8])>
-    ensures is { MatchOption result (lexemes_of line.now ≡ []) (λ found. lexemes_of line.now ≡ found.0.now ∷ lexemes_of found.1.now) }
-    ensures cut { IfSome result (λ found. drop (position_or_len (λ c. not (lexemes.is_blank c)) line.now) line.now ≡ found.0.now ++ found.1.now) }
+    ensures is { MatchOption result (lexemes_of line.now ≡ [])
+        (λ found. lexemes_of line.now ≡ found.0.now ∷ lexemes_of found.1.now) }
+    ensures cut { IfSome result (λ found. drop (position_or_len (λ c. not (lexemes.is_blank c)) line.now) line.now ≡
+        found.0.now ++ found.1.now) }
     ensures shorter { IfSome result (λ found. length found.1.now < length line.now) }
 {
     let text = without_blanks(line);

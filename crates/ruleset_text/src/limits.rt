@@ -52,7 +52,8 @@ pub fn is_within(tree: &PatternTree, groups: usize, stars: u32) -> bool
 
 /// What is left of so many atoms, if there are enough.
 pub fn without_atoms(tree: &PatternTree, left: usize) -> Option<usize>
-    ensures { MatchOption result (left < limits.atoms (pattern tree.now)) (λ less. limits.atoms (pattern tree.now) + less ≡ left) }
+    ensures { MatchOption result (left < limits.atoms (pattern tree.now))
+        (λ less. limits.atoms (pattern tree.now) + less ≡ left) }
 {
     match tree {
         PatternTree::Point(_) => left.checked_sub(1),

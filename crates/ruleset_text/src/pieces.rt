@@ -21,10 +21,11 @@ pub enum Piece {
     Part(PatternTree, bool),
 }
 
-/// Adds a token, and answers whether it may stand there. If it may not, or memory was refused, the pieces are of no use any
-/// more.
+/// Adds a token, and answers whether it may stand there. If it may not, or memory was refused, the pieces are of no use
+/// any more.
 pub fn step(alloc: Global, pieces: &mut Vec<Piece>, token: Token) -> Result<bool, AllocError>
-    ensures { IfOk result (λ taken. steps.step (pieces_of pieces.old.items) token ≡ taken_as taken (pieces_of pieces.new.items)) }
+    ensures { IfOk result (λ taken. steps.step (pieces_of pieces.old.items) token ≡
+        taken_as taken (pieces_of pieces.new.items)) }
 {
     match token {
         Token::Point(point) => add(pieces, Piece::Part(PatternTree::Point(point), true)),
@@ -56,7 +57,8 @@ pub fn ended(alloc: Global, pieces: Vec<Piece>) -> Result<Option<PatternTree>, A
 }
 
 fn add(pieces: &mut Vec<Piece>, piece: Piece) -> Result<bool, AllocError>
-    ensures { IfOk result (λ taken. taken_as taken (pieces_of pieces.new.items) ≡ Some (piece_of piece ∷ pieces_of pieces.old.items)) }
+    ensures { IfOk result (λ taken. taken_as taken (pieces_of pieces.new.items) ≡
+        Some (piece_of piece ∷ pieces_of pieces.old.items)) }
 {
     pieces.push(piece)?;
     Ok(true)
@@ -64,7 +66,8 @@ fn add(pieces: &mut Vec<Piece>, piece: Piece) -> Result<bool, AllocError>
 
 /// Adds `?` to the atom before it.
 fn at_most_once(alloc: Global, pieces: &mut Vec<Piece>) -> Result<bool, AllocError>
-    ensures { IfOk result (λ taken. steps.with_sign patterns.Optional (pieces_of pieces.old.items) ≡ taken_as taken (pieces_of pieces.new.items)) }
+    ensures { IfOk result (λ taken. steps.with_sign patterns.Optional (pieces_of pieces.old.items) ≡
+        taken_as taken (pieces_of pieces.new.items)) }
 {
     let Some(Piece::Part(atom, true)) = pieces.pop() else {
         return Ok(false);
@@ -76,7 +79,8 @@ fn at_most_once(alloc: Global, pieces: &mut Vec<Piece>) -> Result<bool, AllocErr
 
 /// Adds `*` to the atom before it.
 fn any_number(alloc: Global, pieces: &mut Vec<Piece>) -> Result<bool, AllocError>
-    ensures { IfOk result (λ taken. steps.with_sign patterns.Many (pieces_of pieces.old.items) ≡ taken_as taken (pieces_of pieces.new.items)) }
+    ensures { IfOk result (λ taken. steps.with_sign patterns.Many (pieces_of pieces.old.items) ≡
+        taken_as taken (pieces_of pieces.new.items)) }
 {
     let Some(Piece::Part(atom, true)) = pieces.pop() else {
         return Ok(false);
@@ -88,7 +92,8 @@ fn any_number(alloc: Global, pieces: &mut Vec<Piece>) -> Result<bool, AllocError
 
 /// Completes a branch by its `/`.
 fn bar(alloc: Global, pieces: &mut Vec<Piece>) -> Result<bool, AllocError>
-    ensures { IfOk result (λ taken. steps.with_bar (pieces_of pieces.old.items) ≡ taken_as taken (pieces_of pieces.new.items)) }
+    ensures { IfOk result (λ taken. steps.with_bar (pieces_of pieces.old.items) ≡
+        taken_as taken (pieces_of pieces.new.items)) }
 {
     let Some(Piece::Part(last, _)) = pieces.pop() else {
         return Ok(false);
@@ -100,7 +105,8 @@ fn bar(alloc: Global, pieces: &mut Vec<Piece>) -> Result<bool, AllocError>
 
 /// Completes a group by its `)`.
 fn close(alloc: Global, pieces: &mut Vec<Piece>) -> Result<bool, AllocError>
-    ensures { IfOk result (λ taken. steps.ending steps.with_close (pieces_of pieces.old.items) ≡ taken_as taken (pieces_of pieces.new.items)) }
+    ensures { IfOk result (λ taken. steps.ending steps.with_close (pieces_of pieces.old.items) ≡
+        taken_as taken (pieces_of pieces.new.items)) }
 {
     let Some(Piece::Part(last, _)) = pieces.pop() else {
         return Ok(false);

@@ -40,7 +40,8 @@ impl<'a> PlacedLexemes<'a> {
     // Always inline, as what it calls: an entry is read by it.
     #[inline(always)]
     pub fn next(&mut self) -> Option<(usize, &'a [u8])>
-        ensures { MatchOption result (self.old ≡ []) (λ found. self.old ≡ record { place = found.0; lexeme = found.1.now } ∷ self.new) }
+        ensures { MatchOption result (self.old ≡ [])
+            (λ found. self.old ≡ record { place = found.0; lexeme = found.1.now } ∷ self.new) }
     {
         let (lexeme, others) = next_lexeme(self.rest)?;
         let place = self.before + (self.rest.len() - others.len() - lexeme.len());

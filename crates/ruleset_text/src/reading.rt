@@ -42,8 +42,8 @@ pub fn read_pattern(
     }
 }
 
-/// Adds a token, and answers whether it may stand there. If it may not, or memory was refused, what was read is of no use any
-/// more.
+/// Adds a token, and answers whether it may stand there. If it may not, or memory was refused, what was read is of no
+/// use any more.
 fn take(
     alloc: Global,
     is_rule: bool,
@@ -52,7 +52,8 @@ fn take(
     token: Token,
 ) -> Result<bool, AllocError>
     requires few { signs.old.groups + 1 < 2 ^ 64 }
-    ensures state { IfOk result (λ taken. words.step_in is_rule (state pieces.old.items signs.old) token ≡ taken_as taken (state pieces.new.items signs.new)) }
+    ensures state { IfOk result (λ taken. words.step_in is_rule (state pieces.old.items signs.old) token ≡
+        taken_as taken (state pieces.new.items signs.new)) }
     ensures few { signs.new.groups ≤ signs.old.groups + 1 }
 {
     if !signs.may_stand(is_rule, token) {

@@ -14,7 +14,9 @@ pub fn with_other_names(
     names: &[Name],
     text: &[u8],
 ) -> Result<Option<Vec<Name>>, AllocError>
-    ensures { IfOk result (λ found. MatchOption found (names_on names.now (lexemes text.now) ≡ names.now) (λ all. names_on names.now (lexemes text.now) ≡ all.items)) }
+    ensures { IfOk result (λ found.
+        MatchOption found (names_on names.now (lexemes text.now) ≡ names.now)
+        (λ all. names_on names.now (lexemes text.now) ≡ all.items)) }
 {
     let mut others = other_names(alloc, names, text)?;
     if others.is_empty() {
@@ -45,7 +47,8 @@ fn add_other(
     others: &mut Vec<Name>,
     word: &[u8],
 ) -> Result<(), AllocError>
-    ensures { IfOk result (λ _. names.now ++ others.new.items ≡ words.with_word (names.now ++ others.old.items) word.now) }
+    ensures { IfOk result (λ _. names.now ++ others.new.items ≡
+        words.with_word (names.now ++ others.old.items) word.now) }
 {
     let Some(name) = set_name(word) else {
         return Ok(());

@@ -22,8 +22,8 @@ impl Signs {
         }
     }
 
-    /// Whether a token may stand there: in a rule `_` once in each context, in no group, `^` before it alone and `$` after it;
-    /// in a demand no `_`.
+    /// Whether a token may stand there: in a rule `_` once in each context, in no group, `^` before it alone and `$`
+    /// after it; in a demand no `_`.
     pub fn may_stand(self, is_rule: bool, token: Token) -> bool
         ensures { result ≡ words.may_stand is_rule self.groups self.passed token }
     {

@@ -59,7 +59,8 @@ pub fn read_spans(
 /// The spans with one part more, and what is then held; none if the part may not stand there.
 fn step(spans: &mut Vec<Span>, held: Held, part: SpanPart) -> Result<Option<Held>, AllocError>
     requires { IsRising spans.old.items held }
-    ensures step { IfOk result (λ found. words.step spans.old.items held part ≡ option_map (words.state spans.new.items) found) }
+    ensures step { IfOk result (λ found. words.step spans.old.items held part ≡
+        option_map (words.state spans.new.items) found) }
     ensures rising { IfOk result (λ found. IfSome found (IsRising spans.new.items)) }
 {
     match (held, part) {

@@ -9,8 +9,8 @@ use ruleset_text::{
     Definitions, FaultPlace, Keyword, PATTERN_LIMIT, SET_LIMIT, TAG_LIMIT, keyword_of, next_lexeme,
 };
 
-/// What is past a limit in a line after these definitions: its keyword, if they are as many as may be, or the first lexeme with
-/// which its pattern goes past a limit.
+/// What is past a limit in a line after these definitions: its keyword, if they are as many as may be, or the first
+/// lexeme with which its pattern goes past a limit.
 pub fn definition_limit(definitions: &Definitions, line: &[u8]) -> Option<FaultPlace>
     ensures { result ≡ places.definition_limit definitions.now line.now }
 {

@@ -1,5 +1,5 @@
-//! Why a table is refused: where its first faulty line has the fault. It is looked for once the fault is told, in the line that
-//! reading gives, by what reading knows of the lines before it.
+//! Why a table is refused: where its first faulty line has the fault. It is looked for once the fault is told, in the
+//! line that reading gives, by what reading knows of the lines before it.
 #![tactic(auto)]
 
 mod definition_limits;

@@ -1,5 +1,5 @@
-//! The names on a line, and where what a definition may not have stands on its line. It is looked for only once the line is
-//! known to be faulty.
+//! The names on a line, and where what a definition may not have stands on its line. It is looked for only once the
+//! line is known to be faulty.
 ghost use Rattle.std.specs.Prelude.{◌≡◌};
 ghost use Rattle.std.specs.Option.{option_copied};
 ghost use Rattle.table_cause.specs.LineNames as lines;

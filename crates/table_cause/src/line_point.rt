@@ -1,6 +1,7 @@
 //! The code points that a line of an entry or of a range names, with their places.
 ghost use Rattle.std.specs.Prelude.{◌≡◌, ◌+◌, ◌<◌, ◌≤◌, ◌^◌, ◌∷◌, ◌++◌, List, length, IfOk, OnOk};
-ghost use Rattle.table_cause.specs.LinePoints.{is_separator as is_separator_of, line_points as line_points_of, points_from, points_in};
+ghost use Rattle.table_cause.specs.LinePoints.{is_separator as is_separator_of, line_points as line_points_of};
+ghost use Rattle.table_cause.specs.LinePoints.{points_from, points_in};
 ghost use Rattle.table_cause.specs.ExpectedNames.{without_names};
 ghost use Rattle.table_cause.specs.LineNames.{definition_points as definition_points_of};
 ghost use Rattle.ruleset_text.specs.PlacedLexemes.{Placed};
@@ -63,8 +64,8 @@ fn points_named(alloc: Global, mut lexemes: PlacedLexemes<'_>) -> Result<Vec<Lin
     Ok(taken.points)
 }
 
-/// The code points that were read so far, how many sequences stand before that which is being read, and how many code points
-/// of this one were read.
+/// The code points that were read so far, how many sequences stand before that which is being read, and how many code
+/// points of this one were read.
 #[derive(Drop)]
 struct Taken {
     points: Vec<LinePoint>,
@@ -79,8 +80,10 @@ impl Taken {
     fn take(&mut self, place: usize, lexeme: &[u8]) -> Result<(), AllocError>
         requires sequence { self.old.sequence < 2 ^ 63 }
         requires index { self.old.index < 2 ^ 63 }
-        ensures taken { OnOk result ((ws : List Placed) → self.new.points.items ++ points_from self.new.sequence self.new.index (without_names self.new.expected ws)
-            ≡ self.old.points.items ++ points_from self.old.sequence self.old.index (without_names self.old.expected (record { place = place; lexeme = lexeme.now } ∷ ws))) }
+        ensures taken { OnOk result ((ws : List Placed) →
+            self.new.points.items ++ points_from self.new.sequence self.new.index (without_names self.new.expected ws)
+            ≡ self.old.points.items ++ points_from self.old.sequence self.old.index
+            (without_names self.old.expected (record { place = place; lexeme = lexeme.now } ∷ ws))) }
         ensures sequence { self.new.sequence ≤ self.old.sequence + 1 }
         ensures index { self.new.index ≤ self.old.index + 1 }
     {

@@ -1,4 +1,5 @@
-//! Where the pattern of a rule or a demand goes past a limit. It is looked for only once a line is known to go past one.
+//! Where the pattern of a rule or a demand goes past a limit. It is looked for only once a line is known to go past
+//! one.
 ghost use Rattle.std.specs.Prelude.{◌≡◌, ◌-◌, false, [], MatchOption};
 ghost use Rattle.table_cause.specs.PatternLimits as limits;
 ghost use Rattle.table_cause.specs.PatternLimits.{is_too_deep as too_deep, no_nesting, with_token as with_token_of};
@@ -21,8 +22,8 @@ struct Nesting {
     around: ArrayVec<u32, GROUP_LIMIT>,
 }
 
-/// The first lexeme with which the pattern of a line goes past a limit, if it may have so many atoms: a group within eight
-/// others, a `*` after an atom in which two stand within each other, or an atom too many. It takes no memory.
+/// The first lexeme with which the pattern of a line goes past a limit, if it may have so many atoms: a group within
+/// eight others, a `*` after an atom in which two stand within each other, or an atom too many. It takes no memory.
 pub fn first_past(atoms: usize, line: &[u8]) -> Option<FaultPlace>
     ensures { result ≡ limits.first_past atoms (limits.pattern_in (placed_lexemes line.now)) }
 {
@@ -42,7 +43,8 @@ pub fn first_past(atoms: usize, line: &[u8]) -> Option<FaultPlace>
 
 /// The lexemes of the pattern of a line, if it is to define a rule or a demand.
 fn pattern_lexemes(line: &[u8]) -> Option<PlacedLexemes<'_>>
-    ensures { MatchOption result (limits.pattern_in (placed_lexemes line.now) ≡ []) (λ lexemes. lexemes ≡ limits.pattern_in (placed_lexemes line.now)) }
+    ensures { MatchOption result (limits.pattern_in (placed_lexemes line.now) ≡ [])
+        (λ lexemes. lexemes ≡ limits.pattern_in (placed_lexemes line.now)) }
 {
     let mut lexemes = PlacedLexemes::new(line);
     let (_, word) = lexemes.next()?;

@@ -1,5 +1,6 @@
 //! Where a line of a table has its fault.
-ghost use Rattle.std.specs.Prelude.{◌≡◌, ◌<◌, ◌&&◌, true, [], IfOk, Some, None, length, take, find, bytes_eq, slice_index_or, if◌then◌else◌};
+ghost use Rattle.std.specs.Prelude.{◌≡◌, ◌<◌, ◌&&◌, true, [], IfOk, Some, None, length, take, find, bytes_eq};
+ghost use Rattle.std.specs.Prelude.{slice_index_or, if◌then◌else◌};
 ghost use Rattle.std.specs.List.{range_with_len};
 ghost use Rattle.ruleset_text.specs.Entries.{Mapped as Form};
 ghost use Rattle.ruleset_text.specs.EntryForms.{entry_form, mapped as form_of};
@@ -21,13 +22,15 @@ use ruleset_text::{
 use std::alloc::{AllocError, Global};
 use variant_table::{FaultyLine, REPLACEMENT_LIMIT, SEQUENCE_LIMIT, TableFault, Version};
 
-/// Where a line has this fault, if a place is told: none past a limit of the whole text, as of its entries or its canonical text.
+/// Where a line has this fault, if a place is told: none past a limit of the whole text, as of its entries or its
+/// canonical text.
 pub fn fault_place(
     alloc: Global,
     faulty: &FaultyLine<'_>,
     fault: TableFault,
 ) -> Result<Option<FaultPlace>, AllocError>
-    ensures { IfOk result (λ place. place ≡ places.line_place faulty.now.version faulty.now.definitions fault faulty.now.line.now) }
+    ensures { IfOk result (λ place. place ≡
+        places.line_place faulty.now.version faulty.now.definitions fault faulty.now.line.now) }
 {
     let version = faulty.version;
     if faulty.line.len() > version.line_limit() {
@@ -93,8 +96,8 @@ fn definition_stop(alloc: Global, line: &[u8]) -> Result<Option<FaultPlace>, All
     }
 }
 
-/// The place in a line that is to define something: the name that is none of those defined, or one of them; the first code point
-/// that no table may hold; what is past a limit.
+/// The place in a line that is to define something: the name that is none of those defined, or one of them; the first
+/// code point that no table may hold; what is past a limit.
 fn definition_place(
     alloc: Global,
     definitions: &Definitions,
@@ -182,7 +185,8 @@ fn form_place(
     points: &[LinePoint],
     properties: Properties,
 ) -> Result<Option<FaultPlace>, AllocError>
-    ensures { IfOk result (λ place. place ≡ places.form_place properties fault (Some (entry_form form.now)) points.now) }
+    ensures { IfOk result (λ place. place ≡
+        places.form_place properties fault (Some (entry_form form.now)) points.now) }
 {
     match fault {
         TableFault::BadClass { line: _ } => class_place(alloc, form.last, points, properties),
@@ -285,7 +289,8 @@ fn first_again(mapped: &[Mapped]) -> Option<usize>
 /// Whether the variant of this number repeats the source or an earlier variant, where it may not.
 fn is_given_again(mapped: &[Mapped], number: usize) -> bool
     requires { number < length mapped.now }
-    ensures { (d : Form) → result ≡ places.stands_in true (take number (forms_of mapped.now)) (slice_index_or (forms_of mapped.now) number d) }
+    ensures { (d : Form) → result ≡
+        places.stands_in true (take number (forms_of mapped.now)) (slice_index_or (forms_of mapped.now) number d) }
 {
     for other in 0..number {
         if is_again(other == 0, &mapped[other], &mapped[number]) {
@@ -357,8 +362,8 @@ fn limit_place(points: &[LinePoint]) -> Option<FaultPlace>
     None
 }
 
-/// What is told of the ninth code point of a sequence, and of one of the seventeenth variant. Both are counted from 0, and the
-/// source is the sequence 0.
+/// What is told of the ninth code point of a sequence, and of one of the seventeenth variant. Both are counted from 0,
+/// and the source is the sequence 0.
 fn past_place(p: &LinePoint) -> Option<FaultPlace>
     ensures { result ≡ (if places.is_past p.now then Some (places.past_place p.now) else None) }
 {

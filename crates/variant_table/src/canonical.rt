@@ -100,7 +100,8 @@ pub fn push_entry(
     entry: &Entry,
 ) -> Result<(), AllocError>
     requires { IsEntry entry.now }
-    ensures { OnOk result (out.new.items ≡ out.old.items ++ (text.canonical_line definitions.now entry.now ++ 10 ∷ [])) }
+    ensures { OnOk result (out.new.items ≡
+        out.old.items ++ (text.canonical_line definitions.now entry.now ++ 10 ∷ [])) }
 {
     push_mark(out, entry.is_outside())?;
     push_sequence(out, entry.source())?;
@@ -138,7 +139,8 @@ fn push_names(
     tags: &[u8],
     condition: Option<Condition>,
 ) -> Result<(), AllocError>
-    ensures { OnOk result (out.new.items ≡ out.old.items ++ (entries.tags_text (map (forms.name_at definitions.now.tags) tags.now)
+    ensures { OnOk result (out.new.items ≡
+        out.old.items ++ (entries.tags_text (map (forms.name_at definitions.now.tags) tags.now)
         ++ entries.condition_text (option_map (forms.named definitions.now) condition))) }
 {
     push_tags(out, definitions.tags(), tags)?;
@@ -147,7 +149,8 @@ fn push_names(
 
 /// Appends ` as ` and the names of tags, with commas between them.
 fn push_tags(out: &mut Vec<u8>, names: &[Name], tags: &[u8]) -> Result<(), AllocError>
-    ensures { OnOk result (out.new.items ≡ out.old.items ++ entries.tags_text (map (forms.name_at names.now) tags.now)) }
+    ensures { OnOk result (out.new.items ≡
+        out.old.items ++ entries.tags_text (map (forms.name_at names.now) tags.now)) }
 {
     let [first, others @ ..] = tags else {
         return Ok(());
@@ -167,7 +170,8 @@ fn push_condition(
     names: &[Name],
     condition: Option<Condition>,
 ) -> Result<(), AllocError>
-    ensures { OnOk result (out.new.items ≡ out.old.items ++ entries.condition_text (option_map (named_in names.now) condition)) }
+    ensures { OnOk result (out.new.items ≡
+        out.old.items ++ entries.condition_text (option_map (named_in names.now) condition)) }
 {
     let Some(condition) = condition else {
         return Ok(());

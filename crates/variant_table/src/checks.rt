@@ -51,7 +51,8 @@ pub fn has_bad_class_in(
     properties: Properties,
 ) -> Result<bool, AllocError>
     requires { first + count ≤ 2 ^ 32 }
-    ensures { IfOk result (λ bad. (v : Variant) → bad ≡ list_any (conditions.has_bad_class properties) (map (entry_in_range v) (range_with_len first count))) }
+    ensures { IfOk result (λ bad. (v : Variant) →
+        bad ≡ list_any (conditions.has_bad_class properties) (map (entry_in_range v) (range_with_len first count))) }
 {
     for offset in 0..count {
         if has_bad_point(alloc, &[first + offset as u32], properties)? {
@@ -133,7 +134,8 @@ fn is_again(
     condition: Option<Condition>,
 ) -> bool
     requires { number < length sequences.now }
-    ensures { (v : Variant) × (slice_get sequences.now number ≡ Some v) × (result ≡ conditions.is_again wanted.now condition v) }
+    ensures { (v : Variant) × (slice_get sequences.now number ≡ Some v) ×
+        (result ≡ conditions.is_again wanted.now condition v) }
 {
     wanted == sequences.get(number) && !differ(condition, sequences.condition(number))
 }

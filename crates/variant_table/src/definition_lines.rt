@@ -11,7 +11,8 @@ use ruleset_text::{DefinitionFault, Keyword, keyword_of, next_lexeme};
 
 /// The keyword with which a line begins, and the text after it, if the line defines something.
 pub fn keyword_in(version: Version, line: &[u8]) -> Option<(Keyword, &[u8])>
-    ensures { MatchOption result (lines.keyword_in version (lexemes line.now) ≡ None) (λ found. lines.keyword_in version (lexemes line.now) ≡ Some (found.0, lexemes found.1.now)) }
+    ensures { MatchOption result (lines.keyword_in version (lexemes line.now) ≡ None)
+        (λ found. lines.keyword_in version (lexemes line.now) ≡ Some (found.0, lexemes found.1.now)) }
 {
     match version {
         Version::One | Version::Two => None,

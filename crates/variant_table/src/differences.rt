@@ -1,7 +1,8 @@
 //! The pairs of variants of a table whose conditions one way aren't those of the other way.
 ghost use Rattle.std.specs.Prelude.{◌≡◌, ◌≤◌, ◌<◌, ◌-◌, ◌&&◌, not, [], bytes_eq, length, slice_get, IfOk, OnOk, Some};
 ghost use Rattle.std.specs.List.Sorted.{IsStrictlySortedBy};
-ghost use Rattle.variant_table.specs.Differences.{differ_by, difference_at, differences_at, differences_of, has_beyond, has_under, is_same_condition};
+ghost use Rattle.variant_table.specs.Differences.{differ_by, difference_at, differences_at, differences_of, has_beyond};
+ghost use Rattle.variant_table.specs.Differences.{has_under, is_same_condition};
 ghost use Rattle.variant_table.specs.Entries.{Variant, replacements};
 ghost use Rattle.variant_table.specs.Gaps.{inserted, pair_cmp, pairs_of};
 ghost use Rattle.variant_table.specs.Places.{entry_with};
@@ -35,7 +36,8 @@ fn add_differences(
     entry: &Entry,
     found: &mut BTreeSet<Pair>,
 ) -> Result<(), AllocError>
-    ensures { OnOk result (pairs_of found.new.keys ≡ inserted (pairs_of found.old.keys) (differences_at entries.now entry.now)) }
+    ensures { OnOk result (pairs_of found.new.keys ≡
+        inserted (pairs_of found.old.keys) (differences_at entries.now entry.now)) }
 {
     for number in 1..entry.replacements() {
         add_difference(alloc, entries, entry, entry.replacement(number), found)?;
@@ -51,7 +53,8 @@ fn add_difference(
     variant: &[u32],
     found: &mut BTreeSet<Pair>,
 ) -> Result<(), AllocError>
-    ensures { OnOk result (pairs_of found.new.keys ≡ inserted (pairs_of found.old.keys) (difference_at entries.now entry.now variant.now)) }
+    ensures { OnOk result (pairs_of found.new.keys ≡
+        inserted (pairs_of found.old.keys) (difference_at entries.now entry.now variant.now)) }
 {
     if differ(entries, entry, variant) {
         add(alloc, found, entry.source(), variant)?;
@@ -59,7 +62,8 @@ fn add_difference(
     Ok(())
 }
 
-/// Whether a variant of an entry comes after the source, has the source as a variant, and not under the same conditions.
+/// Whether a variant of an entry comes after the source, has the source as a variant, and not under the same
+/// conditions.
 fn differ(entries: &OrderedEntries, entry: &Entry, variant: &[u32]) -> bool
     ensures { result ≡ differ_by entry.now variant.now (entry_with entries.now variant.now) }
 {

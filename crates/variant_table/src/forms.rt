@@ -13,8 +13,8 @@ use label_patterns::Condition;
 use ruleset_text::{Definitions, Mapped, Name, NamedCondition, number_of};
 use std::alloc::AllocError;
 
-/// Takes the sequences of a source and its variants, in place of what was in `sequences`, and tells whether each tag and
-/// each rule that they name is defined. If one isn't, some sequences may be missing.
+/// Takes the sequences of a source and its variants, in place of what was in `sequences`, and tells whether each tag
+/// and each rule that they name is defined. If one isn't, some sequences may be missing.
 #[inline(always)]
 pub fn take_sequences(
     sequences: &mut Sequences,
@@ -23,7 +23,8 @@ pub fn take_sequences(
 ) -> Result<bool, AllocError>
     requires { AllByRecursion IsMapped (map held.mapped mapped.now) }
     ensures known { IfOk result (λ known. known ≡ forms.knows_all definitions.now (map held.mapped mapped.now)) }
-    ensures taken { IfOk result (λ known. known ≡ true → sequences.new ≡ map (forms.variant_of definitions.now) (map held.mapped mapped.now)) }
+    ensures taken { IfOk result (λ known. known ≡ true →
+        sequences.new ≡ map (forms.variant_of definitions.now) (map held.mapped mapped.now)) }
 {
     sequences.clear();
     for m in mapped {
@@ -44,7 +45,8 @@ fn take_sequence(
 ) -> Result<bool, AllocError>
     requires { IsMapped (held.mapped mapped.now) }
     ensures known { IfOk result (λ known. known ≡ forms.knows_names definitions.now (held.mapped mapped.now)) }
-    ensures taken { IfOk result (λ known. known ≡ true → sequences.new ≡ sequences.old ++ forms.variant_of definitions.now (held.mapped mapped.now) ∷ []) }
+    ensures taken { IfOk result (λ known. known ≡ true →
+        sequences.new ≡ sequences.old ++ forms.variant_of definitions.now (held.mapped mapped.now) ∷ []) }
 {
     let Some(tags) = look_up_tags(definitions, &mapped.tags) else {
         return Ok(false);
@@ -61,7 +63,8 @@ fn take_sequence(
 fn look_up_tags(definitions: &Definitions, tags: &[Name]) -> Option<Tags>
     requires { AreNames tags.now }
     ensures { MatchOption result (list_all (is_one_of definitions.now.tags) tags.now ≡ false)
-        (λ found. (list_all (is_one_of definitions.now.tags) tags.now ≡ true) × (found ≡ map (number_of definitions.now.tags) tags.now)) }
+        (λ found. (list_all (is_one_of definitions.now.tags) tags.now ≡ true) ×
+        (found ≡ map (number_of definitions.now.tags) tags.now)) }
 {
     let names = definitions.tags();
     let mut found = Tags::new();
@@ -82,7 +85,8 @@ fn look_up_condition(
     condition: &Option<NamedCondition>,
 ) -> Option<Option<Condition>>
     ensures { MatchOption result (forms.knows_rule definitions.now condition.now ≡ false)
-        (λ found. (forms.knows_rule definitions.now condition.now ≡ true) × (found ≡ option_map (forms.numbered definitions.now) condition.now)) }
+        (λ found. (forms.knows_rule definitions.now condition.now ≡ true) ×
+        (found ≡ option_map (forms.numbered definitions.now) condition.now)) }
 {
     let Some(condition) = condition else {
         return Some(None);

@@ -2,7 +2,8 @@
 ghost use Rattle.std.specs.Prelude.{◌≡◌, [], ◌∷◌, IfOk, OnOk};
 ghost use Rattle.std.specs.BTreeSet.{insert_key};
 ghost use Rattle.std.specs.List.Sorted.{IsStrictlySortedBy};
-ghost use Rattle.variant_table.specs.Gaps.{pair_cmp, pairs_of, inserted, reverse_gaps, wanted_gap, further_gaps, gaps_through, gaps_of_entry, gaps_of};
+ghost use Rattle.variant_table.specs.Gaps.{pair_cmp, pairs_of, inserted, reverse_gaps, wanted_gap, further_gaps};
+ghost use Rattle.variant_table.specs.Gaps.{gaps_through, gaps_of_entry, gaps_of};
 
 use crate::entry::Entry;
 use crate::ordered_entries::OrderedEntries;
@@ -41,7 +42,8 @@ fn add_gaps_of_entry(
     entry: &Entry,
     gaps: &mut BTreeSet<Pair>,
 ) -> Result<(), AllocError>
-    ensures { OnOk result (pairs_of gaps.new.keys ≡ inserted (pairs_of gaps.old.keys) (gaps_of_entry entries.now entry.now)) }
+    ensures { OnOk result (pairs_of gaps.new.keys ≡
+        inserted (pairs_of gaps.old.keys) (gaps_of_entry entries.now entry.now)) }
 {
     for number in 1..entry.replacements() {
         add_gaps_through(alloc, entries, entry, entry.replacement(number), gaps)?;
@@ -58,7 +60,8 @@ fn add_gaps_through(
     variant: &[u32],
     gaps: &mut BTreeSet<Pair>,
 ) -> Result<(), AllocError>
-    ensures { OnOk result (pairs_of gaps.new.keys ≡ inserted (pairs_of gaps.old.keys) (gaps_through entries.now entry.now variant.now)) }
+    ensures { OnOk result (pairs_of gaps.new.keys ≡
+        inserted (pairs_of gaps.old.keys) (gaps_through entries.now entry.now variant.now)) }
 {
     match entries.find(variant) {
         None => add(alloc, gaps, variant, entry.source()),
@@ -76,7 +79,8 @@ fn add_reverse(
     next: &Entry,
     gaps: &mut BTreeSet<Pair>,
 ) -> Result<(), AllocError>
-    ensures { OnOk result (pairs_of gaps.new.keys ≡ inserted (pairs_of gaps.old.keys) (reverse_gaps entry.now variant.now next.now)) }
+    ensures { OnOk result (pairs_of gaps.new.keys ≡
+        inserted (pairs_of gaps.old.keys) (reverse_gaps entry.now variant.now next.now)) }
 {
     if next.has_variant(entry.source()) {
         return Ok(());
@@ -90,7 +94,8 @@ fn add_further(
     next: &Entry,
     gaps: &mut BTreeSet<Pair>,
 ) -> Result<(), AllocError>
-    ensures { OnOk result (pairs_of gaps.new.keys ≡ inserted (pairs_of gaps.old.keys) (further_gaps entry.now next.now)) }
+    ensures { OnOk result (pairs_of gaps.new.keys ≡
+        inserted (pairs_of gaps.old.keys) (further_gaps entry.now next.now)) }
 {
     for number in 1..next.replacements() {
         add_wanted(alloc, entry, next.replacement(number), gaps)?;
@@ -105,7 +110,8 @@ fn add_wanted(
     sequence: &[u32],
     gaps: &mut BTreeSet<Pair>,
 ) -> Result<(), AllocError>
-    ensures { OnOk result (pairs_of gaps.new.keys ≡ inserted (pairs_of gaps.old.keys) (wanted_gap entry.now sequence.now)) }
+    ensures { OnOk result (pairs_of gaps.new.keys ≡
+        inserted (pairs_of gaps.old.keys) (wanted_gap entry.now sequence.now)) }
 {
     if sequence == entry.source() || entry.has_variant(sequence) {
         return Ok(());
@@ -120,7 +126,8 @@ pub(crate) fn add(
     first: &[u32],
     second: &[u32],
 ) -> Result<(), AllocError>
-    ensures { OnOk result (pairs_of gaps.new.keys ≡ insert_key pair_cmp (pairs_of gaps.old.keys) (first.now, second.now)) }
+    ensures { OnOk result (pairs_of gaps.new.keys ≡
+        insert_key pair_cmp (pairs_of gaps.old.keys) (first.now, second.now)) }
 {
     let gap = (
         Vec::from_slice(alloc, first)?,

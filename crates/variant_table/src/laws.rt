@@ -1,5 +1,6 @@
 //! Laws of the definitions, each the contract of a function that does nothing.
-ghost use Rattle.std.specs.Prelude.{◌≡◌, ◌↔◌, ◌⊎◌, ◌≤◌, ℕ, true, false, List, [], ◌∷◌, ◌++◌, length, All, Ok, Err, Some, codes};
+ghost use Rattle.std.specs.Prelude.{◌≡◌, ◌↔◌, ◌⊎◌, ◌≤◌, ℕ, true, false, List, [], ◌∷◌, ◌++◌, length, All, Ok, Err};
+ghost use Rattle.std.specs.Prelude.{Some, codes};
 ghost use Rattle.idn_text.specs.Lines.{raw_lines, with_last_feed};
 ghost use Rattle.variant_table.specs.Faults.{LineFault};
 ghost use Rattle.variant_table.specs.Canonical.{canonical_line, table_text};
@@ -8,14 +9,16 @@ ghost use Rattle.idn_class.specs.declared.properties.Properties.{Properties};
 ghost use Rattle.idn_class.specs.declared.properties.Properties.TheVariants.{Profile};
 ghost use Rattle.ruleset_text.specs.Entries.{EntryForm};
 ghost use Rattle.ruleset_text.specs.WellFormed.{AreDefinitions};
-ghost use Rattle.variant_table.specs.Entries.{Entry, TableValue, IsOfVersion, IsPlain, entry_from, plain_variant, table_of, unblocked, whole};
+ghost use Rattle.variant_table.specs.Entries.{Entry, TableValue, IsOfVersion, IsPlain, entry_from, plain_variant};
+ghost use Rattle.variant_table.specs.Entries.{table_of, unblocked, whole};
 ghost use Rattle.ruleset_text.specs.Lexemes.{lexemes};
 ghost use Rattle.variant_table.specs.Forms.{HasForm};
 ghost use Rattle.variant_table.specs.Reading.{form_in, table_of_text};
 ghost use Rattle.variant_table.specs.Texts.{IsTextOf, IsFaultOf, LineSpells};
 ghost use Rattle.variant_table.specs.declared.version.Version.{Version};
 ghost use Rattle.variant_table.specs.Versions.{is_version_line, notation_of, size_of};
-ghost use Rattle.variant_table.specs.inner.Examples.{conditional, entries_in, repeated, spelled, tagged, text_told, told, two_tags, written, EachTold};
+ghost use Rattle.variant_table.specs.inner.Examples.{conditional, entries_in, repeated, spelled, tagged, text_told};
+ghost use Rattle.variant_table.specs.inner.Examples.{told, two_tags, written, EachTold};
 ghost use Rattle.label_patterns.specs.declared.condition.ConditionKind.TheVariants as kinds;
 ghost use Rattle.variant_table.specs.Ranges.{point_entry, point_variant};
 ghost use Rattle.variant_table.specs.declared.version.Notation.{Notation};
@@ -28,8 +31,8 @@ ghost use Rattle.variant_table.specs.Places.{entries_at};
 ghost use Rattle.variant_table.specs.Faults as faults;
 ghost use Rattle.variant_table.specs.WellFormed.{IsEntry, IsNamed, IsWellFormed, IsTable};
 
-/// The form that is read from the lexemes of a line is the one that it has in the version, and where it has none, none is
-/// read.
+/// The form that is read from the lexemes of a line is the one that it has in the version, and where it has none, none
+/// is read.
 pub fn reading_a_line_is_exact()
     ensures { (version : Version) (line : List ℕ) (form : EntryForm) →
         (form_in version (lexemes line) ≡ Ok form) ↔ HasForm version line form }
@@ -37,7 +40,8 @@ pub fn reading_a_line_is_exact()
 
 /// A line has the entries of one entry or range at most.
 pub fn a_line_has_one_form()
-    ensures form { (version : Version) (line : List ℕ) (a b : EntryForm) → HasForm version line a → HasForm version line b → a ≡ b }
+    ensures form { (version : Version) (line : List ℕ) (a b : EntryForm) → HasForm version line a →
+        HasForm version line b → a ≡ b }
     ensures entries { (version : Version) (definitions : Definitions) (line : List ℕ) (a b : List Entry) →
         LineSpells version definitions line a → LineSpells version definitions line b → a ≡ b }
 {}
@@ -52,9 +56,11 @@ pub fn reading_is_exact()
 
 /// In each notation each text has exactly one table, or exactly one fault: a line and what is told of it.
 pub fn a_text_has_one_table_or_one_fault()
-    ensures some { (properties : Properties) (notation : Notation) (text : List ℕ) → ((table : TableValue) × IsTextOf properties notation text table)
+    ensures some { (properties : Properties) (notation : Notation) (text : List ℕ) →
+        ((table : TableValue) × IsTextOf properties notation text table)
         ⊎ ((line : ℕ) × (kind : LineFault) × IsFaultOf properties notation text line kind) }
-    ensures not_both { (properties : Properties) (notation : Notation) (text : List ℕ) (table : TableValue) (line : ℕ) (kind : LineFault) →
+    ensures not_both { (properties : Properties) (notation : Notation) (text : List ℕ) (table : TableValue) (line : ℕ)
+        (kind : LineFault) →
         IsTextOf properties notation text table → IsFaultOf properties notation text line kind → ⊥ }
     ensures one_table { (properties : Properties) (notation : Notation) (text : List ℕ) (a b : TableValue) →
         IsTextOf properties notation text a → IsTextOf properties notation text b → a ≡ b }
@@ -68,9 +74,11 @@ pub fn no_text_is_a_table_and_a_ruleset()
         IsTextOf properties notations.Table text a → IsTextOf other notations.Ruleset text b → ⊥ }
 {}
 
-/// A table of version 2 is a ruleset of the same entries once its first line says so, with a carriage return or without one.
+/// A table of version 2 is a ruleset of the same entries once its first line says so, with a carriage return or without
+/// one.
 pub fn a_table_of_version_2_is_a_ruleset()
-    ensures { (properties : Properties) (text other first second : List ℕ) (lines : List (List ℕ)) (entries : List Entry) →
+    ensures { (properties : Properties) (text other first second : List ℕ) (lines : List (List ℕ))
+        (entries : List Entry) →
         raw_lines text ≡ first ∷ lines → raw_lines other ≡ second ∷ lines →
         is_version_line notations.Table first ≡ true → is_version_line notations.Ruleset second ≡ true →
         IsTextOf properties notations.Table text (table_of versions.Two (nothing_defined properties) entries) →
@@ -80,24 +88,31 @@ pub fn a_table_of_version_2_is_a_ruleset()
 /// The canonical text of a well-formed table spells that table, in the notation of its version.
 pub fn canonical_text_is_read_back()
     ensures { (table : TableValue) → IsTable table →
-        IsTextOf table.definitions.properties (notation_of table.version) (table_text table.version table.definitions table.entries) table }
+        IsTextOf table.definitions.properties (notation_of table.version)
+        (table_text table.version table.definitions table.entries) table }
 {}
 
 /// The canonical text of a table of version 1 is at most as long as any text that spells the table, a
 /// line feed added where the last line has none. In each version it is within the limit of a text, that of a ruleset
-/// within 8 MiB. A canonical line has at most 951 bytes in version 1, 967 in version 2, and in version 3 968 without tags
-/// and conditions, 6,170 with them.
+/// within 8 MiB. A canonical line has at most 951 bytes in version 1, 967 in version 2, and in version 3 968 without
+/// tags and conditions, 6,170 with them.
 pub fn canonical_text_is_never_longer()
     ensures text { (properties : Properties) (notation : Notation) (text : List ℕ) (table : TableValue) →
         IsTextOf properties notation text table → table.version ≡ versions.One →
         length (table_text table.version table.definitions table.entries) ≤ size_of (raw_lines text) }
-    ensures limit { (table : TableValue) → IsTable table → length (table_text table.version table.definitions table.entries) ≤ text_limit table.version }
-    ensures ruleset { (properties : Properties) (text : List ℕ) (table : TableValue) → IsTextOf properties notations.Ruleset text table →
+    ensures limit { (table : TableValue) → IsTable table →
+        length (table_text table.version table.definitions table.entries) ≤ text_limit table.version }
+    ensures ruleset { (properties : Properties) (text : List ℕ) (table : TableValue) →
+        IsTextOf properties notations.Ruleset text table →
         length (table_text table.version table.definitions table.entries) ≤ 8388608 }
-    ensures line { (d : Definitions) (e : Entry) → IsEntry e → IsOfVersion versions.One e → length (canonical_line d e) ≤ 951 }
-    ensures blocked { (d : Definitions) (e : Entry) → IsEntry e → IsOfVersion versions.Two e → length (canonical_line d e) ≤ 967 }
-    ensures marked { (d : Definitions) (e : Entry) → IsEntry e → All IsPlain (whole e) → length (canonical_line d e) ≤ 968 }
-    ensures named { (d : Definitions) (e : Entry) → AreDefinitions d → IsEntry e → IsNamed d e → length (canonical_line d e) ≤ 6170 }
+    ensures line { (d : Definitions) (e : Entry) → IsEntry e → IsOfVersion versions.One e →
+        length (canonical_line d e) ≤ 951 }
+    ensures blocked { (d : Definitions) (e : Entry) → IsEntry e → IsOfVersion versions.Two e →
+        length (canonical_line d e) ≤ 967 }
+    ensures marked { (d : Definitions) (e : Entry) → IsEntry e → All IsPlain (whole e) →
+        length (canonical_line d e) ≤ 968 }
+    ensures named { (d : Definitions) (e : Entry) → AreDefinitions d → IsEntry e → IsNamed d e →
+        length (canonical_line d e) ≤ 6170 }
     ensures feeds { (text : List ℕ) → size_of (raw_lines text) ≡ length (with_last_feed text) }
 {}
 
@@ -113,66 +128,107 @@ pub fn differences_of_are_the_differences()
 
 /// Examples of version 1, which the definitions compute.
 pub fn definitions_compute_the_examples()
-    ensures read { entries_in versions.One (nothing_defined Profile) (lexemes (codes "u+0061 | 0062 : 0063-0064")) ≡ Ok (entry_from (point_variant false 97 ∷ point_variant false 98 ∷ plain_variant false (99 ∷ 100 ∷ []) ∷ []) ∷ []) }
-    ensures written { table_text versions.One (nothing_defined Profile) (entry_from (point_variant false 97 ∷ point_variant false 98 ∷ plain_variant false (99 ∷ 100 ∷ []) ∷ []) ∷ []) ≡ codes "0061|0062:0063-0064" ++ 10 ∷ [] }
-    ensures six { canonical_line (nothing_defined Profile) (entry_from (plain_variant false (0x10FFFF ∷ 0x4E2D ∷ []) ∷ [])) ≡ codes "10FFFF-4E2D" }
+    ensures read { entries_in versions.One (nothing_defined Profile) (lexemes (codes "u+0061 | 0062 : 0063-0064")) ≡
+        Ok (entry_from (point_variant false 97 ∷ point_variant false 98 ∷ plain_variant false (99 ∷ 100 ∷ []) ∷ []) ∷
+        []) }
+    ensures written { table_text versions.One (nothing_defined Profile)
+        (entry_from (point_variant false 97 ∷ point_variant false 98 ∷ plain_variant false (99 ∷ 100 ∷ []) ∷ []) ∷
+        []) ≡ codes "0061|0062:0063-0064" ++ 10 ∷ [] }
+    ensures six { canonical_line (nothing_defined Profile)
+        (entry_from (plain_variant false (0x10FFFF ∷ 0x4E2D ∷ []) ∷ [])) ≡ codes "10FFFF-4E2D" }
     ensures syntax { table_of_text Profile notations.Table (codes "0061|") ≡ Err (1, faults.Syntax) }
     ensures range { table_of_text Profile notations.Table (codes "0061..0063") ≡ Err (1, faults.Syntax) }
     ensures blocked { table_of_text Profile notations.Table (codes "0061|!0062") ≡ Err (1, faults.Syntax) }
     ensures version { table_of_text Profile notations.Table (codes "%version 3") ≡ Err (1, faults.Syntax) }
     ensures later { table_of_text Profile notations.Table (10 ∷ codes "%version 2") ≡ Err (2, faults.Syntax) }
-    ensures limit { table_of_text Profile notations.Table (codes "0041-0041-0041-0041-0041-0041-0041-0041-0041") ≡ Err (1, faults.Limit) }
+    ensures limit { table_of_text Profile notations.Table (codes "0041-0041-0041-0041-0041-0041-0041-0041-0041") ≡
+        Err (1, faults.Limit) }
     ensures bad_class { table_of_text Profile notations.Table (codes "0041") ≡ Err (1, faults.BadClass) }
     ensures same_variant { table_of_text Profile notations.Table (codes "0061|0061") ≡ Err (1, faults.SameVariant) }
-    ensures same_source { table_of_text Profile notations.Table (codes "0061" ++ 10 ∷ codes "0061") ≡ Err (2, faults.SameSource) }
-    ensures gaps { gaps_of (entry_from (point_variant false 97 ∷ plain_variant false (97 ∷ 97 ∷ []) ∷ []) ∷ []) ≡ (97 ∷ 97 ∷ [], 97 ∷ []) ∷ [] }
-    ensures chain { gaps_of (entry_from (point_variant false 97 ∷ point_variant false 98 ∷ []) ∷ entry_from (point_variant false 98 ∷ point_variant true 97 ∷ point_variant false 99 ∷ []) ∷ entry_from (point_variant false 99 ∷ point_variant false 98 ∷ []) ∷ [])
+    ensures same_source { table_of_text Profile notations.Table (codes "0061" ++ 10 ∷ codes "0061") ≡
+        Err (2, faults.SameSource) }
+    ensures gaps { gaps_of (entry_from (point_variant false 97 ∷ plain_variant false (97 ∷ 97 ∷ []) ∷ []) ∷ []) ≡
+        (97 ∷ 97 ∷ [], 97 ∷ []) ∷ [] }
+    ensures chain { gaps_of (entry_from (point_variant false 97 ∷ point_variant false 98 ∷ []) ∷
+        entry_from (point_variant false 98 ∷ point_variant true 97 ∷ point_variant false 99 ∷ []) ∷
+        entry_from (point_variant false 99 ∷ point_variant false 98 ∷ []) ∷ [])
         ≡ (97 ∷ [], 99 ∷ []) ∷ (99 ∷ [], 97 ∷ []) ∷ [] }
-    ensures places { entries_at (point_entry false 115 ∷ entry_from (plain_variant false (115 ∷ 115 ∷ []) ∷ point_variant false 0xDF ∷ []) ∷ []) (115 ∷ 115 ∷ 115 ∷ []) 2
+    ensures places { entries_at (point_entry false 115 ∷
+        entry_from (plain_variant false (115 ∷ 115 ∷ []) ∷ point_variant false 0xDF ∷ []) ∷ []) (115 ∷ 115 ∷ 115 ∷ []) 2
         ≡ point_entry false 115 ∷ [] }
 {}
 
 /// Examples of tags and conditions: what is refused, in what order faults are told, what is read and how it is written.
 pub fn definitions_compute_the_examples_of_names()
-    ensures syntax { EachTold faults.Syntax (codes "!0061 as t" ∷ codes "0061|!0062 as t" ∷ codes "0061 as t,t" ∷ codes "0061 as" ∷ codes "0061 as t v" ∷ codes "0061 when r as t" ∷ codes "0061 when r unless r" ∷ codes "0061 when" ∷ codes "0061 when r|" ∷ codes "when r" ∷ codes "0061-when" ∷ []) }
-    ensures names { EachTold faults.NoSuchName (codes "0061 when s" ∷ codes "0061 when A" ∷ codes "0061 as u" ∷ codes "0061 as r" ∷ codes "0061|0062 unless s" ∷ codes "0061|0062 as u" ∷ codes "0061..0063 when s" ∷ []) }
-    ensures before_limit { told (codes "0041-0041-0041-0041-0041-0041-0041-0041-0041 when nope" ∷ []) ≡ Err (2, faults.Limit) }
+    ensures syntax { EachTold faults.Syntax
+        (codes "!0061 as t" ∷ codes "0061|!0062 as t" ∷ codes "0061 as t,t" ∷ codes "0061 as" ∷ codes "0061 as t v" ∷
+        codes "0061 when r as t" ∷ codes "0061 when r unless r" ∷ codes "0061 when" ∷ codes "0061 when r|" ∷
+        codes "when r" ∷ codes "0061-when" ∷ []) }
+    ensures names { EachTold faults.NoSuchName
+        (codes "0061 when s" ∷ codes "0061 when A" ∷ codes "0061 as u" ∷ codes "0061 as r" ∷
+        codes "0061|0062 unless s" ∷ codes "0061|0062 as u" ∷ codes "0061..0063 when s" ∷ []) }
+    ensures before_limit { told (codes "0041-0041-0041-0041-0041-0041-0041-0041-0041 when nope" ∷ []) ≡
+        Err (2, faults.Limit) }
     ensures before_class { told (codes "0041 when nope" ∷ []) ≡ Err (2, faults.NoSuchName) }
     ensures later { told (codes "0061 when r" ∷ codes "%rule r _" ∷ []) ≡ Err (2, faults.NoSuchName) }
     ensures conditions { spelled (codes "0061|0063 when r:0063 when s:!0063 unless r")
-        ≡ Ok (entry_from (point_variant false 0x61 ∷ conditional 0x63 false (Some (kinds.When, 0)) ∷ conditional 0x63 false (Some (kinds.When, 1)) ∷ conditional 0x63 true (Some (kinds.Unless, 0)) ∷ []) ∷ []) }
-    ensures range { spelled (codes "!0062..0063 when r") ≡ Ok (entry_from (conditional 0x62 true (Some (kinds.When, 0)) ∷ []) ∷ entry_from (conditional 0x63 true (Some (kinds.When, 0)) ∷ []) ∷ []) }
-    ensures tagged_range { spelled (codes "0061..0062 as trad") ≡ Ok (entry_from (tagged 0x61 (1 ∷ []) ∷ []) ∷ entry_from (tagged 0x62 (1 ∷ []) ∷ []) ∷ []) }
+        ≡ Ok (entry_from (point_variant false 0x61 ∷ conditional 0x63 false (Some (kinds.When, 0)) ∷
+        conditional 0x63 false (Some (kinds.When, 1)) ∷ conditional 0x63 true (Some (kinds.Unless, 0)) ∷ []) ∷ []) }
+    ensures range { spelled (codes "!0062..0063 when r") ≡
+        Ok (entry_from (conditional 0x62 true (Some (kinds.When, 0)) ∷ []) ∷
+        entry_from (conditional 0x63 true (Some (kinds.When, 0)) ∷ []) ∷ []) }
+    ensures tagged_range { spelled (codes "0061..0062 as trad") ≡
+        Ok (entry_from (tagged 0x61 (1 ∷ []) ∷ []) ∷ entry_from (tagged 0x62 (1 ∷ []) ∷ []) ∷ []) }
     ensures apart { repeated (codes "0061|0063 when r:0063 when s:!0063 unless r") ≡ Ok false }
     ensures one_without { repeated (codes "0061|0063 when r:0063") ≡ Ok true }
     ensures the_other { repeated (codes "0061|0063:!0063 unless r") ≡ Ok true }
     ensures same { repeated (codes "0061|0063 when r:!0063 when r") ≡ Ok true }
     ensures the_source { repeated (codes "0061 when s|0061 when r") ≡ Ok true }
-    ensures written { written (codes "56FD  as simp | 570b as trad ,simp when s") ≡ Ok (codes "56FD as simp|570B as trad,simp when s" ∷ []) }
-    ensures written_out { written (codes "!0061..0062 unless r") ≡ Ok (codes "!0061 unless r" ∷ codes "!0062 unless r" ∷ []) }
+    ensures written { written (codes "56FD  as simp | 570b as trad ,simp when s") ≡
+        Ok (codes "56FD as simp|570B as trad,simp when s" ∷ []) }
+    ensures written_out { written (codes "!0061..0062 unless r") ≡
+        Ok (codes "!0061 unless r" ∷ codes "!0062 unless r" ∷ []) }
 {}
 
 /// Examples of version 2.
 pub fn definitions_compute_the_examples_of_version_2()
-    ensures table { table_of_text Profile notations.Table (codes "%version 2" ++ 10 ∷ codes "0061..0063" ++ 10 ∷ codes "0078|!0079:007A") ≡ Ok (record {
-      version = versions.Two;
-      definitions = nothing_defined Profile;
-      entries = point_entry false 0x61 ∷ point_entry false 0x62 ∷ point_entry false 0x63 ∷ entry_from (point_variant false 0x78 ∷ point_variant true 0x79 ∷ point_variant false 0x7A ∷ []) ∷ [];
-    }) }
-    ensures written { table_text versions.Two (nothing_defined Profile) (point_entry false 0x61 ∷ point_entry false 0x62 ∷ point_entry false 0x63 ∷ entry_from (point_variant false 0x78 ∷ point_variant true 0x79 ∷ point_variant false 0x7A ∷ []) ∷ [])
-        ≡ codes "%version 2" ++ 10 ∷ codes "0061" ++ 10 ∷ codes "0062" ++ 10 ∷ codes "0063" ++ 10 ∷ codes "0078|!0079:007A" ++ 10 ∷ [] }
-    ensures unblocked { unblocked (entry_from (point_variant false 0x78 ∷ point_variant true 0x79 ∷ point_variant false 0x7A ∷ []) ∷ []) ≡ entry_from (point_variant false 0x78 ∷ point_variant false 0x7A ∷ []) ∷ [] }
-    ensures empty { table_of_text Profile notations.Table (codes "%version 2" ++ 13 ∷ []) ≡ Ok (table_of versions.Two (nothing_defined Profile) []) }
-    ensures falling { table_of_text Profile notations.Table (codes "%version 2" ++ 10 ∷ codes "0063..0061") ≡ Err (2, faults.Syntax) }
-    ensures marked_source { table_of_text Profile notations.Table (codes "%version 2" ++ 10 ∷ codes "!0061|0062") ≡ Err (2, faults.Syntax) }
-    ensures variant_range { table_of_text Profile notations.Table (codes "%version 2" ++ 10 ∷ codes "0061|0062..0063") ≡ Err (2, faults.Syntax) }
-    ensures again { table_of_text Profile notations.Table (codes "%version 2" ++ 10 ∷ codes "%version 2") ≡ Err (2, faults.Syntax) }
-    ensures stops { table_of_text Profile notations.Table (codes "%version 2" ++ 10 ∷ codes "0061...0063") ≡ Err (2, faults.Syntax) }
-    ensures stops_apart { table_of_text Profile notations.Table (codes "%version 2" ++ 10 ∷ codes "0061. .0063") ≡ Err (2, faults.Syntax) }
-    ensures same_variant { table_of_text Profile notations.Table (codes "%version 2" ++ 10 ∷ codes "0061|0062:!0062") ≡ Err (2, faults.SameVariant) }
-    ensures bad_class { table_of_text Profile notations.Table (codes "%version 2" ++ 10 ∷ codes "005A..0061") ≡ Err (2, faults.BadClass) }
-    ensures same_source { table_of_text Profile notations.Table (codes "%version 2" ++ 10 ∷ codes "0062" ++ 10 ∷ codes "0061..0063") ≡ Err (3, faults.SameSource) }
-    ensures limit { table_of_text Profile notations.Table (codes "%version 2" ++ 10 ∷ codes "4E00..5E00") ≡ Err (2, faults.Limit) }
+    ensures table { table_of_text Profile notations.Table
+        (codes "%version 2" ++ 10 ∷ codes "0061..0063" ++ 10 ∷ codes "0078|!0079:007A") ≡ Ok (record {
+          version = versions.Two;
+          definitions = nothing_defined Profile;
+          entries = point_entry false 0x61 ∷ point_entry false 0x62 ∷ point_entry false 0x63 ∷
+              entry_from (point_variant false 0x78 ∷ point_variant true 0x79 ∷ point_variant false 0x7A ∷ []) ∷ [];
+        }) }
+    ensures written { table_text versions.Two (nothing_defined Profile)
+        (point_entry false 0x61 ∷ point_entry false 0x62 ∷ point_entry false 0x63 ∷
+        entry_from (point_variant false 0x78 ∷ point_variant true 0x79 ∷ point_variant false 0x7A ∷ []) ∷ [])
+        ≡ codes "%version 2" ++ 10 ∷ codes "0061" ++ 10 ∷ codes "0062" ++ 10 ∷ codes "0063" ++ 10 ∷
+        codes "0078|!0079:007A" ++ 10 ∷ [] }
+    ensures unblocked { unblocked (entry_from
+        (point_variant false 0x78 ∷ point_variant true 0x79 ∷ point_variant false 0x7A ∷ []) ∷ []) ≡
+        entry_from (point_variant false 0x78 ∷ point_variant false 0x7A ∷ []) ∷ [] }
+    ensures empty { table_of_text Profile notations.Table (codes "%version 2" ++ 13 ∷ []) ≡
+        Ok (table_of versions.Two (nothing_defined Profile) []) }
+    ensures falling { table_of_text Profile notations.Table (codes "%version 2" ++ 10 ∷ codes "0063..0061") ≡
+        Err (2, faults.Syntax) }
+    ensures marked_source { table_of_text Profile notations.Table (codes "%version 2" ++ 10 ∷ codes "!0061|0062") ≡
+        Err (2, faults.Syntax) }
+    ensures variant_range { table_of_text Profile notations.Table
+        (codes "%version 2" ++ 10 ∷ codes "0061|0062..0063") ≡ Err (2, faults.Syntax) }
+    ensures again { table_of_text Profile notations.Table (codes "%version 2" ++ 10 ∷ codes "%version 2") ≡
+        Err (2, faults.Syntax) }
+    ensures stops { table_of_text Profile notations.Table (codes "%version 2" ++ 10 ∷ codes "0061...0063") ≡
+        Err (2, faults.Syntax) }
+    ensures stops_apart { table_of_text Profile notations.Table (codes "%version 2" ++ 10 ∷ codes "0061. .0063") ≡
+        Err (2, faults.Syntax) }
+    ensures same_variant { table_of_text Profile notations.Table (codes "%version 2" ++ 10 ∷ codes "0061|0062:!0062") ≡
+        Err (2, faults.SameVariant) }
+    ensures bad_class { table_of_text Profile notations.Table (codes "%version 2" ++ 10 ∷ codes "005A..0061") ≡
+        Err (2, faults.BadClass) }
+    ensures same_source { table_of_text Profile notations.Table
+        (codes "%version 2" ++ 10 ∷ codes "0062" ++ 10 ∷ codes "0061..0063") ≡ Err (3, faults.SameSource) }
+    ensures limit { table_of_text Profile notations.Table (codes "%version 2" ++ 10 ∷ codes "4E00..5E00") ≡
+        Err (2, faults.Limit) }
 {}
 
 /// Examples of rulesets: which first line they have, what they have of version 2 and what it has not, what they define,
@@ -182,39 +238,76 @@ pub fn definitions_compute_the_examples_of_rulesets()
     ensures unnamed { table_of_text Profile notations.Ruleset (codes "0061") ≡ Err (1, faults.Syntax) }
     ensures version_2 { table_of_text Profile notations.Ruleset (codes "%version 2") ≡ Err (1, faults.Syntax) }
     ensures version_4 { table_of_text Profile notations.Ruleset (codes "%version 4") ≡ Err (1, faults.Syntax) }
-    ensures commented { table_of_text Profile notations.Ruleset (codes "# a" ++ 10 ∷ codes "%version 3") ≡ Err (1, faults.Syntax) }
-    ensures alone { table_of_text Profile notations.Ruleset (codes "%version 3") ≡ Ok (table_of versions.Three (nothing_defined Profile) []) }
-    ensures again { table_of_text Profile notations.Ruleset (codes "%version 3" ++ 10 ∷ codes "%version 3") ≡ Err (2, faults.Syntax) }
-    ensures falling { table_of_text Profile notations.Ruleset (codes "%version 3" ++ 10 ∷ codes "0063..0061") ≡ Err (2, faults.Syntax) }
-    ensures defined { table_of_text Profile notations.Ruleset (codes "%version 3" ++ 10 ∷ codes "%tag t" ++ 13 ∷ 10 ∷ codes " %tag" ++ 9 ∷ codes "v ") ≡ Ok (table_of versions.Three two_tags []) }
-    ensures defined_written { table_text versions.Three two_tags (point_entry false 0x61 ∷ []) ≡ codes "%version 3" ++ 10 ∷ codes "%tag t" ++ 10 ∷ codes "%tag v" ++ 10 ∷ codes "0061" ++ 10 ∷ [] }
-    ensures defined_in_version_2 { table_of_text Profile notations.Table (codes "%version 2" ++ 10 ∷ codes "%tag t") ≡ Err (2, faults.Syntax) }
-    ensures same_name { table_of_text Profile notations.Ruleset (codes "%version 3" ++ 10 ∷ codes "%tag t" ++ 10 ∷ codes "%rule t _") ≡ Err (3, faults.SameName) }
-    ensures no_such_name { table_of_text Profile notations.Ruleset (codes "%version 3" ++ 10 ∷ codes "%rule r @A _") ≡ Err (2, faults.NoSuchName) }
-    ensures no_name { table_of_text Profile notations.Ruleset (codes "%version 3" ++ 10 ∷ codes "%tag") ≡ Err (2, faults.Syntax) }
-    ensures stars { table_of_text Profile notations.Ruleset (codes "%version 3" ++ 10 ∷ codes "%rule r ((.*)*)* _") ≡ Err (2, faults.Limit) }
-    ensures demand { text_told (told (codes "%never  ^ ." ∷ codes "%always .$" ∷ [])) ≡ Some (codes "%version 3" ++ 10 ∷ codes "%never ^ ." ++ 10 ∷ codes "%always . $" ++ 10 ∷ []) }
-    ensures set { table_of_text Profile notations.Ruleset (codes "%version 3" ++ 10 ∷ codes "% set C 0061") ≡ Err (2, faults.Syntax) }
-    ensures later { table_of_text Profile notations.Table (codes "%version 2" ++ 10 ∷ codes "%version 3") ≡ Err (2, faults.Syntax) }
-    ensures outside { entries_in versions.Three (nothing_defined Profile) (lexemes (codes "! 0061|!0062")) ≡ Ok (entry_from (point_variant true 0x61 ∷ point_variant true 0x62 ∷ []) ∷ []) }
-    ensures outside_range { entries_in versions.Three (nothing_defined Profile) (lexemes (codes "!0062..0063")) ≡ Ok (point_entry true 0x62 ∷ point_entry true 0x63 ∷ []) }
+    ensures commented { table_of_text Profile notations.Ruleset (codes "# a" ++ 10 ∷ codes "%version 3") ≡
+        Err (1, faults.Syntax) }
+    ensures alone { table_of_text Profile notations.Ruleset (codes "%version 3") ≡
+        Ok (table_of versions.Three (nothing_defined Profile) []) }
+    ensures again { table_of_text Profile notations.Ruleset (codes "%version 3" ++ 10 ∷ codes "%version 3") ≡
+        Err (2, faults.Syntax) }
+    ensures falling { table_of_text Profile notations.Ruleset (codes "%version 3" ++ 10 ∷ codes "0063..0061") ≡
+        Err (2, faults.Syntax) }
+    ensures defined { table_of_text Profile notations.Ruleset
+        (codes "%version 3" ++ 10 ∷ codes "%tag t" ++ 13 ∷ 10 ∷ codes " %tag" ++ 9 ∷ codes "v ") ≡
+        Ok (table_of versions.Three two_tags []) }
+    ensures defined_written { table_text versions.Three two_tags (point_entry false 0x61 ∷ []) ≡
+        codes "%version 3" ++ 10 ∷ codes "%tag t" ++ 10 ∷ codes "%tag v" ++ 10 ∷ codes "0061" ++ 10 ∷ [] }
+    ensures defined_in_version_2 { table_of_text Profile notations.Table (codes "%version 2" ++ 10 ∷ codes "%tag t") ≡
+        Err (2, faults.Syntax) }
+    ensures same_name { table_of_text Profile notations.Ruleset
+        (codes "%version 3" ++ 10 ∷ codes "%tag t" ++ 10 ∷ codes "%rule t _") ≡ Err (3, faults.SameName) }
+    ensures no_such_name { table_of_text Profile notations.Ruleset (codes "%version 3" ++ 10 ∷ codes "%rule r @A _") ≡
+        Err (2, faults.NoSuchName) }
+    ensures no_name { table_of_text Profile notations.Ruleset (codes "%version 3" ++ 10 ∷ codes "%tag") ≡
+        Err (2, faults.Syntax) }
+    ensures stars { table_of_text Profile notations.Ruleset (codes "%version 3" ++ 10 ∷ codes "%rule r ((.*)*)* _") ≡
+        Err (2, faults.Limit) }
+    ensures demand { text_told (told (codes "%never  ^ ." ∷ codes "%always .$" ∷ [])) ≡
+        Some (codes "%version 3" ++ 10 ∷ codes "%never ^ ." ++ 10 ∷ codes "%always . $" ++ 10 ∷ []) }
+    ensures set { table_of_text Profile notations.Ruleset (codes "%version 3" ++ 10 ∷ codes "% set C 0061") ≡
+        Err (2, faults.Syntax) }
+    ensures later { table_of_text Profile notations.Table (codes "%version 2" ++ 10 ∷ codes "%version 3") ≡
+        Err (2, faults.Syntax) }
+    ensures outside { entries_in versions.Three (nothing_defined Profile) (lexemes (codes "! 0061|!0062")) ≡
+        Ok (entry_from (point_variant true 0x61 ∷ point_variant true 0x62 ∷ []) ∷ []) }
+    ensures outside_range { entries_in versions.Three (nothing_defined Profile) (lexemes (codes "!0062..0063")) ≡
+        Ok (point_entry true 0x62 ∷ point_entry true 0x63 ∷ []) }
     ensures outside_in_version_2 { form_in versions.Two (lexemes (codes "!0062..0063")) ≡ Err faults.Syntax }
-    ensures two_marks { table_of_text Profile notations.Ruleset (codes "%version 3" ++ 10 ∷ codes "!!0061") ≡ Err (2, faults.Syntax) }
-    ensures no_source { table_of_text Profile notations.Ruleset (codes "%version 3" ++ 10 ∷ codes "!|0061") ≡ Err (2, faults.Syntax) }
-    ensures limit { table_of_text Profile notations.Ruleset (codes "%version 3" ++ 10 ∷ codes "0041-0041-0041-0041-0041-0041-0041-0041-0041") ≡ Err (2, faults.Limit) }
-    ensures written { table_text versions.Three (nothing_defined Profile) (point_entry false 0x61 ∷ entry_from (point_variant false 0x78 ∷ point_variant true 0x79 ∷ []) ∷ [])
+    ensures two_marks { table_of_text Profile notations.Ruleset (codes "%version 3" ++ 10 ∷ codes "!!0061") ≡
+        Err (2, faults.Syntax) }
+    ensures no_source { table_of_text Profile notations.Ruleset (codes "%version 3" ++ 10 ∷ codes "!|0061") ≡
+        Err (2, faults.Syntax) }
+    ensures limit { table_of_text Profile notations.Ruleset
+        (codes "%version 3" ++ 10 ∷ codes "0041-0041-0041-0041-0041-0041-0041-0041-0041") ≡ Err (2, faults.Limit) }
+    ensures written { table_text versions.Three (nothing_defined Profile)
+        (point_entry false 0x61 ∷ entry_from (point_variant false 0x78 ∷ point_variant true 0x79 ∷ []) ∷ [])
         ≡ codes "%version 3" ++ 10 ∷ codes "0061" ++ 10 ∷ codes "0078|!0079" ++ 10 ∷ [] }
-    ensures marked { table_text versions.Three (nothing_defined Profile) (entry_from (plain_variant true (0x61 ∷ 0x62 ∷ []) ∷ point_variant true 0x63 ∷ []) ∷ [])
+    ensures marked { table_text versions.Three (nothing_defined Profile)
+        (entry_from (plain_variant true (0x61 ∷ 0x62 ∷ []) ∷ point_variant true 0x63 ∷ []) ∷ [])
         ≡ codes "%version 3" ++ 10 ∷ codes "!0061-0062|!0063" ++ 10 ∷ [] }
-    ensures outside_gaps { gaps_of (entry_from (point_variant false 0x61 ∷ point_variant true 0x430 ∷ []) ∷ point_entry false 0x62 ∷ entry_from (point_variant true 0x430 ∷ point_variant true 0x61 ∷ []) ∷ []) ≡ [] }
-    ensures without_outside { gaps_of (entry_from (point_variant false 0x61 ∷ point_variant true 0x430 ∷ []) ∷ point_entry false 0x62 ∷ []) ≡ (0x430 ∷ [], 0x61 ∷ []) ∷ [] }
-    ensures conditional_differences { differences_of (entry_from (point_variant false 0x3C3 ∷ conditional 0x3C2 false (Some (kinds.When, 0)) ∷ []) ∷ entry_from (point_variant false 0x3C2 ∷ point_variant false 0x3C3 ∷ []) ∷ [])
+    ensures outside_gaps { gaps_of (entry_from (point_variant false 0x61 ∷ point_variant true 0x430 ∷ []) ∷
+        point_entry false 0x62 ∷ entry_from (point_variant true 0x430 ∷ point_variant true 0x61 ∷ []) ∷ []) ≡ [] }
+    ensures without_outside { gaps_of
+        (entry_from (point_variant false 0x61 ∷ point_variant true 0x430 ∷ []) ∷ point_entry false 0x62 ∷ []) ≡
+        (0x430 ∷ [], 0x61 ∷ []) ∷ [] }
+    ensures conditional_differences { differences_of
+        (entry_from (point_variant false 0x3C3 ∷ conditional 0x3C2 false (Some (kinds.When, 0)) ∷ []) ∷
+        entry_from (point_variant false 0x3C2 ∷ point_variant false 0x3C3 ∷ []) ∷ [])
         ≡ (0x3C2 ∷ [], 0x3C3 ∷ []) ∷ [] }
-    ensures conditional_gaps { gaps_of (entry_from (point_variant false 0x3C3 ∷ conditional 0x3C2 false (Some (kinds.When, 0)) ∷ []) ∷ entry_from (point_variant false 0x3C2 ∷ point_variant false 0x3C3 ∷ []) ∷ []) ≡ [] }
-    ensures without_reverse { gaps_of (entry_from (point_variant false 0x647 ∷ conditional 0x629 true (Some (kinds.Unless, 0)) ∷ conditional 0x629 false (Some (kinds.When, 0)) ∷ []) ∷ point_entry false 0x629 ∷ []) ≡ (0x629 ∷ [], 0x647 ∷ []) ∷ [] }
-    ensures tagged_gaps { gaps_of (entry_from (tagged 0x56FD (0 ∷ []) ∷ tagged 0x570B (1 ∷ []) ∷ []) ∷ entry_from (tagged 0x570B (1 ∷ []) ∷ tagged 0x56FD (0 ∷ []) ∷ []) ∷ []) ≡ [] }
-    ensures condition_in_version_2 { table_of_text Profile notations.Table (codes "%version 2" ++ 10 ∷ codes "0061 when r") ≡ Err (2, faults.Syntax) }
-    ensures tag_in_version_2 { table_of_text Profile notations.Table (codes "%version 2" ++ 10 ∷ codes "0061 as t") ≡ Err (2, faults.Syntax) }
-    ensures demand_in_version_2 { table_of_text Profile notations.Table (codes "%version 2" ++ 10 ∷ codes "%never 0061") ≡ Err (2, faults.Syntax) }
-    ensures capital { table_of_text Profile notations.Ruleset (codes "%version 3" ++ 10 ∷ codes "%Set C 0061") ≡ Err (2, faults.Syntax) }
+    ensures conditional_gaps { gaps_of
+        (entry_from (point_variant false 0x3C3 ∷ conditional 0x3C2 false (Some (kinds.When, 0)) ∷ []) ∷
+        entry_from (point_variant false 0x3C2 ∷ point_variant false 0x3C3 ∷ []) ∷ []) ≡ [] }
+    ensures without_reverse { gaps_of
+        (entry_from (point_variant false 0x647 ∷ conditional 0x629 true (Some (kinds.Unless, 0)) ∷
+        conditional 0x629 false (Some (kinds.When, 0)) ∷ []) ∷ point_entry false 0x629 ∷ []) ≡
+        (0x629 ∷ [], 0x647 ∷ []) ∷ [] }
+    ensures tagged_gaps { gaps_of (entry_from (tagged 0x56FD (0 ∷ []) ∷ tagged 0x570B (1 ∷ []) ∷ []) ∷
+        entry_from (tagged 0x570B (1 ∷ []) ∷ tagged 0x56FD (0 ∷ []) ∷ []) ∷ []) ≡ [] }
+    ensures condition_in_version_2 { table_of_text Profile notations.Table
+        (codes "%version 2" ++ 10 ∷ codes "0061 when r") ≡ Err (2, faults.Syntax) }
+    ensures tag_in_version_2 { table_of_text Profile notations.Table (codes "%version 2" ++ 10 ∷ codes "0061 as t") ≡
+        Err (2, faults.Syntax) }
+    ensures demand_in_version_2 { table_of_text Profile notations.Table
+        (codes "%version 2" ++ 10 ∷ codes "%never 0061") ≡ Err (2, faults.Syntax) }
+    ensures capital { table_of_text Profile notations.Ruleset (codes "%version 3" ++ 10 ∷ codes "%Set C 0061") ≡
+        Err (2, faults.Syntax) }
 {}

@@ -3,7 +3,8 @@ ghost use Rattle.std.specs.Prelude.{◌≡◌, ◌+◌, ◌<◌, ◌≤◌, ◌^
 ghost use Rattle.std.specs.List.{range_with_len};
 ghost use Rattle.ruleset_text.specs.Canonical.{point_text};
 ghost use Rattle.ruleset_text.specs.EntryForms.{mapped as form_of};
-ghost use Rattle.ruleset_text.specs.EntryText.{condition_text, condition_word, mapped_text, mark_text, sequence_text, tags_text};
+ghost use Rattle.ruleset_text.specs.EntryText.{condition_text, condition_word, mapped_text, mark_text, sequence_text};
+ghost use Rattle.ruleset_text.specs.EntryText.{tags_text};
 ghost use Rattle.variant_table.specs.Canonical.{written_text};
 ghost use Rattle.variant_table.specs.Conditions.{is_too_large};
 ghost use Rattle.variant_table.specs.Forms.{with_point};
@@ -54,7 +55,8 @@ fn left_after_mapped(mapped: &Mapped, left: usize) -> Option<usize>
 
 /// How many bytes are left after the tags and the condition of a source or a variant.
 fn left_after_names(mapped: &Mapped, left: usize) -> Option<usize>
-    ensures { IsLeft left (length (tags_text (form_of mapped.now).tags ++ condition_text (form_of mapped.now).condition)) result }
+    ensures { IsLeft left (length (tags_text (form_of mapped.now).tags ++
+        condition_text (form_of mapped.now).condition)) result }
 {
     let rest = left_after_tags(&mapped.tags, left)?;
     left_after_condition(&mapped.condition, rest)
@@ -129,7 +131,8 @@ pub fn left_after_range(
     left: usize,
 ) -> Option<usize>
     requires last { first + count ≤ 2 ^ 32 }
-    ensures { IsLeft left (counted version (written_text (map (λ c. with_point (form_of source.now) c ∷ []) (range_with_len first count)))) result }
+    ensures { IsLeft left (counted version
+        (written_text (map (λ c. with_point (form_of source.now) c ∷ []) (range_with_len first count)))) result }
 {
     match version {
         Version::One => Some(left),
@@ -141,7 +144,8 @@ pub fn left_after_range(
 /// they are too few.
 fn left_after_points(source: &Mapped, first: u32, count: usize, left: usize) -> Option<usize>
     requires last { first + count ≤ 2 ^ 32 }
-    ensures { IsLeft left (length (written_text (map (λ c. with_point (form_of source.now) c ∷ []) (range_with_len first count)))) result }
+    ensures { IsLeft left (length (written_text
+        (map (λ c. with_point (form_of source.now) c ∷ []) (range_with_len first count)))) result }
 {
     let mut rest = left;
     for offset in 0..count {

@@ -9,7 +9,8 @@ ghost use Rattle.idn_class.specs.declared.properties.Properties.{Properties};
 ghost use Rattle.ruleset_text.specs.Lexemes.{lexemes};
 ghost use Rattle.variant_table.specs.declared.version.Version.TheVariants.{Three};
 ghost use Rattle.variant_table.specs.Entries.{entry_from, source_of};
-ghost use Rattle.variant_table.specs.Reading.{with_definition, with_line, with_raw_line, table_of_text, is_skipped as is_skipped_line};
+ghost use Rattle.variant_table.specs.Reading.{with_definition, with_line, with_raw_line, table_of_text};
+ghost use Rattle.variant_table.specs.Reading.{is_skipped as is_skipped_line};
 ghost use Rattle.variant_table.specs.FaultyLines.{IsRefusalOf, at_line, faulty_line_of};
 ghost use Rattle.variant_table.specs.inner.ReadingSteps.{Leaves, Reads, with_points_of};
 
@@ -162,7 +163,8 @@ impl Reader {
     ) -> Result<(), TableFault>
         requires ruleset { self.old.version ≡ Three }
         requires counted { IsCountedIn self.old }
-        ensures read { Leaves number result (so_far self.new) (with_definition (so_far self.old) keyword (lexemes after.now)) }
+        ensures read { Leaves number result (so_far self.new)
+            (with_definition (so_far self.old) keyword (lexemes after.now)) }
         ensures counted { OnOk result (IsCountedIn self.new) }
         ensures version { self.new.version ≡ self.old.version }
         ensures definitions { OnErr result (self.new.definitions ≡ self.old.definitions) }
@@ -231,7 +233,8 @@ impl Reader {
     fn add_range(&mut self, number: u64, mapped: &[Mapped], last: u32) -> Result<(), TableFault>
         requires form { IsForm (map form_of mapped.now) (Some last) }
         requires counted { IsCountedIn self.old }
-        ensures read { Leaves number result self.new.entries (with_form_of self.old (map form_of mapped.now) (Some last)) }
+        ensures read { Leaves number result self.new.entries
+            (with_form_of self.old (map form_of mapped.now) (Some last)) }
         ensures counted { OnOk result (IsCountedIn self.new) }
         ensures version { self.new.version ≡ self.old.version }
         ensures definitions { self.new.definitions ≡ self.old.definitions }
@@ -272,8 +275,8 @@ fn left_after_head(version: Version) -> usize
     version.text_limit() - version.head().len()
 }
 
-/// Adds the entries of `count` code points, from `first` on, with the mark, the tags and the condition of the first of the
-/// sequences, if their sources are new.
+/// Adds the entries of `count` code points, from `first` on, with the mark, the tags and the condition of the first of
+/// the sequences, if their sources are new.
 fn push_points(
     alloc: Global,
     entries: &mut OrderedEntries,
@@ -285,7 +288,8 @@ fn push_points(
     requires some { 0 < length range.now }
     requires last { first + count ≤ 2 ^ 32 }
     requires room { length entries.old + count ≤ 65536 }
-    ensures { Leaves number result entries.new (with_points_of entries.old (source_of (entry_from range.now)) first count) }
+    ensures { Leaves number result entries.new
+        (with_points_of entries.old (source_of (entry_from range.now)) first count) }
 {
     let mut sequences = Sequences::new(alloc);
     for offset in 0..count {

@@ -1,5 +1,6 @@
 //! Sequences of code points, as parts of one vector.
-ghost use Rattle.std.specs.Prelude.{◌≡◌, ◌<◌, ◌≤◌, [], ◌∷◌, ◌++◌, length, OnOk, OnErr, slice_get, Some, drop, map, take};
+ghost use Rattle.std.specs.Prelude.{◌≡◌, ◌<◌, ◌≤◌, [], ◌∷◌, ◌++◌, length, OnOk, OnErr, slice_get, Some, drop, map};
+ghost use Rattle.std.specs.Prelude.{take};
 ghost use Rattle.variant_table.specs.Entries.{sequences_in};
 ghost use Rattle.std.specs.Iterator.{YieldsFirstRef, item_count};
 
@@ -127,7 +128,9 @@ impl Sequences {
         condition: Option<Condition>,
     ) -> Result<(), AllocError>
         requires { length tags.now ≤ 8 }
-        ensures ok { OnOk result (self.new ≡ self.old ++ record { sequence = sequence.now; marked = marked; tags = tags.now; condition = condition } ∷ []) }
+        ensures ok { OnOk result (self.new ≡
+            self.old ++ record { sequence = sequence.now; marked = marked; tags = tags.now; condition = condition } ∷
+            []) }
         ensures err { OnErr result (self.new ≡ self.old) }
     {
         let start = self.points.len();

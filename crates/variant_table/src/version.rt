@@ -156,7 +156,8 @@ pub fn head_of(notation: Notation, text: &[u8]) -> Option<Head<'_>>
     ensures version { MatchOption result (versions.version_of notation (raw_lines text.now) ≡ None)
         (λ head. versions.version_of notation (raw_lines text.now) ≡ Some head.version) }
     ensures lines { IfSome result (λ head. head.lines ≡ length (versions.head_of notation (raw_lines text.now))) }
-    ensures bytes { IfSome result (λ head. head.bytes ≡ versions.size_of (versions.head_of notation (raw_lines text.now))) }
+    ensures bytes { IfSome result (λ head. head.bytes ≡
+        versions.size_of (versions.head_of notation (raw_lines text.now))) }
     ensures body { IfSome result (λ head. head.body ≡ versions.body_of notation (raw_lines text.now)) }
 {
     let mut body = TextLines::new(text);

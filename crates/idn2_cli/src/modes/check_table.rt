@@ -25,7 +25,8 @@ pub(crate) fn check_table<W: Sink, E: Sink>(
     table: &Table,
     console: &mut Console<'_, '_, W, E>,
 ) -> Result<Status, Stop>
-    ensures written { Emits console.old console.new (outputs (finding_text form) (check_findings table.now.entries)) result }
+    ensures written { Emits console.old console.new
+        (outputs (finding_text form) (check_findings table.now.entries)) result }
     ensures status { IfOk result (λ status. status ≡ status_if (not (length (gaps_of table.now.entries) == 0))) }
 {
     let gaps = table.gaps(alloc)?;
@@ -77,7 +78,8 @@ fn write_gap<W: Sink, E: Sink>(
     requires second_filled { 1 ≤ length second.now }
     requires second_short { length second.now ≤ 8 }
     requires second_points { AreScalarValues second.now }
-    ensures written { Emits console.old console.new (Output (finding_text form (Gap (first.now, second.now))) ∷ []) result }
+    ensures written { Emits console.old console.new
+        (Output (finding_text form (Gap (first.now, second.now))) ∷ []) result }
     ensures why { IfErr result (λ why. why ≡ stop.Output) }
 {
     match form {
