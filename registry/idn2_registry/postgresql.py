@@ -7,7 +7,7 @@ import select
 import sys
 import threading
 import time
-from collections.abc import Callable, Iterable, Iterator
+from collections.abc import Callable, Iterable, Iterator, Sequence
 from typing import Any
 
 from .faults import Unknown, Unusable
@@ -33,7 +33,10 @@ DELETE = 'delete from registered where label = $1 collate "C"'
 MISSING = "there is no register: idn2-registry load FILE makes it, and load /dev/null an empty one"
 # What PostgreSQL says to a transaction that another one got in the way of. It says so of a key that both insert, too.
 AGAIN = (psycopg.errors.SerializationFailure, psycopg.errors.DeadlockDetected, psycopg.errors.UniqueViolation)
-READ, CHANGE = "repeatable read read only", "serializable"
+# Transactions only read unless they begin with a statement that says otherwise, and see one state.
+OPTIONS = r"-c default_transaction_isolation=repeatable\ read -c default_transaction_read_only=on"
+CHANGE = "begin isolation level serializable read write"
+DONE = (pq.ExecStatus.COMMAND_OK, pq.ExecStatus.TUPLES_OK)
 Connection = psycopg.Connection[Any]
 
 
@@ -44,27 +47,76 @@ class TooSlow(psycopg.OperationalError):
 class Session:
     """A connection that no other thread uses. What each request asks goes to libpq as prepared statements: by psycopg's cursors
     it takes several times the processor time where psycopg is in Python alone, as Debian has it, and no server that hangs is
-    noticed."""
+    noticed. In libpq's pipeline mode all that is sent up to a sync is one transaction, so that a request that only reads waits
+    for nothing but what it looks up."""
 
-    def __init__(self, connection: Connection, seconds: float) -> None:
-        self.connection = connection
-        self._libpq = connection.pgconn
+    def __init__(self, connect: Callable[[], Connection], seconds: float) -> None:
+        self._connect = connect
         self._seconds = seconds
+        self._take(connect())
+
+    def _take(self, connection: Connection) -> None:
+        self._connection = connection
+        self._libpq = connection.pgconn
+        self._libpq.enter_pipeline_mode()
         self._poll = select.poll()
         self._poll.register(self._libpq.socket, select.POLLIN)
         self._prepared: dict[str, bytes] = {}
+        # The statements that were sent and whose results weren't read.
+        self._due = 0
 
-    def run(self, statement: str) -> pq.abc.PGresult:
-        """What a statement without parameters gives. Raises psycopg.Error."""
-        self._libpq.send_query(statement.encode())
-        return self._result()
+    def begin(self, statement: str | None) -> None:
+        """A transaction begins with the next statement: by a statement, else as those of the connection do."""
+        self._first = statement
+        self._is_answered = False
 
-    def _result(self) -> pq.abc.PGresult:
-        """What comes for what was sent. Raises psycopg.Error."""
-        until = time.monotonic() + self._seconds
+    def end(self) -> None:
+        """Ends a transaction that was only read, or is over. Nothing is waited for: what comes is read with the next one."""
+        self._libpq.pipeline_sync()
+
+    def close(self) -> None:
+        """Ends the connection, and undoes what wasn't committed."""
+        self._connection.close()
+
+    def ask(self, statement: str, *given: str | None) -> pq.abc.PGresult:
+        """What a statement gives with texts in the place of $1 and so on. If the connection ended since the transaction before,
+        as it does with a restart of the server, there is a new one. Raises psycopg.Error."""
+        is_old = self._due == 0 and bool(self._prepared)
+        try:
+            return self._asked(statement, given)
+        except psycopg.OperationalError as error:
+            if self._is_answered or not is_old or not has_ended(error):
+                raise
+        self.close()
+        self._take(self._connect())
+        return self._asked(statement, given)
+
+    def _asked(self, statement: str, given: Sequence[str | None]) -> pq.abc.PGresult:
+        if not self._is_answered and self._first is not None:
+            self._send(self._first, ())
+        self._send(statement, given)
+        self._libpq.send_flush_request()
         # No statement is longer than what a socket takes at once.
         self._libpq.flush()
-        results: list[pq.abc.PGresult] = []
+        result = self._result()
+        self._is_answered = True
+        return result
+
+    def _send(self, statement: str, given: Sequence[str | None]) -> None:
+        """Puts a statement into the pipeline."""
+        name = self._prepared.get(statement)
+        if name is None:
+            name = self._prepared[statement] = f"idn2_registry_{len(self._prepared)}".encode()
+            self._libpq.send_prepare(name, statement.encode())
+            self._due += 1
+        # None is NULL, which the types of psycopg don't say.
+        texts: list[Any] = [None if text is None else parameter(text) for text in given]
+        self._libpq.send_query_prepared(name, texts)
+        self._due += 1
+
+    def _result(self) -> pq.abc.PGresult:
+        """The last result of what was sent. Raises psycopg.Error for the first that failed."""
+        until = time.monotonic() + self._seconds
         while True:
             while self._libpq.is_busy():
                 if not self._poll.poll(max(0, until - time.monotonic()) * 1000):
@@ -72,21 +124,18 @@ class Session:
                 self._libpq.consume_input()
             result = self._libpq.get_result()
             if result is None:
-                return done(results[-1])
-            results.append(result)
-
-    def ask(self, statement: str, *given: str | None) -> pq.abc.PGresult:
-        """What a statement gives with texts in the place of $1 and so on. Raises psycopg.Error."""
-        name = self._prepared.get(statement)
-        if name is None:
-            name = f"idn2_registry_{len(self._prepared)}".encode()
-            self._libpq.send_prepare(name, statement.encode())
-            self._result()
-            self._prepared[statement] = name
-        # None is NULL, which the types of psycopg don't say.
-        texts: list[Any] = [None if text is None else parameter(text) for text in given]
-        self._libpq.send_query_prepared(name, texts)
-        return self._result()
+                raise psycopg.OperationalError("the server gave no result")
+            status = result.status
+            # The end of the transaction before.
+            if status == pq.ExecStatus.PIPELINE_SYNC:
+                continue
+            if status not in DONE:
+                raise fault_of(result)
+            # None comes after each.
+            self._libpq.get_result()
+            self._due -= 1
+            if not self._due:
+                return result
 
     def text(self, statement: str, *given: str) -> str | None:
         """The first value of its first row, where there is one."""
@@ -95,14 +144,14 @@ class Session:
         return None if value is None else value.decode()
 
     def commit(self) -> None:
-        """Ends the transaction. Raises psycopg.Error where it is undone."""
-        if self.run("commit").command_status != b"COMMIT":
+        """Commits the transaction. Raises psycopg.Error where it is undone."""
+        if self.ask("commit").command_status != b"COMMIT":
             raise psycopg.OperationalError("the transaction was undone")
 
-    def rollback(self) -> None:
-        """Undoes what is not committed. Raises psycopg.Error."""
-        if self._libpq.transaction_status != pq.TransactionStatus.IDLE:
-            self.run("rollback")
+
+def has_ended(error: psycopg.Error) -> bool:
+    """Whether the server ended the connection, or it broke."""
+    return not isinstance(error, TooSlow) and (error.sqlstate is None or error.sqlstate.startswith("57P"))
 
 
 def parameter(text: str) -> bytes:
@@ -112,26 +161,25 @@ def parameter(text: str) -> bytes:
     return text.encode()
 
 
-def done(result: pq.abc.PGresult) -> pq.abc.PGresult:
-    """The result of a statement that was done. Raises psycopg.Error by its code for another."""
-    if result.status in (pq.ExecStatus.COMMAND_OK, pq.ExecStatus.TUPLES_OK):
-        return result
+def fault_of(result: pq.abc.PGresult) -> psycopg.Error:
+    """The error of a statement that failed."""
     code = result.error_field(pq.DiagnosticField.SQLSTATE)
     try:
         # Without a code the connection is broken.
-        fault = psycopg.errors.lookup(code.decode()) if code else psycopg.OperationalError
+        fault: type[psycopg.Error] = psycopg.errors.lookup(code.decode()) if code else psycopg.OperationalError
     except KeyError:
         fault = psycopg.DatabaseError
-    raise fault(result.error_message.decode("utf-8", "replace"))
+    return fault(result.error_message.decode("utf-8", "replace"))
 
 
 class PostgresqlTransaction(Transaction):
     """A transaction of one session."""
 
     def __init__(self, session: Session) -> None:
+        super().__init__()
         self._session = session
 
-    def first_from(self, text: str) -> str | None:
+    def look_up(self, text: str) -> str | None:
         found = self._session.text(FIRST, text)
         return None if found is None else checked_label(found, text)
 
@@ -139,9 +187,11 @@ class PostgresqlTransaction(Transaction):
         return self._session.text(HOLDER, label)
 
     def insert(self, label: str, holder: str | None) -> None:
+        self.forget()
         self._session.ask(INSERT, label, holder)
 
     def delete(self, label: str) -> bool:
+        self.forget()
         return bool(self._session.ask(DELETE, label).command_tuples)
 
 
@@ -163,60 +213,69 @@ class PostgresqlRegister(Register):
         self._lock = threading.Lock()
         self._idle: list[Session] = []
         if must_be:
-            with self._session(READ) as session:
-                self._check(session.connection)
+            with self._connected() as connection:
+                self._check(connection)
 
-    def _open(self) -> Session:
-        """A session, whose statements have the time of a request. After a failure of the server another one may answer: so each
-        time it is asked whether it is a copy."""
-        wait = f"-c statement_timeout={math.ceil(self._seconds * 1000)}"
+    def _open(self) -> Connection:
+        """A connection, whose statements have the time of a request. After a failure of the server another one may answer: so
+        each time it is asked whether it is a copy."""
+        options = f"-c statement_timeout={math.ceil(self._seconds * 1000)} {OPTIONS}"
         try:
-            # Transactions are begun here, in one statement with their isolation.
+            # Transactions are begun here.
             connection = psycopg.connect(self.uri, autocommit=True, client_encoding="UTF8",
-                                         connect_timeout=math.ceil(self._seconds), options=wait)
+                                         connect_timeout=math.ceil(self._seconds), options=options)
             is_copy = value(connection, "select pg_is_in_recovery()")
+            isolation = value(connection, "show transaction_isolation")
         except psycopg.Error as error:
             raise Unknown(f"{self.name}: {first_line(error)}: start the database, or mend register") from error
         if is_copy:
             connection.close()
             raise Unusable(f"{self.name}: a copy, which may lag: name the server on which labels are registered")
-        # The server itself ends a statement after that time.
-        return Session(connection, self._seconds + 1)
+        if isolation != "repeatable read":
+            connection.close()
+            raise Unusable(f"{self.name}: what stands before the server drops options of connections: name the server itself")
+        return connection
 
     @contextlib.contextmanager
-    def _session(self, isolation: str) -> Iterator[Session]:
-        """A transaction in a session that no other thread uses; one that failed isn't used again."""
-        session = self._begun(isolation)
+    def _told(self) -> Iterator[None]:
+        """Says what a fault of PostgreSQL says of the request; but not of one that is asked again."""
         try:
-            yield session
-            session.rollback()
+            yield
         except AGAIN:
-            session.connection.close()
             raise
+        except psycopg.errors.UndefinedTable as error:
+            raise Unusable(f"{self.name}: {MISSING}") from error
         except psycopg.Error as error:
-            session.connection.close()
-            if isinstance(error, psycopg.errors.UndefinedTable):
-                raise Unusable(f"{self.name}: {MISSING}") from error
             raise Unknown(f"{self.name}: {first_line(error)}") from error
+
+    @contextlib.contextmanager
+    def _connected(self) -> Iterator[Connection]:
+        """A connection for what isn't asked by each request, which psycopg does."""
+        with self._told(), contextlib.closing(self._open()) as connection:
+            yield connection
+
+    @contextlib.contextmanager
+    def _session(self, begin: str | None = None) -> Iterator[Session]:
+        """A transaction in a session that no other thread uses; one that failed isn't used again."""
+        with self._lock:
+            idle = self._idle.pop() if self._idle else None
+        # The server itself ends a statement after the time of a request.
+        session = idle or Session(self._open, self._seconds + 1)
+        try:
+            with self._told():
+                session.begin(begin)
+                yield session
         except BaseException:
-            session.connection.close()
+            session.close()
             raise
+        try:
+            session.end()
+        except psycopg.Error:
+            # What was asked is known by now, and what was changed is committed.
+            session.close()
+            return
         with self._lock:
             self._idle.append(session)
-
-    def _begun(self, isolation: str) -> Session:
-        """A session with a transaction. One of before ends with a restart of the server; then there is a new one."""
-        while True:
-            with self._lock:
-                idle = self._idle.pop() if self._idle else None
-            session = idle or self._open()
-            try:
-                session.run(f"begin isolation level {isolation}")
-                return session
-            except psycopg.Error as error:
-                session.connection.close()
-                if idle is None or isinstance(error, TooSlow):
-                    raise Unknown(f"{self.name}: {first_line(error)}") from error
 
     def _check(self, connection: Connection) -> None:
         """That it is a register."""
@@ -231,7 +290,7 @@ class PostgresqlRegister(Register):
 
     @contextlib.contextmanager
     def reading(self) -> Iterator[Transaction]:
-        with self._session(READ) as session:
+        with self._session() as session:
             yield PostgresqlTransaction(session)
 
     def change(self, job: Callable[[Transaction], Result]) -> Result:
@@ -259,14 +318,15 @@ class PostgresqlRegister(Register):
             return result
 
     @contextlib.contextmanager
-    def _unbounded(self, isolation: str) -> Iterator[Connection]:
-        """A transaction for long work, which psycopg does."""
-        with self._session(isolation) as session:
-            session.run("set local statement_timeout = 0")
-            yield session.connection
+    def _unbounded(self, begin: str) -> Iterator[Connection]:
+        """A transaction for long work."""
+        with self._connected() as connection:
+            connection.execute(begin)
+            connection.execute("set local statement_timeout = 0")
+            yield connection
 
     def rows(self) -> Iterator[Row]:
-        with self._unbounded(READ) as connection:
+        with self._unbounded("begin") as connection:
             with connection.cursor("labels") as cursor:
                 cursor.itersize = 10_000
                 cursor.execute('select label, holder from registered order by label collate "C"')
@@ -274,7 +334,7 @@ class PostgresqlRegister(Register):
 
     def texts(self) -> tuple[bytes, bytes]:
         # As rows a million labels take several times the time, and no text has more than 1 GB: so it is made in pages.
-        with self._unbounded(READ) as connection:
+        with self._unbounded("begin") as connection:
             labels = b"".join(pages(connection, "label", "true"))
             return labels, b"".join(pages(connection, "label || chr(9) || holder", "holder is not null"))
 
@@ -291,13 +351,13 @@ class PostgresqlRegister(Register):
                 raise Unusable(f"{self.name}: {first_line(error)}: nothing was loaded") from error
 
     def is_made(self) -> bool:
-        with self._session(READ) as session:
-            return value(session.connection, "select to_regclass('registered')") is not None
+        with self._connected() as connection:
+            return value(connection, "select to_regclass('registered')") is not None
 
     def faults(self) -> list[str]:
-        with self._session(READ) as session:
-            session.connection.execute("set local enable_seqscan = off")
-            rows = session.connection.execute(f"explain {FIRST.replace('$1', chr(39) * 2)}").fetchall()
+        with self._connected() as connection:
+            connection.execute("set enable_seqscan = off")
+            rows = connection.execute(f"explain {FIRST.replace('$1', chr(39) * 2)}").fetchall()
         plan = " ".join(line for line, in rows)
         if "Index Cond" in plan and "Sort" not in plan:
             return []
@@ -307,7 +367,7 @@ class PostgresqlRegister(Register):
     def close(self) -> None:
         with self._lock:
             for session in self._idle:
-                session.connection.close()
+                session.close()
             self._idle.clear()
 
 

@@ -21,9 +21,27 @@ NO_HOLDER = re.compile(rf"{CONTROL_CHARACTER.pattern}|[\ud800-\udfff]")
 class Transaction(abc.ABC):
     """What can be done in one transaction."""
 
-    @abc.abstractmethod
+    def __init__(self) -> None:
+        self.forget()
+
+    def forget(self) -> None:
+        """What was looked up doesn't hold any more. Each change begins with it."""
+        # A text and the first registered label at or after it: none is between them.
+        self._gap: tuple[str, str | None] | None = None
+
     def first_from(self, text: str) -> str | None:
         """The first registered label at or after a text, in label order."""
+        if self._gap is not None:
+            start, first = self._gap
+            if start <= text and (first is None or text <= first):
+                return first
+        first = self.look_up(text)
+        self._gap = text, first
+        return first
+
+    @abc.abstractmethod
+    def look_up(self, text: str) -> str | None:
+        """`first_from` by a question to the database."""
 
     @abc.abstractmethod
     def holder_of(self, label: str) -> str | None:

@@ -22,9 +22,10 @@ class SqliteTransaction(Transaction):
     """A transaction of one connection."""
 
     def __init__(self, connection: sqlite3.Connection) -> None:
+        super().__init__()
         self._connection = connection
 
-    def first_from(self, text: str) -> str | None:
+    def look_up(self, text: str) -> str | None:
         row = self._connection.execute(FIRST, (text,)).fetchone()
         return None if row is None else checked_label(row[0], text)
 
@@ -33,9 +34,11 @@ class SqliteTransaction(Transaction):
         return None if row is None else row[0]
 
     def insert(self, label: str, holder: str | None) -> None:
+        self.forget()
         self._connection.execute("insert into registered (label, holder) values (?, ?)", (label, holder))
 
     def delete(self, label: str) -> bool:
+        self.forget()
         done = self._connection.execute("delete from registered where label = ? collate binary", (label,))
         return done.rowcount > 0
 

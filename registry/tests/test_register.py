@@ -16,6 +16,7 @@ from conftest import PROGRAM, Place
 from postgresql import restart
 
 from idn2_registry import Status, Unknown, Unusable
+from idn2_registry.register import Transaction
 
 RACERS = 16
 ROUNDS = 12
@@ -168,6 +169,26 @@ def test_has_label_order(kind: Place) -> None:
         for first, second in zip(expected, expected[1:], strict=False):
             assert transaction.first_from(first) == first and transaction.first_from(first + "\u0001") == second
         assert transaction.first_from("𠀀a") is None
+
+
+def test_a_transaction_sees_one_state_and_its_own_changes(kind: Place) -> None:
+    kind.load("haus\tH1")
+    with kind.zone() as zone:
+        with zone.registered.reading() as transaction:
+            assert transaction.first_from("a") == "haus"
+            assert zone.register("igel").status is Status.REGISTERED and zone.release("haus").status is Status.RELEASED
+            assert transaction.first_from("i") is None and transaction.holder_of("haus") == "H1" and transaction.has("haus")
+        with zone.registered.reading() as transaction:
+            assert transaction.first_from("a") == "igel" and not transaction.has("haus")
+
+        def changed(transaction: Transaction) -> list[str | None]:
+            found = [transaction.first_from("a")]
+            transaction.insert("dachs", None)
+            found.append(transaction.first_from("a"))
+            transaction.delete("dachs")
+            return [*found, transaction.first_from("a")]
+
+        assert zone.registered.change(changed) == ["igel", "dachs", "igel"]
 
 
 def test_tells_what_a_register_lacks(bare: Place) -> None:
