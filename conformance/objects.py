@@ -100,8 +100,9 @@ def answer_of(each):
     """The line of text that says the same."""
     if "count" in each:
         return f"#end {each['count']}" if each["complete"] else f"#stop {each['count']} {each['after']}"
-    if "missing" in each:
-        return f"missing {each['source']}|{each['missing']}"
+    if "source" in each:
+        word = "missing" if "missing" in each else "differs"
+        return f"{word} {each['source']}|{each[word]}"
     if "gaps" in each:
         return f"#table {each['entries']} {each['gaps']}"
     if "alabel" in each:

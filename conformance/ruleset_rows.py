@@ -189,8 +189,19 @@ CHECKS = [
     (CYRILLIC_OUTSIDE, "#table 3 0\n"),
     ("0061|!0430\n0062\n", "missing 0430|0061\n#table 2 1\n"),
     (FINAL_TEH, "missing 0629|0647\n#table 2 1\n"),
-    (FINAL_SIGMA, "#table 25 0\n"),
-    (CONDITIONS + "0061|0063 when r:0063 when s:!0063 unless r\n0063|0061\n", "#table 2 0\n"),
+    (FINAL_SIGMA, "differs 03C2|03C3\n#table 25 0\n"),
+    (CONDITIONS + "0061|0063 when r:0063 when s:!0063 unless r\n0063|0061\n", "differs 0061|0063\n#table 2 0\n"),
+    # Conditions are a set, and those of sources, marks and tags are none of them.
+    (CONDITIONS + "0061|0063 when r:0063 unless s\n0063|0061 unless s:!0061 when r\n", "#table 2 0\n"),
+    (CONDITIONS + "%tag t\n0061 as t when r|!0063\n0063 unless s|0061 as t\n", "#table 2 0\n"),
+    (CONDITIONS + "0061|0063 when r:0063 when s\n0063|0061 when s\n", "differs 0061|0063\n#table 2 0\n"),
+    (CONDITIONS + "0061|0063 when r\n0063|0061 unless r\n", "differs 0061|0063\n#table 2 0\n"),
+    (CONDITIONS + "0061|0063 when r\n0063|0061 when s\n", "differs 0061|0063\n#table 2 0\n"),
+    # In the order of their sequences, each once, after the gaps; a pair that lacks its reverse is a gap alone.
+    (CONDITIONS + "00DF|0073-0073:0061 when s\n0073-0073|00DF when r:0061\n0061|0073-0073 unless s:00DF when s\n",
+     "differs 0061|0073-0073\ndiffers 0073-0073|00DF\n#table 3 0\n"),
+    (CONDITIONS + "0063|0061 when r\n0061|0063:0062 when s\n0062\n",
+     "missing 0062|0061\nmissing 0063|0062\ndiffers 0061|0063\n#table 3 2\n"),
     ("0061..0063\n", "#table 3 0\n"),
     ("  %set\tC 0061 .. 0063\n ! 0061 | ! 0062\n0062\n", "missing 0062|0061\n#table 2 1\n"),
     ("", "#table 0 0\n"),
@@ -292,7 +303,7 @@ def rows():
             yield ["--ruleset", "table", *words], label + "\n", {"table": VERSION_LINE + ruleset}, answer(wanted)
     for ruleset, output in CHECKS:
         files = {"table": VERSION_LINE + ruleset}
-        yield ["--check-ruleset", "table"], "", files, (output, "", 0 if output.endswith(" 0\n") else 1)
+        yield ["--check-ruleset", "table"], "", files, (output, "", 0 if output.startswith("#table") else 1)
     faulty = [(VERSION_LINE + ruleset, "--check-ruleset", line, number) for ruleset, line, number in FAULTS]
     for text, option, line, number in [*faulty, *((text, option, line, 30) for text, option, line in AS_THEY_STAND)]:
         words = [] if option.startswith("--check") else ["a"]

@@ -333,7 +333,7 @@ OF_RULESETS = [
      "ab\tab\tallocatable\nac\tac\tallocatable\nаb\txn--b-7sb\tblocked\nаc\txn--c-7sb\tblocked\n#end 4\n"
      "ba\tba\tallocatable\nbа\txn--b-8sb\tblocked\n#end 2\n", refused((3, "40 not made of table entries")), 1),
     ([*RULESET, "--jump"], ENDS, "ab\tb\n", "аb\n", "", 0),
-    (["--check-ruleset", "t", "--json"], ENDS, "", '{"entries":4,"gaps":0}\n', "", 0),
+    (["--check-ruleset", "t", "--json"], ENDS, "", '{"source":"0062","differs":"0063"}\n{"entries":4,"gaps":0}\n', "", 1),
     # A byte order mark before the version line.
     ([*RULESET, "--explain"], "\ufeff" + ENDS, "aa\n", "", "idn2: table line 1: 30 table syntax: a byte order mark at byte 1\n", 2),
 ]

@@ -3,20 +3,21 @@
 
 Written from docs/NOTATION.md alone, with the classes of Unicode's own data (unicode_data.py), so that the program
 can be compared with it. For each table it prints what `idn2 --check-table` prints, after the file's name, all on the
-output: the gaps and the last line, or the message of the first faulty line. A file whose first line is that of version 3
-is checked as a ruleset, by notation/. With --standard a table may have all that RFC 5892 allows, as for the program.
+output: the pairs that are found and the last line, or the message of the first faulty line. A file whose first line is that of
+version 3 is checked as a ruleset, by notation/. With --standard a table may have all that RFC 5892 allows, as for the program.
 
-Status: 0 no table has a fault or a gap; 1 one has; 2 a file can't be read, which a message on standard error says, or Unicode's
-data is missing, or no file is named.
+Status: 0 nothing is found in a table, and none has a fault; 1 else; 2 a file can't be read, which a message on standard error says,
+or Unicode's data is missing, or no file is named.
 """
 
 import dataclasses
 import re
 import sys
 
-from notation import gaps as pairs
 from notation import reading
+from notation.differences import differences
 from notation.faults import TableFault
+from notation.gaps import gaps
 from notation.lines import first_line, raw_lines, says_nothing, without_return
 from notation.points import is_scalar_value, spelled
 from unicode_data import Classes
@@ -124,24 +125,26 @@ def canonical_text(table):
 
 
 def check(text, classes):
-    """What `idn2 --check-table` prints, and whether there is neither a fault nor a gap."""
-    return report(lambda: read(text, classes).entries)
+    """What `idn2 --check-table` prints, and whether there is no fault and nothing is found."""
+    return report(lambda: {source: dict.fromkeys(variants, {None}) for source, variants in read(text, classes).entries.items()})
 
 
 def check_ruleset(text, classes):
-    """What a check of a ruleset prints, and whether there is neither a fault nor a gap."""
+    """What a check of a ruleset prints, and whether there is no fault and nothing is found."""
     return report(lambda: reading.read(text, classes.may_stand).variants_of())
 
 
 def report(variants_of):
-    """The gaps of what is read, for each source its variants, and how many sources and gaps there are; or the fault."""
+    """The pairs that are found in what is read, and how many sources and gaps there are; or the fault. For each source it has
+    the variants, each with the set of its conditions."""
     try:
         entries = variants_of()
     except TableFault as fault:
         return [str(fault)], False
-    missing = pairs.gaps(entries)
-    lines = [f"missing {spelled(a)}|{spelled(b)}" for a, b in missing]
-    return lines + [f"#table {len(entries)} {len(missing)}"], not missing
+    missing = gaps(entries)
+    found = [*(("missing", pair) for pair in missing), *(("differs", pair) for pair in differences(entries))]
+    lines = [f"{word} {spelled(a)}|{spelled(b)}" for word, (a, b) in found]
+    return lines + [f"#table {len(entries)} {len(missing)}"], not found
 
 
 def main(words):

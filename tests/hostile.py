@@ -33,6 +33,8 @@ OUTSIDE = b"%version 3\n0061|!0430\n!0430|!0061\n0062\n!0063|!0062\n"
 # comes nowhere else; a `c` stands in place of `a` and `d` there alone, so it is a variant that is never valid.
 CONDITIONS = (b"%version 3\n%tag s\n%tag t\n%set A 0061..0063\n%rule r @A _\n%never 0064 0064\n0061 as s|0062 as t:!0063 when r\n"
               b"0062 as t|0061 as s\n0063 unless r\n0064|0063 when r\n0065 when r\n")
+# A ruleset with two variants of each other, one way at the end alone.
+DIFFERING = b"%version 3\n%rule r _ $\n0061|0062 when r:0063\n0062|0061\n"
 
 
 class Case(NamedTuple):
@@ -131,6 +133,8 @@ CASES = [
     Case(["--check-ruleset", "table", "--explain"], b"%version 3\n!0061 as t\n",
          [("", "", "idn2: table line 2: 30 table syntax: 'as' at byte 7\n")], 2),
     Case(["--ruleset", "table"], DEFINING, [("ab\n", "ab\tab\tallocatable\nbb\tbb\tblocked\n#end 2\n", "")], 0),
+    Case(["--check-ruleset", "table"], DIFFERING,
+         [("", "missing 0062|0063\nmissing 0063|0061\ndiffers 0061|0062\n#table 2 2\n", "")], 1),
     Case(["--check-ruleset", "table"], DEFINING, [("", "missing 0062|0061\n#table 2 1\n", "")], 1),
     Case(["--ruleset", "table"], b"%version 3\n%set A 0061\n%rule r @A @B _\n",
          [("", "", "idn2: table line 3: 35 name not defined\n")], 2),
@@ -193,6 +197,9 @@ CASES = [
                                         '"code_point":"U+0061","place":1}}\n', "")], 2, b"b\na\nc\n"),
     Case([*JUMP, "--json"], SHARP_S, [("sss\tsssa\n", '{"line":1,"input":"sss\\tsssa","ulabel":"sß"}\n', ""),
                                       ("sss\tßt\n", '{"line":2,"input":"sss\\tßt","ulabel":null}\n', "")], 0),
+    Case(["--check-ruleset", "table", "--json"], DIFFERING,
+         [("", '{"source":"0062","missing":"0063"}\n{"source":"0063","missing":"0061"}\n{"source":"0061","differs":"0062"}\n'
+           '{"entries":2,"gaps":2}\n', "")], 1),
     Case(["--check-table", "table", "--json"], DOUBLED,
          [("", '{"source":"0061-0061","missing":"0061"}\n{"entries":1,"gaps":1}\n', "")], 1),
     Case(["--variants", "table", "--json"], b"0061|\n",

@@ -233,6 +233,10 @@ def checks_a_table(folder):
     found = [{"source": "00DF", "missing": "0073-0073"}, {"entries": 2, "gaps": 1}]
     expect(words + ["--json"], b"", text_of(found), b"", 1)
     objects_of(text_of(found))
+    words = ["--check-ruleset", table_file(folder, b"%version 3\n%rule end _ $\n03C3|03C2 when end\n03C2|03C3\n")]
+    found = [{"source": "03C2", "differs": "03C3"}, {"entries": 2, "gaps": 0}]
+    expect(words + ["--json"], b"", text_of(found), b"", 1)
+    objects_of(text_of(found))
     expect(["--check-ruleset", LATIN[1], "--json"], b"", text_of([{"entries": 64, "gaps": 0}]), b"", 0)
 
 

@@ -10,8 +10,8 @@ from .register import open_register
 from .tables import Table, read_table
 from .words import counted
 
-# So many gaps of a table are named; the program tells all of them.
-SHOWN_GAPS = 3
+# So many gaps of a table are named, and so many pairs that differ; the program tells all of them.
+SHOWN_PAIRS = 3
 
 
 def check_configuration(configuration: Configuration, program: Program, output: Output) -> None:
@@ -33,8 +33,12 @@ def check_tables(configuration: Configuration, program: Program, output: Output)
         tables[name] = table
         told = {"table": name, "file": str(path), "entries": table.entries, "gaps": len(table.gaps)}
         output.fact(told, f"{path}: {name}: {counted(table.entries, 'entry', 'entries')}, {counted(len(table.gaps), 'gap')}", ExitStatus.YES)
-        for gap in table.gaps[:SHOWN_GAPS]:
+        for gap in table.gaps[:SHOWN_PAIRS]:
             output.fact({"table": name, "missing": gap}, f"{path}: add the pair {gap}", ExitStatus.NO)
+        for pair in table.differences[:SHOWN_PAIRS]:
+            # Advice, no fault: a registry may want it so.
+            words = f"{path}: the pair {pair} has other conditions the other way, which RFC 7940, 5.3.5, advises against"
+            output.fact({"table": name, "differs": pair}, words, ExitStatus.YES)
     if (zone := tables.get(configuration.zone)) is not None:
         admitting = [tables[name] for name in configuration.admitting if name in tables]
         if doubt := zone.doubt or lacking(zone, admitting):

@@ -28,19 +28,21 @@ class Kind(Enum):
 
 @dataclass(frozen=True)
 class Table:
-    """A table as it was read, with its gaps as `source|missing`. It is asked by its bytes, whatever becomes of its file."""
+    """A table as it was read, with its gaps as `source|missing`, and as `source|differs` the pairs whose conditions one way aren't
+    those of the other way. It is asked by its bytes, whatever becomes of its file."""
 
     name: str
     path: Path
     data: bytes = field(repr=False)
     gaps: tuple[str, ...] = ()
     entries: int = 0
+    differences: tuple[str, ...] = ()
 
     def __post_init__(self) -> None:
         object.__setattr__(self, "_held", HeldFile(self.data))
 
-    def __reduce__(self) -> tuple[type["Table"], tuple[str, Path, bytes, tuple[str, ...], int]]:
-        return Table, (self.name, self.path, self.data, self.gaps, self.entries)
+    def __reduce__(self) -> tuple[type["Table"], tuple[str, Path, bytes, tuple[str, ...], int, tuple[str, ...]]]:
+        return Table, (self.name, self.path, self.data, self.gaps, self.entries, self.differences)
 
     @property
     def held(self) -> HeldFile:
@@ -91,7 +93,7 @@ def read_tables(paths: Mapping[str, Path], names: Iterable[str], program: Progra
 
 
 def checked(table: Table, program: Program) -> Table:
-    """The table with its gaps, which the program tells. Raises Unusable for a faulty table."""
+    """The table with what the program finds in it. Raises Unusable for a faulty table."""
     _, check = table.kind.value
     held = table.held
     try:
@@ -107,5 +109,6 @@ def checked(table: Table, program: Program) -> Table:
         raise Unusable(f"{table.path}: {ended(done.returncode, done.stderr)}: try it with {check}")
     if not told[-1]["entries"]:
         raise Unusable(f"{table.path}: line 1: no entry in it: each label would be refused: was it cut short?")
-    gaps = tuple(f"{gap['source']}|{gap['missing']}" for gap in told[:-1] if "missing" in gap)
-    return Table(table.name, table.path, table.data, gaps, told[-1]["entries"])
+    gaps, differences = (
+        tuple(f"{pair['source']}|{pair[word]}" for pair in told[:-1] if word in pair) for word in ("missing", "differs"))
+    return Table(table.name, table.path, table.data, gaps, told[-1]["entries"], differences)

@@ -8,4 +8,5 @@ ruleset                what a text spells
 canonical              the one spelling of a definition and of an entry
 reading                the ruleset of a text, or its first fault
 gaps                   the pairs that a table or a ruleset lacks
+differences            the pairs whose conditions one way aren't those of the other way
 """

@@ -67,5 +67,9 @@ class Ruleset:
     entries: dict = dataclasses.field(default_factory=dict)
 
     def variants_of(self):
-        """For each source its variants, as sequences."""
-        return {source: [variant.points for variant in entry.variants] for source, entry in self.entries.items()}
+        """For each source its variants, as sequences, each with the set of its conditions; None stands for no condition."""
+        found = {source: {} for source in self.entries}
+        for source, entry in self.entries.items():
+            for variant in entry.variants:
+                found[source].setdefault(variant.points, set()).add(variant.condition)
+        return found

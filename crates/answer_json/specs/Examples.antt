@@ -5,8 +5,9 @@ use Rattle.idn_text.specs.declared.refusal.Refusal.TheVariants.{NotUtf8, LineToo
 use Rattle.answer_json.specs.Answers.{Answer, json_of, text_of}
 use Rattle.answer_json.specs.Details.{Details, no_details}
 use Rattle.answer_json.specs.Inputs.{as_text, as_octets, not_kept}
-use Rattle.answer_json.specs.Objects.{looked_up, registered, decoded, refused, variant, trailer, gap, checked, table_fault}
+use Rattle.answer_json.specs.Objects.{looked_up, registered, decoded, refused, variant, trailer, pair, checked, table_fault}
 use Rattle.answer_json.specs.declared.block.Disposition.TheVariants.{Allocatable}
+use Rattle.answer_json.specs.declared.checked.PairFinding.TheVariants.{Missing, Differs}
 
 -- an answer and its text
 pub record Row : Type 0 where
@@ -140,7 +141,8 @@ refusals =
 
 abbrev pub tables : List Row
 tables =
-    record { answer = gap (codes "00DF") (codes "0073-0073"); text = codes "{\"source\":\"00DF\",\"missing\":\"0073-0073\"}" }
+    record { answer = pair Missing (codes "00DF") (codes "0073-0073"); text = codes "{\"source\":\"00DF\",\"missing\":\"0073-0073\"}" }
+    ∷ record { answer = pair Differs (codes "03C2") (codes "03C3"); text = codes "{\"source\":\"03C2\",\"differs\":\"03C3\"}" }
     ∷ record { answer = checked 2 1; text = codes "{\"entries\":2,\"gaps\":1}" }
     ∷ record {
       answer = table_fault 2 Syntax no_details;

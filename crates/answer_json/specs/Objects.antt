@@ -4,6 +4,8 @@ use Rattle.idn_text.specs.declared.refusal.Refusal.{Refusal}
 use Rattle.answer_json.specs.Answers.{Field, Answer, if_given, count, text, flag, nothing}
 use Rattle.answer_json.specs.Details.{Details, refusal_fields}
 use Rattle.answer_json.specs.Inputs.{Told, input_field}
+use Rattle.answer_json.specs.declared.checked.PairFinding.{PairFinding}
+use Rattle.answer_json.specs.declared.checked.PairFinding.TheVariants.{Missing, Differs}
 use Rattle.answer_json.specs.declared.block.Disposition.{Disposition}
 use Rattle.answer_json.specs.declared.block.Disposition.TheVariants.{Allocatable, Blocked}
 
@@ -69,9 +71,14 @@ trailer line input variants stop =
 
 -- ---- the check of a table
 
+-- the word of what is found of two sequences
+abbrev pub word_of : PairFinding → List ℕ
+word_of Missing = codes "missing"
+word_of Differs = codes "differs"
+
 -- {"source":"00DF","missing":"0073-0073"}
-abbrev pub gap : List ℕ → List ℕ → Answer
-gap source missing = answered ((codes "source", text source) ∷ (codes "missing", text missing) ∷ [])
+abbrev pub pair : PairFinding → List ℕ → List ℕ → Answer
+pair finding source other = answered ((codes "source", text source) ∷ (word_of finding, text other) ∷ [])
 
 -- {"entries":2,"gaps":1}
 abbrev pub checked : ℕ → ℕ → Answer

@@ -18,7 +18,7 @@ mod room;
 
 pub use answered::{write_decoded, write_least, write_looked_up, write_registered};
 pub use block::{Disposition, write_trailer, write_variant};
-pub use checked::{write_checked, write_gap};
+pub use checked::{PairFinding, write_checked, write_pair};
 pub use input::Input;
 pub use laws::{objects_are_lines, objects_are_read_back, objects_are_unicode, objects_have_texts};
 pub use refusal_members::RefusalMembers;

@@ -8,8 +8,9 @@ use Rattle.idn_label.specs.ALabel.{a_label_of}
 use Rattle.ruleset_text.specs.EntryText.{sequence_text}
 use Rattle.answer_json.specs.Answers.{Answer, line_of}
 use Rattle.answer_json.specs.Inputs.{Told, told_of}
-use Rattle.answer_json.specs.Objects.{looked_up, registered, decoded, variant, trailer, least, gap, checked, disposition_text}
+use Rattle.answer_json.specs.Objects.{looked_up, registered, decoded, variant, trailer, least, pair, word_of, checked, disposition_text}
 use Rattle.answer_json.specs.declared.block.Disposition.{Disposition}
+use Rattle.answer_json.specs.declared.checked.PairFinding.{PairFinding}
 use Rattle.idn2_options.specs.declared.command_line.form.Form.{Form}
 use Rattle.idn2_options.specs.declared.command_line.form.Form.TheVariants.{Plain, Json}
 
@@ -72,25 +73,25 @@ said_text Json line said = line_of (said_object line.number (told_of line.body) 
 
 -- ---- of a table
 
--- a pair of sequences that a table lacks; how many entries and how many such pairs it has
+-- what is found of two sequences; how many entries and how many gaps the table has
 pub data Finding : Type 0 where
-  Gap : (gap : List ℕ × List ℕ) → Finding
+  Found : (finding : PairFinding) → (pair : List ℕ × List ℕ) → Finding
   Counted : (entries gaps : ℕ) → Finding
 
--- a pair that the table lacks, in canonical notation
-abbrev pub gap_line : List ℕ × List ℕ → List ℕ
-gap_line gap = codes "missing " ++ (sequence_text gap.0 ++ 124 ∷ sequence_text gap.1)
+-- what is found, and the pair in canonical notation
+abbrev pub pair_line : PairFinding → List ℕ × List ℕ → List ℕ
+pair_line finding sequences = word_of finding ++ (32 ∷ (sequence_text sequences.0 ++ 124 ∷ sequence_text sequences.1))
 
 -- how many entries and how many gaps the table has
 abbrev pub table_line : ℕ → ℕ → List ℕ
 table_line entries gaps = codes "#table " ++ (decimal entries ++ 32 ∷ decimal gaps)
 
 abbrev pub finding_line : Finding → List ℕ
-finding_line (Gap gap) = gap_line gap
+finding_line (Found finding sequences) = pair_line finding sequences
 finding_line (Counted entries gaps) = table_line entries gaps
 
 abbrev pub finding_object : Finding → Answer
-finding_object (Gap pair) = gap (sequence_text pair.0) (sequence_text pair.1)
+finding_object (Found finding sequences) = pair finding (sequence_text sequences.0) (sequence_text sequences.1)
 finding_object (Counted entries gaps) = checked entries gaps
 
 abbrev pub finding_text : Form → Finding → List ℕ

@@ -1,5 +1,5 @@
 -- The transcript of a run: all that it writes where nothing fails, line by line.
-use Rattle.std.specs.Prelude.{ℕ, List, [], ◌∷◌, ◌++◌, ◌≡◌, Option, Result, Ok, Err, ◌==◌, Bool, not, length, map, if◌then◌else◌}
+use Rattle.std.specs.Prelude.{ℕ, ◌+◌, List, [], ◌∷◌, ◌++◌, ◌≡◌, Option, Result, Ok, Err, ◌==◌, Bool, not, length, map, if◌then◌else◌}
 use Rattle.std.specs.List.{flat_map, list_any}
 use Rattle.std.specs.Result.{is_err}
 use Rattle.idn_class.specs.declared.properties.Properties.{Properties}
@@ -13,14 +13,16 @@ use Rattle.variant_table.specs.Faults.{LineFault, table_fault as fault_of_line}
 use Rattle.idn2_options.specs.declared.command_line.mode.Mode.{Mode}
 use Rattle.idn2_options.specs.declared.command_line.mode.Mode.TheVariants.{Lookup, Register, Decode, Variants, Jump, CheckTable}
 use Rattle.idn_text.specs.Lines.{Numbered}
+use Rattle.variant_table.specs.Differences.{differences_of, AreDifferencesOf}
 use Rattle.variant_table.specs.Gaps.{gaps_of, AreGapsOf}
+use Rattle.answer_json.specs.declared.checked.PairFinding.TheVariants.{Missing, Differs}
 use Rattle.idn2_options.specs.Settings.{Settings, tells_causes}
 use Rattle.idn2_answers.specs.Answers.{LineAnswer, mode_answer, line_answer}
 use Rattle.idn2_refusals.specs.Explained.{Unexplained, ByLabel, ByName, ByQuery, ByTable, ByRequest, if_wanted, Explained, body_cause}
 use Rattle.idn2_refusals.specs.TableCauses.{fault_cause, told_if}
 use Rattle.idn2_refusals.specs.Messages.{refusal_piece, fault_piece}
 use Rattle.idn2_output.specs.OutputLines.{OutputLine, Output, outputs}
-use Rattle.idn2_answers.specs.Said.{Said, Finding, Gap, Counted, said_text, finding_text}
+use Rattle.idn2_answers.specs.Said.{Said, Finding, Found, Counted, said_text, finding_text}
 use Rattle.idn2_refusals.specs.declared.cause.LineCause.{LineCause}
 use Rattle.answer_json.specs.Objects.{refused}
 use Rattle.idn2_options.specs.declared.command_line.form.Form.{Form}
@@ -134,14 +136,21 @@ status_if refused = if refused then Refused else Clean
 
 -- what a check finds
 abbrev pub check_findings : List Entry → List Finding
-check_findings table = map Gap (gaps_of table) ++ Counted (length table) (length (gaps_of table)) ∷ []
+check_findings table = map (Found Missing) (gaps_of table) ++ (map (Found Differs) (differences_of table) ++ Counted (length table) (length (gaps_of table)) ∷ [])
 
 -- what a check finds, by what it has to be: each pair that symmetry or transitivity requires and the table lacks, in
--- order, and then how many entries and how many such pairs there are
+-- order; then each pair of variants of each other that aren't so under the same conditions, in order; and then how many
+-- entries and how many gaps there are
 pub record IsCheck (table : List Entry) (findings : List Finding) : Type 0 where
   pub gaps : List (List ℕ × List ℕ)
+  pub differences : List (List ℕ × List ℕ)
   pub exactly : AreGapsOf table gaps
-  pub found : findings ≡ map Gap gaps ++ Counted (length table) (length gaps) ∷ []
+  pub exactly_differ : AreDifferencesOf table differences
+  pub found : findings ≡ map (Found Missing) gaps ++ (map (Found Differs) differences ++ Counted (length table) (length gaps) ∷ [])
+
+-- some pair is found
+abbrev pub has_found : List Entry → Bool
+has_found table = not (length (gaps_of table) + length (differences_of table) == 0)
 
 -- what is said of a table; of a faulty one its fault, with its cause, if causes are wanted
 abbrev pub check_statements : Bool → TableGiven → List Statement
@@ -153,10 +162,10 @@ abbrev pub check_output : Form → Bool → TableGiven → List OutputLine
 check_output form wanted (Err fault) = output_line_in form (Faults fault.0 fault.1 (told_if wanted fault.2)) ∷ []
 check_output form wanted (Ok table) = outputs (finding_text form) (check_findings table.entries)
 
--- 2 for a faulty table, 1 for one with a gap, else 0
+-- 2 for a faulty table, 1 for one of which a pair is found, else 0
 abbrev pub check_status : TableGiven → Status
 check_status (Err fault) = Unusable
-check_status (Ok table) = status_if (not (length (gaps_of table.entries) == 0))
+check_status (Ok table) = status_if (has_found table.entries)
 
 -- ---- the whole run
 

@@ -3,8 +3,10 @@ use Rattle.std.proofs.Common.{◌≡◌, ◌↔◌, inl, inr, ℕ, true, List, O
 use Rattle.idn_text.specs.declared.refusal.Refusal.{Refusal}
 use Rattle.idn_label.specs.FirstFault.{IsRegistrable}
 use Rattle.variant_table.specs.Entries.{Entry, TableValue}
+use Rattle.variant_table.specs.Differences.{differences_of}
 use Rattle.variant_table.specs.Gaps.{gaps_of}
 use Rattle.variant_table.specs.WellFormed.{IsWellFormed}
+use Rattle.variant_table.proofs.DifferenceLemmas.{differences_of_are_differences}
 use Rattle.variant_table.proofs.RisingLemmas.{gaps_of_are_gaps}
 use Rattle.valid_labels.specs.Tests.{asks_nothing}
 use Rattle.valid_labels.specs.Validity.{IsSound, IsValid}
@@ -115,4 +117,10 @@ variants_answer-IsListing o table label sound registrable =
     subst (IsListing o table label) (sym (ap (λ (f : Option Refusal). unless_fault f (listing_answer o table label)) registrable)) (listing o table label sound)
 
 pub check_findings-IsCheck : (entries : List Entry) → IsWellFormed entries → IsCheck entries (check_findings entries)
-check_findings-IsCheck entries formed = record { gaps = gaps_of entries; exactly = gaps_of_are_gaps entries formed; found = refl }
+check_findings-IsCheck entries formed = record {
+  gaps = gaps_of entries;
+  differences = differences_of entries;
+  exactly = gaps_of_are_gaps entries formed;
+  exactly_differ = differences_of_are_differences entries formed;
+  found = refl;
+}

@@ -1,14 +1,17 @@
--- The gaps of a table, as they are written.
+-- The pairs that are found in a table, as they are written.
 use Rattle.std.proofs.Common.{◌≡◌, ◌<◌, ◌⊎◌, inl, inr, ℕ, List, [], ◌∷◌, ◌++◌, All, map, length, get_or, Contains, refl, sym, ap, subst, ◌∙◌, Vec}
 use Rattle.variant_table.specs.Entries.{Entry, sequences_in, replacements}
 use Rattle.variant_table.specs.WellFormed.{IsWellFormed, IsEntry, IsSequence}
 use Rattle.std.specs.declared.alloc.Global.{Global}
 use Rattle.std.proofs.lemmas.List.{get_or-map, length-map}
 use Rattle.variant_table.specs.Gaps.{IsGap, IsPair, AreGapsOf, gaps_of, pair_of, pairs_of}
+use Rattle.variant_table.specs.Differences.{AreDifferencesOf, differences_of}
+use Rattle.answer_json.specs.declared.checked.PairFinding.TheVariants.{Missing, Differs}
 use Rattle.idn2_options.specs.declared.command_line.form.Form.{Form}
-use Rattle.idn2_answers.specs.Said.{Gap, Counted, finding_text}
+use Rattle.idn2_answers.specs.Said.{Finding, Found, Counted, finding_text}
 use Rattle.idn2_output.specs.OutputLines.{OutputLine, Output, outputs}
 use Rattle.idn2_answers.specs.Transcript.{check_findings}
+use Rattle.idn2_cli.specs.inner.PairSequences.{HoldSequences}
 use Rattle.variant_table.proofs.MemberLemmas.{Contains-head, Contains-later}
 
 all_at : {X : Type 0} (P : X → Type 0) (xs : List X) (x : X) → All P xs → Contains xs x → P x
@@ -29,12 +32,17 @@ gap_sequences table a b formed gap = by_cause gap.wanted
     by_cause (inl p) = let s = pair_sequences table b a formed p in (s.1, s.0)
     by_cause (inr c) = ((pair_sequences table a c.0 formed c.1).0, (pair_sequences table c.0 b formed c.2).1)
 
--- both sequences of a gap in memory can be written
-pub gap_at : (table : List Entry) (gaps : List (Vec ℕ Global × Vec ℕ Global)) (i : ℕ) (gap : Vec ℕ Global × Vec ℕ Global)
-    → IsWellFormed table → AreGapsOf table (pairs_of gaps) → i < length gaps → gap ≡ get_or gaps i gap → IsSequence gap.0.items × IsSequence gap.1.items
-gap_at table gaps i gap formed are lt is =
-    let there : Contains (pairs_of gaps) (pair_of gap) = (i, subst (λ (n : ℕ). i < n) (sym (length-map gaps pair_of)) lt, get_or-map pair_of gaps i gap (pair_of gap) lt ∙ ap pair_of (sym is)) in
-    gap_sequences table gap.0.items gap.1.items formed ((are.members gap.0.items gap.1.items).0 there)
+-- pairs in memory can be written, if they are pairs of sequences
+hold_sequences : (pairs : List (Vec ℕ Global × Vec ℕ Global)) → ((a b : List ℕ) → Contains (pairs_of pairs) (a, b) → IsSequence a × IsSequence b) → HoldSequences pairs
+hold_sequences pairs sequences = λ i pair lt is.
+    let there : Contains (pairs_of pairs) (pair_of pair) = (i, subst (λ (n : ℕ). i < n) (sym (length-map pairs pair_of)) lt, get_or-map pair_of pairs i pair (pair_of pair) lt ∙ ap pair_of (sym is)) in
+    sequences pair.0.items pair.1.items there
+
+pub gaps_hold : (table : List Entry) (gaps : List (Vec ℕ Global × Vec ℕ Global)) → IsWellFormed table → AreGapsOf table (pairs_of gaps) → HoldSequences gaps
+gaps_hold table gaps formed are = hold_sequences gaps (λ a b c. gap_sequences table a b formed ((are.members a b).0 c))
+
+pub differences_hold : (table : List Entry) (pairs : List (Vec ℕ Global × Vec ℕ Global)) → IsWellFormed table → AreDifferencesOf table (pairs_of pairs) → HoldSequences pairs
+differences_hold table pairs formed are = hold_sequences pairs (λ a b c. let d = (are.members a b).0 c in pair_sequences table a b formed d.there)
 
 -- ---- what a check finds
 
@@ -42,13 +50,22 @@ outputs-append : {X : Type 0} (text : X → List ℕ) (xs ys : List X) → outpu
 outputs-append text [] ys = refl
 outputs-append text (x ∷ xs) ys = ap (λ (ps : List OutputLine). Output (text x) ∷ ps) (outputs-append text xs ys)
 
--- the gaps, then their number
-pub check-split : (form : Form) (table : List Entry) (pairs : List (List ℕ × List ℕ)) → pairs ≡ gaps_of table
-    → outputs (finding_text form) (check_findings table) ≡ outputs (finding_text form) (map Gap pairs) ++ Output (finding_text form (Counted (length table) (length pairs))) ∷ []
-check-split form table pairs e =
-    ap (λ (ps : List (List ℕ × List ℕ)). outputs (finding_text form) (map Gap ps ++ Counted (length table) (length ps) ∷ [])) (sym e)
-    ∙ outputs-append (finding_text form) (map Gap pairs) (Counted (length table) (length pairs) ∷ [])
+-- the gaps, then the differences, then the number of the gaps
+pub check-split : (form : Form) (table : List Entry) (gaps differences : List (List ℕ × List ℕ)) → gaps ≡ gaps_of table → differences ≡ differences_of table
+    → outputs (finding_text form) (check_findings table)
+    ≡ outputs (finding_text form) (map (Found Missing) gaps)
+    ++ (outputs (finding_text form) (map (Found Differs) differences) ++ Output (finding_text form (Counted (length table) (length gaps))) ∷ [])
+check-split form table gaps differences missing differing =
+    ap (outputs text) (ap (λ ps. map (Found Missing) ps ++ (map (Found Differs) (differences_of table) ++ last ps)) (sym missing) ∙ ap (λ ps. map (Found Missing) gaps ++ (map (Found Differs) ps ++ last gaps)) (sym differing))
+    ∙ outputs-append text (map (Found Missing) gaps) (map (Found Differs) differences ++ last gaps)
+    ∙ ap (λ ps. outputs text (map (Found Missing) gaps) ++ ps) (outputs-append text (map (Found Differs) differences) (last gaps))
+  where
+    text : Finding → List ℕ
+    text = finding_text form
 
--- as many pairs as gaps in memory
-pub pairs_of-length : (gaps : List (Vec ℕ Global × Vec ℕ Global)) → length (pairs_of gaps) ≡ length gaps
-pairs_of-length gaps = length-map gaps pair_of
+    last : List (List ℕ × List ℕ) → List Finding
+    last ps = Counted (length table) (length ps) ∷ []
+
+-- as many pairs as there are in memory
+pub pairs_of-length : (pairs : List (Vec ℕ Global × Vec ℕ Global)) → length (pairs_of pairs) ≡ length pairs
+pairs_of-length pairs = length-map pairs pair_of

@@ -18,7 +18,7 @@ pub mod RunEnds
 pub mod LentWriters
 -- The table of a run.
 pub mod TableLemmas
--- The gaps of a table, as they are written.
+-- The pairs that are found in a table, as they are written.
 pub mod CheckLemmas
 -- The listing of a label's variants, and the labels in it.
 pub mod ListingLemmas

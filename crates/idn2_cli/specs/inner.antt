@@ -3,7 +3,7 @@ pub mod LineAnswers
 pub mod Blocks
 pub mod ServedModes
 pub mod Dispositions
-pub mod GapSequences
+pub mod PairSequences
 pub mod CachedLines
 pub mod Asked
 pub mod ServedLines

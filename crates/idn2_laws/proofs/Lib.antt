@@ -10,6 +10,8 @@ pub mod ToldAlikeLemmas
 pub mod FormLemmas
 -- Laws of the labels that are listed.
 pub mod ListingLaws
+-- A table of which no variant has a condition has no differences.
+mod DifferenceLaws
 -- Over a table of version 2 and over the ruleset of the same entries a run says the same.
 pub mod RulesetLaws
 -- Objects that are read back as they are meant: what is said of a line.

@@ -17,13 +17,17 @@ use Rattle.idn_text.specs.declared.refusal.Refusal.TheVariants as refusals
 use Rattle.idn_cause.specs.Causes.{shared}
 use Rattle.ruleset_text.specs.Canonical.{point_text}
 use Rattle.ruleset_text.specs.EntryText.{sequence_text}
+use Rattle.variant_table.specs.Differences.{differences_of}
 use Rattle.variant_table.specs.Gaps.{gaps_of}
 use Rattle.table_cause.specs.FaultPlaces.{fault_place, line_place, place_at}
 use Rattle.variant_table.specs.FaultyLines.{FaultyLine, faulty_line}
 use Rattle.ruleset_text.specs.declared.fault.FaultPlace.{FaultPlace}
 use Rattle.idn2_refusals.specs.Explained.{ByRegisteredLine, bad_byte, body_cause, points_cause, u_label_cause}
 use Rattle.idn2_laws.specs.ReadBack.{byte_of, FindingsAreReadBack, IsReadBack, IsShortBody, RegisteredFaultsAreReadBack, TableFaultsAreReadBack, TellsFewOctetsIfAny}
-use Rattle.idn2_answers.specs.Said.{Counted, Gap, finding_object}
+use Rattle.answer_json.specs.declared.checked.PairFinding.{PairFinding}
+use Rattle.answer_json.specs.declared.checked.PairFinding.TheVariants.{Missing, Differs}
+use Rattle.idn2_answers.specs.Said.{Finding, Found, Counted, finding_object}
+use Rattle.idn2_answers.specs.Transcript.{check_findings}
 use Rattle.idn2_refusals.specs.TableCauses.{begins_with_mark, cause_at, fault_cause, is_syntax_of_first, line_cause, told_if}
 use Rattle.idn2_refusals.specs.WrongLines.{body_at, body_if_any, differs_at, points_at, points_in, told_of_wrong_line, wrong_line_cause}
 use Rattle.idn2_refusals.specs.declared.cause.LineCause.{LineCause}
@@ -57,24 +61,34 @@ sequence_ascii (c ∷ []) = point_ascii c
 sequence_ascii (c ∷ d ∷ points) =
     ascii_append (point_text c) (45 ∷ sequence_text (d ∷ points)) (point_ascii c) (ascii_cons 45 (sequence_text (d ∷ points)) refl (sequence_ascii (d ∷ points)))
 
-gap_good : (pair : List ℕ × List ℕ) → IsReadBack (finding_object (Gap pair))
-gap_good pair =
+abbrev IsGood : Finding → Type 0
+IsGood f = IsReadBack (finding_object f)
+
+pair_good : (finding : PairFinding) (pair : List ℕ × List ℕ) → IsGood (Found finding pair)
+pair_good Missing pair =
     object_read_back _ ((tt, (tt, tt)), tt)
     ((ascii_utf8 (codes "source") refl, ascii_utf8 (sequence_text pair.0) (sequence_ascii pair.0), (ascii_utf8 (codes "missing") refl, ascii_utf8 (sequence_text pair.1) (sequence_ascii pair.1), tt)), tt)
+pair_good Differs pair =
+    object_read_back _ ((tt, (tt, tt)), tt)
+    ((ascii_utf8 (codes "source") refl, ascii_utf8 (sequence_text pair.0) (sequence_ascii pair.0), (ascii_utf8 (codes "differs") refl, ascii_utf8 (sequence_text pair.1) (sequence_ascii pair.1), tt)), tt)
 
-counted_good : (entries gaps : ℕ) → entries < 2 ^ 64 → gaps < 2 ^ 64 → IsReadBack (finding_object (Counted entries gaps))
+counted_good : (entries gaps : ℕ) → entries < 2 ^ 64 → gaps < 2 ^ 64 → IsGood (Counted entries gaps)
 counted_good entries gaps few fewer =
     object_read_back _ ((few, (fewer, tt)), tt) ((ascii_utf8 (codes "entries") refl, tt, (ascii_utf8 (codes "gaps") refl, tt, tt)), tt)
 
-findings_good : (pairs : List (List ℕ × List ℕ)) (entries gaps : ℕ) → entries < 2 ^ 64 → gaps < 2 ^ 64 → AllByRecursion (λ f. IsReadBack (finding_object f)) (map Gap pairs ++ Counted entries gaps ∷ [])
-findings_good [] entries gaps few fewer = (counted_good entries gaps few fewer, tt)
-findings_good (pair ∷ pairs) entries gaps few fewer = (gap_good pair, findings_good pairs entries gaps few fewer)
+-- pairs before others that are read back
+pairs_good : (finding : PairFinding) (pairs : List (List ℕ × List ℕ)) (others : List Finding) → AllByRecursion IsGood others → AllByRecursion IsGood (map (Found finding) pairs ++ others)
+pairs_good finding [] others good = good
+pairs_good finding (pair ∷ pairs) others good = (pair_good finding pair, pairs_good finding pairs others good)
 
 pub findings_read_back : FindingsAreReadBack
 findings_read_back table sound few =
-    let pairs = gaps_of table.entries in
-    All-from_recursion (λ f. IsReadBack (finding_object f)) (map Gap pairs ++ Counted (length table.entries) (length pairs) ∷ [])
-    (findings_good pairs (length table.entries) (length pairs) (omega (arith, sound.entries.few)) few)
+    let gaps = gaps_of table.entries in
+    let differences = differences_of table.entries in
+    let count = Counted (length table.entries) (length gaps) ∷ [] in
+    All-from_recursion IsGood (check_findings table.entries)
+    (pairs_good Missing gaps (map (Found Differs) differences ++ count)
+    (pairs_good Differs differences count (counted_good (length table.entries) (length gaps) (omega (arith, sound.entries.few)) few, tt)))
 
 -- ---- the fault of a table
 

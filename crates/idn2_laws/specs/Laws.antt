@@ -1,5 +1,5 @@
 -- Laws of the definitions.
-use Rattle.std.specs.Prelude.{◌≡◌, ◌≢◌, ◌↔◌, ℕ, ◌≤◌, false, true, List, [], length, map, Option, Some, None, slice_index}
+use Rattle.std.specs.Prelude.{◌≡◌, ◌≢◌, ◌↔◌, ℕ, ◌≤◌, false, true, List, [], ◌∷◌, ◌++◌, length, map, Option, Some, None, slice_index}
 use Rattle.std.specs.Str.{IsValidUpTo}
 use Rattle.idn_class.specs.declared.properties.Properties.{Properties}
 use Rattle.idn_text.specs.declared.refusal.Refusal.{Refusal}
@@ -7,19 +7,24 @@ use Rattle.idn_text.specs.declared.refusal.Refusal.TheVariants.{NotInTable}
 use Rattle.idn_cause.specs.declared.cause.Cause.TheVariants.{Point}
 use Rattle.variant_table.specs.declared.version.Version.TheVariants.{One}
 use Rattle.variant_table.specs.Entries.{TableValue, has_blocked}
+use Rattle.variant_table.specs.Gaps.{gaps_of}
 use Rattle.variant_table.specs.WellFormed.{IsWellFormed}
 use Rattle.valid_labels.specs.Furthest.{IsFurthest}
+use Rattle.valid_labels.specs.Validity.{IsSound}
 use Rattle.variant_table.specs.Segmentations.{HasSegmentation}
 use Rattle.variant_list.specs.Parts.Part.{Unblocked}
+use Rattle.variant_list.specs.Laws.{VariantsHaveNoConditions}
 use Rattle.variant_list.specs.Spelling.{PartSpells, Spells}
 use Rattle.answer_json.specs.declared.block.Disposition.TheVariants.{Allocatable}
+use Rattle.answer_json.specs.declared.checked.PairFinding.TheVariants.{Missing}
 use Rattle.idn_text.specs.Lines.{Numbered}
 use Rattle.idn2_options.specs.Settings.{Settings}
 use Rattle.idn2_options.specs.declared.command_line.form.Form.TheVariants.{Plain, Json}
 use Rattle.idn2_answers.specs.Answers.{IsAllocatable, disposition}
 use Rattle.idn2_refusals.specs.CauseWords.{tail_text}
 use Rattle.idn2_refusals.specs.Explained.{Unexplained, bad_byte, body_cause, table_cause}
-use Rattle.idn2_answers.specs.Transcript.{TableGiven, output_line_in, statements, status_of, transcript}
+use Rattle.idn2_answers.specs.Said.{Found, Counted}
+use Rattle.idn2_answers.specs.Transcript.{TableGiven, check_findings, output_line_in, statements, status_of, transcript}
 use Rattle.idn2_refusals.specs.Messages.{line_message, refused_message}
 use Rattle.idn2_output.specs.OutputLines.{messages_of}
 use Rattle.idn2_refusals.specs.declared.cause.LineCause.TheVariants.{Byte, OfLabel}
@@ -44,6 +49,12 @@ pub record CausesAreTold : Type 0 where
   pub byte : (bytes : List ℕ) (place : ℕ) → IsValidUpTo bytes place → bad_byte bytes ≡ Byte place (slice_index bytes place)
   pub outside : (properties : Properties) (table : TableValue) (label : List ℕ) (place : ℕ) → IsWellFormed table.entries → length label ≤ 63 → IsFurthest table label place →
       table_cause properties table label NotInTable ≡ Some (OfLabel (Point place (slice_index label place)))
+
+-- the check of a table of which no variant has a condition finds its gaps, and nothing that differs
+abbrev pub ConditionsAloneDiffer : Type 0
+ConditionsAloneDiffer =
+    (table : TableValue) → IsSound table → VariantsHaveNoConditions table →
+    check_findings table.entries ≡ map (Found Missing) (gaps_of table.entries) ++ Counted (length table.entries) (length (gaps_of table.entries)) ∷ []
 
 -- a run writes what it says line by line, each statement in the form that is asked for. What it says is the same in
 -- both forms: with objects, what it says with `--explain`. So is its status, and with objects nothing goes to the

@@ -1,7 +1,7 @@
 //! Laws of the definitions that the contract of `idn2_cli::run` speaks of. Each holds by its proof alone.
 ghost use Rattle.std.specs.Prelude.{ℕ, List};
 ghost use Rattle.idn2_answers.specs.Answers.{LineAnswer};
-ghost use Rattle.idn2_laws.specs.Laws.{CausesAreTold, DispositionsAreTold, FormsSayTheSame};
+ghost use Rattle.idn2_laws.specs.Laws.{CausesAreTold, ConditionsAloneDiffer, DispositionsAreTold, FormsSayTheSame};
 ghost use Rattle.idn2_laws.specs.ToldAlike.{CausesAreToldAlike};
 ghost use Rattle.idn2_laws.specs.ListingLaws.{AdmittedAreListed, ListedAreMutual, NotValidIsNeverTold};
 ghost use Rattle.idn2_laws.specs.ListingLaws.{RulesetsSayTheSame, SpelledAreValid};
@@ -42,6 +42,11 @@ pub fn not_valid_is_never_told()
 /// What a label spells is valid where the table asks nothing.
 pub fn spelled_labels_are_valid()
     ensures { SpelledAreValid }
+{}
+
+/// The check of a table of which no variant has a condition finds its gaps, and nothing that differs.
+pub fn conditions_alone_differ()
+    ensures { ConditionsAloneDiffer }
 {}
 
 /// What the message of a refused line goes on with; and that the object tells the same place.

@@ -4,7 +4,7 @@ use Rattle.std.specs.Option.{option_copied}
 use Rattle.answer_json.specs.Answers.{Answer}
 use Rattle.answer_json.specs.Details.{HasShortTexts, details_of, given_len}
 use Rattle.answer_json.specs.Inputs.{told, told_len}
-use Rattle.answer_json.specs.Objects.{looked_up, registered, decoded, variant, trailer, least, refused, gap, checked, table_fault, registered_fault}
+use Rattle.answer_json.specs.Objects.{looked_up, registered, decoded, variant, trailer, least, refused, pair, checked, table_fault, registered_fault}
 use Rattle.idn2_output.specs.declared.object.Object.{Object}
 use Rattle.idn2_output.specs.declared.object.Object.TheVariants as object
 
@@ -17,7 +17,7 @@ object_told (object.Least line input label) = least line (told input) (option_co
 object_told (object.Variant line u_label a_label disposition) = variant line u_label.now a_label.now disposition
 object_told (object.BlockEnd line input count stop) = trailer line (told input) count (option_copied stop)
 object_told (object.Refused line input refusal members) = refused line (told input) refusal (details_of members.now)
-object_told (object.Gap source missing) = gap source.now missing.now
+object_told (object.Pair finding source other) = pair finding source.now other.now
 object_told (object.Checked entries gaps) = checked entries gaps
 object_told (object.TableFault line refusal members) = table_fault line refusal (details_of members.now)
 object_told (object.RegisteredFault line refusal members) = registered_fault line refusal (details_of members.now)
@@ -31,7 +31,7 @@ HasSpace (object.Least line input label) = (told_len input ≤ 1024) × (given_l
 HasSpace (object.Variant line u_label a_label disposition) = (length u_label.now ≤ 252) × (length a_label.now ≤ 63)
 HasSpace (object.BlockEnd line input count stop) = (told_len input ≤ 1024) × (given_len (option_copied stop) ≤ 252)
 HasSpace (object.Refused line input refusal members) = (told_len input ≤ 1024) × HasShortTexts (details_of members.now)
-HasSpace (object.Gap source missing) = (length source.now ≤ 64) × (length missing.now ≤ 64)
+HasSpace (object.Pair finding source other) = (length source.now ≤ 64) × (length other.now ≤ 64)
 HasSpace (object.TableFault line refusal members) = HasShortTexts (details_of members.now)
 HasSpace (object.RegisteredFault line refusal members) = HasShortTexts (details_of members.now)
 HasSpace _ = ⊤

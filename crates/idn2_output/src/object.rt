@@ -5,9 +5,9 @@ ghost use Rattle.answer_json.specs.Answers.{line_of};
 ghost use Rattle.idn2_output.specs.Objects.{HasSpace, object_told};
 
 use answer_json::{
-    Disposition, Input, ObjectRoom, RefusalMembers, write_checked, write_decoded, write_gap,
-    write_least, write_looked_up, write_refused, write_registered, write_registered_fault,
-    write_table_fault, write_trailer, write_variant,
+    Disposition, Input, ObjectRoom, PairFinding, RefusalMembers, write_checked, write_decoded,
+    write_least, write_looked_up, write_pair, write_refused, write_registered,
+    write_registered_fault, write_table_fault, write_trailer, write_variant,
 };
 use idn_text::Refusal;
 
@@ -29,8 +29,8 @@ pub enum Object<'a> {
     BlockEnd(u64, Input<'a>, u64, Option<&'a [u8]>),
     /// Why a line is refused.
     Refused(u64, Input<'a>, Refusal, &'a RefusalMembers<'a>),
-    /// Two sequences that a table lacks as a pair.
-    Gap(&'a [u8], &'a [u8]),
+    /// What a check finds of two sequences of a table.
+    Pair(PairFinding, &'a [u8], &'a [u8]),
     /// How many entries and how many gaps a table has.
     Checked(u64, u64),
     /// Why a line of a table is refused.
@@ -63,7 +63,7 @@ pub fn write_object<'a>(out: &'a mut ObjectRoom, object: &Object<'_>) -> &'a [u8
         Object::Refused(line, input, refusal, members) => {
             write_refused(out, *line, input, *refusal, members)
         }
-        Object::Gap(source, missing) => write_gap(out, source, missing),
+        Object::Pair(finding, source, other) => write_pair(out, *finding, source, other),
         Object::Checked(entries, gaps) => write_checked(out, *entries, *gaps),
         Object::TableFault(line, refusal, members) => {
             write_table_fault(out, *line, *refusal, members)

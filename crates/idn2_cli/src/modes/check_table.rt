@@ -1,15 +1,16 @@
-//! The check of a table: the pairs that it lacks.
+//! The check of a table: the pairs that it lacks, and those that differ in their conditions.
 
-ghost use Rattle.std.specs.Prelude.{◌≡◌, ◌≤◌, ◌==◌, ◌++◌, ◌∷◌, [], not, length, map, IfOk, IfErr};
-ghost use Rattle.idn_text.specs.Points.{AreScalarValues};
-ghost use Rattle.variant_table.specs.Gaps.{gaps_of, pairs_of};
-ghost use Rattle.idn2_cli.specs.inner.GapSequences.{HoldSequences};
-ghost use Rattle.idn2_answers.specs.Said.{Counted, Gap, finding_text, gap_line, table_line};
+ghost use Rattle.std.specs.Prelude.{◌≡◌, ◌==◌, ◌+◌, ◌++◌, ◌∷◌, [], not, length, map, IfOk, IfErr};
+ghost use Rattle.variant_table.specs.Gaps.{pairs_of};
+ghost use Rattle.variant_table.specs.WellFormed.{IsSequence};
+ghost use Rattle.idn2_cli.specs.inner.PairSequences.{HoldSequences};
+ghost use Rattle.idn2_answers.specs.Said.{Counted, Found, finding_text, pair_line, table_line};
 ghost use Rattle.idn2_output.specs.OutputLines.{Output, outputs};
-ghost use Rattle.idn2_answers.specs.Transcript.{check_findings, status_if};
+ghost use Rattle.idn2_answers.specs.Transcript.{check_findings, has_found, status_if};
 ghost use Rattle.idn2_output.specs.Writing.{Emits};
 ghost use Rattle.idn2_output.specs.declared.stop.Stop.TheVariants as stop;
 
+use answer_json::PairFinding;
 use arrayvec::{ArrayString, ArrayVec};
 use idn_text::Sink;
 use idn2_options::Form;
@@ -18,7 +19,8 @@ use itoa::Buffer;
 use std::alloc::Global;
 use variant_table::{Table, write_sequence};
 
-/// Writes a line for each gap of the table and one with their number, and gives the status of the run.
+/// Writes a line for each gap of the table, one for each pair of variants whose conditions one way aren't those of the
+/// other way, and one with the number of the gaps; and gives the status of the run.
 pub(crate) fn check_table<W: Sink, E: Sink>(
     alloc: Global,
     form: Form,
@@ -27,89 +29,87 @@ pub(crate) fn check_table<W: Sink, E: Sink>(
 ) -> Result<Status, Stop>
     ensures written { Emits console.old console.new
         (outputs (finding_text form) (check_findings table.now.entries)) result }
-    ensures status { IfOk result (λ status. status ≡ status_if (not (length (gaps_of table.now.entries) == 0))) }
+    ensures status { IfOk result (λ status. status ≡ status_if (has_found table.now.entries)) }
 {
     let gaps = table.gaps(alloc)?;
+    let differences = table.differences(alloc)?;
     let entries = table.len();
-    let pairs = gaps.as_slice();
-    let count = pairs.len();
-    write_gaps(form, pairs, console)?;
-    write_counts(form, entries, count, console)?;
-    Ok(status_of_gaps(count))
+    let missing = gaps.as_slice();
+    let differing = differences.as_slice();
+    write_pairs(form, PairFinding::Missing, missing, console)?;
+    write_pairs(form, PairFinding::Differs, differing, console)?;
+    write_counts(form, entries, missing.len(), console)?;
+    Ok(status_of_pairs(missing.len(), differing.len()))
 }
 
-/// The status of a check that found so many gaps.
-fn status_of_gaps(count: usize) -> Status
-    ensures { result ≡ status_if (not (count == 0)) }
+/// The status of a check that found so many gaps and differences.
+fn status_of_pairs(gaps: usize, differences: usize) -> Status
+    ensures { result ≡ status_if (not (gaps + differences == 0)) }
 {
-    if count == 0 {
+    if gaps == 0 && differences == 0 {
         Status::Clean
     } else {
         Status::Refused
     }
 }
 
-/// Writes each gap.
-fn write_gaps<W: Sink, E: Sink>(
+/// Writes what was found of each pair.
+fn write_pairs<W: Sink, E: Sink>(
     form: Form,
-    gaps: &[(Vec<u32>, Vec<u32>)],
+    finding: PairFinding,
+    pairs: &[(Vec<u32>, Vec<u32>)],
     console: &mut Console<'_, '_, W, E>,
 ) -> Result<(), Stop>
-    requires { HoldSequences gaps.now }
-    ensures written { Emits console.old console.new (outputs (finding_text form) (map Gap (pairs_of gaps.now))) result }
+    requires { HoldSequences pairs.now }
+    ensures written { Emits console.old console.new
+        (outputs (finding_text form) (map (Found finding) (pairs_of pairs.now))) result }
     ensures why { IfErr result (λ why. why ≡ stop.Output) }
 {
-    'gaps: for gap in gaps {
-        write_gap(form, &gap.0, &gap.1, console)?;
+    'pairs: for pair in pairs {
+        write_pair(form, finding, &pair.0, &pair.1, console)?;
     }
     Ok(())
 }
 
-/// Writes a pair of sequences of 1 to 8 scalar values that the table lacks.
-fn write_gap<W: Sink, E: Sink>(
+/// Writes what was found of two sequences of 1 to 8 scalar values.
+fn write_pair<W: Sink, E: Sink>(
     form: Form,
+    finding: PairFinding,
     first: &[u32],
     second: &[u32],
     console: &mut Console<'_, '_, W, E>,
 ) -> Result<(), Stop>
-    requires first_filled { 1 ≤ length first.now }
-    requires first_short { length first.now ≤ 8 }
-    requires first_points { AreScalarValues first.now }
-    requires second_filled { 1 ≤ length second.now }
-    requires second_short { length second.now ≤ 8 }
-    requires second_points { AreScalarValues second.now }
+    requires first { IsSequence first.now }
+    requires second { IsSequence second.now }
     ensures written { Emits console.old console.new
-        (Output (finding_text form (Gap (first.now, second.now))) ∷ []) result }
+        (Output (finding_text form (Found finding (first.now, second.now))) ∷ []) result }
     ensures why { IfErr result (λ why. why ≡ stop.Output) }
 {
     match form {
         Form::Plain => {
-            let line = line_of_gap(first, second);
+            let line = line_of_pair(finding, first, second);
             console.output(line.as_slice())
         }
         Form::Json => {
             let mut source = ArrayVec::new();
-            let mut missing = ArrayVec::new();
+            let mut other = ArrayVec::new();
             write_sequence(first, &mut source);
-            write_sequence(second, &mut missing);
-            console.object(&Object::Gap(source.as_slice(), missing.as_slice()))
+            write_sequence(second, &mut other);
+            console.object(&Object::Pair(finding, source.as_slice(), other.as_slice()))
         }
     }
 }
 
-/// The line of a pair of sequences of 1 to 8 scalar values that the table lacks.
-fn line_of_gap(first: &[u32], second: &[u32]) -> ArrayVec<u8, 160>
-    requires first_filled { 1 ≤ length first.now }
-    requires first_short { length first.now ≤ 8 }
-    requires first_points { AreScalarValues first.now }
-    requires second_filled { 1 ≤ length second.now }
-    requires second_short { length second.now ≤ 8 }
-    requires second_points { AreScalarValues second.now }
-    ensures { result.items ≡ gap_line (first.now, second.now) ++ 10 ∷ [] }
+/// The line of what was found of two sequences of 1 to 8 scalar values.
+fn line_of_pair(finding: PairFinding, first: &[u32], second: &[u32]) -> ArrayVec<u8, 160>
+    requires first { IsSequence first.now }
+    requires second { IsSequence second.now }
+    ensures { result.items ≡ pair_line finding (first.now, second.now) ++ 10 ∷ [] }
 {
     let mut line = ArrayVec::new();
     let mut sequence = ArrayVec::new();
-    append(&mut line, b"missing ");
+    append(&mut line, finding.word().as_bytes());
+    line.push(b' ');
     write_sequence(first, &mut sequence);
     append(&mut line, sequence.as_slice());
     line.push(b'|');

@@ -19,4 +19,4 @@ returns-clause-refusals c = (simp (decimal_1, decimal_10), (simp (decimal_1, dec
 
 pub returns-clause-tables : goal.returns-clause-tables
 unfolding escape_byte print_from
-returns-clause-tables c = (refl, (simp (decimal_1, decimal_2), (simp (decimal_2, decimal_30), tt)))
+returns-clause-tables c = (refl, (refl, (simp (decimal_1, decimal_2), (simp (decimal_2, decimal_30), tt))))
