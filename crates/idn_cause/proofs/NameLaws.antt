@@ -29,7 +29,7 @@ use Rattle.idn_class.specs.BidiClass.{bidi_class}
 use Rattle.idn_class.specs.BidiRule.{MeetsSixConditions}
 use Rattle.idn_class.specs.Causes.{broken_in_name}
 use Rattle.idn_class.proofs.BrokenLemmas.{in_name-is, in_name-none}
-use Rattle.idn_label.proofs.BidiNames.{passes_bidi_rule-six}
+use Rattle.idn_label.proofs.KitBidiRule.{passes_bidi_rule-six}
 use Rattle.idn_cause.specs.Causes.{condition_at}
 use Rattle.idn_cause.specs.declared.cause.Cause.TheVariants.{Condition}
 use Rattle.idn_cause.specs.declared.a_label.ALabelCause.TheVariants.{Decoded, Copied}

@@ -1,12 +1,13 @@
 -- What docs/PROFILE.md says of this profile's lists: which code points have each Bidi class and joining type, and which are
 -- viramas.
-use Rattle.std.specs.Prelude.{◌≡◌, ◌≢◌, ◌≤◌, ◌⊎◌, ◌↔◌, ℕ, Bool, IsTrue, List, [], ◌∷◌, map}
+use Rattle.std.specs.Prelude.{◌≡◌, ◌≢◌, ◌≤◌, ◌⊎◌, ◌↔◌, ℕ, Bool, IsTrue, List, [], ◌∷◌, map, Any}
 use Rattle.ucd_table.specs.Rows.{in_ranges}
 use Rattle.ucd_category.specs.declared.GeneralCategory.TheVariants.{NonspacingMark, EnclosingMark}
 use Rattle.unicode.specs.GeneralCategory.{general_category}
 use Rattle.idn_class.specs.declared.bidi_class.BidiClass.TheVariants.{R, AL, AN, EN, ES, ET, CS, ON, BN, NSM}
 use Rattle.idn_class.specs.declared.joining_type.JoiningType.TheVariants.{Right, Dual, Left, Transparent}
 use Rattle.idn_class.specs.BidiClass.{profile_bidi_class}
+use Rattle.idn_class.specs.BidiRule.{IsRtl}
 use Rattle.idn_class.specs.JoiningType.{is_profile_virama, profile_joining_type}
 
 -- the code point is in one of these ranges, of which each has both its ends
@@ -39,6 +40,10 @@ left_to_right_marks = 0xCBF ∷ 0xCC6 ∷ 0x1B3A ∷ 0x1B3C ∷ 0x1B42 ∷ 0x1_1
 unfoldable pub is_left_to_right_mark : ℕ → Bool
 unfolding in_ranges
 is_left_to_right_mark = in_ranges (map (λ mark. (mark, mark)) left_to_right_marks)
+
+-- an RTL label with one of them
+abbrev pub HasMarkInRtl : List ℕ → Type 0
+HasMarkInRtl label = IsRtl (map profile_bidi_class label) × Any (λ c. IsTrue (is_left_to_right_mark c)) label
 
 -- a nonspacing or an enclosing mark
 abbrev pub IsNonspacing : ℕ → Type 0

@@ -1,12 +1,12 @@
 -- The Bidi rule of a whole name: of its labels as they are decoded, and of its code points, octets and numbers.
-use Rattle.std.proofs.Common.{◌≡◌, ◌≢◌, ℕ, Bool, true, false, not, ◌&&◌, ◌||◌, ◌<◌, cond, List, [], ◌∷◌, map, chars, All, Option, Some, None, Result, Ok, Err, refl, sym, ap, ap₂, subst, ◌∙◌, inl, inr, eqb-true, le-leb, ◌≤◌, arith}
-use Rattle.std.specs.Char.{encode_utf8, to_ascii_lowercase}
+use Rattle.std.proofs.Common.{◌≡◌, ℕ, Bool, true, false, not, ◌&&◌, ◌||◌, ◌<◌, cond, List, [], ◌∷◌, map, chars, All, Option, Some, None, Result, Ok, Err, refl, sym, ap, ap₂, subst, ◌∙◌, inl, inr, eqb-true, le-leb, ◌≤◌, arith}
+use Rattle.std.specs.Char.{to_ascii_lowercase}
 use Rattle.std.specs.List.{AllByRecursion, list_any, list_all, onto_first}
 use Rattle.std.specs.Str.{IsAscii, IsUtf8, is_utf8}
-use Rattle.std.proofs.lemmas.Bool.{and_parts, cases_Bool, cases_lt, cond-true, cond-false, not-true, or_parts}
+use Rattle.std.proofs.lemmas.Bool.{cases_Bool, cases_lt, cond-true, cond-false, not-true, or_parts}
 use Rattle.std.proofs.lemmas.Bool.Decides.{nat_tests}
-use Rattle.std.proofs.lemmas.List.Folds.{list_all-append, list_any_none}
-use Rattle.std.proofs.lemmas.List.Elements.{All-head, All-weaker, All-from_recursion, recursion_from_All}
+use Rattle.std.proofs.lemmas.List.Folds.{list_any_none}
+use Rattle.std.proofs.lemmas.List.Elements.{All-weaker, All-from_recursion, recursion_from_All}
 use Rattle.ucd_bidi.specs.declared.BidiClass.{BidiClass}
 use Rattle.ucd_bidi.specs.declared.BidiClass.TheVariants.{LeftToRight}
 use Rattle.ucd_bidi.specs.BidiClass.{bidi_class}
@@ -16,7 +16,7 @@ use Rattle.ucd_table.proofs.Computing.{tables}
 use Rattle.ucd_table.proofs.Facts.{Stepped-below, Stepped-always}
 use Rattle.ucd_table.proofs.Stepped.{of_ranges, zip_stepped}
 use Rattle.ucd_table.specs.Rows.{Range, in_ranges}
-use Rattle.std.proofs.lemmas.Str.{IsUtf8-from_is_utf8, chars-encodes}
+use Rattle.std.proofs.lemmas.Str.{IsUtf8-from_is_utf8}
 use Rattle.std.proofs.lemmas.Str.Ascii.{All-from_ascii}
 use Rattle.idna.specs.BidiRule.{is_rtl, is_bidi_domain, passes_by_first, passes_bidi_rule}
 use Rattle.idna.specs.Labels.{is_full_stop, labels_of, join_labels}
@@ -25,7 +25,7 @@ use Rattle.idna.proofs.LabelsLemmas.{HasNoFullStop, HasNoFullStop-labels_of, All
 use Rattle.idn_text.specs.Points.{is_scalar_value, IsScalarValue, AreScalarValues, IsUtf8Of, utf8_of}
 use Rattle.idn_text.specs.declared.refusal.Refusal.{Refusal}
 use Rattle.idn_text.specs.declared.refusal.Refusal.TheVariants.{NotUtf8}
-use Rattle.idn_text.proofs.Utf8Lemmas.{IsUtf8-from_points, ascii_points, encode_utf8-two, encode_utf8-three, encode_utf8-four, points_from_utf8}
+use Rattle.idn_text.proofs.Utf8Lemmas.{IsUtf8-from_points, ascii_points, points_from_utf8}
 use Rattle.idn_class.specs.declared.properties.Properties.{Properties}
 use Rattle.idn_class.specs.declared.properties.Properties.TheVariants.{Profile, Unicode}
 use Rattle.idn_class.specs.BidiClass.{standard_bidi_class}
@@ -33,10 +33,7 @@ use Rattle.idn_class.specs.Facts.{AreFactsOf, contains, has_fact}
 use Rattle.idn_class.specs.declared.facts.Fact.TheVariants.{RightToLeft}
 use Rattle.idn_class.specs.declared.facts.Facts.{Facts}
 use Rattle.idn_class.proofs.FactLabels.{Lacks, rtl_without}
-use Rattle.idn_class.specs.BidiRule.{MeetsSixConditions}
 use Rattle.idn_class.specs.Class.{class_of}
-use Rattle.idn_class.specs.Tests.{meets_six_conditions}
-use Rattle.idn_class.proofs.BidiTests.{meets_six_conditions-MeetsSixConditions}
 use Rattle.idn_class.proofs.CategoryLemmas.{bidi_class-surrogate, bidi_class-beyond}
 use Rattle.idn_label.specs.ALabel.{a_label_of}
 use Rattle.idn_label.specs.Answers.{Answer, and_then, unless_fault}
@@ -44,13 +41,13 @@ use Rattle.idn_label.specs.Decode.{decoded_label, decoded_labels, decoded_name, 
 use Rattle.idn_label.specs.FirstFault.{IsRegistrable, fault_of_class}
 use Rattle.idn_label.specs.Register.{u_label_answer}
 use Rattle.idn_label.specs.Steps.{begins_with_prefix, in_utf8}
-use Rattle.idn_label.specs.inner.BidiNames.{PassesIfRtl, is_no_rtl_lead, lacks_rtl_leads, shown}
+use Rattle.idn_label.specs.inner.BidiNames.{PassesIfRtl, shown}
 use Rattle.idn_label.specs.inner.DecodedNames.{KeepsLeftToRight, decoded_utf8}
 use Rattle.idn_label.proofs.ALabels.{registrable_scalars, decoded_name-a_label}
 use Rattle.idn_label.proofs.AnswerLemmas.{u_label_answer-from, spelled_by}
 use Rattle.idn_label.proofs.DecodeLemmas.{decoded_label-coded, decoded_label-other}
 use Rattle.idn_label.proofs.FaultParts.{faultless}
-use Rattle.idn_label.proofs.KitBidiRule.{map_named, one_label, rtl_named, six_same}
+use Rattle.idn_label.proofs.KitBidiRule.{one_label, rtl_named}
 use Rattle.idn_label.proofs.LdhLemmas.{is_ldh_point-permitted}
 use Rattle.idn_label.proofs.RequirementLemmas.{MeetsRequirements-registrable}
 use Rattle.idn_label.proofs.SimpleNames.{left_to_right-full_stop}
@@ -98,35 +95,6 @@ pub right-after_dashes : (c : ℕ) → 0x2010 ≤ c → c ≤ 0xFB1C → right c
 unfolding in_ranges
 right-after_dashes c low high =
     let outside = rw (le-leb 0x2010 c low, le-leb c 0xFB1C high) at (rtl_outside_dashes c (omega arith)) in grind arith
-
--- nor does a text have one of which no octet may begin one
-right-encoded : (c : ℕ) → list_all is_no_rtl_lead (encode_utf8 c) ≡ true → right c ≡ false
-right-encoded c all = elim (cases_lt c 0x80) [
-  | inl ascii ↦ right-before_hebrew c (omega (arith, ascii))
-  | inr more ↦ elim (cases_lt c 0x800) [
-    | inl two ↦ let parts = ap (list_all is_no_rtl_lead) (sym (encode_utf8-two c more two)) ∙ all in right-before_hebrew c (grind (arith, nat_tests))
-    | inr other ↦ elim (cases_lt c 0x1_0000) [
-      | inl three ↦
-          let parts = ap (list_all is_no_rtl_lead) (sym (encode_utf8-three c other three)) ∙ all in
-          elim (cases_lt c 0x2000) [
-            | inl low ↦ right-before_dashes c (grind (arith, nat_tests)) (omega arith)
-            | inr high ↦ right-after_dashes c (grind (arith, nat_tests)) (grind (arith, nat_tests))
-          ]
-      | inr four ↦ let parts = ap (list_all is_no_rtl_lead) (sym (encode_utf8-four c four)) ∙ all in absurd (grind (arith, nat_tests))
-    ]
-  ]
-]
-
-right-no_leads_points : (points : List ℕ) → list_all is_no_rtl_lead (utf8_of points) ≡ true → list_any right points ≡ false
-right-no_leads_points [] all = refl
-right-no_leads_points (c ∷ points) all =
-    let parts = and_parts _ _ (sym (list_all-append is_no_rtl_lead (encode_utf8 c) (utf8_of points)) ∙ all) in
-    ap₂ (λ a b. a || b) (right-encoded c parts.0) (right-no_leads_points points parts.1)
-
-pub right-no_leads : (name : List ℕ) → IsUtf8 name → lacks_rtl_leads name ≡ true → list_any right (chars name) ≡ false
-right-no_leads name utf8 all =
-    ap (list_any right) (ap chars (sym utf8.1.1) ∙ chars-encodes utf8.0 utf8.1.0)
-    ∙ right-no_leads_points utf8.0 (ap lacks_rtl_leads utf8.1.1 ∙ all)
 
 -- no code point that lacks the fact is R, AL or AN
 right-lacks : (label : List ℕ) → Lacks RightToLeft label → list_any right label ≡ false
@@ -358,30 +326,22 @@ module _ (properties : Properties) where
       let same : chars label ≡ text = cc in
       subst (λ (l : List ℕ). list_any right l ≡ false) same none
 
-  -- and passes the rule
-  left_to_right-passes : (labels : List (List ℕ)) → is_bidi_domain labels ≡ false → name_fault properties labels ≡ None
-  left_to_right-passes labels none = by_properties properties
-    where
-      by_properties : (p : Properties) → name_fault p labels ≡ None
-      by_properties Profile = refl
-      by_properties Unicode = cond-true _ _ _ (ap (λ b. not b || list_all passes_bidi_rule labels) none)
-
-  pub decode_utf8_answer-ltr : (name octets : List ℕ) → KeepsLeftToRight properties (labels_of (chars name)) → list_any right (chars name) ≡ false → decoded_utf8 properties name ≡ Ok octets → decode_utf8_answer properties name ≡ Ok octets
+  -- a decoded name has none by its labels
+  pub decoded_utf8-ltr : (name octets : List ℕ) → KeepsLeftToRight properties (labels_of (chars name)) → list_any right (chars name) ≡ false → decoded_utf8 properties name ≡ Ok octets → list_any right (chars octets) ≡ false
   unfolding decoded_utf8 is_bidi_domain
-  decode_utf8_answer-ltr name octets keeps none is =
-      decode_utf8_answer-whole name ∙ ap (λ answer. and_then answer whole_utf8) is ∙ ap (λ fault. unless_fault fault (Ok octets)) (by_test (is_utf8 name) refl is)
+  decoded_utf8-ltr name octets keeps none is = by_test (is_utf8 name) refl is
     where
-      step : (utf8 : is_utf8 name ≡ true) (decoded : Answer) → decoded_name properties (chars name) ≡ decoded → in_utf8 decoded ≡ Ok octets → name_fault properties (labels_of (chars octets)) ≡ None
+      step : (utf8 : is_utf8 name ≡ true) (decoded : Answer) → decoded_name properties (chars name) ≡ decoded → in_utf8 decoded ≡ Ok octets → list_any right (chars octets) ≡ false
       step utf8 (Err refusal) own e = absurd (let clash : Err refusal ≡ Ok octets = e in cc)
       step utf8 (Ok text) own e =
           let both : Ok (utf8_of text) ≡ Ok octets = e in
           let same : utf8_of text ≡ octets = cc in
           let points : chars octets ≡ text = sym (ap chars same) ∙ points_from_utf8 (utf8_of text) text (utf8_points name text utf8 own) in
-          ap (λ (p : List ℕ). name_fault properties (labels_of p)) points
-          ∙ left_to_right-passes (labels_of text)
-          (keeps (list_any-labels_of right (chars name) left_to_right-full_stop ∙ none) (labels_of text) (decoded_name-labels (chars name) text own))
+          ap (list_any right) points
+          ∙ sym (list_any-labels_of right text left_to_right-full_stop)
+          ∙ keeps (list_any-labels_of right (chars name) left_to_right-full_stop ∙ none) (labels_of text) (decoded_name-labels (chars name) text own)
 
-      by_test : (b : Bool) → is_utf8 name ≡ b → cond b (in_utf8 (decoded_name properties (chars name))) (Err NotUtf8) ≡ Ok octets → name_fault properties (labels_of (chars octets)) ≡ None
+      by_test : (b : Bool) → is_utf8 name ≡ b → cond b (in_utf8 (decoded_name properties (chars name))) (Err NotUtf8) ≡ Ok octets → list_any right (chars octets) ≡ false
       by_test true e i = step e (decoded_name properties (chars name)) refl i
       by_test false e i = absurd (let clash : Err NotUtf8 ≡ Ok octets = i in cc)
 
@@ -399,25 +359,25 @@ registered_rtl (c ∷ label) registrable begins =
     decided true others false is both = both
     decided false others passes is both = let clash : false ≡ true = is in cc
 
-ascii_rtl : (label : List ℕ) → All (λ c. c < 128) label → PassesIfRtl label
-ascii_rtl [] ascii begins = absurd (let clash : false ≡ true = begins in cc)
-ascii_rtl (c ∷ label) ascii begins =
-    let few : c < 128 = All-head (λ c. c < 128) c label ascii in
-    let clash : false ≡ true = sym (right-before_hebrew c (omega arith)) ∙ begins in cc
+none_rtl : (label : List ℕ) → list_any right label ≡ false → PassesIfRtl label
+none_rtl [] none begins = absurd (let clash : false ≡ true = begins in cc)
+none_rtl (c ∷ label) none begins =
+    let parts = or_parts (right c) (list_any right label) none in
+    let clash : false ≡ true = sym parts.0 ∙ begins in cc
 
--- those of a name in ASCII were A-labels
-pub rtl-tested : (name octets : List ℕ) → IsAscii name → decoded_utf8 Unicode name ≡ Ok octets → AllByRecursion PassesIfRtl (labels_of (chars octets))
+none_rtl-each : (labels : List (List ℕ)) → list_any (list_any right) labels ≡ false → AllByRecursion PassesIfRtl labels
+none_rtl-each [] none = tt
+none_rtl-each (label ∷ labels) none =
+    let parts = or_parts (list_any right label) (list_any (list_any right) labels) none in
+    (none_rtl label parts.0, none_rtl-each labels parts.1)
+
+-- those of a name without R, AL and AN were A-labels
+pub rtl-tested : (name octets : List ℕ) → list_any right (chars name) ≡ false → decoded_utf8 Unicode name ≡ Ok octets → AllByRecursion PassesIfRtl (labels_of (chars octets))
 unfolding decoded_utf8
-rtl-tested name octets ascii is = by_test (is_utf8 name) refl is
+rtl-tested name octets none is = by_test (is_utf8 name) refl is
   where
-    points : chars name ≡ name
-    points = points_from_utf8 name name (ascii_points name ascii)
-
-    few : All (All (λ c. c < 128)) (labels_of (chars name))
-    few = subst (λ (n : List ℕ). All (All (λ c. c < 128)) (labels_of n)) (sym points) (All-labels_of (λ c. c < 128) name (All-weaker (λ c. c < 128) (λ c. is_full_stop c ≡ false → c < 128) (λ c lt _. lt) name (All-from_ascii name ascii)))
-
     own : AllByRecursion PassesIfRtl (labels_of (chars name))
-    own = recursion_from_All PassesIfRtl (labels_of (chars name)) (All-weaker (All (λ c. c < 128)) PassesIfRtl ascii_rtl (labels_of (chars name)) few)
+    own = none_rtl-each (labels_of (chars name)) (list_any-labels_of right (chars name) left_to_right-full_stop ∙ none)
 
     step : (utf8 : is_utf8 name ≡ true) (decoded : Answer) → decoded_name Unicode (chars name) ≡ decoded → in_utf8 decoded ≡ Ok octets → AllByRecursion PassesIfRtl (labels_of (chars octets))
     step utf8 (Err refusal) told e = absurd (let clash : Err refusal ≡ Ok octets = e in cc)
@@ -495,15 +455,6 @@ passes_bidi-shown name =
     ∙ ap₂ (λ b ls. not b || list_all passes_bidi_rule ls) (shown_rtl name) (shown_labels name)
     ∙ ap (λ b. not (list_any (λ c. is_rtl (bidi_class c)) name) || b) (shown_rules (labels_of name))
     ∙ passes_bidi-tested name
-
--- ---- the rule of a label, by the six conditions
-
-pub passes_bidi_rule-six : (label : List ℕ) → (label ≢ [] → MeetsSixConditions (map standard_bidi_class label)) → passes_bidi_rule label ≡ true
-unfolding passes_bidi_rule
-passes_bidi_rule-six [] meets = refl
-passes_bidi_rule-six (c ∷ label) meets =
-    let six = meets (λ empty. cc) in
-    sym (six_same (bidi_class c) (map bidi_class label)) ∙ ap meets_six_conditions (sym (map_named (c ∷ label))) ∙ (meets_six_conditions-MeetsSixConditions (map standard_bidi_class (c ∷ label))).1 six
 
 -- ---- what functions name
 

@@ -1,18 +1,24 @@
 -- The Bidi rule on the classes that it names is the kit's rule on Unicode's classes.
-use Rattle.std.proofs.Common.{◌≡◌, ℕ, Bool, true, false, not, ◌&&◌, ◌||◌, List, [], ◌∷◌, map, fold, cond, refl, sym, ap, ap₂, ◌∙◌}
+use Rattle.std.proofs.Common.{◌≡◌, ◌≢◌, ◌↔◌, ℕ, Bool, true, false, not, ◌&&◌, ◌||◌, List, [], ◌∷◌, map, fold, Any, Some, None, if◌then◌else◌, cond, refl, sym, ap, ap₂, ◌∙◌}
 use Rattle.std.specs.List.{list_any, list_all}
+use Rattle.std.proofs.lemmas.List.Elements.{All-weaker}
+use Rattle.std.proofs.lemmas.List.Folds.{Any-from_list_any, list_any-from_Any}
+use Rattle.std.proofs.lemmas.List.Sums.{AllPass-from_list_all, list_all-from_AllPass}
 use Rattle.ucd_bidi.specs.declared.BidiClass.{BidiClass as Kit}
 use Rattle.ucd_bidi.specs.declared.BidiClass.TheVariants as kit
 use Rattle.ucd_bidi.specs.BidiClass.{bidi_class_eq, bidi_class as kit_class}
 use Rattle.idna.specs.BidiRule as idna
-use Rattle.idna.specs.BidiRule.{is_allowed_in_both, end_class, has_class, passes_as_rtl, passes_as_ltr, passes_by_first, passes_bidi_rule, is_bidi_domain}
+use Rattle.idna.specs.BidiRule.{is_allowed_in_both, end_class, passes_as_rtl, passes_as_ltr, passes_by_first, passes_bidi_rule, is_bidi_domain}
 use Rattle.idna.specs.Validity.{passes_bidi}
 use Rattle.idn_class.specs.declared.bidi_class.BidiClass.{BidiClass}
 use Rattle.idn_class.specs.declared.bidi_class.BidiClass.TheVariants.{NSM}
 use Rattle.idn_class.specs.declared.properties.Properties.TheVariants.{Unicode}
 use Rattle.idn_class.specs.BidiClass.{named_class, standard_bidi_class}
-use Rattle.idn_class.specs.BidiRule.{is_rtl_class, is_allowed_in_rtl, is_end_of_rtl, is_allowed_in_ltr, is_end_of_ltr}
+use Rattle.idn_class.specs.BidiRule.{is_rtl_class, is_allowed_in_rtl, is_end_of_rtl, is_allowed_in_ltr, is_end_of_ltr, MeetsSixConditions}
 use Rattle.idn_class.specs.Tests.{is_en, is_an, is_nsm, ends_in, rtl_passes, ltr_passes, meets_six_conditions, bidi_rule, bidi_ok}
+use Rattle.idn_class.proofs.BidiTests.{meets_six_conditions-MeetsSixConditions}
+use Rattle.idn_text.specs.declared.refusal.Refusal.TheVariants.{Bidi}
+use Rattle.idn_label.specs.Decode.{name_fault, PassesBidiRuleAsName}
 
 -- ---- one class
 
@@ -175,3 +181,65 @@ one_label (c ∷ label) =
     ap (λ classes. bidi_rule (list_any is_rtl_class classes) classes) (map_named (c ∷ label))
     ∙ ap (λ some. bidi_rule some (map named_class ks)) (any_named is_rtl_class idna.is_rtl rtl_named ks ∙ any_kit (c ∷ label))
     ∙ rule_by (list_any (λ c. idna.is_rtl (kit_class c)) (c ∷ label)) (passes_by_first (kit_class c) ks) (map named_class ks) (six_same (kit_class c) (map kit_class label))
+
+-- ---- a name
+
+-- the kit's rule of a label, by the six conditions
+six_of_label : (c : ℕ) (label : List ℕ) → meets_six_conditions (map standard_bidi_class (c ∷ label)) ≡ passes_bidi_rule (c ∷ label)
+unfolding passes_bidi_rule
+six_of_label c label = ap meets_six_conditions (map_named (c ∷ label)) ∙ six_same (kit_class c) (map kit_class label)
+
+pub passes_bidi_rule-six : (label : List ℕ) → (label ≢ [] → MeetsSixConditions (map standard_bidi_class label)) → passes_bidi_rule label ≡ true
+unfolding passes_bidi_rule
+passes_bidi_rule-six [] meets = refl
+passes_bidi_rule-six (c ∷ label) meets =
+    sym (six_of_label c label) ∙ (meets_six_conditions-MeetsSixConditions (map standard_bidi_class (c ∷ label))).1 (meets (λ empty. cc))
+
+six-passes_bidi_rule : (label : List ℕ) → passes_bidi_rule label ≡ true → label ≢ [] → MeetsSixConditions (map standard_bidi_class label)
+six-passes_bidi_rule [] passes some = absurd (some refl)
+six-passes_bidi_rule (c ∷ label) passes some =
+    (meets_six_conditions-MeetsSixConditions (map standard_bidi_class (c ∷ label))).0 (six_of_label c label ∙ passes)
+
+abbrev holds_rtl : List ℕ → Bool
+holds_rtl label = list_any (λ c. idna.is_rtl (kit_class c)) label
+
+abbrev HoldsRtl : List ℕ → Type 0
+HoldsRtl label = Any (λ class. is_rtl_class class ≡ true) (map standard_bidi_class label)
+
+rtl_of_label : (label : List ℕ) → list_any is_rtl_class (map standard_bidi_class label) ≡ holds_rtl label
+rtl_of_label label = ap (list_any is_rtl_class) (map_named label) ∙ any_named is_rtl_class idna.is_rtl rtl_named (map kit_class label) ∙ any_kit label
+
+rtl-gives : (labels : List (List ℕ)) → Any HoldsRtl labels → list_any holds_rtl labels ≡ true
+rtl-gives labels some =
+    list_any-from_Any holds_rtl labels
+    (some.0, some.1, some.2, some.3, sym (rtl_of_label some.1) ∙ list_any-from_Any is_rtl_class (map standard_bidi_class some.1) some.4)
+
+rtl-from : (labels : List (List ℕ)) → list_any holds_rtl labels ≡ true → Any HoldsRtl labels
+rtl-from labels is =
+    let some = Any-from_list_any holds_rtl labels is in
+    (some.0, some.1, some.2, some.3, Any-from_list_any is_rtl_class (map standard_bidi_class some.1) (rtl_of_label some.1 ∙ some.4))
+
+fault_none : (passes : Bool) → ((if passes then None else Some Bidi) ≡ None) ↔ (passes ≡ true)
+fault_none true = (λ none. refl, λ passes. refl)
+fault_none false = (λ none. cc, λ passes. cc)
+
+where_rtl : (rtl all : Bool) → ((not rtl || all) ≡ true) ↔ (rtl ≡ true → all ≡ true)
+where_rtl true all = (λ h is. h, λ h. h refl)
+where_rtl false all = (λ h is. cc, λ h. refl)
+
+pub name_rule : (labels : List (List ℕ)) → (name_fault Unicode labels ≡ None) ↔ PassesBidiRuleAsName labels
+unfolding is_bidi_domain
+name_rule labels = (told, met)
+  where
+    passes : (passes_bidi labels ≡ true) ↔ (list_any holds_rtl labels ≡ true → list_all passes_bidi_rule labels ≡ true)
+    passes = where_rtl (list_any holds_rtl labels) (list_all passes_bidi_rule labels)
+
+    told : name_fault Unicode labels ≡ None → PassesBidiRuleAsName labels
+    told none some =
+        All-weaker (λ label. passes_bidi_rule label ≡ true) _ six-passes_bidi_rule labels
+        (AllPass-from_list_all passes_bidi_rule labels (passes.0 ((fault_none (passes_bidi labels)).0 none) (rtl-gives labels some)))
+
+    met : PassesBidiRuleAsName labels → name_fault Unicode labels ≡ None
+    met rule =
+        (fault_none (passes_bidi labels)).1
+        (passes.1 (λ some. list_all-from_AllPass passes_bidi_rule labels (All-weaker _ (λ label. passes_bidi_rule label ≡ true) passes_bidi_rule-six labels (rule (rtl-from labels some)))))

@@ -1,6 +1,7 @@
--- What may be registered by the profile may be by the standard, but for marks that are L in Unicode.
-use Rattle.std.proofs.Common.{◌≡◌, ℕ, false, List, [], ◌∷◌, All, Some, None, refl, ap, ◌∙◌}
+-- What may be registered by the profile may be by the standard, but for RTL labels with a mark that is L in Unicode.
+use Rattle.std.proofs.Common.{◌≡◌, ◌↔◌, ℕ, false, List, [], ◌∷◌, Some, None, refl, ap, ◌∙◌}
 use Rattle.std.specs.List.{AllByRecursion}
+use Rattle.std.proofs.lemmas.Bool.{false_from_ne_true}
 use Rattle.std.proofs.lemmas.List.Elements.{All-weaker}
 use Rattle.idna.proofs.Computing.{idna}
 use Rattle.idn_text.specs.declared.refusal.Refusal.TheVariants.{Bidi}
@@ -9,9 +10,11 @@ use Rattle.idn_class.specs.declared.class.Class.TheVariants as classes
 use Rattle.idn_class.specs.declared.class.Class.TheVariants.{Pvalid}
 use Rattle.idn_class.specs.declared.properties.Properties.TheVariants.{Profile, Unicode}
 use Rattle.idn_class.specs.Barring.{is_barred}
+use Rattle.idn_class.specs.BidiRule.{PassesBidiRule}
 use Rattle.idn_class.specs.Class.{class_of}
-use Rattle.idn_class.specs.Profile.{is_left_to_right_mark, left_to_right_marks}
+use Rattle.idn_class.specs.Profile.{left_to_right_marks, HasMarkInRtl}
 use Rattle.idn_class.specs.Tests.{bidi_ok}
+use Rattle.idn_class.proofs.BidiTests.{bidi_ok-PassesBidiRule}
 use Rattle.idn_class.proofs.ComputedLabels.{rules, in_table, map-class_of-in_table}
 use Rattle.idn_class.proofs.ContextJTests.{contextj_ok-PassesContextJ}
 use Rattle.idn_class.proofs.FactLabels.{class_of-standard}
@@ -39,10 +42,16 @@ permitted_standard c free = ap fault_of_class (class_of-standard c (free_class (
 unbarred : (c : ℕ) → fault_of_class (class_of Profile c) ≡ None → is_barred (class_of Profile c) ≡ false
 unbarred c free = free_class (class_of Profile c) free
 
--- ---- labels without such marks
+-- where the Bidi rule is met by the standard
+bidi_alike : (label : List ℕ) → IsRegistrable Profile label → PassesBidiRule Unicode label ↔ ¬ HasMarkInRtl label
+bidi_alike label registrable =
+    let meets = MeetsRequirements-registrable Profile label registrable in
+    bidi-standard label (All-weaker _ _ unbarred label meets.permitted) meets.bidi
 
-pub registrable-standard : (label : List ℕ) → IsRegistrable Profile label → All (λ c. is_left_to_right_mark c ≡ false) label → IsRegistrable Unicode label
-registrable-standard label registrable others =
+-- ---- labels without such a mark, or left-to-right
+
+pub registrable-standard : (label : List ℕ) → IsRegistrable Profile label → ¬ HasMarkInRtl label → IsRegistrable Unicode label
+registrable-standard label registrable none =
     let meets = MeetsRequirements-registrable Profile label registrable in
     registrable-MeetsRequirements Unicode label (record {
       some = meets.some;
@@ -52,14 +61,14 @@ registrable-standard label registrable others =
       no_mark = meets.no_mark;
       joiners = joiners-standard label meets.joiners;
       others = meets.others;
-      bidi = bidi-standard label (All-weaker _ _ unbarred label meets.permitted) others meets.bidi;
+      bidi = (bidi_alike label registrable).1 none;
       points = meets.points;
       octets = meets.octets;
     })
 
--- ---- and labels with them
+-- ---- and the others
 
--- the Bidi rule is the only fault that such a label may have
+-- the Bidi rule is the only fault that a label may have
 bidi_fault : (label : List ℕ) → IsRegistrable Profile label → bidi_ok Unicode label ≡ false → first_fault Unicode label ≡ Some Bidi
 unfolding first_fault
 bidi_fault label registrable broken =
@@ -75,6 +84,12 @@ bidi_fault label registrable broken =
       parts.others,
       broken,
     ) refl
+
+pub refused-standard : (label : List ℕ) → IsRegistrable Profile label → HasMarkInRtl label → first_fault Unicode label ≡ Some Bidi
+refused-standard label registrable has =
+    bidi_fault label registrable
+    (false_from_ne_true (bidi_ok Unicode label)
+    (λ met. (bidi_alike label registrable).0 ((bidi_ok-PassesBidiRule Unicode label).0 met) has))
 
 abbrev IsLetIn : ℕ → Type 0
 IsLetIn mark = IsRegistrable Profile (0x5D0 ∷ mark ∷ []) × (first_fault Unicode (0x5D0 ∷ mark ∷ []) ≡ Some Bidi)

@@ -1,5 +1,5 @@
 -- The answer of decoding a name (RFC 5891 section 5.3).
-use Rattle.std.specs.Prelude.{ℕ, List, [], ◌∷◌, chars, Option, Some, None, Result, Ok, Err, if◌then◌else◌}
+use Rattle.std.specs.Prelude.{◌≢◌, ℕ, IsTrue, List, [], ◌∷◌, map, All, Any, chars, Option, Some, None, Result, Ok, Err, if◌then◌else◌}
 use Rattle.std.specs.Str.{is_utf8}
 use Rattle.idna.specs.Labels.{labels_of, join_labels}
 use Rattle.idna.specs.Validity.{has_ace_prefix, passes_bidi}
@@ -8,6 +8,8 @@ use Rattle.idn_text.specs.declared.refusal.Refusal.TheVariants.{Bidi, NotUtf8}
 use Rattle.idn_label.specs.Answers.{Answer, and_then, unless_fault}
 use Rattle.idn_label.specs.Register.{u_label_answer}
 use Rattle.idn_label.specs.Steps.{in_utf8, lowercase}
+use Rattle.idn_class.specs.BidiClass.{standard_bidi_class}
+use Rattle.idn_class.specs.BidiRule.{is_rtl_class, MeetsSixConditions}
 use Rattle.idn_class.specs.declared.properties.Properties.{Properties}
 use Rattle.idn_class.specs.declared.properties.Properties.TheVariants.{Profile, Unicode}
 
@@ -33,6 +35,12 @@ decoded_labels properties (label ∷ labels) = with_others (decoded_label proper
 abbrev pub name_fault : Properties → List (List ℕ) → Option Refusal
 name_fault Profile labels = None
 name_fault Unicode labels = if passes_bidi labels then None else Some Bidi
+
+-- the same in the words of the standard: if one label holds R, AL or AN, each label but an empty one meets the six conditions
+abbrev pub PassesBidiRuleAsName : List (List ℕ) → Type 0
+PassesBidiRuleAsName labels =
+    Any (λ label. Any (λ class. IsTrue (is_rtl_class class)) (map standard_bidi_class label)) labels →
+    All (λ label. label ≢ [] → MeetsSixConditions (map standard_bidi_class label)) labels
 
 -- the labels of the name, between its full stops, decoded and joined again
 unfoldable pub decoded_name : Properties → List ℕ → Answer

@@ -5,3 +5,5 @@ pub mod FaultSteps
 pub mod DecodedNames
 -- Numbers as characters, for the Bidi rule of a name.
 pub mod BidiNames
+-- The octets of a text.
+pub mod Octets

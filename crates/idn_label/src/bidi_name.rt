@@ -1,5 +1,7 @@
 //! The Bidi rule of a whole name (RFC 5893, section 2): if one of its labels holds R, AL or AN, all of them meet it.
-ghost use Rattle.std.specs.Prelude.{◌≡◌, ◌≤◌, ◌*◌, chars, true, false, length, IsTrue, IsUtf8};
+ghost use Rattle.std.specs.Prelude.{◌≡◌, ◌≢◌, ◌<◌, ◌≤◌, ◌-◌, chars, drop, true, false, length, slice_index};
+ghost use Rattle.std.specs.Prelude.{IsTrue, IsUtf8, IfNone, IfSome};
+ghost use Rattle.std.specs.Int.{bit_at};
 ghost use Rattle.std.specs.List.{list_all, list_any};
 ghost use Rattle.ucd_bidi.specs.BidiClass.{bidi_class};
 ghost use Rattle.idna.specs.BidiRule.{is_rtl, passes_bidi_rule};
@@ -7,13 +9,16 @@ ghost use Rattle.idna.specs.Labels.{labels_of};
 ghost use Rattle.idna.specs.Validity.{passes_bidi};
 ghost use Rattle.idn_label.specs.Decode.{name_fault};
 ghost use Rattle.idn_label.specs.inner.BidiNames.{EachPassesIfRtl, PassesIfRtl, begins_rtl};
-ghost use Rattle.idn_label.specs.inner.BidiNames.{are_rtl_letter, is_lowercase, is_lowercase_or_digit};
+ghost use Rattle.idn_label.specs.inner.BidiNames.{EndsPassing, MeetsRule, TellsCharacters};
+ghost use Rattle.idn_label.specs.inner.BidiNames.{are_character, is_lowercase, is_rtl_letter, is_rtl_letter_or_mark};
+ghost use Rattle.idn_label.specs.inner.Octets.{is_tail, tell_left_to_right};
 
 use crate::bidi::passes_bidi_rule;
 use crate::full_stops::label_end;
-use crate::octets::lacks_rtl_leads;
+use crate::ldh::ldh_end;
+use crate::octets::Characters;
 use arrayvec::ArrayVec;
-use idn_class::Properties;
+use idn_class::{Fact, Facts, Properties};
 use idn_text::{MAX_LINE_LEN, Refusal, character_at};
 use ucd_bidi::BidiClass;
 
@@ -24,24 +29,40 @@ pub(crate) const MAX_DECODED_LEN: usize = 4096;
 /// no more.
 const SHORT_LEN: usize = 64;
 
-/// The fault of a name in UTF-8 of which each label is decoded. It may be known that each label that begins
-/// right-to-left has met the rule by itself.
+/// The fault of a name in UTF-8 of which each label is decoded, by what the octets of the given name told, and by the
+/// facts of what its A-labels stand for. What begins right-to-left, and did not so before, was an A-label, and has met
+/// the rule by itself.
 #[inline]
 pub(crate) fn utf8_name_fault(
     name: &[u8],
-    are_rtl_tested: bool,
+    given: Characters,
+    facts: Facts,
     properties: Properties,
 ) -> Option<Refusal>
     requires utf8 { IsUtf8 name.now }
     requires short { length name.now ≤ MAX_DECODED_LEN }
-    requires tested { properties ≡ Properties.Unicode → are_rtl_tested ≡ true →
+    requires left_to_right { tell_left_to_right given facts ≡ true →
+        list_any (λ c. is_rtl (bidi_class c)) (chars name.now) ≡ false }
+    requires tested { properties ≡ Properties.Unicode → given ≢ Characters.Any →
         EachPassesIfRtl (chars name.now) }
     ensures { result ≡ name_fault properties (labels_of (chars name.now)) }
 {
     match properties {
         Properties::Profile => None,
-        Properties::Unicode if passes_in_utf8(name, are_rtl_tested) => None,
+        Properties::Unicode if tell_left_to_right(given, facts) => None,
+        Properties::Unicode if passes_in_utf8(name, !matches!(given, Characters::Any)) => None,
         Properties::Unicode => Some(Refusal::Bidi),
+    }
+}
+
+/// Whether nothing in a name is R, AL or AN once it is decoded.
+#[inline]
+fn tell_left_to_right(given: Characters, facts: Facts) -> bool
+    ensures { result ≡ tell_left_to_right given facts }
+{
+    match given {
+        Characters::Ascii | Characters::LeftToRight => !facts.contains(Fact::RightToLeft),
+        Characters::Any => false,
     }
 }
 
@@ -70,16 +91,10 @@ fn passes_in_utf8(name: &[u8], are_rtl_tested: bool) -> bool
 }
 
 /// Whether a character of a name in UTF-8 is R, AL or AN.
-pub(crate) fn holds_rtl_in_utf8(name: &[u8]) -> bool
+fn holds_rtl_in_utf8(name: &[u8]) -> bool
     requires { IsUtf8 name.now }
     ensures { result ≡ list_any (λ c. is_rtl (bidi_class c)) (chars name.now) }
 {
-    if begins_with_rtl_letter(name) {
-        return true;
-    }
-    if is_told_by_octets(name) {
-        return false;
-    }
     let mut at = 0;
     while at < name.len() {
         let Some((c, next)) = character_at(name, at) else {
@@ -93,27 +108,6 @@ pub(crate) fn holds_rtl_in_utf8(name: &[u8]) -> bool
     false
 }
 
-/// Whether no octet of a name in UTF-8 may begin R, AL or AN.
-#[inline]
-fn is_told_by_octets(name: &[u8]) -> bool
-    requires { IsUtf8 name.now }
-    ensures { IsTrue result → list_any (λ c. is_rtl (bidi_class c)) (chars name.now) ≡ false }
-{
-    lacks_rtl_leads(name)
-}
-
-/// Whether a name begins with a letter of Hebrew or Arabic, as right-to-left names mostly do.
-#[inline]
-fn begins_with_rtl_letter(name: &[u8]) -> bool
-    requires { IsUtf8 name.now }
-    ensures { IsTrue result → list_any (λ c. is_rtl (bidi_class c)) (chars name.now) ≡ true }
-{
-    if name.len() < 2 {
-        return false;
-    }
-    is_rtl_letter(name[0], name[1])
-}
-
 /// Whether each label of a name in UTF-8 meets the rule.
 fn each_utf8_label_passes(name: &[u8], are_rtl_tested: bool) -> bool
     requires utf8 { IsUtf8 name.now }
@@ -123,14 +117,51 @@ fn each_utf8_label_passes(name: &[u8], are_rtl_tested: bool) -> bool
 {
     let mut start = 0;
     'labels: loop {
-        let end = label_end(name, start);
-        if !utf8_label_passes(&name[start..end], are_rtl_tested) {
+        let Some(end) = passing_end(name, start, are_rtl_tested) else {
             return false;
-        }
+        };
         if end == name.len() {
             return true;
         }
         start = end + 1;
+    }
+}
+
+/// The place where the label that begins at `start` ends, if it meets the rule.
+#[inline]
+fn passing_end(name: &[u8], start: usize, are_rtl_tested: bool) -> Option<usize>
+    requires begins { start ≤ length name.now }
+    requires utf8 { IsUtf8 (drop start name.now) }
+    requires short { length name.now ≤ MAX_DECODED_LEN }
+    requires tested { are_rtl_tested ≡ true → EachPassesIfRtl (chars (drop start name.now)) }
+    ensures passes { IfSome result (EndsPassing name.now start) }
+    ensures fails { IfNone result (list_all passes_bidi_rule (labels_of (chars (drop start name.now))) ≡ false) }
+{
+    // Most labels are told octet by octet, as far as they go, and need not be searched for a full stop first.
+    let told = told_end(name, start, are_rtl_tested);
+    if told == name.len() || name[told] == b'.' {
+        return Some(told);
+    }
+    let end = label_end(name, told);
+    if utf8_label_passes(&name[start..end], are_rtl_tested) {
+        Some(end)
+    } else {
+        None
+    }
+}
+
+/// The end of what stands at the beginning of a label and meets the rule by its octets.
+#[inline]
+fn told_end(name: &[u8], start: usize, are_rtl_tested: bool) -> usize
+    requires { start ≤ length name.now }
+    ensures { MeetsRule name.now start result }
+{
+    if start < name.len() && is_lowercase(name[start]) {
+        ldh_part_end(name, start)
+    } else if are_rtl_tested {
+        start
+    } else {
+        rtl_part_end(name, start)
     }
 }
 
@@ -142,32 +173,22 @@ fn utf8_label_passes(label: &[u8], are_rtl_tested: bool) -> bool
     requires tested { are_rtl_tested ≡ true → PassesIfRtl (chars label.now) }
     ensures { result ≡ passes_bidi_rule (chars label.now) }
 {
-    if is_plain(label) {
-        return true;
-    }
     if are_rtl_tested && begins_rtl(label) {
-        return true;
-    }
-    if has_rtl_letters_alone(label) {
         return true;
     }
     read_label_passes(label)
 }
 
-/// Whether a label has only lower-case letters and digits of ASCII, a letter first, and so meets the rule. It looks at
-/// each octet, which is faster than to stop at the first other one.
+/// The end of the lower-case letters, digits and hyphens of ASCII at a place where a letter stands, unless the last one
+/// is a hyphen.
 #[inline]
-fn is_plain(label: &[u8]) -> bool
-    ensures { IsTrue result → passes_bidi_rule (chars label.now) ≡ true }
+fn ldh_part_end(name: &[u8], start: usize) -> usize
+    requires within { start < length name.now }
+    requires letter { is_lowercase (slice_index name.now start) ≡ true }
+    ensures { MeetsRule name.now start result }
 {
-    if label.is_empty() || !is_lowercase(label[0]) {
-        return false;
-    }
-    let mut is_plain = true;
-    for octet in label {
-        is_plain &= is_lowercase_or_digit(*octet);
-    }
-    is_plain
+    let end = ldh_end(name, start);
+    if name[end - 1] == b'-' { start } else { end }
 }
 
 #[inline]
@@ -177,44 +198,89 @@ fn is_lowercase(octet: u8) -> bool
     matches!(octet, 0x61..=0x7A)
 }
 
+/// The end of the letters of Hebrew and Arabic with their marks, digits and hyphens of ASCII at a place, if a letter is
+/// first: less the hyphens at its end. In what order letters and marks stand is no matter to the rule.
 #[inline]
-fn is_lowercase_or_digit(octet: u8) -> bool
-    ensures { result ≡ is_lowercase_or_digit octet }
+fn rtl_part_end(name: &[u8], start: usize) -> usize
+    requires { start ≤ length name.now }
+    ensures { MeetsRule name.now start result }
 {
-    matches!(octet, 0x61..=0x7A | 0x30..=0x39)
-}
-
-/// Whether a label in UTF-8 has only letters of Hebrew and Arabic, which are R or AL, and so meets the rule.
-#[inline]
-fn has_rtl_letters_alone(label: &[u8]) -> bool
-    ensures { IsTrue result → passes_bidi_rule (chars label.now) ≡ true }
-{
-    let mut at = 0;
-    while at < label.len() {
-        if at + 1 >= label.len() {
-            return false;
+    let mut end = start;
+    let mut at = start;
+    'parts: loop {
+        if at + 1 < name.len() && is_rtl_letter(name[at], name[at + 1]) {
+            at += 2;
+            while at + 1 < name.len() && is_rtl_letter_or_mark(name[at], name[at + 1]) {
+                at += 2;
+            }
+            end = at;
+        } else if at == start || at == name.len() {
+            return end;
+        } else if name[at].is_ascii_digit() {
+            at += 1;
+            end = at;
+        } else if name[at] == b'-' {
+            at += 1;
+        } else {
+            return end;
         }
-        if !is_rtl_letter(label[at], label[at + 1]) {
-            return false;
-        }
-        at += 2;
     }
-    true
 }
 
-/// Whether two octets are a letter of Hebrew or Arabic. It takes fewer instructions than to read the character.
+/// Whether two octets are a letter, R or AL, of those that are told by their octets.
 #[inline]
 fn is_rtl_letter(first: u8, second: u8) -> bool
-    ensures { IsTrue result → are_rtl_letter first second ≡ true }
+    ensures { IsTrue result → are_character is_rtl_letter first second ≡ true }
+{
+    has_bit(rtl_letters(first), second)
+}
+
+/// Whether two octets are such a letter, or a nonspacing mark (NSM).
+#[inline]
+fn is_rtl_letter_or_mark(first: u8, second: u8) -> bool
+    ensures { IsTrue result → are_character is_rtl_letter_or_mark first second ≡ true }
+{
+    has_bit(rtl_letters_and_marks(first), second)
+}
+
+/// Whether an octet is not the first of its character, and the character has its bit among those that begin as it does.
+#[inline]
+fn has_bit(bits: u64, second: u8) -> bool
+    ensures tail { IsTrue result → is_tail second ≡ true }
+    ensures bit { IsTrue result → bit_at bits (second - 0x80) ≡ 1 }
+{
+    matches!(second, 0x80..=0xBF) && bits >> u32::from(second - 0x80) & 1 == 1
+}
+
+/// The letters among the 64 characters of two octets that begin with this one, by a bit each: U+0590 to U+06FF.
+#[inline]
+fn rtl_letters(first: u8) -> u64
+    ensures { TellsCharacters is_rtl_letter first result }
 {
     match first {
-        // U+05D0 to 05EA, 0620 to 063F, 0640 to 064A, 0671 to 067F, 0680 to 06BF, 06C0 to 06D3.
-        0xD7 => matches!(second, 0x90..=0xAA),
-        0xD8 => matches!(second, 0xA0..=0xBF),
-        0xD9 => matches!(second, 0x80..=0x8A | 0xB1..=0xBF),
-        0xDA => matches!(second, 0x80..=0xBF),
-        0xDB => matches!(second, 0x80..=0x93),
-        _ => false,
+        0xD6 => 0x4000_0000_0001_0000,
+        0xD7 => 0xFFFF_FFFF_FFFF_FC49,
+        0xD8 => 0xFFFF_FFFF_F800_2900,
+        0xD9 => 0xFFFE_E000_0000_07FF,
+        0xDA => 0xFFFF_FFFF_FFFF_FFFF,
+        0xDB => 0xFC00_C060_003F_FFFF,
+        _ => 0,
+    }
+}
+
+/// The letters and the nonspacing marks among them.
+#[inline]
+fn rtl_letters_and_marks(first: u8) -> u64
+    ensures { TellsCharacters is_rtl_letter_or_mark first result }
+{
+    match first {
+        0xD6 => 0xFFFF_FFFF_FFFF_0000,
+        0xD7 => 0xFFFF_FFFF_FFFF_FFFF,
+        0xD8 => 0xFFFF_FFFF_FFFF_2900,
+        0xD9 => 0xFFFF_E000_FFFF_FFFF,
+        0xDA => 0xFFFF_FFFF_FFFF_FFFF,
+        0xDB => 0xFC00_FDFF_9FFF_FFFF,
+        _ => 0,
     }
 }
 

@@ -1,7 +1,6 @@
 //! Decoding of the A-labels of a name (RFC 5891 section 5.3).
-ghost use Rattle.std.specs.Prelude.{◌≡◌, ◌≢◌, ◌<◌, ◌≤◌, ◌*◌, ℕ, true, false};
-ghost use Rattle.std.specs.Prelude.{List, chars, length, take, IsTrue, IsUtf8, IfOk, Ok, Err, All};
-ghost use Rattle.std.specs.Str.{IsAscii};
+ghost use Rattle.std.specs.Prelude.{◌≡◌, ◌≢◌, ◌<◌, ◌≤◌, ◌*◌, ℕ};
+ghost use Rattle.std.specs.Prelude.{List, chars, length, take, IsUtf8, IfOk, Ok, Err, All};
 ghost use Rattle.idna.specs.Labels.{labels_of};
 ghost use Rattle.idn_label.specs.ALabel.{a_label_of};
 ghost use Rattle.idn_label.specs.Answers.{Gives};
@@ -10,18 +9,19 @@ ghost use Rattle.idn_label.specs.FirstFault.{IsRegistrable};
 ghost use Rattle.idn_label.specs.inner.DecodedNames.{TellsLeftToRight, decoded_utf8};
 ghost use Rattle.idn_label.specs.Memory.{DecodesWithoutMemory};
 
-use crate::bidi_name::{holds_rtl_in_utf8, name_fault, utf8_name_fault};
+use crate::bidi_name::{name_fault, utf8_name_fault};
 use crate::full_stops::label_end;
+use crate::octets::characters_of;
 use crate::u_label::u_label_in_any_case;
 use crate::unit::{FULL_STOP, has_ace_prefix_in_any_case};
-use idn_class::{Fact, Facts, Properties};
+use idn_class::{Facts, Properties};
 use idn_punycode::DecodedLabel;
 use idn_text::{MAX_LINE_LEN, Refusal, put_points};
 use std::alloc::Global;
-use std::str;
 
-/// Writes into `room` the UTF-8 (RFC 3629) of what `decode_name` makes of a name in UTF-8, and returns how many octets
-/// these are. Other bytes are refused as `NotUtf8`; where the name is refused, what is left in `room` says nothing.
+/// Writes into `room` the UTF-8 (RFC 3629) of what `decode_name_by` makes of a name in UTF-8 by these properties, and
+/// returns how many octets these are: by Unicode's the Bidi rule is asked of the whole name. Other bytes are refused as
+/// `NotUtf8`; where the name is refused, what is left in `room` says nothing.
 /// There must be room for four octets for each of the name. `u_label` is room for what an A-label stands for: what
 /// stood there before says nothing. A name without A-labels takes no memory, nor does an A-label in most cases: one of
 /// more than 63 octets does, one of a label in ASCII, and one of a label with a code point of which no look-up says the
@@ -41,35 +41,11 @@ pub fn decode_utf8(
     ensures length { length room.new ≡ length room.old }
     ensures no_memory { All DecodesWithoutMemory (labels_of name.now) → result ≢ Err Refusal.Memory }
 {
-    // Most names are in ASCII, which is told sooner.
-    let is_ascii = name.is_ascii();
-    if !is_ascii && str::from_utf8(name).is_err() {
-        return Err(Refusal::NotUtf8);
-    }
+    let characters = characters_of(name)?;
     let (len, facts) = decode_utf8_labels(alloc, name, u_label, room, properties)?;
-    if is_told_by_its_labels(name, is_ascii, facts, properties) {
-        return Ok(len);
-    }
-    // What begins right-to-left in a decoded name of ASCII was an A-label.
-    match utf8_name_fault(&room[..len], is_ascii, properties) {
+    match utf8_name_fault(&room[..len], characters, facts, properties) {
         None => Ok(len),
         Some(refusal) => Err(refusal),
-    }
-}
-
-/// Whether a name whose labels are decoded has no other fault: by the profile; and if nothing in it is right-to-left,
-/// as the facts of its A-labels and its other labels tell.
-fn is_told_by_its_labels(name: &[u8], is_ascii: bool, facts: Facts, properties: Properties) -> bool
-    requires utf8 { IsUtf8 name.now }
-    requires ascii { is_ascii ≡ true → IsAscii name.now }
-    requires facts { TellsLeftToRight properties facts (labels_of (chars name.now)) }
-    ensures { IsTrue result → (text : List ℕ) →
-        decoded_utf8 properties name.now ≡ Ok text → decode_utf8_answer properties name.now ≡ Ok text }
-{
-    match properties {
-        Properties::Profile => true,
-        Properties::Unicode if facts.contains(Fact::RightToLeft) => false,
-        Properties::Unicode => is_ascii || !holds_rtl_in_utf8(name),
     }
 }
 
@@ -132,7 +108,9 @@ pub fn decode_name(alloc: Global, name: &[u32]) -> Result<Vec<u32>, Refusal>
     decode_name_by(alloc, name, Properties::Profile)
 }
 
-/// The same by these properties.
+/// The same by these properties. By Unicode's the decoded name has to meet the Bidi rule as a whole, else it is refused
+/// as `Bidi`: if a code point of it is R, AL or AN, each of its labels meets the rule (RFC 5893, section 2), also those
+/// that stay as they are.
 #[tactic(auto, using(crate::proofs::BidiNames::decoded_whole))]
 pub fn decode_name_by(
     alloc: Global,

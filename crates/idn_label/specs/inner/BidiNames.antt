@@ -1,11 +1,15 @@
 -- The Bidi rule of a name: numbers as characters, and labels that are known to meet it.
-use Rattle.std.specs.Prelude.{◌≡◌, ℕ, Bool, true, false, ◌&&◌, ◌||◌, ◌==◌, ◌+◌, ◌-◌, ◌*◌, nat_le, List, [], ◌∷◌, if◌then◌else◌}
-use Rattle.std.specs.List.{AllByRecursion, list_all}
+use Rattle.std.specs.Prelude.{◌≡◌, ◌≤◌, ℕ, Bool, true, false, ◌&&◌, ◌+◌, ◌-◌, ◌*◌, nat_le, All, List, [], ◌∷◌, chars, length, if◌then◌else◌}
+use Rattle.std.specs.Int.{bit_at}
+use Rattle.std.specs.List.{AllByRecursion, slice_range}
 use Rattle.ucd_bidi.specs.BidiClass.{bidi_class}
 use Rattle.ucd_bidi.specs.declared.BidiClass.{BidiClass}
+use Rattle.ucd_bidi.specs.declared.BidiClass.TheVariants.{RightToLeft, ArabicLetter, NonspacingMark}
 use Rattle.idna.specs.BidiRule.{is_rtl, passes_as_ltr, passes_as_rtl, passes_bidi_rule}
-use Rattle.idna.specs.Labels.{labels_of}
+use Rattle.idna.specs.Labels.{is_full_stop, labels_of}
 use Rattle.idn_text.specs.Points.{is_scalar_value}
+use Rattle.idn_label.specs.LabelEnds.{EndsLabel}
+use Rattle.idn_label.specs.inner.Octets.{is_tail}
 
 -- a character as it is, and 'a' for a number that is none: both are L
 abbrev pub shown : ℕ → ℕ
@@ -28,24 +32,36 @@ PassesIfRtl label = begins_rtl label ≡ true → passes_bidi_rule label ≡ tru
 abbrev pub EachPassesIfRtl : List ℕ → Type 0
 EachPassesIfRtl name = AllByRecursion PassesIfRtl (labels_of name)
 
+-- what stands from one place of a name up to another is no full stop, and meets the rule by itself
+pub record MeetsRule (name : List ℕ) (start «end» : ℕ) : Type 0 where
+  pub order : start ≤ «end»
+  pub within : «end» ≤ length name
+  pub without_stop : All (λ octet. is_full_stop octet ≡ false) (slice_range name start «end»)
+  pub passes : passes_bidi_rule (chars (slice_range name start «end»)) ≡ true
+
+-- of the labels from a place on, the first one ends here, and meets the rule
+pub record EndsPassing (name : List ℕ) (start «end» : ℕ) : Type 0 where
+  pub ends : EndsLabel name start «end»
+  pub passes : passes_bidi_rule (chars (slice_range name start «end»)) ≡ true
+
 abbrev pub is_lowercase : ℕ → Bool
 is_lowercase octet = nat_le 0x61 octet && nat_le octet 0x7A
 
-abbrev pub is_lowercase_or_digit : ℕ → Bool
-is_lowercase_or_digit octet = is_lowercase octet || nat_le 0x30 octet && nat_le octet 0x39
+-- a letter of a right-to-left label
+abbrev pub is_rtl_letter : BidiClass → Bool
+is_rtl_letter RightToLeft = true
+is_rtl_letter ArabicLetter = true
+is_rtl_letter _ = false
 
--- letters of Hebrew and Arabic, each R or AL
-abbrev pub is_rtl_letter : ℕ → Bool
-is_rtl_letter c = nat_le 0x5D0 c && nat_le c 0x5EA || nat_le 0x620 c && nat_le c 0x64A || nat_le 0x671 c && nat_le c 0x6D3
+-- one that may stand anywhere after it, and last
+abbrev pub is_rtl_letter_or_mark : BidiClass → Bool
+is_rtl_letter_or_mark NonspacingMark = true
+is_rtl_letter_or_mark class = is_rtl_letter class
 
--- two octets that are such a letter in UTF-8
-abbrev pub are_rtl_letter : ℕ → ℕ → Bool
-are_rtl_letter first second = nat_le 0xC0 first && nat_le 0x80 second && nat_le second 0xBF && is_rtl_letter ((first - 0xC0) * 0x40 + (second - 0x80))
+-- two octets are a character in UTF-8, of such a class
+abbrev pub are_character : (BidiClass → Bool) → ℕ → ℕ → Bool
+are_character is_such first second = nat_le 0xC2 first && nat_le first 0xDF && is_tail second && is_such (bidi_class ((first - 0xC0) * 0x40 + (second - 0x80)))
 
--- an octet that begins no R, AL or AN in UTF-8: none does before 0xD6, nor do 0xE1 (U+1000 to 1FFF) and 0xE3 to 0xEE (U+3000 to EFFF)
-abbrev pub is_no_rtl_lead : ℕ → Bool
-is_no_rtl_lead octet = nat_le octet 0xD5 || (octet == 0xE1) || nat_le 0xE3 octet && nat_le octet 0xEE
-
--- no octet of a text may begin one
-abbrev pub lacks_rtl_leads : List ℕ → Bool
-lacks_rtl_leads text = list_all is_no_rtl_lead text
+-- of the characters of two octets that begin with this one, those that have a bit are of such a class
+abbrev pub TellsCharacters : (BidiClass → Bool) → ℕ → ℕ → Type 0
+TellsCharacters is_such first bits = (second : ℕ) → is_tail second ≡ true → bit_at bits (second - 0x80) ≡ 1 → are_character is_such first second ≡ true

@@ -4,43 +4,32 @@ use Rattle.idna.specs.BidiRule.{passes_bidi_rule}
 use Rattle.idna.specs.Labels.{labels_of}
 use Rattle.idn_label.specs.inner.BidiNames.{PassesIfRtl}
 use Rattle.idn_label.proofs.LabelsByPlace.{label_last, label_before}
-use Rattle.idn_label.proofs.Utf8Names.{labels_of-first, labels_of-last, labels_of-more}
+use Rattle.idn_label.proofs.Utf8Names.{labels_of-last, labels_of-more}
 use Rattle.idn_label.proofs.bidi_name.each_utf8_label_passes.Goals as goal
 
-pub utf8_label_passes-requires-clause-utf8 : goal.utf8_label_passes-requires-clause-utf8
-utf8_label_passes-requires-clause-utf8 c = (labels_of-first c.args.name.now c.labels.start c.label_end-end.result c.labels.invariant.utf8 c.label_end-end.ensures).0
-
-pub utf8_label_passes-requires-clause-tested : goal.utf8_label_passes-requires-clause-tested
-utf8_label_passes-requires-clause-tested c = λ known.
-    let first = labels_of-first c.args.name.now c.labels.start c.label_end-end.result c.labels.invariant.utf8 c.label_end-end.ensures in
-    (subst (AllByRecursion PassesIfRtl) first.2 (c.labels.invariant.tested known)).0
-
-pub returns-then-not-utf8_label_passes : goal.returns-then-not-utf8_label_passes
-returns-then-not-utf8_label_passes c =
-    let first = labels_of-first c.args.name.now c.labels.start c.label_end-end.result c.labels.invariant.utf8 c.label_end-end.ensures in
-    let fails = sym c.utf8_label_passes.ensures ∙ c.if-not-utf8_label_passes.true in
-    sym (c.labels.invariant.passed ∙ ap (list_all passes_bidi_rule) first.2 ∙ ap (λ b. b && list_all passes_bidi_rule first.1) fails)
+pub returns-in_default : goal.returns-in_default
+returns-in_default c = sym (c.labels.invariant.passed ∙ c.in_default.ensures.fails)
 
 pub returns-then-end-name : goal.returns-then-end-name
 returns-then-end-name c =
     let name = c.args.name.now in
-    let parts = label_last name c.labels.start c.label_end-end.result c.label_end-end.ensures c.if-end-name.true in
+    let told = c.in-Some.ensures.passes in
+    let parts = label_last name c.labels.start c.in-Some.end told.ends c.if-end-name.true in
     let last = labels_of-last (drop c.labels.start name) _ c.labels.invariant.utf8 parts in
-    let passes = sym c.utf8_label_passes.ensures ∙ c.if-not-utf8_label_passes.false in
-    sym (c.labels.invariant.passed ∙ ap (list_all passes_bidi_rule) last.1 ∙ ap (λ b. b && true) passes)
+    sym (c.labels.invariant.passed ∙ ap (list_all passes_bidi_rule) last.1 ∙ ap (λ b. b && true) told.passes)
 
 pub labels-preserved : goal.labels-preserved
 labels-preserved c =
     let name = c.args.name.now in
-    let end = c.label_end-end.result in
-    let ends = c.label_end-end.ensures in
+    let end = c.in-Some.end in
+    let told = c.in-Some.ensures.passes in
+    let ends = told.ends in
     let others = drop (end + 1) name in
     let parts = label_before name c.labels.start end ends c.if-end-name.false in
     let more = labels_of-more (drop c.labels.start name) _ others c.labels.invariant.utf8 parts in
-    let passes = sym c.utf8_label_passes.ensures ∙ c.if-not-utf8_label_passes.false in
     record {
       within = omega (arith, ends.within, c.if-end-name.false);
       utf8 = more.1;
       tested = λ known. (subst (AllByRecursion PassesIfRtl) more.2 (c.labels.invariant.tested known)).1;
-      passed = c.labels.invariant.passed ∙ ap (list_all passes_bidi_rule) more.2 ∙ ap (λ b. b && list_all passes_bidi_rule (labels_of (chars others))) passes;
+      passed = c.labels.invariant.passed ∙ ap (list_all passes_bidi_rule) more.2 ∙ ap (λ b. b && list_all passes_bidi_rule (labels_of (chars others))) told.passes;
     }

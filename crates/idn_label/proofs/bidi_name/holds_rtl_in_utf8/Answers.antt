@@ -19,12 +19,6 @@ joined false false e = refl
 any-last : (points : List ℕ) (c : ℕ) → list_any right points ≡ false → list_any right (points ++ c ∷ []) ≡ right c
 any-last points c none = list_any-append right points (c ∷ []) ∙ joined (list_any right points) (right c) none
 
-pub returns-then-begins_with_rtl_letter : goal.returns-then-begins_with_rtl_letter
-returns-then-begins_with_rtl_letter c = sym (c.begins_with_rtl_letter.ensures c.if-begins_with_rtl_letter.true)
-
-pub returns-then-is_told_by_octets : goal.returns-then-is_told_by_octets
-returns-then-is_told_by_octets c = sym (c.is_told_by_octets.ensures c.if-is_told_by_octets.true)
-
 pub loop-at-init : goal.loop-at-init
 loop-at-init c = record { within = omega arith; points = []; read = utf8_nothing; none = refl }
 
