@@ -6,17 +6,27 @@ mod EntryLemmas
 mod CountLemmas
 -- Options that the rules allow are within the limits of a run.
 mod LimitLemmas
--- What becomes of one use of an option.
+-- Which options have a row after a use.
+mod RowLemmas
+-- The options that the code knows are those of the definition.
+mod KnownLemmas
+-- The uses of options, found step by step.
+mod UseLemmas
+-- What the kinds of error that `clap` names say of the uses of options.
 mod KindLemmas
--- The definition of a command without subcommands names one kind of error at most: that of an unknown argument where one is.
-mod SingleErrorKind
+-- How `clap`'s definition takes one use of an option.
+mod OptionLemmas
+-- `clap`'s definition, word by word: one kind of error at most, where a text is to be shown or a use is wrong.
+mod WalkKinds
+-- The same of the command.
+mod AppKinds
 -- From what `clap` gives to the answer.
 mod AnswerLemmas
 -- Options that the rules allow suit their mode.
 pub mod SuitLemmas
 -- The mode that the words name.
 pub mod ModeLemmas
--- A rule is broken exactly where the words are not allowed.
+-- There is a cause exactly of words that are refused.
 mod CauseLemmas
--- The first option that the command line hasn't, found step by step.
-mod MissingLemmas
+-- The use that is told is the first that is wrong.
+mod FirstLemmas

@@ -1,15 +1,20 @@
--- Why words are refused: `clap` refuses them, for an option that it doesn't know or in another way, or they break a rule of the
--- program, of which the first is told.
-use Rattle.std.specs.Prelude.{◌≡◌, ◌≢◌, not, List, Option, Some, None, IfSome, if◌then◌else◌, string_bytes}
-use Rattle.clap.specs.Words.{Row, Text, matches_of}
+-- Why words are refused: `clap` refuses them, for an option that is used in a wrong way, of which the first is told; or
+-- they break a rule of the program, of which the first is told.
+use Rattle.std.specs.Prelude.{not, List, [], ◌∷◌, Option, Some, None, if◌then◌else◌, option_map}
+use Rattle.std.specs.Prelude.{string_bytes}
+use Rattle.clap.specs.Kinds.{Kinds}
+use Rattle.clap.specs.Words.{Row, Text, fault_of, matches_of}
 use Rattle.idn2_options.specs.CommandLine.{app}
 use Rattle.idn2_options.specs.Names.{after_name, limit_name, steps_name, tries_name}
-use Rattle.idn2_options.specs.Unknown.{unknown_option}
-use Rattle.idn2_options.specs.Words.{bad, checks_alone, has_counts, has_short_start, has_value, is_count_if_given, jumps_by_table, listing_options_fit, lists, names_one_mode, options_of, suits_among}
+use Rattle.idn2_options.specs.Uses.{Use, first_wrong, known_rules, told, uses_of}
+use Rattle.idn2_options.specs.Words.{asks_to_show, checks_alone, has_counts, has_short_start, has_value}
+use Rattle.idn2_options.specs.Words.{is_count_if_given}
+use Rattle.idn2_options.specs.Words.{jumps_by_table, listing_options_fit, lists, names_one_mode, suits_among}
 use Rattle.idn2_options.specs.declared.command_line.broken_rule.BrokenRule.{BrokenRule}
 use Rattle.idn2_options.specs.declared.command_line.broken_rule.BrokenRule.TheVariants as rules
 use Rattle.idn2_options.specs.declared.command_line.broken_rule.ListingOption.{ListingOption}
 use Rattle.idn2_options.specs.declared.command_line.broken_rule.ListingOption.TheVariants as listing
+use Rattle.idn2_options.specs.declared.command_line.misuse.Misuse.{Misuse}
 use Rattle.idn2_options.specs.declared.command_line.usage_cause.UsageCause.{UsageCause}
 use Rattle.idn2_options.specs.declared.command_line.usage_cause.UsageCause.TheVariants as causes
 
@@ -24,7 +29,8 @@ listing_option rows =
 
 -- where options of a listing do not fit: nothing is listed
 abbrev pub misfit_of : List Row → BrokenRule
-misfit_of rows = if lists rows then rules.NotWithJump (listing_option rows) else rules.GoesWithVariants (listing_option rows)
+misfit_of rows =
+    if lists rows then rules.NotWithJump (listing_option rows) else rules.GoesWithVariants (listing_option rows)
 
 -- what does not suit `--among`
 abbrev pub misfit_of_among : List Row → BrokenRule
@@ -51,21 +57,24 @@ broken_rule rows =
     else (if not (has_short_start rows) then Some rules.LongStart
     else (if not (checks_alone rows) then Some rules.CheckedStrings else None))))))
 
--- the rule that a cause tells; none where `clap` refuses the words
-abbrev pub rule_of : UsageCause → Option BrokenRule
-rule_of (causes.Rule rule) = Some rule
-rule_of _ = None
+-- what a cause tells: a rule that is broken, or an option that is used in a wrong way
+pub data Told : Type 0 where
+  rule : BrokenRule → Told
+  misused : Misuse → Text → Told
 
--- the option that a cause tells as unknown
-abbrev pub unknown_of : UsageCause → Option Text
-unknown_of (causes.Unknown option) = Some (string_bytes option)
-unknown_of _ = None
+abbrev pub told_by : UsageCause → Told
+told_by (causes.Rule broken) = rule broken
+told_by (causes.Misused misuse option) = misused misuse (string_bytes option)
 
--- there is a cause exactly of words that are refused; a rule that it tells is the first that is broken, and it tells of an unknown
--- option exactly where `clap` refuses the words for one: of the first
-abbrev pub IsUsageCause : List Text → Option UsageCause → Type 0
-IsUsageCause words None = options_of words ≢ bad
-IsUsageCause words (Some cause) =
-    (options_of words ≡ bad)
-    × IfSome (rule_of cause) (λ rule. broken_rule (matches_of app words) ≡ Some rule)
-    × (unknown_of cause ≡ unknown_option words)
+-- the first of some uses that is wrong, and how
+abbrev pub misuse_told : List Use → Option Told
+misuse_told uses = option_map (λ wrong. misused wrong.0 (told known_rules wrong.1)) (first_wrong known_rules [] uses)
+
+-- `clap`'s refusal comes first: the first use that is wrong is told, unless a text is to be shown
+abbrev pub cause_by : Kinds → List Text → Option Told
+cause_by [] words = option_map rule (broken_rule (matches_of app words))
+cause_by (kind ∷ _) words = if asks_to_show kind then None else misuse_told (uses_of words)
+
+-- why words are refused, if they are
+abbrev pub cause_of : List Text → Option Told
+cause_of words = cause_by (fault_of app words) words

@@ -6,5 +6,6 @@ pub mod Words
 pub mod Inputs
 pub mod Laws
 pub mod Examples
-pub mod Unknown
+pub mod Uses
 pub mod Causes
+pub mod inner

@@ -205,6 +205,11 @@ pub data Answer : Type 0 where
   shown : Answer
   bad : Answer
 
+-- the words are refused
+abbrev pub is_refused : Answer → Bool
+is_refused bad = true
+is_refused _ = false
+
 -- `clap` was asked for help or for the version
 abbrev pub asks_to_show : ErrorKind → Bool
 asks_to_show DisplayHelp = true
@@ -212,7 +217,7 @@ asks_to_show DisplayVersion = true
 asks_to_show _ = false
 
 -- `clap`'s refusal comes first, the program's own rules after it. Its definition names one kind of
--- refusal at most (`tells-app` of `proofs/SingleErrorKind.antt`), so nothing is left open
+-- refusal at most (`tells-app` of `proofs/AppKinds.antt`), so nothing is left open
 abbrev pub answer_of : Kinds → List Row → Answer
 answer_of [] rows = if is_allowed rows then chosen (settings_of rows) else bad
 answer_of (kind ∷ _) rows = if asks_to_show kind then shown else bad

@@ -6,10 +6,12 @@ pub mod laws;
 
 pub use command_line::broken_rule::{BrokenRule, ListingOption};
 pub use command_line::form::Form;
+pub use command_line::misuse::Misuse;
 pub use command_line::mode::Mode;
 pub use command_line::options::Options;
 pub use command_line::strings::input_text;
 pub use command_line::usage::Usage;
-pub use command_line::usage_cause::{UsageCause, asks_for_causes, push_escaped};
+pub use command_line::usage_cause::{UsageCause, push_escaped};
+pub use command_line::uses::asks_for_causes;
 pub use command_line::words::{read_options, usage_cause};
 pub use variant_table::Notation;

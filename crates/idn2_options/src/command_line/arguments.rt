@@ -46,34 +46,6 @@ pub(crate) const STEPS: &str = "steps";
 
 pub(crate) const STRINGS: &str = "STRINGS";
 
-/// The names that may stand after two dashes: of the options, and of the two that `clap` adds.
-pub(crate) const OPTIONS: [&str; 21] = [
-    LOOKUP,
-    REGISTER,
-    DECODE,
-    VARIANTS,
-    CHECK_TABLE,
-    RULESET,
-    CHECK_RULESET,
-    AMONG,
-    JUMP,
-    TR46NT,
-    STD3,
-    STANDARD,
-    EXPLAIN,
-    JSON,
-    QUIET,
-    AFTER,
-    LIMIT,
-    TRIES,
-    STEPS,
-    "help",
-    "version",
-];
-
-/// The letters that may stand after one dash: of the options, and of the two that `clap` adds.
-pub(crate) const LETTERS: [char; 6] = ['l', 'r', 'd', 'N', 'h', 'V'];
-
 /// Whether the flag is set. Unlike `get_flag`, `get_one` says what it makes of each text.
 pub(crate) fn has_flag(matches: &ArgMatches<'_>, name: &str) -> bool
     ensures { result ≡ has_flag name.now (rows_of (found_of matches.now)) }

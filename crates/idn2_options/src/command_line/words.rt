@@ -1,11 +1,11 @@
 //! The options that the words of the command line request.
-ghost use Rattle.std.specs.Prelude.{◌≡◌, IfOk, IsUtf8, OnOk, map, option_and_then, option_map, string_bytes};
+ghost use Rattle.std.specs.Prelude.{◌≡◌, IfOk, IsUtf8, OnOk, is_some, map, option_and_then, option_map, string_bytes};
 ghost use Rattle.std.specs.Str.{chars};
 ghost use Rattle.clap.specs.Words.{found_of, kind_of, rows_of};
-ghost use Rattle.idn2_options.specs.Causes.{IsUsageCause};
+ghost use Rattle.idn2_options.specs.Causes.{cause_of, told_by};
 ghost use Rattle.idn2_options.specs.Settings.{IsWithinLimits, SuitsMode};
-ghost use Rattle.idn2_options.specs.Words.{IsAnswer, IsUsage, count_of, form_of, mode_of, options_of, properties_of};
-ghost use Rattle.idn2_options.specs.Words.{settings_of, start_of, steps_of, strings_of, value_of};
+ghost use Rattle.idn2_options.specs.Words.{IsAnswer, IsUsage, count_of, form_of, is_refused, mode_of, options_of};
+ghost use Rattle.idn2_options.specs.Words.{properties_of, settings_of, start_of, steps_of, strings_of, value_of};
 
 use crate::command_line::arguments::{
     AMONG, DECODE, EXPLAIN, JSON, JUMP, LIMIT, REGISTER, STANDARD, STD3, STEPS, STRINGS, TRIES,
@@ -21,6 +21,7 @@ use crate::command_line::rules::{
 };
 use crate::command_line::usage::Usage;
 use crate::command_line::usage_cause::{UsageCause, refused_by_clap};
+use crate::command_line::uses::front;
 use clap::error::ErrorKind;
 use clap::{ArgMatches, Error};
 use idn_class::Properties;
@@ -49,17 +50,17 @@ pub fn read_options(alloc: Global, words: &[String]) -> Result<Options, Usage>
 
 /// Why words are refused, if they are; the first word is the program's name. `clap`'s refusal comes first.
 pub fn usage_cause(alloc: Global, words: &[String]) -> Result<Option<UsageCause>, AllocError>
-    ensures { IfOk result (IsUsageCause (map string_bytes words.now)) }
+    ensures cause { IfOk result (λ cause. option_map told_by cause ≡ cause_of (map string_bytes words.now)) }
+    ensures refused { IfOk result (λ cause. is_some cause ≡ is_refused (options_of (map string_bytes words.now))) }
 {
     match command::matches(alloc, words) {
         Ok(matches) => match broken_rule(&matches) {
             Some(rule) => Ok(Some(UsageCause::Rule(rule))),
             None => Ok(None),
         },
-        Err(error) => match usage_of(alloc, &error) {
-            Usage::Bad => Ok(Some(refused_by_clap(alloc, words, &error)?)),
-            Usage::Show(_) => Ok(None),
-            Usage::Memory => Err(AllocError),
+        Err(error) => match error.kind() {
+            ErrorKind::OutOfMemory => Err(AllocError),
+            kind => refused_by_clap(alloc, front(words), kind),
         },
     }
 }

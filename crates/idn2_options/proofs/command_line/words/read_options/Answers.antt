@@ -5,7 +5,7 @@ use Rattle.idn2_options.specs.Settings.{IsWithinLimits, SuitsMode}
 use Rattle.idn2_options.specs.Words.{bad, chosen, settings_of}
 use Rattle.idn2_options.proofs.AnswerLemmas.{answer-Err, answer-Ok}
 use Rattle.idn2_options.proofs.LimitLemmas.{within_limits}
-use Rattle.idn2_options.proofs.SingleErrorKind.{texts}
+use Rattle.idn2_options.proofs.AppKinds.{texts}
 use Rattle.idn2_options.proofs.SuitLemmas.{suits_mode}
 use Rattle.idn2_options.proofs.command_line.words.read_options.Goals as goal
 

@@ -1,0 +1,3 @@
+-- Definitions of inner functions.
+pub mod Known
+pub mod Shown
