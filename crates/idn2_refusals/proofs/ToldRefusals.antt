@@ -1,5 +1,5 @@
 -- A refusal that is told, of a line or of a table.
-use Rattle.std.proofs.Common.{◌≡◌, ℕ, List, [], ◌∷◌, Result, Err, Option, Some, sym, subst, Bool}
+use Rattle.std.proofs.Common.{◌≡◌, inl, inr, ℕ, List, [], ◌∷◌, Result, Err, Option, Some, None, sym, ap, subst, ◌∙◌, Bool}
 use Rattle.idn_text.specs.declared.refusal.Refusal.{Refusal}
 use Rattle.idn_text.specs.declared.refusal.Refusal.TheVariants.{Memory}
 use Rattle.idn_text.specs.Lines.{Numbered}
@@ -12,7 +12,10 @@ use Rattle.idn2_output.proofs.WrittenOutputLines.{stops_first}
 use Rattle.idn_class.specs.declared.properties.Properties.{Properties}
 use Rattle.variant_table.specs.declared.version.Notation.{Notation}
 use Rattle.variant_table.specs.declared.fault.TableFault.{TableFault}
-use Rattle.idn2_refusals.specs.TableCauses.{fault_cause, told_if}
+use Rattle.variant_table.specs.declared.fault.TableFault.TheVariants as tables
+use Rattle.variant_table.specs.declared.fault.TableRefusal.{TableRefusal}
+use Rattle.variant_table.specs.FaultyLines.{IsRefusalOf, fault_place, line_in}
+use Rattle.idn2_refusals.specs.TableCauses.{fault_cause, refusal_cause, told_if}
 use Rattle.idn2_refusals.specs.TableFaults.{told_of}
 use Rattle.std.specs.Prelude.{MatchOption}
 use Rattle.idn2_output.specs.declared.status.Status.{Status}
@@ -30,10 +33,20 @@ module _ (properties : Properties) where
   IsTold form wanted n text fault old new r told =
       MatchOption told ((r ≡ Err stop.Memory) × (new ≡ old)) (λ told. Emits old new (fault_piece form told.0 told.1 (told_if wanted (fault_cause properties n text fault)) ∷ []) r)
 
-  -- memory was refused where a cause was looked for, and nothing is told
-  pub told_memory : (form : Form) (wanted : Bool) (n : Notation) (text : List ℕ) (fault : TableFault) (old : Held) (r : Result Status Stop) (told : ℕ × Refusal) → told_of fault ≡ Some told → r ≡ Err stop.Memory
-      → IsTold form wanted n text fault old old r (told_of fault)
-  told_memory form wanted n text fault old r told e is =
-      let output_lines = fault_piece form told.0 told.1 (told_if wanted (fault_cause properties n text fault)) ∷ [] in
-      subst (λ (o : Option (ℕ × Refusal)). IsTold form wanted n text fault old old r o) (sym e)
-      (subst (λ (s : Result Status Stop). Emits old old output_lines s) (sym is) (stops_first old output_lines))
+  -- the cause that a call finds is that of the text
+  pub told_as_is : (form : Form) (wanted : Bool) (n : Notation) (text : List ℕ) (refusal : TableRefusal) (old new : Held) (r : Result Status Stop) (told : ℕ × Refusal) (cause : Option LineCause)
+      → IsRefusalOf properties n text refusal → told_of refusal.fault ≡ Some told
+      → cause ≡ told_if wanted (refusal_cause text refusal.fault refusal.place (line_in refusal))
+      → Emits old new (fault_piece form told.0 told.1 cause ∷ []) r → IsTold form wanted n text refusal.fault old new r (told_of refusal.fault)
+  told_as_is form wanted n text refusal old new r told cause refused is found emits =
+      subst (λ (o : Option (ℕ × Refusal)). IsTold form wanted n text refusal.fault old new r o) (sym is)
+      (subst (λ (c : Option LineCause). Emits old new (fault_piece form told.0 told.1 c ∷ []) r) (found ∙ same refused) emits)
+    where
+      no_memory : refusal.fault ≡ tables.Memory → ⊥
+      no_memory e = let clash : (let o : Option (ℕ × Refusal) = None in o) ≡ Some told = sym (ap told_of e) ∙ is in cc
+
+      same : IsRefusalOf properties n text refusal → told_if wanted (refusal_cause text refusal.fault refusal.place (line_in refusal)) ≡ told_if wanted (fault_cause properties n text refusal.fault)
+      same (inl memory) = absurd (no_memory memory)
+      same (inr both) =
+          ap (λ place. told_if wanted (refusal_cause text refusal.fault place (line_in refusal))) both.1
+          ∙ ap (λ line. told_if wanted (refusal_cause text refusal.fault (fault_place properties n text refusal.fault) line)) both.0

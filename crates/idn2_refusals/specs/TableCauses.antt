@@ -8,8 +8,7 @@ use Rattle.variant_table.specs.declared.fault.TableFault.TheVariants.{Syntax}
 use Rattle.ruleset_text.specs.declared.fault.FaultPlace.{FaultPlace}
 use Rattle.ruleset_text.specs.declared.fault.FaultPlace.TheVariants.{Lexeme}
 use Rattle.variant_table.specs.declared.version.Notation.{Notation}
-use Rattle.table_cause.specs.FaultPlaces.{line_place}
-use Rattle.variant_table.specs.FaultyLines.{FaultyLine, faulty_line}
+use Rattle.variant_table.specs.FaultyLines.{fault_place, faulty_line, line_of}
 use Rattle.idn2_refusals.specs.declared.cause.LineCause.{LineCause}
 use Rattle.idn2_refusals.specs.declared.cause.LineCause.TheVariants.{OfTable, ByteOrderMark}
 
@@ -43,17 +42,17 @@ is_syntax_of_first (Syntax line) = line == 1
 is_syntax_of_first fault = false
 
 -- the place on the line, if one is told
-abbrev pub line_cause : TableFault → Option FaultyLine → Option LineCause
-line_cause fault None = None
-line_cause fault (Some f) = option_map (cause_at f.line) (line_place f.version f.definitions fault f.line)
+abbrev pub line_cause : Option FaultPlace → Option (List ℕ) → Option LineCause
+line_cause place None = None
+line_cause place (Some line) = option_map (cause_at line) place
 
 -- the cause of the fault of a text, whose first faulty line this is: a byte order mark, or the place
-abbrev pub refusal_cause : List ℕ → TableFault → Option FaultyLine → Option LineCause
-refusal_cause text fault line = if begins_with_mark text && is_syntax_of_first fault then Some ByteOrderMark else line_cause fault line
+abbrev pub refusal_cause : List ℕ → TableFault → Option FaultPlace → Option (List ℕ) → Option LineCause
+refusal_cause text fault place line = if begins_with_mark text && is_syntax_of_first fault then Some ByteOrderMark else line_cause place line
 
 -- that of a text
 abbrev pub fault_cause : Properties → Notation → List ℕ → TableFault → Option LineCause
-fault_cause properties notation text fault = refusal_cause text fault (faulty_line properties notation text)
+fault_cause properties notation text fault = refusal_cause text fault (fault_place properties notation text fault) (line_of (faulty_line properties notation text))
 
 -- a cause, if causes are wanted
 abbrev pub told_if : Bool → Option LineCause → Option LineCause

@@ -1,17 +1,14 @@
-//! The cause of the fault of a table. It is looked for only once the fault is told, and only if causes are wanted.
-ghost use Rattle.std.specs.Prelude.{◌≡◌, IfOk, drop, false, take};
+//! The cause of the fault of a table.
+ghost use Rattle.std.specs.Prelude.{◌≡◌, drop, take};
 ghost use Rattle.std.specs.List.{list_all};
-ghost use Rattle.std.specs.Result.{IsOk};
 ghost use Rattle.idn2_refusals.specs.TableCauses.{begins_with_mark, is_syntax_of_first, is_visible as is_visible_byte};
 ghost use Rattle.idn2_refusals.specs.TableCauses.{may_be_quoted as may_be_quoted_text, quoted as quoted_of};
 ghost use Rattle.idn2_refusals.specs.TableCauses.{quoted_at as quoted_in, refusal_cause, told_if};
-ghost use Rattle.variant_table.specs.FaultyLines.{faulty_line_of};
+ghost use Rattle.variant_table.specs.FaultyLines.{line_in};
 
 use crate::cause::{LineCause, Quoted};
 use idn2_output::append;
 use ruleset_text::FaultPlace;
-use std::alloc::{AllocError, Global};
-use table_cause::fault_place;
 use variant_table::{TableFault, TableRefusal};
 
 /// The most bytes of a lexeme that is quoted.
@@ -19,41 +16,30 @@ const MAX_QUOTED: usize = 32;
 
 /// The cause of the fault of a text, if causes are wanted and one is told.
 pub(crate) fn fault_cause_if_wanted(
-    alloc: Global,
     wanted: bool,
     text: &[u8],
     refusal: &TableRefusal<'_>,
-) -> Result<Option<LineCause>, AllocError>
-    ensures cause { IfOk result (λ cause. cause ≡
-        told_if wanted (refusal_cause text.now refusal.now.fault (faulty_line_of refusal.now.line))) }
-    ensures unwanted { wanted ≡ false → IsOk result }
+) -> Option<LineCause>
+    ensures { result ≡
+        told_if wanted (refusal_cause text.now refusal.now.fault refusal.now.place (line_in refusal.now)) }
 {
     if wanted {
-        cause_of_refusal(alloc, text, refusal)
+        fault_cause(text, refusal)
     } else {
-        Ok(None)
+        None
     }
 }
 
 /// The cause of the fault of a text, if one is told.
-fn cause_of_refusal(
-    alloc: Global,
-    text: &[u8],
-    refusal: &TableRefusal<'_>,
-) -> Result<Option<LineCause>, AllocError>
-    ensures cause { IfOk result (λ cause. cause ≡
-        refusal_cause text.now refusal.now.fault (faulty_line_of refusal.now.line)) }
+fn fault_cause(text: &[u8], refusal: &TableRefusal<'_>) -> Option<LineCause>
+    ensures { result ≡ refusal_cause text.now refusal.now.fault refusal.now.place (line_in refusal.now) }
 {
     if begins_with_mark(text) && is_syntax_of_first(refusal.fault) {
-        return Ok(Some(LineCause::ByteOrderMark));
+        return Some(LineCause::ByteOrderMark);
     }
-    let Some(faulty) = &refusal.line else {
-        return Ok(None);
-    };
-    match fault_place(alloc, faulty, refusal.fault)? {
-        Some(place) => Ok(Some(LineCause::OfTable(place, quoted_at(faulty.line, place)))),
-        None => Ok(None),
-    }
+    let line = refusal.line?;
+    let place = refusal.place?;
+    Some(LineCause::OfTable(place, quoted_at(line, place)))
 }
 
 /// Whether a byte order mark stands at the head of a text.

@@ -21,13 +21,11 @@ use crate::told_cause::members_of;
 use idn_text::{Refusal, Sink};
 use idn2_options::Form;
 use idn2_output::{Console, Object, Status, Stop};
-use std::alloc::Global;
 use variant_table::{TableFault, TableRefusal};
 
 /// Tells the fault of the table that a text is to spell, with its cause, if causes are wanted, and gives the status of
-/// the run. Lack of memory is no fault of the table: nothing is reported, and the run stops. A cause may take memory.
+/// the run. Lack of memory is no fault of the table: nothing is reported, and the run stops.
 pub fn refuse_table<W: Sink, E: Sink>(
-    alloc: Global,
     form: Form,
     wanted: bool,
     text: &[u8],
@@ -45,7 +43,7 @@ pub fn refuse_table<W: Sink, E: Sink>(
     let Some((line, told)) = told_of(refusal.fault) else {
         return Err(Stop::Memory);
     };
-    let cause = fault_cause_if_wanted(alloc, wanted, text, refusal)?;
+    let cause = fault_cause_if_wanted(wanted, text, refusal);
     write_fault(form, line, told, cause.as_ref(), console)?;
     Ok(Status::Unusable)
 }

@@ -1,7 +1,7 @@
 -- Definitions with a further one have no fault, if the further one has none.
-use Rattle.std.proofs.Common.{◌≡◌, ℕ, ◌+◌, ◌<◌, ◌≤◌, true, false, ◌||◌, List, [], ◌∷◌, ◌++◌, map, length, Option, Some, None, refl, sym, ap, subst, ◌∙◌, append_assoc, append-nil, length-append, arith}
+use Rattle.std.proofs.Common.{◌≡◌, ℕ, ◌+◌, ◌-◌, ◌<◌, ◌≤◌, true, false, ◌||◌, List, [], ◌∷◌, ◌++◌, map, length, refl, sym, ap, subst, ◌∙◌, append_assoc, append-nil, length-append, arith}
 use Rattle.std.proofs.lemmas.List.{map-append}
-use Rattle.std.specs.Prelude.{IsTrue, IsSome, MatchOption, bytes_eq, nat_le, nat_lt}
+use Rattle.std.specs.Prelude.{IsTrue, bytes_eq, nat_le, nat_lt}
 use Rattle.std.specs.List.{AllByRecursion}
 use Rattle.std.proofs.lemmas.Bool.{leb-false, ltb-false, or_parts}
 use Rattle.std.proofs.lemmas.Slice.Eq.{bytes_eq-Decides}
@@ -313,16 +313,9 @@ counted_more d v e x left less written len seen held are size fewer is = subst (
       omega (arith, canonical_size-added d x held.without_fault, held.size, text);
 })
 
--- there are atoms left for one more
-pub atoms_are_left : (d v : Definitions) (x : Definition) (left written : ℕ) → d ≡ v → IsCounted d left written → AreDefinitions (added v x) → definition_atoms x ≤ left
-atoms_are_left d v x left written seen held are =
+-- how many are left after one more
+pub fewer_left : (d v : Definitions) (x : Definition) (left written less : ℕ) → d ≡ v → IsCounted d left written → AreDefinitions (added v x) → less ≡ 4096 - all_atoms v - definition_atoms x
+    → definition_atoms x + less ≡ left
+fewer_left d v x left written less seen held are is =
     let more : AreDefinitions (added d x) = subst (λ w. AreDefinitions (added w x)) (sym seen) are in
-    omega (arith, all_atoms-added d x held.without_fault, held.left, more.few_atoms)
-
-pub some_left : (o : Option ℕ) (n left : ℕ) → MatchOption o (left < n) (λ less. n + less ≡ left) → n ≤ left → IsSome o
-some_left None n left h l = absurd (omega (arith, h, l))
-some_left (Some less) n left h l = refl
-
-pub is_left : (o : Option ℕ) (n left less : ℕ) → MatchOption o (left < n) (λ less. n + less ≡ left) → o ≡ Some less → n + less ≡ left
-is_left None n left less h e = absurd (cc)
-is_left (Some m) n left less h e = let same : m ≡ less = cc in omega (arith, h, same)
+    omega (arith, all_atoms-added d x held.without_fault, held.left, more.few_atoms, is, ap all_atoms seen)

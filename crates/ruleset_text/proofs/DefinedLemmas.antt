@@ -2,7 +2,7 @@
 use Rattle.std.proofs.Common.{◌≡◌, ℕ, Bool, true, false, not, cond, List, [], ◌∷◌, ◌++◌, ◌+◌, ◌<◌, ◌≤◌, length, length-append, Option, Some, None, Result, Ok, Err, refl, sym, ap, subst, ◌∙◌, arith}
 use Rattle.std.specs.Option.{option_map}
 use Rattle.std.proofs.lemmas.List.{append-nil}
-use Rattle.std.proofs.lemmas.Bool.{not-false, or_parts}
+use Rattle.std.proofs.lemmas.Bool.{not-false}
 use Rattle.label_patterns.specs.Patterns.{Pattern}
 use Rattle.ruleset_text.specs.declared.definition.DemandKind.{DemandKind}
 use Rattle.ruleset_text.specs.declared.definition.DemandKind.TheVariants as demand
@@ -13,16 +13,14 @@ use Rattle.ruleset_text.specs.declared.keyword.Keyword.TheVariants as keyword
 use Rattle.ruleset_text.specs.Canonical.{definition_text}
 use Rattle.ruleset_text.specs.Definition as definition
 use Rattle.ruleset_text.specs.Definition.{Definition, tag_in, set_in, rule_in, contexts_in, demand_in, definition_of}
-use Rattle.ruleset_text.specs.Definitions.{Definitions, canonical_size, is_line_over_limit, is_one_too_many, is_over_limit, has_known_sets, has_bad_class, has_same_name, added, with_definition, defined}
-use Rattle.ruleset_text.specs.inner.DefinitionSteps.{HasForm}
+use Rattle.ruleset_text.specs.Definitions.{Definitions, canonical_size, is_one_too_many, has_known_sets, has_bad_class, has_same_name, added, with_definition, defined}
+use Rattle.ruleset_text.specs.inner.DefinitionSteps.{HasForm, IsFaultless}
 use Rattle.ruleset_text.specs.Names.{is_name}
-use Rattle.ruleset_text.specs.SetNames.{names_on}
 use Rattle.ruleset_text.specs.Spans.{spans_in}
 use Rattle.ruleset_text.specs.WellFormed.{AreDefinitions}
 use Rattle.ruleset_text.proofs.AddedLemmas.{canonical_size-added}
-use Rattle.ruleset_text.proofs.DefineLemmas.{may_be_added}
+use Rattle.ruleset_text.proofs.DefineLemmas.{is_long, may_be_added}
 use Rattle.ruleset_text.proofs.FormLemmas.{contexts_formed, demand_formed}
-use Rattle.ruleset_text.proofs.KnownSetLemmas.{names_on-more}
 use Rattle.ruleset_text.proofs.SpanLemmas.{spans_good}
 
 -- ---- its form
@@ -76,17 +74,29 @@ if_not : (b : Bool) (fault : DefinitionFault) (r : Result Definitions Definition
 if_not true fault r e h = absurd (cc)
 if_not false fault r e h = (refl, h)
 
-with_none : (limit : ℕ) (d : Definitions) (names : List (List ℕ)) (o : Option Definition) (e : Definitions) → with_definition limit d names o ≡ Ok e
-    → (x : Definition) × (o ≡ Some x) × (is_over_limit limit d names x ≡ false) × (has_known_sets (length d.sets) x ≡ true) × (has_bad_class d.properties x ≡ false) × (has_same_name d x ≡ false) × (added d x ≡ e)
+-- what was defined without a fault
+record IsDefined (limit : ℕ) (d : Definitions) (o : Option Definition) (e : Definitions) : Type 0 where
+  x : Definition
+  read : o ≡ Some x
+  faultless : IsFaultless limit d x
+  is : added d x ≡ e
+
+with_none : (limit : ℕ) (d : Definitions) (o : Option Definition) (e : Definitions) → with_definition limit d o ≡ Ok e → IsDefined limit d o e
 unfolding with_definition
-with_none limit d names None e h = absurd (cc)
-with_none limit d names (Some x) e h =
-    let limits = if_not (is_over_limit limit d names x) Limit _ e h in
-    let known = if_not (not (has_known_sets (length d.sets) x)) NoSuchName _ e limits.1 in
-    let classes = if_not (has_bad_class d.properties x) BadClass _ e known.1 in
+with_none limit d None e h = absurd (cc)
+with_none limit d (Some x) e h =
+    let count = if_not (is_one_too_many d x) Limit _ e h in
+    let known = if_not (not (has_known_sets (length d.sets) x)) NoSuchName _ e count.1 in
+    let line = if_not (is_long limit d x) Limit _ e known.1 in
+    let classes = if_not (has_bad_class d.properties x) BadClass _ e line.1 in
     let new = if_not (has_same_name d x) SameName _ e classes.1 in
     let same : added d x ≡ e = let ok = new.1 in cc in
-    (x, refl, limits.0, not-false (has_known_sets (length d.sets) x) known.0, classes.0, new.0, same)
+    record {
+      x = x;
+      read = refl;
+      faultless = record { count = count.0; known = not-false (has_known_sets (length d.sets) x) known.0; line = line.0; class = classes.0; name = new.0 };
+      is = same;
+    }
 
 -- what a line makes of definitions without a fault: they have none, nothing is lost, and there is room for them
 pub record Grown (limit : ℕ) (d e : Definitions) : Type 0 where
@@ -96,19 +106,13 @@ pub record Grown (limit : ℕ) (d e : Definitions) : Type 0 where
 
 pub defined_grows : (limit : ℕ) (d e : Definitions) (k : Keyword) (words : List (List ℕ)) → AreDefinitions d → defined limit d k words ≡ Ok e → Grown limit d e
 defined_grows limit d e k words are h =
-    let names = names_on d.set_names words in
-    let more = names_on-more d.set_names words in
-    let o = definition_of names k words in
-    let found = with_none limit d names o e h in
-    let x = found.0 in
-    let over = or_parts (is_line_over_limit limit d (length (definition_text names x))) (is_one_too_many d x) found.2 in
-    let may = may_be_added limit d names more.0 o x (length (definition_text names x)) more.1 are (form names k words x found.1)
-    (record { read = found.1; size = refl; line = over.0; count = over.1 }) found.3 found.4 found.5 in
-    let size : canonical_size e ≡ canonical_size d + (length (definition_text d.set_names x) + 1) = ap canonical_size (sym found.6) ∙ canonical_size-added d x are in
+    let found = with_none limit d (definition_of d.set_names k words) e h in
+    let may = may_be_added limit d found.x are (form d.set_names k words found.x found.read) found.faultless in
+    let size : canonical_size e ≡ canonical_size d + (length (definition_text d.set_names found.x) + 1) = ap canonical_size (sym found.is) ∙ canonical_size-added d found.x are in
     record {
-      without_fault = subst AreDefinitions found.6 may.without_fault;
+      without_fault = subst AreDefinitions found.is may.without_fault;
       longer = omega (arith, size);
-      room = omega (arith, size, may.size, may.room);
+      room = omega (arith, size, may.room);
     }
 
 -- ---- demands come by their keywords alone
@@ -162,9 +166,8 @@ demands_of_added d (definition.Demand kind p) n = absurd n
 
 pub demands_stay : (limit : ℕ) (d e : Definitions) (k : Keyword) (words : List (List ℕ)) → NamesNoDemand k → defined limit d k words ≡ Ok e → e.demands ≡ d.demands
 demands_stay limit d e k words n h =
-    let names = names_on d.set_names words in
-    let found = with_none limit d names (definition_of names k words) e h in
-    ap (λ f. f.demands) (sym found.6) ∙ demands_of_added d found.0 (is_none names k words found.0 n found.1)
+    let found = with_none limit d (definition_of d.set_names k words) e h in
+    ap (λ f. f.demands) (sym found.is) ∙ demands_of_added d found.x (is_none d.set_names k words found.x n found.read)
 
 -- ---- a demand stays
 
@@ -176,9 +179,8 @@ more_demands d (definition.Demand kind p) = omega (arith, length-append d.demand
 
 pub demands_grow : (limit : ℕ) (d e : Definitions) (k : Keyword) (words : List (List ℕ)) → defined limit d k words ≡ Ok e → length d.demands ≤ length e.demands
 demands_grow limit d e k words h =
-    let names = names_on d.set_names words in
-    let found = with_none limit d names (definition_of names k words) e h in
-    omega (arith, more_demands d found.0, ap (λ f. length f.demands) found.6)
+    let found = with_none limit d (definition_of d.set_names k words) e h in
+    omega (arith, more_demands d found.x, ap (λ f. length f.demands) found.is)
 
 -- where there is none, none was defined
 some_demand : (limit : ℕ) (d e : Definitions) (kind : DemandKind) (p : Pattern) → added d (definition.Demand kind p) ≡ e → 0 < length e.demands
@@ -189,15 +191,13 @@ without_demands limit d e keyword.Tag words h none = tt
 without_demands limit d e keyword.Set words h none = tt
 without_demands limit d e keyword.Rule words h none = tt
 without_demands limit d e keyword.Never words h none =
-    let names = names_on d.set_names words in
-    let found = with_none limit d names (definition_of names keyword.Never words) e h in
-    let read = mapped (definition.Demand demand.Never) (demand_in names words) found.0 found.1 in
-    omega (arith, none, some_demand limit d e demand.Never read.0 (ap (added d) read.2 ∙ found.6))
+    let found = with_none limit d (definition_of d.set_names keyword.Never words) e h in
+    let read = mapped (definition.Demand demand.Never) (demand_in d.set_names words) found.x found.read in
+    omega (arith, none, some_demand limit d e demand.Never read.0 (ap (added d) read.2 ∙ found.is))
 without_demands limit d e keyword.Always words h none =
-    let names = names_on d.set_names words in
-    let found = with_none limit d names (definition_of names keyword.Always words) e h in
-    let read = mapped (definition.Demand demand.Always) (demand_in names words) found.0 found.1 in
-    omega (arith, none, some_demand limit d e demand.Always read.0 (ap (added d) read.2 ∙ found.6))
+    let found = with_none limit d (definition_of d.set_names keyword.Always words) e h in
+    let read = mapped (definition.Demand demand.Always) (demand_in d.set_names words) found.x found.read in
+    omega (arith, none, some_demand limit d e demand.Always read.0 (ap (added d) read.2 ∙ found.is))
 
 -- ---- names of tags and rules
 
@@ -215,6 +215,5 @@ stays d (definition.Demand kind p) = record { tags = ([], sym (append-nil d.tags
 
 pub names_stay : (limit : ℕ) (d e : Definitions) (k : Keyword) (words : List (List ℕ)) → defined limit d k words ≡ Ok e → NamesStay d e
 names_stay limit d e k words h =
-    let names = names_on d.set_names words in
-    let found = with_none limit d names (definition_of names k words) e h in
-    subst (NamesStay d) found.6 (stays d found.0)
+    let found = with_none limit d (definition_of d.set_names k words) e h in
+    subst (NamesStay d) found.is (stays d found.x)

@@ -1,7 +1,7 @@
 -- Reading a definition is exact, and what is told of one is the first thing that is wrong with it.
-use Rattle.std.proofs.Common.{◌≡◌, ℕ, ◌<◌, Bool, true, false, not, cond, List, [], ◌∷◌, length, Option, Some, None, Result, Ok, Err, refl, sym, ap, subst, ◌∙◌, arith}
+use Rattle.std.proofs.Common.{◌≡◌, ℕ, ◌+◌, ◌<◌, ◌==◌, nat_lt, Bool, true, false, not, cond, List, [], ◌∷◌, length, Option, Some, None, Ok, Err, refl, sym, ap, subst, ◌∙◌, arith}
 use Rattle.std.specs.Option.{option_map}
-use Rattle.std.proofs.lemmas.Bool.{false_from_ne_true, not-true}
+use Rattle.std.proofs.lemmas.Bool.{false_from_ne_true, ltb-false, ltb-true, not-true}
 use Rattle.label_patterns.specs.Patterns.{Pattern}
 use Rattle.ruleset_text.specs.declared.definition.DemandKind.TheVariants as demand
 use Rattle.ruleset_text.specs.declared.fault.DefinitionFault.{DefinitionFault}
@@ -12,15 +12,15 @@ use Rattle.ruleset_text.specs.Signs as sign
 use Rattle.ruleset_text.specs.declared.token.Token.{Token}
 use Rattle.ruleset_text.specs.Definition as definition
 use Rattle.ruleset_text.specs.Definition.{Definition, if_such, tag_in, set_in, rule_in, contexts_in, demand_in, definition_of}
-use Rattle.ruleset_text.specs.Definitions.{Definitions, is_over_limit, has_known_sets, has_bad_class, has_same_name, added, with_definition, defined}
-use Rattle.ruleset_text.specs.DefinitionOrder.{SpellsDefinition, DefinitionCondition, no_form, over_limit, no_such_name, bad_class, same_name, order_of, fault_of, IsSuch, Holds, IsDefinitionFault}
+use Rattle.ruleset_text.specs.Definitions.{Definitions, has_known_sets, added, defined}
+use Rattle.ruleset_text.specs.DefinitionOrder.{SpellsDefinition, DefinitionCondition, no_form, one_too_many, no_such_name, long_line, bad_class, same_name, order_of, fault_of, test_of, Holds, IsDefinitionFault}
 use Rattle.ruleset_text.specs.Grammar.{SpellsPattern}
 use Rattle.ruleset_text.specs.Names.{is_name}
 use Rattle.ruleset_text.specs.Reading.{pattern_of}
 use Rattle.ruleset_text.specs.Rules.{has, is_rule}
-use Rattle.ruleset_text.specs.SetNames.{names_on}
 use Rattle.ruleset_text.specs.Spans.{spans_in}
 use Rattle.ruleset_text.specs.Tokens.{tokens_in}
+use Rattle.ruleset_text.proofs.DefineLemmas.{Answer, by_tests, formed, formless, told_by}
 use Rattle.ruleset_text.proofs.DefinedLemmas.{mapped, if_true}
 use Rattle.ruleset_text.proofs.FormLemmas.{if_such_some}
 use Rattle.ruleset_text.proofs.PatternLemmas.{spelled_read, read_spelled}
@@ -96,13 +96,6 @@ one_definition names k words x y s t = let e = definition_read names k words x s
 
 -- ---- the first thing that is wrong
 
-abbrev pub Answer : Type 0
-Answer = Result Definitions DefinitionFault
-
--- the answer by its tests
-abbrev pub told_by : Definitions → Definition → Bool → Bool → Bool → Bool → Answer
-told_by d x over known bad same = cond over (Err Limit) (cond (not known) (Err NoSuchName) (cond bad (Err BadClass) (cond same (Err SameName) (Ok (added d x)))))
-
 contradicts : (b : Bool) → b ≡ true → b ≡ false → ⊥
 contradicts b e f = let g : true ≡ false = sym e ∙ f in cc
 
@@ -110,131 +103,138 @@ true_of : (b : Bool) → not b ≡ false → b ≡ true
 true_of true e = refl
 true_of false e = absurd cc
 
-nothing_first : (c : DefinitionCondition) → order_of c < 1 → ⊥
-nothing_first no_form l = omega (arith, l)
-nothing_first over_limit l = omega (arith, l)
-nothing_first no_such_name l = omega (arith, l)
-nothing_first bad_class l = omega (arith, l)
-nothing_first same_name l = omega (arith, l)
-
 err_is : (f g : DefinitionFault) (r : Answer) → r ≡ Err f → r ≡ Err g → f ≡ g
 err_is f g r a b = cc
 
 no_ok : {X : Type 0} (f : DefinitionFault) (e : Definitions) → (let r : Answer = Ok e in r) ≡ Err f → X
 no_ok f e h = absurd cc
 
+-- the condition of a place
+abbrev condition_at : ℕ → DefinitionCondition
+condition_at n =
+    cond (n == 1) no_form (cond (n == 2) one_too_many (cond (n == 3) no_such_name (cond (n == 4) long_line (cond (n == 5) bad_class same_name))))
+
+at_its_place : (c : DefinitionCondition) → condition_at (order_of c) ≡ c
+at_its_place no_form = refl
+at_its_place one_too_many = refl
+at_its_place no_such_name = refl
+at_its_place long_line = refl
+at_its_place bad_class = refl
+at_its_place same_name = refl
+
+one_at_a_place : (c e : DefinitionCondition) → order_of c ≡ order_of e → c ≡ e
+one_at_a_place c e is = sym (at_its_place c) ∙ ap condition_at is ∙ at_its_place e
+
 module _ (limit : ℕ) (d : Definitions) (k : Keyword) (words : List (List ℕ)) where
-  abbrev pub names : List (List ℕ)
-  names = names_on d.set_names words
+  abbrev test : DefinitionCondition → Definition → Bool
+  test = test_of limit d
 
-  abbrev pub over : Definition → Bool
-  over = is_over_limit limit d names
+  abbrev Such : DefinitionCondition → Type 0
+  Such c = (x : Definition) × SpellsDefinition d.set_names k words x × (test c x ≡ true)
 
-  abbrev unnamed : Definition → Bool
-  unnamed = (λ x. not (has_known_sets (length d.sets) x))
+  module _ (x : Definition) (spelled : SpellsDefinition d.set_names k words x) where
+    -- no condition holds whose test is false of what was read
+    never : (c : DefinitionCondition) → test c x ≡ false → Such c → ⊥
+    never c is_false s = contradicts (test c x) (ap (test c) (one_definition d.set_names k words x s.0 spelled s.1) ∙ s.2) is_false
 
-  formless : definition_of names k words ≡ None → defined limit d k words ≡ Err Syntax
-  unfolding with_definition
-  formless e = ap (with_definition limit d names) e
+    -- each test before a place is false
+    abbrev AllFalse : ℕ → Type 0
+    AllFalse n = (c : DefinitionCondition) → 1 < order_of c → order_of c < n → test c x ≡ false
 
-  formed : (x : Definition) → definition_of names k words ≡ Some x → defined limit d k words ≡ told_by d x (over x) (has_known_sets (length d.sets) x) (has_bad_class d.properties x) (has_same_name d x)
-  unfolding with_definition
-  formed x e = ap (with_definition limit d names) e
+    no_test : AllFalse 2
+    no_test c above below = absurd (omega (arith, above, below))
 
-  pub by_tests : (x : Definition) → definition_of names k words ≡ Some x → (o n b s : Bool) → over x ≡ o → has_known_sets (length d.sets) x ≡ n → has_bad_class d.properties x ≡ b → has_same_name d x ≡ s
-      → defined limit d k words ≡ told_by d x o n b s
-  by_tests x read o n b s i j l m =
-      formed x read
-      ∙ ap (λ t. told_by d x t (has_known_sets (length d.sets) x) (has_bad_class d.properties x) (has_same_name d x)) i
-      ∙ ap (λ t. told_by d x o t (has_bad_class d.properties x) (has_same_name d x)) j
-      ∙ ap (λ t. told_by d x o n t (has_same_name d x)) l
-      ∙ ap (λ t. told_by d x o n b t) m
+    one_more : (n : ℕ) (e : DefinitionCondition) → order_of e ≡ n → test e x ≡ false → AllFalse n → AllFalse (n + 1)
+    one_more n e at is are c above below = by (nat_lt (order_of c) n) refl
+      where
+        by : (b : Bool) → nat_lt (order_of c) n ≡ b → test c x ≡ false
+        by true l = are c above (ltb-true (order_of c) n l)
+        by false l = let same : order_of c ≡ order_of e = omega (arith, ltb-false (order_of c) n l, below, at) in ap (λ f. test f x) (one_at_a_place c e same) ∙ is
 
-  such : (x : Definition) → SpellsDefinition names k words x → (test : Definition → Bool) → test x ≡ true → IsSuch names k words test
-  such x spelled test is_true = (x, spelled, is_true)
+    none_before : (n : ℕ) → AllFalse n → (c : DefinitionCondition) → order_of c < n → Holds limit d k words c → ⊥
+    none_before n are no_form l h = h x spelled
+    none_before n are one_too_many l h = never one_too_many (are one_too_many (omega arith) l) h
+    none_before n are no_such_name l h = never no_such_name (are no_such_name (omega arith) l) h
+    none_before n are long_line l h = never long_line (are long_line (omega arith) l) h
+    none_before n are bad_class l h = never bad_class (are bad_class (omega arith) l) h
+    none_before n are same_name l h = never same_name (are same_name (omega arith) l) h
 
-  -- no test is true of what the line spells, where it is false of what was read
-  never : (x : Definition) → SpellsDefinition names k words x → (test : Definition → Bool) → test x ≡ false → IsSuch names k words test → ⊥
-  never x spelled test is_false s = contradicts (test x) (ap test (one_definition names k words x s.0 spelled s.1) ∙ s.2) is_false
-
-  module _ (x : Definition) (spelled : SpellsDefinition names k words x) where
-    before_over_limit : (c : DefinitionCondition) → order_of c < 2 → Holds limit d k words c → ⊥
-    before_over_limit no_form l h = h x spelled
-    before_over_limit over_limit l h = omega (arith, l)
-    before_over_limit no_such_name l h = omega (arith, l)
-    before_over_limit bad_class l h = omega (arith, l)
-    before_over_limit same_name l h = omega (arith, l)
-
-    before_no_such_name : over x ≡ false → (c : DefinitionCondition) → order_of c < 3 → Holds limit d k words c → ⊥
-    before_no_such_name o no_form l h = h x spelled
-    before_no_such_name o over_limit l h = never x spelled over o h
-    before_no_such_name o no_such_name l h = omega (arith, l)
-    before_no_such_name o bad_class l h = omega (arith, l)
-    before_no_such_name o same_name l h = omega (arith, l)
-
-    before_bad_class : over x ≡ false → unnamed x ≡ false → (c : DefinitionCondition) → order_of c < 4 → Holds limit d k words c → ⊥
-    before_bad_class o n no_form l h = h x spelled
-    before_bad_class o n over_limit l h = never x spelled over o h
-    before_bad_class o n no_such_name l h = never x spelled unnamed n h
-    before_bad_class o n bad_class l h = omega (arith, l)
-    before_bad_class o n same_name l h = omega (arith, l)
-
-    before_same_name : over x ≡ false → unnamed x ≡ false → has_bad_class d.properties x ≡ false → (c : DefinitionCondition) → order_of c < 5 → Holds limit d k words c → ⊥
-    before_same_name o n b no_form l h = h x spelled
-    before_same_name o n b over_limit l h = never x spelled over o h
-    before_same_name o n b no_such_name l h = never x spelled unnamed n h
-    before_same_name o n b bad_class l h = never x spelled (has_bad_class d.properties) b h
-    before_same_name o n b same_name l h = omega (arith, l)
-
-    first_of_tests : (f : DefinitionFault) (o n b s : Bool) → over x ≡ o → has_known_sets (length d.sets) x ≡ n → has_bad_class d.properties x ≡ b → has_same_name d x ≡ s
-        → told_by d x o n b s ≡ Err f → IsDefinitionFault limit d k words f
-    first_of_tests f true n b s i j l m is = (over_limit, err_is Limit f (Err Limit) refl is, such x spelled over i, before_over_limit)
-    first_of_tests f false false b s i j l m is = (no_such_name, err_is NoSuchName f (Err NoSuchName) refl is, such x spelled unnamed (ap not j), before_no_such_name i)
-    first_of_tests f false true true s i j l m is = (bad_class, err_is BadClass f (Err BadClass) refl is, such x spelled (has_bad_class d.properties) l, before_bad_class i (ap not j))
-    first_of_tests f false true false true i j l m is =
-        (same_name, err_is SameName f (Err SameName) refl is, such x spelled (has_same_name d) m, before_same_name i (ap not j) l)
-    first_of_tests f false true false false i j l m is = no_ok f (added d x) is
+    first_of_tests : (f : DefinitionFault) (m n l b s : Bool) → test one_too_many x ≡ m → has_known_sets (length d.sets) x ≡ n → test long_line x ≡ l → test bad_class x ≡ b → test same_name x ≡ s
+        → told_by d x m n l b s ≡ Err f → IsDefinitionFault limit d k words f
+    first_of_tests f true n l b s im in_ il ib is e = (one_too_many, err_is Limit f (Err Limit) refl e, (x, spelled, im), none_before 2 no_test)
+    first_of_tests f false false l b s im in_ il ib is e =
+        let earlier = one_more 2 one_too_many refl im no_test in
+        (no_such_name, err_is NoSuchName f (Err NoSuchName) refl e, (x, spelled, ap not in_), none_before 3 earlier)
+    first_of_tests f false true true b s im in_ il ib is e =
+        let earlier = one_more 3 no_such_name refl (ap not in_) (one_more 2 one_too_many refl im no_test) in
+        (long_line, err_is Limit f (Err Limit) refl e, (x, spelled, il), none_before 4 earlier)
+    first_of_tests f false true false true s im in_ il ib is e =
+        let earlier = one_more 4 long_line refl il (one_more 3 no_such_name refl (ap not in_) (one_more 2 one_too_many refl im no_test)) in
+        (bad_class, err_is BadClass f (Err BadClass) refl e, (x, spelled, ib), none_before 5 earlier)
+    first_of_tests f false true false false true im in_ il ib is e =
+        let earlier = one_more 5 bad_class refl ib (one_more 4 long_line refl il (one_more 3 no_such_name refl (ap not in_) (one_more 2 one_too_many refl im no_test))) in
+        (same_name, err_is SameName f (Err SameName) refl e, (x, spelled, is), none_before 6 earlier)
+    first_of_tests f false true false false false im in_ il ib is e = no_ok f (added d x) e
 
   -- what is told of a line is the first thing that is wrong with it
   pub wrong_is : (f : DefinitionFault) → defined limit d k words ≡ Err f → IsDefinitionFault limit d k words f
-  wrong_is f e = by_cases (definition_of names k words) refl
+  wrong_is f e = by_cases (definition_of d.set_names k words) refl
     where
-      by_cases : (o : Option Definition) → definition_of names k words ≡ o → IsDefinitionFault limit d k words f
+      by_cases : (o : Option Definition) → definition_of d.set_names k words ≡ o → IsDefinitionFault limit d k words f
       by_cases None is = (
         no_form,
-        err_is Syntax f (defined limit d k words) (formless is) e,
-        (λ x spelled. absurd (let read = definition_read names k words x spelled in let no : (let o : Option Definition = None in o) ≡ Some x = sym is ∙ read in cc)),
-        λ c l h. nothing_first c l,
+        err_is Syntax f (defined limit d k words) (formless limit d (definition_of d.set_names k words) is) e,
+        (λ x spelled. absurd (let read = definition_read d.set_names k words x spelled in let no : (let o : Option Definition = None in o) ≡ Some x = sym is ∙ read in cc)),
+        λ c l h. absurd (first_place c l),
       )
+        where
+          first_place : (c : DefinitionCondition) → order_of c < 1 → ⊥
+          first_place no_form l = omega (arith, l)
+          first_place one_too_many l = omega (arith, l)
+          first_place no_such_name l = omega (arith, l)
+          first_place long_line l = omega (arith, l)
+          first_place bad_class l = omega (arith, l)
+          first_place same_name l = omega (arith, l)
       by_cases (Some x) is =
-          let spelled = definition_spelled names k words x is in
-          first_of_tests x spelled f _ _ _ _ refl refl refl refl (sym (formed x is) ∙ e)
+          let spelled = definition_spelled d.set_names k words x is in
+          first_of_tests x spelled f _ _ _ _ _ refl refl refl refl refl (sym (formed limit d (definition_of d.set_names k words) x is) ∙ e)
 
   -- ---- the other way
 
-  test_false : (x : Definition) → SpellsDefinition names k words x → (test : Definition → Bool) → (IsSuch names k words test → ⊥) → test x ≡ false
-  test_false x spelled test never_so = false_from_ne_true (test x) (λ is_true. never_so (such x spelled test is_true))
-
-  nothing_read : ((x : Definition) → SpellsDefinition names k words x → ⊥) → definition_of names k words ≡ None
-  nothing_read nothing = by_cases (definition_of names k words) refl
+  nothing_read : ((x : Definition) → SpellsDefinition d.set_names k words x → ⊥) → definition_of d.set_names k words ≡ None
+  nothing_read nothing = by_cases (definition_of d.set_names k words) refl
     where
-      by_cases : (o : Option Definition) → definition_of names k words ≡ o → definition_of names k words ≡ None
+      by_cases : (o : Option Definition) → definition_of d.set_names k words ≡ o → definition_of d.set_names k words ≡ None
       by_cases None is = is
-      by_cases (Some x) is = absurd (nothing x (definition_spelled names k words x is))
+      by_cases (Some x) is = absurd (nothing x (definition_spelled d.set_names k words x is))
 
-  first_told : (c : DefinitionCondition) → Holds limit d k words c → ((e : DefinitionCondition) → order_of e < order_of c → Holds limit d k words e → ⊥)
-      → defined limit d k words ≡ Err (fault_of c)
-  first_told no_form h first = formless (nothing_read h)
-  first_told over_limit (x, spelled, is_true) first = by_tests x (definition_read names k words x spelled) true _ _ _ is_true refl refl refl
+  abbrev None_before : DefinitionCondition → Type 0
+  None_before c = (e : DefinitionCondition) → order_of e < order_of c → Holds limit d k words e → ⊥
+
+  module _ (x : Definition) (spelled : SpellsDefinition d.set_names k words x) where
+    untrue : (c : DefinitionCondition) → (Such c → ⊥) → test c x ≡ false
+    untrue c never_so = false_from_ne_true (test c x) (λ is_true. never_so (x, spelled, is_true))
+
+    told : (m n l b s : Bool) → test one_too_many x ≡ m → has_known_sets (length d.sets) x ≡ n → test long_line x ≡ l → test bad_class x ≡ b → test same_name x ≡ s
+        → defined limit d k words ≡ told_by d x m n l b s
+    told m n l b s = by_tests limit d (definition_of d.set_names k words) x m n l b s (definition_read d.set_names k words x spelled)
+
+    known_if : (Such no_such_name → ⊥) → has_known_sets (length d.sets) x ≡ true
+    known_if never_so = true_of (has_known_sets (length d.sets) x) (untrue no_such_name never_so)
+
+  first_told : (c : DefinitionCondition) → Holds limit d k words c → None_before c → defined limit d k words ≡ Err (fault_of c)
+  first_told no_form h first = formless limit d (definition_of d.set_names k words) (nothing_read h)
+  first_told one_too_many (x, spelled, is_true) first = told x spelled true _ _ _ _ is_true refl refl refl refl
   first_told no_such_name (x, spelled, is_true) first =
-      by_tests x (definition_read names k words x spelled) false false _ _ (test_false x spelled over (first over_limit (omega arith))) (not-true (has_known_sets (length d.sets) x) is_true) refl refl
+      told x spelled false false _ _ _ (untrue x spelled one_too_many (first one_too_many (omega arith))) (not-true (has_known_sets (length d.sets) x) is_true) refl refl refl
+  first_told long_line (x, spelled, is_true) first =
+      told x spelled false true true _ _ (untrue x spelled one_too_many (first one_too_many (omega arith))) (known_if x spelled (first no_such_name (omega arith))) is_true refl refl
   first_told bad_class (x, spelled, is_true) first =
-      by_tests x (definition_read names k words x spelled) false true true _ (test_false x spelled over (first over_limit (omega arith)))
-      (true_of (has_known_sets (length d.sets) x) (test_false x spelled unnamed (first no_such_name (omega arith)))) is_true refl
+      told x spelled false true false true _ (untrue x spelled one_too_many (first one_too_many (omega arith))) (known_if x spelled (first no_such_name (omega arith)))
+      (untrue x spelled long_line (first long_line (omega arith))) is_true refl
   first_told same_name (x, spelled, is_true) first =
-      by_tests x (definition_read names k words x spelled) false true false true (test_false x spelled over (first over_limit (omega arith)))
-      (true_of (has_known_sets (length d.sets) x) (test_false x spelled unnamed (first no_such_name (omega arith))))
-      (test_false x spelled (has_bad_class d.properties) (first bad_class (omega arith))) is_true
+      told x spelled false true false false true (untrue x spelled one_too_many (first one_too_many (omega arith))) (known_if x spelled (first no_such_name (omega arith)))
+      (untrue x spelled long_line (first long_line (omega arith))) (untrue x spelled bad_class (first bad_class (omega arith))) is_true
 
   pub wrong_from : (f : DefinitionFault) → IsDefinitionFault limit d k words f → defined limit d k words ≡ Err f
   wrong_from f w = first_told w.0 w.2 w.3 ∙ ap (λ g. Err g) w.1

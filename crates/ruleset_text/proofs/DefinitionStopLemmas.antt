@@ -75,10 +75,10 @@ told_after Spells All w ws end (Ok x) to from told = to (unplaced ws) x told
 told_after Spells All w ws end (Err place) to from told =
     after_first (Spelled Spells) (Spelled All) w ws end place (λ more is. (is.0, to more is.0 is.1)) (λ more all. (all.0, from more all.0 all.1)) told
 
-pattern_tells : (r : Bool) (names : List (List ℕ)) (end : ℕ) (ws : List Placed) → Tells (SpellUsed r names) ws end (pattern_read r names end ws)
+pub pattern_tells : (r : Bool) (names : List (List ℕ)) (end : ℕ) (ws : List Placed) → Tells (SpellUsed r names) ws end (pattern_read r names end ws)
 pattern_tells r names end ws = tells (pattern_step r names) start (ended_in r) (λ l. Unit {0}) (SpellUsed r names) (pattern_reader r names) end ws (λ front rest cut. tt)
 
-spans_tell : (end : ℕ) (ws : List Placed) → Tells SpellSet ws end (spans_read end ws)
+pub spans_tell : (end : ℕ) (ws : List Placed) → Tells SpellSet ws end (spans_read end ws)
 spans_tell end ws = tells spans_step (spans.state [] (held.Above 0)) spans_ended (λ l. Unit {0}) SpellSet spans_reader end ws (λ front rest cut. tt)
 
 -- ---- the name

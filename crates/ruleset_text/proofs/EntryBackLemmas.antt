@@ -57,17 +57,20 @@ last_has (Some c) scalar others rest e are =
 
 -- ---- names
 
-one_name : (name : List ℕ) → is_name name ≡ true → Has name (words.Name name ∷ [])
-one_name name is = let word = name_word name is in one_word (words.Name name) name word.some word.word refl
+one_tag : (name : List ℕ) → is_name name ≡ true → Has name (words.Tag name ∷ [])
+one_tag name is = let word = name_word name is in one_word (words.Tag name) name word.some word.word refl
+
+one_rule : (name : List ℕ) → is_name name ≡ true → Has name (words.Rule name ∷ [])
+one_rule name is = let word = name_word name is in one_word (words.Rule name) name word.some word.word refl
 
 names_have : (names : List (List ℕ)) (name : List ℕ) → AreNames (name ∷ names) → Has (names_text (name ∷ names)) (names_words (name ∷ names))
-names_have [] name are others rest e further = one_name name are.0 others rest e further
+names_have [] name are others rest e further = one_tag name are.0 others rest e further
 names_have (other ∷ names) name are others rest e further =
     let more = names_words (other ∷ names) ++ others in
     let text = names_text (other ∷ names) ++ rest in
     let comma : AreWords (words.Comma ∷ more) (lexemes (44 ∷ text)) = (refl, names_have names other are.2 others rest e further) in
-    subst (λ l. AreWords (words.Name name ∷ words.Comma ∷ more) (lexemes l)) (sym (append_assoc name (44 ∷ names_text (other ∷ names)) rest))
-    (one_name name are.0 (words.Comma ∷ more) (44 ∷ text) refl comma)
+    subst (λ l. AreWords (words.Tag name ∷ words.Comma ∷ more) (lexemes l)) (sym (append_assoc name (44 ∷ names_text (other ∷ names)) rest))
+    (one_tag name are.0 (words.Comma ∷ more) (44 ∷ text) refl comma)
 
 tags_have : (marked : Bool) (tags : List (List ℕ)) → MayHaveTags marked tags → Has (tags_text tags) (tags_words tags)
 tags_have marked [] may others rest e are = are
@@ -77,10 +80,10 @@ condition_has : (condition : Option NamedCondition) → HasRule condition → Ha
 condition_has None has others rest e are = are
 condition_has (Some c) has others rest e are = by_kind c.kind
   where
-    rule : AreWords (words.Name c.rule ∷ others) (lexemes (c.rule ++ rest))
-    rule = one_name c.rule has others rest e are
+    rule : AreWords (words.Rule c.rule ∷ others) (lexemes (c.rule ++ rest))
+    rule = one_rule c.rule has others rest e are
 
-    by_kind : (kind : ConditionKind) → AreWords (kind_word kind ∷ words.Name c.rule ∷ others) (lexemes ((condition_word kind ++ c.rule) ++ rest))
+    by_kind : (kind : ConditionKind) → AreWords (kind_word kind ∷ words.Rule c.rule ∷ others) (lexemes ((condition_word kind ++ c.rule) ++ rest))
     by_kind condition.When = (refl, rule)
     by_kind condition.Unless = (refl, rule)
 

@@ -36,7 +36,8 @@ has_word names parts first words.Range = parts.ranges
 has_word names parts first words.As = parts.named
 has_word names parts first words.When = parts.named
 has_word names parts first words.Unless = parts.named
-has_word names parts first (words.Name name) = names || (parts.named && is_name name)
+has_word names parts first (words.Tag name) = names || (parts.named && is_name name)
+has_word names parts first (words.Rule name) = names || (parts.named && is_name name)
 has_word names parts first x = true
 
 abbrev have_words : Bool → EntryParts → Bool → List Word → Bool
@@ -108,7 +109,10 @@ name_kept parts false w word.Other named name is = refl
 
 word_kept : (parts : EntryParts) (first : Bool) (x : Word) (w : List ℕ) → has_word false parts first x ≡ true → IsWord x w → is_lacking parts first (word_of w) ≡ false
 word_kept parts first (words.Point c) w had is = no_word_lacking parts first (word_of w) (point_word w c (word_of w) (spelled w) is)
-word_kept parts first (words.Name name) w had is =
+word_kept parts first (words.Tag name) w had is =
+    let h = and_parts parts.named (is_name name) had in
+    name_kept parts first w (word_of w) h.0 (ap is_name is ∙ h.1) (spelled w)
+word_kept parts first (words.Rule name) w had is =
     let h = and_parts parts.named (is_name name) had in
     name_kept parts first w (word_of w) h.0 (ap is_name is ∙ h.1) (spelled w)
 word_kept parts true words.Mark w had is = spelled_as parts true (codes "!") w false (ap not had) is
@@ -154,7 +158,8 @@ word_had parts true words.When w had is = not-false parts.named (lacking_of part
 word_had parts false words.When w had is = not-false parts.named (lacking_of parts false (codes "when") w (not parts.named) refl is had)
 word_had parts true words.Unless w had is = not-false parts.named (lacking_of parts true (codes "unless") w (not parts.named) refl is had)
 word_had parts false words.Unless w had is = not-false parts.named (lacking_of parts false (codes "unless") w (not parts.named) refl is had)
-word_had parts first (words.Name name) w had is = refl
+word_had parts first (words.Tag name) w had is = refl
+word_had parts first (words.Rule name) w had is = refl
 word_had parts first (words.Point c) w had is = refl
 word_had parts first words.Hyphen w had is = refl
 word_had parts first words.Bar w had is = refl
@@ -193,7 +198,7 @@ module _ (n : Bool) (parts : EntryParts) where
       or_false false = refl
 
   -- a name counts where names may stand
-  name_have : (name : List ℕ) (rest : List Word) → parts.named ≡ true → is_name name ≡ true → have false (words.Name name ∷ rest) ≡ have false rest
+  name_have : (name : List ℕ) (rest : List Word) → parts.named ≡ true → is_name name ≡ true → have false (words.Tag name ∷ rest) ≡ have false rest
   name_have name rest named is = ap (λ b. (n || b) && have false rest) (ap (λ b. b && is_name name) named ∙ is) ∙ true_after n (have false rest)
 
   names_have : (names : List (List ℕ)) (name : List ℕ) (rest : List Word) → parts.named ≡ true → AreNames (name ∷ names) → have false (names_words (name ∷ names) ++ rest) ≡ have false rest
@@ -213,11 +218,11 @@ module _ (n : Bool) (parts : EntryParts) where
   condition_have None rest is = sym (true_after parts.named (have false rest))
   condition_have (Some c) rest is = kind c.kind ∙ by parts.named refl
     where
-      kind : (k : ConditionKind) → have false (kind_word k ∷ words.Name c.rule ∷ rest) ≡ (parts.named && have false (words.Name c.rule ∷ rest))
+      kind : (k : ConditionKind) → have false (kind_word k ∷ words.Rule c.rule ∷ rest) ≡ (parts.named && have false (words.Rule c.rule ∷ rest))
       kind condition.When = refl
       kind condition.Unless = refl
 
-      by : (named : Bool) → parts.named ≡ named → (named && have false (words.Name c.rule ∷ rest)) ≡ ((named || false) && have false rest)
+      by : (named : Bool) → parts.named ≡ named → (named && have false (words.Rule c.rule ∷ rest)) ≡ ((named || false) && have false rest)
       by true e = name_have c.rule rest e is
       by false e = refl
 

@@ -161,7 +161,7 @@ kind_taken condition.When last tags s e lexeme is = ap (λ p. step_by p s lexeme
 kind_taken condition.Unless last tags s e lexeme is = ap (λ p. step_by p s lexeme) e ∙ ap (step_by (phase_of last tags None) s) is ∙ (kind_read last tags s).1
 
 rule_taken : (kind : ConditionKind) (s : State) (rule : List ℕ) → is_name rule ≡ true
-    → Takes (record s { phase = kind_phase kind }) (words.Name rule) (record s { current = record s.current { condition = Some (record { kind = kind; rule = rule }) }; phase = phase.Rule })
+    → Takes (record s { phase = kind_phase kind }) (words.Rule rule) (record s { current = record s.current { condition = Some (record { kind = kind; rule = rule }) }; phase = phase.Rule })
 rule_taken condition.When s rule name lexeme is =
     let t : State = record s { current = record s.current { condition = Some (record { kind = condition.When; rule = rule }) }; phase = phase.Rule } in
     ap (step_by phase.When s) is ∙ ap (λ b. cond b (Some t) None) name

@@ -1,16 +1,21 @@
 -- The grammar says of a line what is read of it.
-use Rattle.std.proofs.Common.{◌≡◌, ℕ, Bool, true, false, ◌&&◌, not, cond, eqb, List, [], ◌∷◌, ◌++◌, length, Option, Some, None, refl, sym, ap, subst, ◌∙◌, append_assoc, append-nil, arith}
-use Rattle.std.specs.Prelude.{IsTrue, nat_le}
+use Rattle.std.proofs.Common.{◌≡◌, ℕ, ◌+◌, Bool, true, false, ◌&&◌, not, cond, eqb, List, [], ◌∷◌, ◌++◌, length, map, filter, length-append, Option, Some, None, refl, sym, ap, subst, ◌∙◌, append_assoc, append-nil, arith}
+use Rattle.std.specs.Prelude.{IsTrue, codes, nat_le}
 use Rattle.std.specs.List.{AllByRecursion}
 use Rattle.std.proofs.lemmas.Bool.{eqb-true, leb-true, not-true, and_parts}
-use Rattle.idn_text.specs.Points.{is_scalar_value}
+use Rattle.std.specs.Option.{option_map, option_or}
+use Rattle.idn_text.specs.Points.{is_scalar_value, point_of_hex}
 use Rattle.ruleset_text.specs.declared.entry_form.NamedCondition.{NamedCondition}
 use Rattle.label_patterns.specs.declared.condition.ConditionKind.{ConditionKind}
 use Rattle.label_patterns.specs.declared.condition.ConditionKind.TheVariants as condition
 use Rattle.ruleset_text.specs.declared.entry_reading.EntryWord.{EntryWord}
 use Rattle.ruleset_text.specs.declared.entry_reading.EntryWord.TheVariants as word
 use Rattle.ruleset_text.specs.declared.entry_reading.Phase.TheVariants as phase
+use Rattle.ruleset_text.specs.declared.entry_notes.LinePoint.{LinePoint}
+use Rattle.ruleset_text.specs.declared.fault.FaultPlace.{FaultPlace}
+use Rattle.ruleset_text.specs.Definitions.{Definitions}
 use Rattle.ruleset_text.specs.Entries.{Mapped, EntryForm}
+use Rattle.ruleset_text.specs.EntryFaults.{Notes, PlacedWord, begin_places, faults_of, notes_of, placed_words, points_from}
 use Rattle.ruleset_text.specs.EntryText.{MayHaveTags, IsMapped, IsForm}
 use Rattle.ruleset_text.specs.EntryWords as words
 use Rattle.ruleset_text.specs.EntryWords.{Word, IsWord, AreWords, point_of, mark_words, sequence_words, last_words, names_words, tags_words, kind_word, condition_words, mapped_words, variants_words, entry_words}
@@ -20,7 +25,12 @@ use Rattle.ruleset_text.specs.Names.{is_name, is_one_of, AreNames}
 use Rattle.ruleset_text.proofs.AddedLemmas.{IsNew, new_from}
 use Rattle.ruleset_text.proofs.EntryLemmas.{none_after}
 use Rattle.ruleset_text.proofs.EntryStateLemmas.{part, at, before, after, phase_of, kind_phase, MayEnd, form_at, IsSpelled, spelled}
+use Rattle.ruleset_text.specs.Lexemes.{lexemes}
+use Rattle.ruleset_text.specs.PlacedLexemes.{Placed, placed_lexemes, unplaced}
+use Rattle.ruleset_text.specs.inner.EntryNoted.{and_notes, noted, noted_from, noted_word, nothing_noted, with_word, word_notes}
 use Rattle.ruleset_text.proofs.HexLemmas.{hex_facts}
+use Rattle.ruleset_text.proofs.LineFaultLemmas.{or_assoc, or_nothing}
+use Rattle.ruleset_text.proofs.PlacedLemmas.{unplaced-from}
 
 -- ---- what was read, and what is known of it
 
@@ -71,6 +81,87 @@ words_at (AtRange marked c known) = mapped_words (part marked (c ∷ []) [] None
 words_at (AtAs done last points tags known) = (done_words done ++ mapped_words (part false points tags None) last) ++ tag_word tags ∷ []
 words_at (AtKind kind done last marked points tags known) = (done_words done ++ mapped_words (part marked points tags None) last) ++ kind_word kind ∷ []
 
+-- ---- what is noted
+
+-- how many sequences stand before what is read next, and how many code points of its sequence
+abbrev sequences : Reached → ℕ
+sequences v = length (state_at v).done
+
+abbrev index_with : Option ℕ → List ℕ → ℕ
+index_with None points = length points
+index_with (Some last) points = length points + 1
+
+abbrev index : Reached → ℕ
+index v = index_with (state_at v).last (state_at v).current.points
+
+-- the same after a word
+abbrev sequences_after : ℕ → Word → ℕ
+sequences_after s words.Bar = s + 1
+sequences_after s words.Colon = s + 1
+sequences_after s x = s
+
+abbrev index_after : ℕ → Word → ℕ
+index_after i (words.Point c) = i + 1
+index_after i words.Bar = 0
+index_after i words.Colon = 0
+index_after i x = i
+
+-- what is noted of a lexeme is what is noted of the word that it is
+record NotedAs (v u : Reached) (x : Word) (w : List ℕ) : Type 0 where
+  here : (d : Definitions) (place : ℕ) (n : Notes) → noted d (state_at v) (record { place = place; lexeme = w }) n ≡ and_notes n (word_notes d (sequences v) (index v) x (record { place = place; lexeme = w }))
+  sequences : sequences u ≡ sequences_after (sequences v) x
+  index : index u ≡ index_after (index v) x
+
+pub nothing_more : (n : Notes) → and_notes n nothing_noted ≡ n
+nothing_more n =
+    ap (λ l. record { begins = l; faults = record { limit = option_or n.faults.limit None; name = option_or n.faults.name None; class = option_or n.faults.class None } }) (append-nil n.begins)
+    ∙ ap (λ o. record { begins = n.begins; faults = record { limit = o; name = option_or n.faults.name None; class = option_or n.faults.class None } }) (or_nothing n.faults.limit)
+    ∙ ap (λ o. record { begins = n.begins; faults = record { limit = n.faults.limit; name = o; class = option_or n.faults.class None } }) (or_nothing n.faults.name)
+    ∙ ap (λ o. record { begins = n.begins; faults = record { limit = n.faults.limit; name = n.faults.name; class = o } }) (or_nothing n.faults.class)
+
+-- a lexeme of which nothing is noted
+quiet : {v u : Reached} {x : Word} {w : List ℕ} → noted_word (state_at v).phase w ≡ None → ((d : Definitions) (s i : ℕ) (p : Placed) → word_notes d s i x p ≡ nothing_noted)
+    → sequences u ≡ sequences_after (sequences v) x → index u ≡ index_after (index v) x → NotedAs v u x w
+quiet {v} {u} {x} {w} none no_notes s i = record {
+  here = λ d place n.
+      let p : Placed = record { place = place; lexeme = w } in
+      ap (λ o. with_word d (length (state_at v).done) (length (state_at v).current.points) o p n) none
+      ∙ sym (ap (and_notes n) (no_notes d (sequences v) (index v) p) ∙ nothing_more n);
+  sequences = s;
+  index = i;
+}
+
+-- a word of which something is noted
+heard : {v u : Reached} {x : Word} {w : List ℕ} → noted_word (state_at v).phase w ≡ Some x
+    → ((d : Definitions) (p : Placed) → word_notes d (sequences v) (length (state_at v).current.points) x p ≡ word_notes d (sequences v) (index v) x p)
+    → sequences u ≡ sequences_after (sequences v) x → index u ≡ index_after (index v) x → NotedAs v u x w
+heard {v} {u} {x} {w} some at s i = record {
+  here = λ d place n.
+      let p : Placed = record { place = place; lexeme = w } in
+      ap (λ o. with_word d (sequences v) (length (state_at v).current.points) o p n) some ∙ ap (and_notes n) (at d p);
+  sequences = s;
+  index = i;
+}
+
+no_point_mark : (w : List ℕ) → w ≡ codes "!" → noted_word phase.Begin w ≡ None
+unfolding point_of_hex
+no_point_mark w is = let none : noted_word phase.Begin (codes "!") ≡ None = refl in ap (noted_word phase.Begin) is ∙ none
+
+kind_noted : (kind : ConditionKind) (w : List ℕ) → noted_word (kind_phase kind) w ≡ Some (words.Rule w)
+kind_noted condition.When w = refl
+kind_noted condition.Unless w = refl
+
+ended_word : (last : Option ℕ) (tags : List (List ℕ)) (condition : Option NamedCondition) (w : List ℕ) → noted_word (phase_of last tags condition) w ≡ None
+ended_word last tags (Some c) w = refl
+ended_word last (tag ∷ tags) None w = refl
+ended_word (Some c) [] None w = refl
+ended_word None [] None w = refl
+
+one_more : {X : Type 0} (xs : List X) (x : X) → length (xs ++ x ∷ []) ≡ length xs + 1
+one_more xs x = length-append xs (x ∷ [])
+
+-- ---- a lexeme more
+
 -- what was read with a lexeme more, which is a word
 record Next (v : Reached) (w : List ℕ) (t : State) : Type 0 where
   reached : Reached
@@ -78,6 +169,7 @@ record Next (v : Reached) (w : List ℕ) (t : State) : Type 0 where
   word : Word
   is : IsWord word w
   words : words_at reached ≡ words_at v ++ word ∷ []
+  noted : NotedAs v reached word w
 
 same_state : (s t : State) → Some s ≡ Some t → s ≡ t
 same_state s t e = cc
@@ -85,8 +177,8 @@ same_state s t e = cc
 no_state : {A : Type 0} (t : State) → None ≡ Some t → A
 no_state t e = absurd cc
 
-next : (v u : Reached) (x : Word) (w : List ℕ) (t : State) → Some (state_at u) ≡ Some t → IsWord x w → words_at u ≡ words_at v ++ x ∷ [] → Next v w t
-next v u x w t e is words = record { reached = u; state = same_state (state_at u) t e; word = x; is = is; words = words }
+next : (v u : Reached) (x : Word) (w : List ℕ) (t : State) → Some (state_at u) ≡ Some t → IsWord x w → words_at u ≡ words_at v ++ x ∷ [] → NotedAs v u x w → Next v w t
+next v u x w t e is words noted = record { reached = u; state = same_state (state_at u) t e; word = x; is = is; words = words; noted = noted }
 
 state_if : (b : Bool) (s t : State) → cond b (Some s) None ≡ Some t → (b ≡ true) × (Some s ≡ Some t)
 state_if true s t e = (refl, e)
@@ -111,28 +203,28 @@ colon_words first done m =
 
 rule_next : (done : List Mapped) (last : Option ℕ) (m : Mapped) (known : IsKnown done last m) (w : List ℕ) (t : State) (e : EntryWord) → IsSpelled e w → after_rule (after done last m) e ≡ Some t → Next (AtEnd done last m known) w t
 rule_next done (Some c) m known w t e is h = no_state t h
-rule_next [] None m known w t word.Bar is h = next (AtEnd [] None m known) (AtBegin (m ∷ []) (known.mapped, tt)) words.Bar w t h is refl
+rule_next [] None m known w t word.Bar is h = next (AtEnd [] None m known) (AtBegin (m ∷ []) (known.mapped, tt)) words.Bar w t h is refl (quiet (ended_word None m.tags m.condition w) (λ d s i p. refl) refl refl)
 rule_next (first ∷ done) None m known w t word.Bar is h = no_state t h
 rule_next [] None m known w t word.Colon is h = no_state t h
 rule_next (first ∷ done) None m known w t word.Colon is h =
-    next (AtEnd (first ∷ done) None m known) (AtBegin ((first ∷ done) ++ m ∷ []) (all_more (first ∷ done) m known.all known.mapped)) words.Colon w t h is (colon_words first done m)
+    next (AtEnd (first ∷ done) None m known) (AtBegin ((first ∷ done) ++ m ∷ []) (all_more (first ∷ done) m known.all known.mapped)) words.Colon w t h is (colon_words first done m) (quiet (ended_word None m.tags m.condition w) (λ d s i p. refl) (one_more (first ∷ done) m) refl)
 rule_next done None m known w t e is h = no_state t h
 
 tags_next : (done : List Mapped) (last : Option ℕ) (marked : Bool) (points : List ℕ) (tags : List (List ℕ)) (known : IsKnown done last (part marked points tags None)) (w : List ℕ) (t : State) (e : EntryWord) → IsSpelled e w
     → after_tags (after done last (part marked points tags None)) e ≡ Some t → Next (AtEnd done last (part marked points tags None) known) w t
-tags_next done last marked points tags known w t word.When is h = next (AtEnd done last (part marked points tags None) known) (AtKind condition.When done last marked points tags known) words.When w t h is refl
-tags_next done last marked points tags known w t word.Unless is h = next (AtEnd done last (part marked points tags None) known) (AtKind condition.Unless done last marked points tags known) words.Unless w t h is refl
+tags_next done last marked points tags known w t word.When is h = next (AtEnd done last (part marked points tags None) known) (AtKind condition.When done last marked points tags known) words.When w t h is refl (quiet (ended_word last tags None w) (λ d s i p. refl) refl refl)
+tags_next done last marked points tags known w t word.Unless is h = next (AtEnd done last (part marked points tags None) known) (AtKind condition.Unless done last marked points tags known) words.Unless w t h is refl (quiet (ended_word last tags None w) (λ d s i p. refl) refl refl)
 tags_next done last marked points tags known w t e is h = rule_next done last (part marked points tags None) known w t e is h
 
 tag_next : (done : List Mapped) (last : Option ℕ) (marked : Bool) (points : List ℕ) (tag : List ℕ) (tags : List (List ℕ)) (known : IsKnown done last (part marked points (tag ∷ tags) None)) (w : List ℕ) (t : State) (e : EntryWord) → IsSpelled e w
     → after_tag (after done last (part marked points (tag ∷ tags) None)) e ≡ Some t → Next (AtEnd done last (part marked points (tag ∷ tags) None) known) w t
-tag_next done last false points tag tags known w t word.Comma is h = next (AtEnd done last (part false points (tag ∷ tags) None) known) (AtAs done last points (tag ∷ tags) known) words.Comma w t h is refl
+tag_next done last false points tag tags known w t word.Comma is h = next (AtEnd done last (part false points (tag ∷ tags) None) known) (AtAs done last points (tag ∷ tags) known) words.Comma w t h is refl (quiet (ended_word last (tag ∷ tags) None w) (λ d s i p. refl) refl refl)
 tag_next done last true points tag tags known w t word.Comma is h = absurd (let bad : true ≡ false = known.mapped.tags.0 in cc)
 tag_next done last marked points tag tags known w t e is h = tags_next done last marked points (tag ∷ tags) known w t e is h
 
 points_next : (done : List Mapped) (last : Option ℕ) (marked : Bool) (points : List ℕ) (known : IsKnown done last (part marked points [] None)) (w : List ℕ) (t : State) (e : EntryWord) → IsSpelled e w
     → after_points (after done last (part marked points [] None)) e ≡ Some t → Next (AtEnd done last (part marked points [] None) known) w t
-points_next done last false points known w t word.As is h = next (AtEnd done last (part false points [] None) known) (AtAs done last points [] known) words.As w t h is refl
+points_next done last false points known w t word.As is h = next (AtEnd done last (part false points [] None) known) (AtAs done last points [] known) words.As w t h is refl (quiet (ended_word last [] None w) (λ d s i p. refl) refl refl)
 points_next done last true points known w t word.As is h = no_state t h
 points_next done last marked points known w t e is h = tags_next done last marked points [] known w t e is h
 
@@ -142,8 +234,8 @@ not_one c d points e = let same : length (c ∷ d ∷ points) ≡ 1 = eqb-true (
 point_next : (done : List Mapped) (marked : Bool) (points : List ℕ) (known : IsKnown done None (part marked points [] None)) (w : List ℕ) (t : State) (e : EntryWord) → IsSpelled e w
     → after_point (after done None (part marked points [] None)) e ≡ Some t → Next (AtEnd done None (part marked points [] None) known) w t
 point_next done marked [] known w t e is h = absurd known.mapped.sequence
-point_next done marked (c ∷ points) known w t word.Hyphen is h = next (AtEnd done None (part marked (c ∷ points) [] None) known) (AtHyphen done marked c points known) words.Hyphen w t h is refl
-point_next [] marked (c ∷ []) known w t word.Range is h = next (AtEnd [] None (part marked (c ∷ []) [] None) known) (AtRange marked c known) words.Range w t h is refl
+point_next done marked (c ∷ points) known w t word.Hyphen is h = next (AtEnd done None (part marked (c ∷ points) [] None) known) (AtHyphen done marked c points known) words.Hyphen w t h is refl (quiet refl (λ d s i p. refl) refl refl)
+point_next [] marked (c ∷ []) known w t word.Range is h = next (AtEnd [] None (part marked (c ∷ []) [] None) known) (AtRange marked c known) words.Range w t h is refl (quiet refl (λ d s i p. refl) refl refl)
 point_next [] marked (c ∷ d ∷ points) known w t word.Range is h =
     let s : State = record (after [] None (part marked (c ∷ d ∷ points) [] None)) { phase = phase.Range } in
     absurd (not_one c d points (state_if (eqb (length (c ∷ d ∷ points)) 1) s t h).0)
@@ -177,17 +269,17 @@ single_known done marked c all scalar = record { all = all; mapped = record { se
 point_begins : (done : List Mapped) (all : AllByRecursion IsMapped done) (w : List ℕ) (t : State) (o : Option ℕ) → point_of w ≡ o → at_point (before done) o ≡ Some t → Next (AtBegin done all) w t
 point_begins done all w t None is h = no_state t h
 point_begins done all w t (Some c) is h =
-    next (AtBegin done all) (AtEnd done None (part false (c ∷ []) [] None) (single_known done false c all (scalar_of w c is))) (words.Point c) w t h is refl
+    next (AtBegin done all) (AtEnd done None (part false (c ∷ []) [] None) (single_known done false c all (scalar_of w c is))) (words.Point c) w t h is refl (heard (ap (option_map words.Point) is) (λ d p. refl) refl refl)
 
 begin_next : (done : List Mapped) (all : AllByRecursion IsMapped done) (w : List ℕ) (t : State) (e : EntryWord) → IsSpelled e w → begin_by (before done) e w ≡ Some t → Next (AtBegin done all) w t
-begin_next done all w t word.Mark is h = next (AtBegin done all) (AtMark done all) words.Mark w t h is refl
+begin_next done all w t word.Mark is h = next (AtBegin done all) (AtMark done all) words.Mark w t h is refl (quiet (no_point_mark w is) (λ d s i p. refl) refl refl)
 begin_next done all w t e is h = point_begins done all w t (point_of w) refl h
 
 mark_next : (done : List Mapped) (all : AllByRecursion IsMapped done) (w : List ℕ) (t : State) (o : Option ℕ) → point_of w ≡ o → at_point (state_at (AtMark done all)) o ≡ Some t → Next (AtMark done all) w t
 mark_next done all w t None is h = no_state t h
 mark_next done all w t (Some c) is h =
     next (AtMark done all) (AtEnd done None (part true (c ∷ []) [] None) (single_known done true c all (scalar_of w c is))) (words.Point c) w t h is
-    (sym (append_assoc (done_words done) (words.Mark ∷ []) (words.Point c ∷ [])))
+    (sym (append_assoc (done_words done) (words.Mark ∷ []) (words.Point c ∷ []))) (heard (ap (option_map words.Point) is) (λ d p. refl) refl refl)
 
 -- the words of a sequence with a code point more
 regroup_point : (xs ms ss : List Word) (x y : Word) → xs ++ (ms ++ ((ss ++ x ∷ y ∷ []) ++ [])) ≡ ((xs ++ (ms ++ (ss ++ []))) ++ x ∷ []) ++ y ∷ []
@@ -201,6 +293,7 @@ hyphen_next done marked c points known w t (Some d) is h =
     record { all = known.all; mapped = record { sequence = scalars_more (c ∷ points) d known.mapped.sequence (scalar_of w d is); tags = tt; condition = tt }; ends = tt } in
     next (AtHyphen done marked c points known) (AtEnd done None (part marked (c ∷ (points ++ d ∷ [])) [] None) more) (words.Point d) w t h is
     (ap (λ l. done_words done ++ (mark_words marked ++ (l ++ []))) (sequence_more points c d) ∙ regroup_point (done_words done) (mark_words marked) (sequence_words (c ∷ points)) words.Hyphen (words.Point d))
+    (heard (ap (option_map words.Point) is) (λ d p. refl) refl (one_more (c ∷ points) d))
 
 range_next : (marked : Bool) (c : ℕ) (known : IsKnown [] None (part marked (c ∷ []) [] None)) (w : List ℕ) (t : State) (o : Option ℕ) → point_of w ≡ o
     → at_last (state_at (AtRange marked c known)) o ≡ Some t → Next (AtRange marked c known) w t
@@ -209,18 +302,18 @@ range_next marked c known w t (Some d) is h =
     let parts = state_if (nat_le c d) (after [] (Some d) (part marked (c ∷ []) [] None)) t h in
     let ends : IsKnown [] (Some d) (part marked (c ∷ []) [] None) = record { all = tt; mapped = known.mapped; ends = (refl, scalar_of w d is, (c, refl, leb-true c d parts.0)) } in
     next (AtRange marked c known) (AtEnd [] (Some d) (part marked (c ∷ []) [] None) ends) (words.Point d) w t parts.1 is
-    (regroup_last (mark_words marked) (words.Point c) words.Range (words.Point d))
+    (regroup_last (mark_words marked) (words.Point c) words.Range (words.Point d)) (heard (ap (option_map words.Point) is) (λ d p. refl) refl refl)
   where
     regroup_last : (ms : List Word) (x y z : Word) → ms ++ x ∷ y ∷ z ∷ [] ≡ ((ms ++ x ∷ []) ++ y ∷ []) ++ z ∷ []
     regroup_last ms x y z = simp append_assoc
 
 -- ---- tags and conditions
 
-names_more : (tags : List (List ℕ)) (tag name : List ℕ) → names_words (tag ∷ (tags ++ name ∷ [])) ≡ names_words (tag ∷ tags) ++ words.Comma ∷ words.Name name ∷ []
+names_more : (tags : List (List ℕ)) (tag name : List ℕ) → names_words (tag ∷ (tags ++ name ∷ [])) ≡ names_words (tag ∷ tags) ++ words.Comma ∷ words.Tag name ∷ []
 names_more [] tag name = refl
-names_more (other ∷ tags) tag name = ap (λ l. words.Name tag ∷ words.Comma ∷ l) (names_more tags other name)
+names_more (other ∷ tags) tag name = ap (λ l. words.Tag tag ∷ words.Comma ∷ l) (names_more tags other name)
 
-tags_more : (tags : List (List ℕ)) (name : List ℕ) → tags_words (tags ++ name ∷ []) ≡ tags_words tags ++ tag_word tags ∷ words.Name name ∷ []
+tags_more : (tags : List (List ℕ)) (name : List ℕ) → tags_words (tags ++ name ∷ []) ≡ tags_words tags ++ tag_word tags ∷ words.Tag name ∷ []
 tags_more [] name = refl
 tags_more (tag ∷ tags) name = ap (λ l. words.As ∷ l) (names_more tags tag name)
 
@@ -253,8 +346,9 @@ as_next done last points tags known w t h =
     let more : IsKnown done last (part false points (tags ++ w ∷ []) None) =
     record { all = known.all; mapped = record { sequence = known.mapped.sequence; tags = may_more tags w known.mapped.tags tests.0 new; condition = tt }; ends = known.ends } in
     let state : Some (after done last (part false points (tags ++ w ∷ []) None)) ≡ Some t = ap (λ p. Some (record named { phase = p })) (tag_phase last tags w) ∙ parts.1 in
-    next (AtAs done last points tags known) (AtEnd done last (part false points (tags ++ w ∷ []) None) more) (words.Name w) w t state refl
-    (ap (λ l. done_words done ++ (sequence_words points ++ (last_words last ++ (l ++ [])))) (tags_more tags w) ∙ regroup_name (done_words done) (sequence_words points) (last_words last) (tags_words tags) (tag_word tags) (words.Name w))
+    next (AtAs done last points tags known) (AtEnd done last (part false points (tags ++ w ∷ []) None) more) (words.Tag w) w t state refl
+    (ap (λ l. done_words done ++ (sequence_words points ++ (last_words last ++ (l ++ [])))) (tags_more tags w) ∙ regroup_name (done_words done) (sequence_words points) (last_words last) (tags_words tags) (tag_word tags) (words.Tag w))
+    (heard refl (λ d p. refl) refl refl)
 
 regroup_rule : (xs ms ss ls ts : List Word) (x y : Word) → xs ++ (ms ++ (ss ++ (ls ++ (ts ++ x ∷ y ∷ [])))) ≡ ((xs ++ (ms ++ (ss ++ (ls ++ (ts ++ []))))) ++ x ∷ []) ++ y ∷ []
 regroup_rule xs ms ss ls ts x y = simp (append_assoc, append-nil)
@@ -270,10 +364,11 @@ kind_next kind done last marked points tags known w t h =
     let parts = state_if (is_name w) (after done last (part marked points tags (Some c))) t h in
     let more : IsKnown done last (part marked points tags (Some c)) =
     record { all = known.all; mapped = record { sequence = known.mapped.sequence; tags = known.mapped.tags; condition = parts.0 }; ends = known.ends } in
-    next (AtKind kind done last marked points tags known) (AtEnd done last (part marked points tags (Some c)) more) (words.Name w) w t parts.1 refl
-    (regroup_rule (done_words done) (mark_words marked) (sequence_words points) (last_words last) (tags_words tags) (kind_word kind) (words.Name w))
+    next (AtKind kind done last marked points tags known) (AtEnd done last (part marked points tags (Some c)) more) (words.Rule w) w t parts.1 refl
+    (regroup_rule (done_words done) (mark_words marked) (sequence_words points) (last_words last) (tags_words tags) (kind_word kind) (words.Rule w))
+    (heard (kind_noted kind w) (λ d p. refl) refl refl)
 
--- ---- all lexemes
+-- ---- the next lexeme
 
 next_of : (v : Reached) (w : List ℕ) (t : State) → step (state_at v) w ≡ Some t → Next v w t
 next_of (AtBegin done all) w t h = begin_next done all w t (word_of w) (spelled w) h
@@ -284,6 +379,46 @@ next_of (AtRange marked c known) w t h = range_next marked c known w t (point_of
 next_of (AtAs done last points tags known) w t h = as_next done last points tags known w t h
 next_of (AtKind kind done last marked points tags known) w t h = kind_next kind done last marked points tags known w t (sym (kind_step kind (state_at (AtKind kind done last marked points tags known)) w) ∙ h)
 
+-- ---- all lexemes
+
+-- what is noted of these words, where so many sequences stand before, and so many code points of the sequence
+abbrev noted_of : Definitions → ℕ → ℕ → List PlacedWord → Notes
+noted_of d s i xs = record { begins = begin_places (points_from s i xs); faults = faults_of d xs (points_from s i xs) }
+
+begins_more : (p : LinePoint) (points : List LinePoint) → begin_places (p ∷ points) ≡ begin_places (p ∷ []) ++ begin_places points
+begins_more p points = by (eqb p.index 0)
+  where
+    by : (b : Bool) → map (λ (q : LinePoint). q.place) (cond b (p ∷ filter (λ q. eqb q.index 0) points) (filter (λ q. eqb q.index 0) points)) ≡ map (λ (q : LinePoint). q.place) (cond b (p ∷ []) []) ++ begin_places points
+    by true = refl
+    by false = refl
+
+word_more : (d : Definitions) (s i : ℕ) (x : Word) (w : Placed) (xs : List PlacedWord)
+    → noted_of d s i (record { word = x; at = w } ∷ xs) ≡ and_notes (word_notes d s i x w) (noted_of d (sequences_after s x) (index_after i x) xs)
+word_more d s i (words.Point c) w xs =
+    let p : LinePoint = record { place = w.place; point = c; sequence = s; index = i } in
+    ap (λ l. record { begins = l; faults = faults_of d (record { word = words.Point c; at = w } ∷ xs) (p ∷ points_from s (i + 1) xs) }) (begins_more p (points_from s (i + 1) xs))
+word_more d s i (words.Tag name) w xs = refl
+word_more d s i (words.Rule name) w xs = refl
+word_more d s i words.Mark w xs = refl
+word_more d s i words.Hyphen w xs = refl
+word_more d s i words.Bar w xs = refl
+word_more d s i words.Colon w xs = refl
+word_more d s i words.Comma w xs = refl
+word_more d s i words.Range w xs = refl
+word_more d s i words.As w xs = refl
+word_more d s i words.When w xs = refl
+word_more d s i words.Unless w xs = refl
+
+and_assoc : (a b c : Notes) → and_notes (and_notes a b) c ≡ and_notes a (and_notes b c)
+and_assoc a b c =
+    let all : List ℕ → Option FaultPlace → Option FaultPlace → Option FaultPlace → Notes = λ l o p q. record { begins = l; faults = record { limit = o; name = p; class = q } } in
+    let m = and_notes (and_notes a b) c in
+    let n = and_notes a (and_notes b c) in
+    ap (λ l. all l m.faults.limit m.faults.name m.faults.class) (append_assoc a.begins b.begins c.begins)
+    ∙ ap (λ o. all n.begins o m.faults.name m.faults.class) (or_assoc a.faults.limit b.faults.limit c.faults.limit)
+    ∙ ap (λ o. all n.begins n.faults.limit o m.faults.class) (or_assoc a.faults.name b.faults.name c.faults.name)
+    ∙ ap (λ o. all n.begins n.faults.limit n.faults.name o) (or_assoc a.faults.class b.faults.class c.faults.class)
+
 -- what was read with lexemes more, which are words
 record After (v : Reached) (ws : List (List ℕ)) (t : State) : Type 0 where
   reached : Reached
@@ -291,6 +426,32 @@ record After (v : Reached) (ws : List (List ℕ)) (t : State) : Type 0 where
   more : List Word
   are : AreWords more ws
   words : words_at reached ≡ words_at v ++ more
+  noted : (d : Definitions) (n : Notes) (ps : List Placed) → unplaced ps ≡ ws → noted_from d n (Some (state_at v)) ps ≡ and_notes n (noted_of d (sequences v) (index v) (placed_words more ps))
+
+none_noted : (v : Reached) (d : Definitions) (n : Notes) (ps : List Placed) → unplaced ps ≡ [] → noted_from d n (Some (state_at v)) ps ≡ and_notes n (noted_of d (sequences v) (index v) (placed_words [] ps))
+none_noted v d n [] are = sym (nothing_more n)
+none_noted v d n (p ∷ ps) are = absurd cc
+
+first_lexeme : (p : Placed) (ps : List Placed) (w : List ℕ) (ws : List (List ℕ)) → unplaced (p ∷ ps) ≡ w ∷ ws → (p.lexeme ≡ w) × (unplaced ps ≡ ws)
+first_lexeme p ps w ws e = (let same : p.lexeme ≡ w = cc in same, let rest : unplaced ps ≡ ws = cc in rest)
+
+noted_more : (v : Reached) (w : List ℕ) (ws : List (List ℕ)) (s t : State) → step (state_at v) w ≡ Some s → (n : Next v w s) (r : After n.reached ws t) (d : Definitions) (notes : Notes) (ps : List Placed) → unplaced ps ≡ w ∷ ws
+    → noted_from d notes (Some (state_at v)) ps ≡ and_notes notes (noted_of d (sequences v) (index v) (placed_words (n.word ∷ r.more) ps))
+noted_more v w ws s t e n r d notes [] are = absurd cc
+noted_more v w ws s t e n r d notes (p ∷ ps) are =
+    let is = first_lexeme p ps w ws are in
+    let at : List ℕ → Placed = λ u. record { place = p.place; lexeme = u } in
+    let word = word_notes d (sequences v) (index v) n.word (at w) in
+    let xs = placed_words r.more ps in
+    ap (λ u. noted_from d (noted d (state_at v) (at u) notes) (step (state_at v) u) ps) is.0
+    ∙ ap (λ o. noted_from d (noted d (state_at v) (at w) notes) o ps) (e ∙ ap (λ x. Some x) (sym n.state))
+    ∙ ap (λ m. noted_from d m (Some (state_at n.reached)) ps) (n.noted.here d p.place notes)
+    ∙ r.noted d (and_notes notes word) ps is.1
+    ∙ ap (λ k. and_notes (and_notes notes word) (noted_of d k (index n.reached) xs)) n.noted.sequences
+    ∙ ap (λ k. and_notes (and_notes notes word) (noted_of d (sequences_after (sequences v) n.word) k xs)) n.noted.index
+    ∙ and_assoc notes word (noted_of d (sequences_after (sequences v) n.word) (index_after (index v) n.word) xs)
+    ∙ ap (and_notes notes) (sym (word_more d (sequences v) (index v) n.word (at w) xs))
+    ∙ ap (λ u. and_notes notes (noted_of d (sequences v) (index v) (record { word = n.word; at = at u } ∷ xs))) (sym is.0)
 
 after_next : (v : Reached) (w : List ℕ) (ws : List (List ℕ)) (t : State) (o : Option State) → ((u : Reached) → state_after (Some (state_at u)) ws ≡ Some t → After u ws t) → step (state_at v) w ≡ o → state_after o ws ≡ Some t → After v (w ∷ ws) t
 after_next v w ws t None rest e h = no_state t (sym (none_after ws) ∙ h)
@@ -302,10 +463,11 @@ after_next v w ws t (Some s) rest e h =
       more = n.word ∷ r.more;
       are = (n.is, r.are);
       words = r.words ∙ ap (λ l. l ++ r.more) n.words ∙ append_assoc (words_at v) (n.word ∷ []) r.more;
+      noted = noted_more v w ws s t e n r;
     }
 
 after_all : (ws : List (List ℕ)) (v : Reached) (t : State) → state_after (Some (state_at v)) ws ≡ Some t → After v ws t
-after_all [] v t h = record { reached = v; state = same_state (state_at v) t h; more = []; are = tt; words = sym (append-nil (words_at v)) }
+after_all [] v t h = record { reached = v; state = same_state (state_at v) t h; more = []; are = tt; words = sym (append-nil (words_at v)); noted = none_noted v }
 after_all (w ∷ ws) v t h = after_next v w ws t (step (state_at v) w) (λ u. after_all ws u t) refl h
 
 -- ---- the form
@@ -366,3 +528,17 @@ words_of ws form (Some s) e h =
 pub read_words : (form : EntryForm) (ws : List (List ℕ)) → entry_in ws ≡ Some form → IsForm form.mapped form.last × AreWords (entry_words form.mapped form.last) ws
 unfolding entry_in
 read_words form ws h = words_of ws form (state_after (Some start) ws) refl h
+
+noted_words : (d : Definitions) (ps : List Placed) (form : EntryForm) (o : Option State) → state_after (Some start) (unplaced ps) ≡ o → entry_at o ≡ Some form
+    → noted_from d nothing_noted (Some start) ps ≡ noted_of d 0 0 (placed_words (entry_words form.mapped form.last) ps)
+noted_words d ps form None e h = no_form form h
+noted_words d ps form (Some s) e h =
+    let none : List Mapped = [] in
+    let r = after_all (unplaced ps) (AtBegin none tt) s e in
+    let is = form_of r.reached form (ap ended r.state ∙ h) in
+    r.noted d nothing_noted ps refl ∙ ap (λ l. noted_of d 0 0 (placed_words l ps)) (sym (is.1 ∙ r.words))
+
+-- what is noted of lexemes is what is noted of the words that they are
+pub form_noted : (d : Definitions) (line : List ℕ) (form : EntryForm) → entry_in (lexemes line) ≡ Some form → noted_from d nothing_noted (Some start) (placed_lexemes line) ≡ notes_of d form line
+unfolding entry_in
+form_noted d line form h = noted_words d (placed_lexemes line) form (state_after (Some start) (unplaced (placed_lexemes line))) refl (ap (λ ws. entry_at (state_after (Some start) ws)) (unplaced-from 0 line) ∙ h)

@@ -1,17 +1,25 @@
 -- Where no word is looked for in reading an entry, none can be lacking.
-use Rattle.std.proofs.Common.{◌≡◌, ℕ, Bool, true, false, not, cond, ◌&&◌, List, [], ◌∷◌, ◌++◌, Option, Some, None, refl, sym, ap, ◌∙◌}
+use Rattle.std.proofs.Common.{◌≡◌, ℕ, Bool, true, false, not, cond, ◌&&◌, List, [], ◌∷◌, ◌++◌, length, Option, Some, None, refl, sym, ap, subst, ◌∙◌}
+use Rattle.std.specs.Prelude.{bytes_eq, codes}
+use Rattle.std.proofs.lemmas.Slice.Eq.{bytes_eq-Decides}
 use Rattle.std.proofs.Math.Bool.{and-false}
 use Rattle.ruleset_text.specs.declared.entry_parts.EntryParts.{EntryParts}
 use Rattle.ruleset_text.specs.declared.entry_reading.Phase.{Phase}
 use Rattle.ruleset_text.specs.declared.entry_reading.Phase.TheVariants as phase
 use Rattle.label_patterns.specs.declared.condition.ConditionKind.TheVariants as condition
-use Rattle.ruleset_text.specs.Entries.{Mapped}
-use Rattle.ruleset_text.specs.EntrySteps.{State, at_last, at_point, at_rule, at_tag, is_begin, is_first, is_lacking, is_new, step, step_by, step_in, word_of}
+use Rattle.ruleset_text.specs.declared.entry_reading.EntryWord.{EntryWord}
+use Rattle.ruleset_text.specs.declared.entry_reading.EntryWord.TheVariants as word
+use Rattle.ruleset_text.specs.EntrySteps.{State, at_last, at_point, at_tag, begin_by, is_begin, is_first, is_lacking, is_new, step, step_by, step_in, word_of}
+use Rattle.idn_text.specs.Points.{point_of_hex}
+use Rattle.ruleset_text.specs.Definitions.{Definitions}
+use Rattle.ruleset_text.specs.EntryFaults.{Notes, unknown_in}
 use Rattle.ruleset_text.specs.EntryWords.{point_of}
 use Rattle.ruleset_text.specs.Names.{is_name, is_one_of}
 use Rattle.ruleset_text.specs.inner.EntryTaken.{is_before_name}
+use Rattle.ruleset_text.specs.PlacedLexemes.{Placed}
+use Rattle.ruleset_text.specs.inner.EntryNoted.{and_notes, name_notes, names_next, noted, noted_word, with_word}
 use Rattle.ruleset_text.proofs.EntryPartLemmas.{name_kept, no_word_lacking, point_word}
-use Rattle.ruleset_text.proofs.EntryStateLemmas.{spelled}
+use Rattle.ruleset_text.proofs.EntryStateLemmas.{IsSpelled, spelled}
 
 -- a step that a lacking word can't make needs no look at the word
 unasked : (b : Bool) (o : Option State) → (b ≡ true → o ≡ None) → cond b None o ≡ o
@@ -44,7 +52,24 @@ module _ (parts : EntryParts) (s : State) (w : List ℕ) where
   after_range e =
       at_phase phase.Range e ∙ unasked (is_lacking parts (is_new s) (word_of w)) (at_last s (point_of w)) (λ h. ap (at_last s) (lacks_point parts (is_new s) w h))
 
-  -- ---- names
+  -- ---- '!'
+
+  pub begin_other : s.phase ≡ phase.Begin → bytes_eq w (codes "!") ≡ false → step_in parts s w ≡ at_point s (point_of w)
+  begin_other e other = point_next (at_phase phase.Begin e ∙ ap (λ o. cond (is_lacking parts (is_new s) (word_of w)) None o) (by (word_of w) refl))
+    where
+      by : (x : EntryWord) → word_of w ≡ x → begin_by s x w ≡ at_point s (point_of w)
+      by word.Mark is = absurd (let clash : true ≡ false = sym ((bytes_eq-Decides w (codes "!")).1 (subst (λ x. IsSpelled x w) is (spelled w))) ∙ other in cc)
+      by x is = refl
+
+  pub mark_noted : (d : Definitions) (place : ℕ) (n : Notes) → s.phase ≡ phase.Begin → w ≡ codes "!" → noted d s (record { place = place; lexeme = w }) n ≡ n
+  unfolding point_of_hex
+  mark_noted d place n e is =
+      let mark : List ℕ = codes "!" in
+      let none : noted_word phase.Begin mark ≡ None = refl in
+      ap (λ p. with_word d (length s.done) (length s.current.points) (noted_word p w) (record { place = place; lexeme = w }) n) e
+      ∙ ap (λ o. with_word d (length s.done) (length s.current.points) o (record { place = place; lexeme = w }) n) (ap (noted_word phase.Begin) is ∙ none)
+
+  -- ---- words and names
 
   not_new : (p : Phase) → s.phase ≡ p → is_before_name p ≡ true → is_new s ≡ false
   not_new p e h = ap (λ q. is_first s.done && is_begin q) e ∙ by p h
@@ -85,6 +110,27 @@ module _ (parts : EntryParts) (s : State) (w : List ℕ) where
       ap (λ b. cond (b && not (is_one_of s.current.tags w)) (Some (record s { current = record s.current { tags = s.current.tags ++ w ∷ [] }; phase = phase.Tag })) None) none
   no_name_taken phase.When h none = ap (λ b. cond b (Some (record s { current = record s.current { condition = Some (record { kind = condition.When; rule = w }) }; phase = phase.Rule })) None) none
   no_name_taken phase.Unless h none = ap (λ b. cond b (Some (record s { current = record s.current { condition = Some (record { kind = condition.Unless; rule = w }) }; phase = phase.Rule })) None) none
+
+  -- what is noted of a name
+  pub name_noted : (d : Definitions) (place : ℕ) (n : Notes) → is_before_name s.phase ≡ true
+      → and_notes n (name_notes (unknown_in (names_next d s.phase) w (record { place = place; lexeme = w }))) ≡ noted d s (record { place = place; lexeme = w }) n
+  name_noted d place n h = by s.phase h
+    where
+      at : Placed
+      at = record { place = place; lexeme = w }
+
+      by : (p : Phase) → is_before_name p ≡ true → and_notes n (name_notes (unknown_in (names_next d p) w at)) ≡ with_word d (length s.done) (length s.current.points) (noted_word p w) at n
+      by phase.As h = refl
+      by phase.When h = refl
+      by phase.Unless h = refl
+      by phase.Begin h = absurd cc
+      by phase.Mark h = absurd cc
+      by phase.Point h = absurd cc
+      by phase.Hyphen h = absurd cc
+      by phase.Range h = absurd cc
+      by phase.Last h = absurd cc
+      by phase.Tag h = absurd cc
+      by phase.Rule h = absurd cc
 
   pub name_free : is_before_name s.phase ≡ true → parts.named ≡ true → step_in parts s w ≡ step s w
   name_free h named = named_step h ∙ unasked (is_lacking parts false (word_of w)) (step s w) (λ lacks. by (is_name w) refl lacks)

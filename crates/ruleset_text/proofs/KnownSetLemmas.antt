@@ -1,5 +1,5 @@
 -- What names after those of the sets leave as it was: the text of patterns whose sets are known.
-use Rattle.std.proofs.Common.{◌≡◌, ℕ, ◌≤◌, Bool, true, false, cond, List, [], ◌∷◌, ◌++◌, length, Option, Some, None, refl, sym, ap, ◌∙◌, append_assoc, append-nil, arith}
+use Rattle.std.proofs.Common.{◌≡◌, ℕ, ◌≤◌, true, List, [], ◌∷◌, ◌++◌, length, refl, ap, ◌∙◌, arith}
 use Rattle.std.specs.Prelude.{codes}
 use Rattle.std.proofs.lemmas.Bool.{ltb-true, and_parts}
 use Rattle.std.proofs.lemmas.List.{get_or_append_left}
@@ -9,8 +9,6 @@ use Rattle.ruleset_text.specs.Canonical.{pattern_text, definition_text}
 use Rattle.ruleset_text.specs.Definition as definition
 use Rattle.ruleset_text.specs.Definition.{Definition}
 use Rattle.ruleset_text.specs.Limits.{has_its_sets}
-use Rattle.ruleset_text.specs.Names.{is_one_of}
-use Rattle.ruleset_text.specs.SetNames.{set_name, with_name, with_word, names_on}
 
 -- the test tells whether the sets are known
 pub known_from : (n : ℕ) (p : Pattern) → has_its_sets n p ≡ true → HasItsSets n p
@@ -69,33 +67,3 @@ definition_text-more names more (definition.Tag name) h = refl
 definition_text-more names more (definition.Set name spans) h = refl
 definition_text-more names more (definition.Rule name contexts) h = ap (λ t. codes "%rule " ++ name ++ 32 ∷ t) (pattern_text-more names more contexts h)
 definition_text-more names more (definition.Demand kind p) h = ap (λ t. definition.demand_word kind ++ 32 ∷ t) (pattern_text-more names more p h)
-
--- ---- the names on a line
-
-with_one : (names : List (List ℕ)) (name : List ℕ) (b : Bool) → (more : List (List ℕ)) × (cond b names (names ++ name ∷ []) ≡ names ++ more)
-with_one names name true = ([], sym (append-nil names))
-with_one names name false = (name ∷ [], refl)
-
-with_name-more : (names : List (List ℕ)) (o : Option (List ℕ)) → (more : List (List ℕ)) × (with_name names o ≡ names ++ more)
-with_name-more names None = ([], sym (append-nil names))
-with_name-more names (Some name) = with_one names name (is_one_of names name)
-
--- they are the names, and others after them
-pub names_on-more : (names words : List (List ℕ)) → (more : List (List ℕ)) × (names_on names words ≡ names ++ more)
-unfolding names_on
-names_on-more names [] = ([], sym (append-nil names))
-names_on-more names (word ∷ words) =
-    let first = with_name-more names (set_name word) in
-    let others = names_on-more (with_word names word) words in
-    (first.0 ++ others.0, others.1 ∙ ap (λ l. l ++ others.0) first.1 ∙ append_assoc names first.0 others.0)
-
--- a word more
-pub names_on-word : (names all : List (List ℕ)) (words rest : List (List ℕ)) (word : List ℕ) (more : List (List ℕ)) → words ≡ word ∷ rest → more ≡ with_word names word
-    → names_on names words ≡ all → names_on more rest ≡ all
-unfolding names_on
-names_on-word names all words rest word more e is before = ap (λ n. names_on n rest) is ∙ ap (names_on names) (sym e) ∙ before
-
--- no word more
-pub names_on-end : (names all : List (List ℕ)) (words : List (List ℕ)) → words ≡ [] → names_on names words ≡ all → all ≡ names
-unfolding names_on
-names_on-end names all words e before = sym before ∙ ap (names_on names) e

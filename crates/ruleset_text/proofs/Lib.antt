@@ -6,8 +6,9 @@ pub mod UseLemmas
 pub mod LineStopLemmas
 mod SpanStopLemmas
 pub mod DefinitionStopLemmas
-pub mod AlikeLemmas
-mod DefineLineLemmas
+pub mod PatternLimitLemmas
+pub mod LineFaultLemmas
+mod DefineFaultLemmas
 pub mod SpanExactLemmas
 pub mod LexemeLemmas
 pub mod PlacedLemmas
@@ -38,5 +39,6 @@ pub mod EntryBackLemmas
 pub mod EntryPartLemmas
 mod EntryWordLemmas
 pub mod EntryStopLemmas
+pub mod EntryNotedLemmas
 pub mod DefinitionsTextLemmas
 pub mod LineBytes

@@ -7,13 +7,13 @@ use Rattle.ruleset_text.specs.declared.fault.DefinitionFault.TheVariants.{Syntax
 use Rattle.ruleset_text.specs.declared.keyword.Keyword.{Keyword}
 use Rattle.ruleset_text.specs.declared.keyword.Keyword.TheVariants as keyword
 use Rattle.ruleset_text.specs.Signs as sign
+use Rattle.ruleset_text.specs.Canonical.{definition_text}
 use Rattle.ruleset_text.specs.Definition as definition
 use Rattle.ruleset_text.specs.Definition.{Definition, keyword_of}
-use Rattle.ruleset_text.specs.Definitions.{Definitions, is_over_limit, has_known_sets, has_bad_class, has_same_name}
+use Rattle.ruleset_text.specs.Definitions.{Definitions, is_line_over_limit, is_one_too_many, has_known_sets, has_bad_class, has_same_name}
 use Rattle.ruleset_text.specs.Grammar.{SpellsPattern}
 use Rattle.ruleset_text.specs.Names.{is_name}
 use Rattle.ruleset_text.specs.Rules.{has, is_rule}
-use Rattle.ruleset_text.specs.SetNames.{names_on}
 use Rattle.ruleset_text.specs.SpanWords.{SpellSet}
 use Rattle.ruleset_text.specs.Tokens.{tokens_in}
 
@@ -49,39 +49,44 @@ IsDefinitionLine names words = (x : Definition) × SpellsLine names words x
 -- what may be wrong with the line, in the order in which it is told
 pub data DefinitionCondition : Type 0 where
   no_form : DefinitionCondition
-  over_limit : DefinitionCondition
+  one_too_many : DefinitionCondition
   no_such_name : DefinitionCondition
+  long_line : DefinitionCondition
   bad_class : DefinitionCondition
   same_name : DefinitionCondition
 
 -- the place of a condition in that order
 abbrev pub order_of : DefinitionCondition → ℕ
 order_of no_form = 1
-order_of over_limit = 2
+order_of one_too_many = 2
 order_of no_such_name = 3
-order_of bad_class = 4
-order_of same_name = 5
+order_of long_line = 4
+order_of bad_class = 5
+order_of same_name = 6
 
 -- what is told of a line for which the condition holds
 abbrev pub fault_of : DefinitionCondition → DefinitionFault
 fault_of no_form = Syntax
-fault_of over_limit = Limit
+fault_of one_too_many = Limit
 fault_of no_such_name = NoSuchName
+fault_of long_line = Limit
 fault_of bad_class = BadClass
 fault_of same_name = SameName
 
--- the line spells a definition of which the test is true
-abbrev pub IsSuch : List (List ℕ) → Keyword → List (List ℕ) → (Definition → Bool) → Type 0
-IsSuch names k words test = (x : Definition) × SpellsDefinition names k words x × IsTrue (test x)
+-- a test of the definition that the line spells: of its kind and its pattern, of the names of its sets, of its canonical line, of its code
+-- points, of its name. The canonical text may have so many bytes
+abbrev pub test_of : ℕ → Definitions → DefinitionCondition → Definition → Bool
+test_of limit d no_form x = false
+test_of limit d one_too_many x = is_one_too_many d x
+test_of limit d no_such_name x = not (has_known_sets (length d.sets) x)
+test_of limit d long_line x = is_line_over_limit limit d (length (definition_text d.set_names x))
+test_of limit d bad_class x = has_bad_class d.properties x
+test_of limit d same_name x = has_same_name d x
 
--- the condition holds for a line, by its keyword and the lexemes after it. So much was defined before it, and the canonical text
--- may have so many bytes. A name that no set has gets a number after those of the sets
+-- the condition holds for a line, by its keyword and the lexemes after it. So much was defined before it
 abbrev pub Holds : ℕ → Definitions → Keyword → List (List ℕ) → DefinitionCondition → Type 0
-Holds limit d k words no_form = (x : Definition) → SpellsDefinition (names_on d.set_names words) k words x → ⊥
-Holds limit d k words over_limit = IsSuch (names_on d.set_names words) k words (is_over_limit limit d (names_on d.set_names words))
-Holds limit d k words no_such_name = IsSuch (names_on d.set_names words) k words (λ x. not (has_known_sets (length d.sets) x))
-Holds limit d k words bad_class = IsSuch (names_on d.set_names words) k words (has_bad_class d.properties)
-Holds limit d k words same_name = IsSuch (names_on d.set_names words) k words (has_same_name d)
+Holds limit d k words no_form = (x : Definition) → SpellsDefinition d.set_names k words x → ⊥
+Holds limit d k words c = (x : Definition) × SpellsDefinition d.set_names k words x × IsTrue (test_of limit d c x)
 
 -- the fault of the first condition that holds
 abbrev pub IsDefinitionFault : ℕ → Definitions → Keyword → List (List ℕ) → DefinitionFault → Type 0

@@ -4,6 +4,7 @@ use Rattle.std.specs.Prelude.{ℕ, Bool, true, false, Option, Some, None, Result
 use Rattle.label_patterns.specs.declared.span.Span.{Span}
 use Rattle.label_patterns.specs.Patterns.{Pattern}
 use Rattle.ruleset_text.specs.declared.definition.DemandKind.TheVariants as demand
+use Rattle.ruleset_text.specs.declared.definition_line.DefinitionLine.{DefinitionLine}
 use Rattle.ruleset_text.specs.declared.fault.FaultPlace.{FaultPlace}
 use Rattle.ruleset_text.specs.declared.fault.FaultPlace.TheVariants.{Lexeme, End}
 use Rattle.ruleset_text.specs.declared.keyword.Keyword.{Keyword}
@@ -75,3 +76,13 @@ after_keyword names end w ws (Some k) = definition_read names k end ws
 abbrev pub line_read : List (List ℕ) → ℕ → List Placed → Result Definition FaultPlace
 line_read names end [] = Err (End end)
 line_read names end (w ∷ ws) = after_keyword names end w ws (keyword_of w.lexeme)
+
+-- ---- a line by its keyword
+
+abbrev pub begun_at : ℕ → Placed → List Placed → Option Keyword → Result DefinitionLine FaultPlace
+begun_at end w ws None = Err (Lexeme w.place (length w.lexeme))
+begun_at end w ws (Some k) = Ok (record { keyword = k; place = Lexeme w.place (length w.lexeme); after = ws; end = end })
+
+abbrev pub begun_by : ℕ → List Placed → Result DefinitionLine FaultPlace
+begun_by end [] = Err (End end)
+begun_by end (w ∷ ws) = begun_at end w ws (keyword_of w.lexeme)

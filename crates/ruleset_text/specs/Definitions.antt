@@ -14,7 +14,6 @@ use Rattle.ruleset_text.specs.Definition.{Definition, definition_of, keyword_of}
 use Rattle.ruleset_text.specs.Lexemes.{lexemes}
 use Rattle.ruleset_text.specs.Limits.{groups, stars, atoms, has_its_sets}
 use Rattle.ruleset_text.specs.Names.{is_one_of}
-use Rattle.ruleset_text.specs.SetNames.{names_on}
 use Rattle.idn_class.specs.declared.properties.Properties.{Properties}
 
 -- a demand on each label
@@ -98,6 +97,12 @@ all_atoms d = atoms_in (all_definitions d)
 abbrev pub is_pattern_over_limit : Definitions → Pattern → Bool
 is_pattern_over_limit d p = nat_le 256 (length d.rules + length d.demands) || nat_lt 8 (groups p) || nat_lt 2 (stars p) || nat_lt 4096 (all_atoms d + atoms p)
 
+-- as many as may be are defined of its kind: 8 tags, 256 sets, 256 rules and demands together
+abbrev pub has_most : Definitions → Definition → Bool
+has_most d (definition.Tag name) = nat_le 8 (length d.tags)
+has_most d (definition.Set name spans) = nat_le 256 (length d.sets)
+has_most d x = nat_le 256 (length d.rules + length d.demands)
+
 -- so does one more of its kind; there may be 8 tags and 256 sets
 abbrev pub is_one_too_many : Definitions → Definition → Bool
 is_one_too_many d (definition.Tag name) = nat_le 8 (length d.tags)
@@ -109,10 +114,6 @@ is_one_too_many d (definition.Demand kind p) = is_pattern_over_limit d p
 -- text of the definitions may have
 abbrev pub is_line_over_limit : ℕ → Definitions → ℕ → Bool
 is_line_over_limit limit d size = nat_lt 8192 size || nat_lt limit (canonical_size d + (size + 1))
-
--- a definition goes past a limit; the sets that its pattern names have these names
-abbrev pub is_over_limit : ℕ → Definitions → List (List ℕ) → Definition → Bool
-is_over_limit limit d names x = is_line_over_limit limit d (length (definition_text names x)) || is_one_too_many d x
 
 -- each set that its pattern names is one of the first n
 abbrev pub has_known_sets : ℕ → Definition → Bool
@@ -144,19 +145,19 @@ added d (definition.Rule name contexts) = record d { rule_names = d.rule_names +
 added d (definition.Demand kind p) = record d { demands = d.demands ++ record { kind = kind; pattern = p } ∷ [] }
 
 -- the definitions with a further one, or its first fault; none is a line that has no form
-unfoldable pub with_definition : ℕ → Definitions → List (List ℕ) → Option Definition → Result Definitions DefinitionFault
-with_definition limit d names None = Err Syntax
-with_definition limit d names (Some x) =
-    if is_over_limit limit d names x then Err Limit else
+unfoldable pub with_definition : ℕ → Definitions → Option Definition → Result Definitions DefinitionFault
+with_definition limit d None = Err Syntax
+with_definition limit d (Some x) =
+    if is_one_too_many d x then Err Limit else
     if not (has_known_sets (length d.sets) x) then Err NoSuchName else
+    if is_line_over_limit limit d (length (definition_text d.set_names x)) then Err Limit else
     if has_bad_class d.properties x then Err BadClass else
     if has_same_name d x then Err SameName else
     Ok (added d x)
 
--- the same for a line, by its keyword and the lexemes after it; the canonical text may have so many bytes. A name that no set
--- has gets a number after those of the sets
+-- the same for a line, by its keyword and the lexemes after it; the canonical text may have so many bytes
 abbrev pub defined : ℕ → Definitions → Keyword → List (List ℕ) → Result Definitions DefinitionFault
-defined limit d keyword words = with_definition limit d (names_on d.set_names words) (definition_of (names_on d.set_names words) keyword words)
+defined limit d keyword words = with_definition limit d (definition_of d.set_names keyword words)
 
 -- ---- lines one after the other
 

@@ -12,8 +12,10 @@ use Rattle.ruleset_text.specs.Tokens.{without_prefix}
 pub data Word : Type 0 where
   -- a code point, with 'U+' before it or without
   Point : ℕ → Word
-  -- the name of a tag or of a rule
-  Name : List ℕ → Word
+  -- the name of a tag
+  Tag : List ℕ → Word
+  -- the name of a rule
+  Rule : List ℕ → Word
   -- '!'
   Mark : Word
   -- '-'
@@ -37,7 +39,8 @@ point_of lexeme = point_of_hex (without_prefix lexeme)
 -- the lexeme is this word
 abbrev pub IsWord : Word → List ℕ → Type 0
 IsWord (Point c) lexeme = point_of lexeme ≡ Some c
-IsWord (Name name) lexeme = lexeme ≡ name
+IsWord (Tag name) lexeme = lexeme ≡ name
+IsWord (Rule name) lexeme = lexeme ≡ name
 IsWord Mark lexeme = lexeme ≡ codes "!"
 IsWord Hyphen lexeme = lexeme ≡ codes "-"
 IsWord Bar lexeme = lexeme ≡ codes "|"
@@ -71,11 +74,11 @@ abbrev pub last_words : Option ℕ → List Word
 last_words None = []
 last_words (Some c) = Range ∷ Point c ∷ []
 
--- ',' between names
+-- ',' between tags
 abbrev pub names_words : List (List ℕ) → List Word
 names_words [] = []
-names_words (name ∷ []) = Name name ∷ []
-names_words (name ∷ other ∷ names) = Name name ∷ Comma ∷ names_words (other ∷ names)
+names_words (name ∷ []) = Tag name ∷ []
+names_words (name ∷ other ∷ names) = Tag name ∷ Comma ∷ names_words (other ∷ names)
 
 abbrev pub tags_words : List (List ℕ) → List Word
 tags_words [] = []
@@ -87,7 +90,7 @@ kind_word condition.Unless = Unless
 
 abbrev pub condition_words : Option NamedCondition → List Word
 condition_words None = []
-condition_words (Some c) = kind_word c.kind ∷ Name c.rule ∷ []
+condition_words (Some c) = kind_word c.kind ∷ Rule c.rule ∷ []
 
 -- a source or a variant; one with a last code point is that of a range
 abbrev pub mapped_words : Mapped → Option ℕ → List Word

@@ -7,13 +7,15 @@ pub mod PatternSigns
 pub mod PatternUses
 pub mod LineStops
 pub mod DefinitionReading
+pub mod DefinitionPlaces
 pub mod Limits
+pub mod LineFaults
+pub mod PatternLimits
 pub mod Signs
 pub mod Rules
 pub mod Lexemes
 pub mod PlacedLexemes
 pub mod Names
-pub mod SetNames
 pub mod SpanWords
 pub mod Tokens
 pub mod Spans
@@ -31,6 +33,7 @@ pub mod EntryForms
 pub mod EntryText
 pub mod EntrySteps
 pub mod EntryWords
+pub mod EntryFaults
 pub mod EntryParts
 pub mod EntryStops
 pub mod inner

@@ -1,7 +1,7 @@
 -- Reading a line lexeme by lexeme, and where it stops being what it is to be. Places are bytes of the line, counted from 0.
 use Rattle.std.specs.Prelude.{◌≡◌, ℕ, Option, Some, None, Result, Ok, Err, List, [], ◌∷◌, ◌++◌, length}
-use Rattle.ruleset_text.specs.declared.fault.DefinitionFault.{DefinitionFault}
 use Rattle.ruleset_text.specs.declared.fault.DefinitionFault.TheVariants as fault
+use Rattle.ruleset_text.specs.declared.fault.DefinitionRefusal.{DefinitionRefusal}
 use Rattle.ruleset_text.specs.declared.fault.FaultPlace.{FaultPlace}
 use Rattle.ruleset_text.specs.declared.fault.FaultPlace.TheVariants.{Lexeme, End}
 use Rattle.ruleset_text.specs.declared.fault.ReadError.{ReadError}
@@ -58,6 +58,6 @@ abbrev pub Gives : {X Y : Type 0} → (X → Y) → Result X ReadError → Resul
 Gives view (Ok x) read = read ≡ Ok (view x)
 Gives view (Err error) read = StopsAt error read
 
-abbrev pub fault_of : ReadError → DefinitionFault
-fault_of (unread.Stop place) = fault.Syntax
-fault_of unread.Memory = fault.Memory
+abbrev pub refusal_of : ReadError → DefinitionRefusal
+refusal_of (unread.Stop place) = record { fault = fault.Syntax; place = Some place }
+refusal_of unread.Memory = record { fault = fault.Memory; place = None }

@@ -1,16 +1,12 @@
 //! What a line defines.
-ghost use Rattle.std.specs.Prelude.{◌≡◌, ◌++◌, [], IfOk, OnOk};
+ghost use Rattle.std.specs.Prelude.{◌≡◌, ◌++◌, [], length, IfOk, OnOk};
 ghost use Rattle.label_patterns.specs.Trees.{pattern};
 ghost use Rattle.ruleset_text.specs.Canonical.{definition_text};
 ghost use Rattle.ruleset_text.specs.Definition as words;
-ghost use Rattle.ruleset_text.specs.Definitions as definitions;
 ghost use Rattle.ruleset_text.specs.DefinitionTrees as trees;
 
 use crate::canonical::{push_byte, push_bytes, push_pattern, push_spans};
-use crate::classes::{has_bad_end, has_bad_point};
-use crate::limits::has_its_sets;
 use crate::names::Name;
-use idn_class::Properties;
 use label_patterns::{PatternTree, PointSet};
 use std::alloc::{AllocError, Global};
 
@@ -107,30 +103,16 @@ fn demand_word(kind: DemandKind) -> &'static [u8]
     }
 }
 
-/// Whether each set that its pattern names is one of the first `count`.
-pub fn has_known_sets(definition: &Definition, count: usize) -> bool
-    ensures { result ≡ definitions.has_known_sets count (trees.definition definition.now) }
-{
-    match definition {
-        Definition::Tag(_) => true,
-        Definition::Set(_, _) => true,
-        Definition::Rule(_, contexts) => has_its_sets(contexts, count),
-        Definition::Demand(_, pattern) => has_its_sets(pattern, count),
-    }
-}
-
-/// Whether a code point is written in it whose class no label can have.
-pub fn has_bad_class(
+/// How many bytes the canonical line of a definition has, without its line feed. The sets of its pattern have these
+/// names.
+pub fn canonical_len(
     alloc: Global,
+    sets: &[Name],
     definition: &Definition,
-    properties: Properties,
-) -> Result<bool, AllocError>
-    ensures { IfOk result (λ bad. bad ≡ definitions.has_bad_class properties (trees.definition definition.now)) }
+) -> Result<usize, AllocError>
+    ensures { IfOk result (λ len. len ≡ length (definition_text sets.now (trees.definition definition.now))) }
 {
-    match definition {
-        Definition::Tag(_) => Ok(false),
-        Definition::Set(_, set) => has_bad_end(alloc, set, properties),
-        Definition::Rule(_, contexts) => has_bad_point(alloc, contexts, properties),
-        Definition::Demand(_, pattern) => has_bad_point(alloc, pattern, properties),
-    }
+    let mut line = Vec::new(alloc);
+    push_definition(&mut line, sets, definition)?;
+    Ok(line.len())
 }

@@ -1,59 +1,43 @@
-//! A definition and its canonical line.
-ghost use Rattle.std.specs.Prelude.{length};
-ghost use Rattle.ruleset_text.specs.DefinitionReading.{definition_read};
-ghost use Rattle.ruleset_text.specs.inner.DefinitionSteps.{GivesLine};
-ghost use Rattle.ruleset_text.specs.Lexemes.{lexemes};
+//! A line that is to define something.
+ghost use Rattle.std.specs.Prelude.{◌≡◌, ◌<◌, ◌^◌, length, IfOk, MatchResult};
+ghost use Rattle.ruleset_text.specs.DefinitionReading.{begun_by};
 ghost use Rattle.ruleset_text.specs.PlacedLexemes.{placed_lexemes};
-ghost use Rattle.ruleset_text.specs.SetNames.{names_on};
 
-use crate::definition::{Definition, push_definition};
-use crate::definition_reading::read_definition;
-use crate::fault::ReadError;
-use crate::keyword::Keyword;
-use crate::names::Name;
+use crate::fault::FaultPlace;
+use crate::keyword::{Keyword, keyword_of};
 use crate::placed::PlacedLexemes;
-use crate::set_names::with_other_names;
-use std::alloc::Global;
 
-/// What a line defines, and how many bytes its canonical line has.
+/// A line that begins with a keyword.
 #[derive(Drop)]
-pub struct DefinitionLine {
-    pub definition: Definition,
-    pub len: usize,
+pub struct DefinitionLine<'a> {
+    pub keyword: Keyword,
+    /// Where the keyword stands.
+    pub place: FaultPlace,
+    /// The lexemes after it.
+    pub after: PlacedLexemes<'a>,
+    /// How many bytes the line has.
+    pub end: usize,
 }
 
-/// What a line defines, by its keyword and the text after it. A set goes by its number among the names; one that none
-/// of them names gets a number after theirs.
-pub fn read_line(
-    alloc: Global,
-    sets: &[Name],
-    keyword: Keyword,
-    text: &[u8],
-) -> Result<DefinitionLine, ReadError>
-    ensures { GivesLine (names_on sets.now (lexemes text.now)) result
-        (definition_read (names_on sets.now (lexemes text.now)) keyword (length text.now) (placed_lexemes text.now)) }
-{
-    match with_other_names(alloc, sets, text)? {
-        None => read_with_names(alloc, sets, keyword, text),
-        Some(names) => read_with_names(alloc, &names, keyword, text),
+impl<'a> DefinitionLine<'a> {
+    /// A line by its keyword; or its first lexeme, if that is no keyword, or its end, if it has no lexeme.
+    pub fn begun(line: &'a [u8]) -> Result<Self, FaultPlace>
+        ensures line { result ≡ begun_by (length line.now) (placed_lexemes line.now) }
+        ensures few { IfOk result (λ line. length line.after < 2 ^ 63) }
+    {
+        let mut lexemes = PlacedLexemes::new(line);
+        let Some((place, word)) = lexemes.next() else {
+            return Err(FaultPlace::End(line.len()));
+        };
+        let place = FaultPlace::Lexeme(place, word.len());
+        match keyword_of(word) {
+            Some(keyword) => Ok(DefinitionLine {
+                keyword,
+                place,
+                after: lexemes,
+                end: line.len(),
+            }),
+            None => Err(place),
+        }
     }
-}
-
-/// What a line defines, by its keyword and the text after it. Each set that the text names has one of these names.
-fn read_with_names(
-    alloc: Global,
-    names: &[Name],
-    keyword: Keyword,
-    text: &[u8],
-) -> Result<DefinitionLine, ReadError>
-    ensures { GivesLine names.now result
-        (definition_read names.now keyword (length text.now) (placed_lexemes text.now)) }
-{
-    let definition = read_definition(alloc, names, keyword, PlacedLexemes::new(text), text.len())?;
-    let mut line = Vec::new(alloc);
-    push_definition(&mut line, names, &definition)?;
-    Ok(DefinitionLine {
-        definition,
-        len: line.len(),
-    })
 }

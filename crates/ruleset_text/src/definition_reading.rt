@@ -2,108 +2,128 @@
 ghost use Rattle.std.specs.Prelude.{◌≡◌, ◌<◌, ◌^◌, false, MatchResult, length};
 ghost use Rattle.ruleset_text.specs.Definition.{Demand as demand_of};
 ghost use Rattle.ruleset_text.specs.DefinitionReading as reading;
-ghost use Rattle.ruleset_text.specs.DefinitionReading.{definition_read, line_read, name_read};
-ghost use Rattle.ruleset_text.specs.DefinitionTrees as trees;
-ghost use Rattle.ruleset_text.specs.LineStops.{Gives, map_read};
-ghost use Rattle.ruleset_text.specs.PlacedLexemes.{placed_lexemes};
+ghost use Rattle.ruleset_text.specs.DefinitionReading.{definition_read, name_read};
+ghost use Rattle.ruleset_text.specs.LineStops.{map_read};
+ghost use Rattle.ruleset_text.specs.inner.DefinitionSteps.{GivesDefinition};
 
 use crate::definition::{Definition, DemandKind};
-use crate::fault::{FaultPlace, ReadError};
-use crate::keyword::{Keyword, keyword_of};
+use crate::definition_line::DefinitionLine;
+use crate::fault::{FaultPlace, LineFaults, ReadError};
+use crate::keyword::Keyword;
 use crate::names::{Name, is_name};
 use crate::placed::PlacedLexemes;
-use crate::reading::read_pattern;
+use crate::reading::{Earlier, read_pattern};
 use crate::spans::read_spans;
+use idn_class::Properties;
 use std::alloc::Global;
 
-/// What a line defines, or where it stops defining something. A set goes by its number among the names.
-pub fn definition_on(alloc: Global, sets: &[Name], line: &[u8]) -> Result<Definition, ReadError>
-    ensures { Gives trees.definition result (line_read sets.now (length line.now) (placed_lexemes line.now)) }
-{
-    let mut lexemes = PlacedLexemes::new(line);
-    let Some((place, word)) = lexemes.next() else {
-        return Err(ReadError::Stop(FaultPlace::End(line.len())));
-    };
-    let Some(keyword) = keyword_of(word) else {
-        return Err(ReadError::Stop(FaultPlace::Lexeme(place, word.len())));
-    };
-    read_definition(alloc, sets, keyword, lexemes, line.len())
+/// What a line defines, how many atoms further patterns may have, and its faults.
+#[derive(Drop)]
+pub struct ReadDefinition {
+    pub definition: Definition,
+    pub atoms_left: usize,
+    pub faults: LineFaults,
 }
 
-/// What the lexemes after a keyword define, to the end of a line of `end` bytes. A set goes by its number among the
-/// names.
+/// What a line defines. A set goes by its number among the names.
 pub fn read_definition(
     alloc: Global,
-    sets: &[Name],
-    keyword: Keyword,
-    lexemes: PlacedLexemes<'_>,
-    end: usize,
-) -> Result<Definition, ReadError>
-    requires { length lexemes < 2 ^ 63 }
-    ensures { Gives trees.definition result (definition_read sets.now keyword end lexemes.entry) }
+    earlier: Earlier<'_>,
+    line: DefinitionLine<'_>,
+) -> Result<ReadDefinition, ReadError>
+    requires { length line.after < 2 ^ 63 }
+    ensures { GivesDefinition earlier.entry line.entry.after result
+        (definition_read earlier.entry.sets.now line.entry.keyword line.entry.end line.entry.after) }
 {
+    let DefinitionLine {
+        keyword,
+        place: _,
+        after,
+        end,
+    } = line;
     match keyword {
-        Keyword::Tag => read_tag(alloc, lexemes, end),
-        Keyword::Set => read_set(alloc, lexemes, end),
-        Keyword::Rule => read_rule(alloc, sets, lexemes, end),
-        Keyword::Never => read_demand(alloc, sets, DemandKind::Never, lexemes, end),
-        Keyword::Always => read_demand(alloc, sets, DemandKind::Always, lexemes, end),
+        Keyword::Tag => read_tag(alloc, earlier, after, end),
+        Keyword::Set => read_set(alloc, earlier, after, end),
+        Keyword::Rule => read_rule(alloc, earlier, after, end),
+        Keyword::Never => read_demand(alloc, earlier, DemandKind::Never, after, end),
+        Keyword::Always => read_demand(alloc, earlier, DemandKind::Always, after, end),
     }
 }
 
 fn read_tag(
     alloc: Global,
+    earlier: Earlier<'_>,
     mut lexemes: PlacedLexemes<'_>,
     end: usize,
-) -> Result<Definition, ReadError>
-    ensures { Gives trees.definition result (reading.named (reading.tag_read end) end lexemes.entry) }
+) -> Result<ReadDefinition, ReadError>
+    ensures { GivesDefinition earlier.entry lexemes.entry result
+        (reading.named (reading.tag_read end) end lexemes.entry) }
 {
     let name = read_name(&mut lexemes, end)?;
     if let Some((place, lexeme)) = lexemes.next() {
         return Err(ReadError::Stop(FaultPlace::Lexeme(place, lexeme.len())));
     }
-    Ok(Definition::Tag(Name::copied(alloc, name)?))
+    Ok(ReadDefinition {
+        definition: Definition::Tag(Name::copied(alloc, name)?),
+        atoms_left: earlier.atoms_left,
+        faults: LineFaults::none(),
+    })
 }
 
 fn read_set(
     alloc: Global,
+    earlier: Earlier<'_>,
     mut lexemes: PlacedLexemes<'_>,
     end: usize,
-) -> Result<Definition, ReadError>
-    ensures { Gives trees.definition result (reading.named (reading.set_read end) end lexemes.entry) }
+) -> Result<ReadDefinition, ReadError>
+    ensures { GivesDefinition earlier.entry lexemes.entry result
+        (reading.named (reading.set_read end) end lexemes.entry) }
 {
     let name = read_name(&mut lexemes, end)?;
-    let set = read_spans(alloc, lexemes, end)?;
-    Ok(Definition::Set(Name::copied(alloc, name)?, set))
+    let read = read_spans(alloc, earlier.properties, lexemes, end)?;
+    Ok(ReadDefinition {
+        definition: Definition::Set(Name::copied(alloc, name)?, read.set),
+        atoms_left: earlier.atoms_left,
+        faults: read.faults,
+    })
 }
 
 fn read_rule(
     alloc: Global,
-    sets: &[Name],
+    earlier: Earlier<'_>,
     mut lexemes: PlacedLexemes<'_>,
     end: usize,
-) -> Result<Definition, ReadError>
+) -> Result<ReadDefinition, ReadError>
     requires { length lexemes < 2 ^ 63 }
-    ensures { Gives trees.definition result (reading.named (reading.rule_read sets.now end) end lexemes.entry) }
+    ensures { GivesDefinition earlier.entry lexemes.entry result
+        (reading.named (reading.rule_read earlier.entry.sets.now end) end lexemes.entry) }
 {
     let name = read_name(&mut lexemes, end)?;
-    let contexts = read_pattern(alloc, true, sets, lexemes, end)?;
-    Ok(Definition::Rule(Name::copied(alloc, name)?, contexts))
+    let read = read_pattern(alloc, true, earlier, lexemes, end)?;
+    Ok(ReadDefinition {
+        definition: Definition::Rule(Name::copied(alloc, name)?, read.tree),
+        atoms_left: read.atoms_left,
+        faults: read.faults,
+    })
 }
 
 fn read_demand(
     alloc: Global,
-    sets: &[Name],
+    earlier: Earlier<'_>,
     kind: DemandKind,
     lexemes: PlacedLexemes<'_>,
     end: usize,
-) -> Result<Definition, ReadError>
+) -> Result<ReadDefinition, ReadError>
     requires { length lexemes < 2 ^ 63 }
-    ensures { Gives trees.definition result
-        (map_read (demand_of kind) (reading.pattern_read false sets.now end lexemes.entry)) }
+    ensures { GivesDefinition earlier.entry lexemes.entry result
+        (map_read (demand_of kind) (reading.pattern_read false earlier.entry.sets.now end lexemes.entry)) }
 {
-    let pattern = read_pattern(alloc, false, sets, lexemes, end)?;
-    Ok(Definition::Demand(kind, pattern))
+    let read = read_pattern(alloc, false, earlier, lexemes, end)?;
+    Ok(ReadDefinition {
+        definition: Definition::Demand(kind, read.tree),
+        atoms_left: read.atoms_left,
+        faults: read.faults,
+    })
 }
 
 /// The name that stands next.

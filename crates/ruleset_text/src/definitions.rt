@@ -1,31 +1,32 @@
 //! What the lines of a ruleset define.
-ghost use Rattle.std.specs.Prelude.{◌≡◌, ◌+◌, ◌-◌, ◌<◌, ◌≤◌, ◌^◌, ◌||◌, length, map, IfOk, OnOk, OnErr};
+ghost use Rattle.std.specs.Prelude.{◌≡◌, ◌+◌, ◌-◌, ◌<◌, ◌≤◌, ◌^◌, nat_le, length, map, IfErr, IfOk};
+ghost use Rattle.std.specs.Prelude.{MatchResult, OnOk, OnErr, Some, Err};
 ghost use Rattle.std.specs.List.{AllByRecursion};
 ghost use Rattle.label_patterns.specs.Matches.{HasItsSets};
 ghost use Rattle.label_patterns.specs.Trees.{pattern};
 ghost use Rattle.ruleset_text.specs.Canonical.{definition_text};
 ghost use Rattle.ruleset_text.specs.Definition as definition;
 ghost use Rattle.ruleset_text.specs.Definitions as words;
-ghost use Rattle.ruleset_text.specs.Definitions.{added, all_atoms, canonical_size, defined, nothing_defined};
+ghost use Rattle.ruleset_text.specs.Definitions.{added, all_atoms, canonical_size, defined, definition_atoms};
+ghost use Rattle.ruleset_text.specs.Definitions.{nothing_defined, with_definition};
 ghost use Rattle.ruleset_text.specs.Definitions.{rule_name as name_of_rule, with_words};
+ghost use Rattle.ruleset_text.specs.DefinitionPlaces.{AreFaultsOf, definition_place, place_of};
 ghost use Rattle.ruleset_text.specs.DefinitionTrees as trees;
 ghost use Rattle.ruleset_text.specs.DemandTrees.{demand};
-ghost use Rattle.ruleset_text.specs.inner.DefinitionSteps.{Leaves};
-ghost use Rattle.ruleset_text.specs.Lexemes.{lexemes};
+ghost use Rattle.ruleset_text.specs.inner.DefinitionSteps.{IsEarlier, IsFaultless, Leaves};
+ghost use Rattle.ruleset_text.specs.Limits.{atoms};
 ghost use Rattle.ruleset_text.specs.Names.{is_one_of as is_among};
+ghost use Rattle.ruleset_text.specs.PlacedLexemes.{placed_lexemes, unplaced};
 ghost use Rattle.ruleset_text.specs.WellFormed.{AreDefinitions};
 
 use crate::copies::{copied_patterns, copied_sets};
-use crate::definition::{Definition, DemandKind, has_bad_class, has_known_sets};
-use crate::definition_line::{DefinitionLine, read_line};
-use crate::fault::DefinitionFault;
-use crate::keyword::{Keyword, keyword_of};
-use crate::lexemes::next_lexeme;
-use crate::limits::{
-    ATOM_LIMIT, DEFINITION_LIMIT, GROUP_LIMIT, PATTERN_LIMIT, SET_LIMIT, STAR_LIMIT, TAG_LIMIT,
-    is_within, without_atoms,
-};
+use crate::definition::{Definition, DemandKind, canonical_len};
+use crate::definition_line::DefinitionLine;
+use crate::definition_reading::{ReadDefinition, read_definition};
+use crate::fault::{DefinitionFault, DefinitionRefusal, FaultPlace};
+use crate::limits::{ATOM_LIMIT, DEFINITION_LIMIT, PATTERN_LIMIT, SET_LIMIT, TAG_LIMIT};
 use crate::names::{Name, copied_names, is_one_of};
+use crate::reading::Earlier;
 use idn_class::Properties;
 use label_patterns::{PatternTree, PointSet};
 use std::alloc::{AllocError, Global};
@@ -189,35 +190,24 @@ impl Definitions {
         self.written
     }
 
-    /// Adds what a line defines, by its keyword and the text after it. The canonical text of the definitions may have
-    /// `limit` bytes. An `Err` changes nothing.
+    /// Adds what a line defines. The canonical text of the definitions may have `limit` bytes. An `Err` changes nothing.
     pub fn define(
         &mut self,
         alloc: Global,
         limit: usize,
-        keyword: Keyword,
-        text: &[u8],
-    ) -> Result<(), DefinitionFault>
-        ensures read { Leaves result self.new (defined limit self.old keyword (lexemes text.now)) }
+        line: DefinitionLine<'_>,
+    ) -> Result<(), DefinitionRefusal>
+        requires few { length line.after < 2 ^ 63 }
+        ensures read { Leaves result self.new
+            (defined limit self.old line.entry.keyword (unplaced line.entry.after)) }
+        ensures place { IfErr result (λ r. r.place ≡ definition_place self.old r.fault line.entry) }
         ensures err { OnErr result (self.new ≡ self.old) }
     {
-        let line = read_line(alloc, self.set_names(), keyword, text)?;
-        if self.is_line_over_limit(limit, line.len) {
-            return Err(DefinitionFault::Limit);
-        }
-        if self.is_one_too_many(&line.definition) {
-            return Err(DefinitionFault::Limit);
-        }
-        if !has_known_sets(&line.definition, self.sets().len()) {
-            return Err(DefinitionFault::NoSuchName);
-        }
-        if has_bad_class(alloc, &line.definition, self.properties())? {
-            return Err(DefinitionFault::BadClass);
-        }
-        if self.has_same_name(&line.definition) {
-            return Err(DefinitionFault::SameName);
-        }
-        self.add(line)?;
+        let (key, name) = (line.place, line.after.first_place());
+        let read = read_definition(alloc, self.earlier(), line)?;
+        let len = canonical_len(alloc, self.set_names(), &read.definition)?;
+        self.check(limit, key, name, &read, len)?;
+        self.add(read.definition, read.atoms_left, len)?;
         Ok(())
     }
 
@@ -229,17 +219,64 @@ impl Definitions {
         alloc: Global,
         limit: usize,
         line: &[u8],
-    ) -> Result<(), DefinitionFault>
-        ensures read { Leaves result self.new (with_words limit self.old (lexemes line.now)) }
+    ) -> Result<(), DefinitionRefusal>
+        ensures read { Leaves result self.new (with_words limit self.old (unplaced (placed_lexemes line.now))) }
         ensures err { OnErr result (self.new ≡ self.old) }
     {
-        let Some((word, text)) = next_lexeme(line) else {
-            return Err(DefinitionFault::Syntax);
-        };
-        let Some(keyword) = keyword_of(word) else {
-            return Err(DefinitionFault::Syntax);
-        };
-        self.define(alloc, limit, keyword, text)
+        match DefinitionLine::begun(line) {
+            Ok(line) => self.define(alloc, limit, line),
+            Err(place) => Err(DefinitionFault::Syntax.at(Some(place))),
+        }
+    }
+
+    /// What is known before a further line.
+    fn earlier(&self) -> Earlier<'_>
+        ensures { IsEarlier result self.now }
+    {
+        Earlier {
+            sets: &self.set_names,
+            atoms_left: self.atoms_left,
+            properties: self.properties,
+        }
+    }
+
+    /// Refuses what was read, if something is wrong with it. The first thing that is, in this order, is told by the place
+    /// of the keyword or of the name, or by what reading told. The canonical line has `len` bytes.
+    fn check(
+        &self,
+        limit: usize,
+        key: FaultPlace,
+        name: Option<FaultPlace>,
+        read: &ReadDefinition,
+        len: usize,
+    ) -> Result<(), DefinitionRefusal>
+        requires faults { AreFaultsOf self.now (trees.definition read.now.definition) read.now.faults }
+        requires len { len ≡ length (definition_text self.now.set_names (trees.definition read.now.definition)) }
+        ensures fault { MatchResult result
+            (λ _. IsFaultless limit self.now (trees.definition read.now.definition))
+            (λ r. with_definition limit self.now (Some (trees.definition read.now.definition)) ≡ Err r.fault) }
+        ensures place { IfErr result (λ r. r.place ≡
+            place_of self.now r.fault key (trees.definition read.now.definition) read.now.faults name) }
+    {
+        if self.has_most(&read.definition) {
+            return Err(DefinitionFault::Limit.at(Some(key)));
+        }
+        if let Some(place) = read.faults.limit {
+            return Err(DefinitionFault::Limit.at(Some(place)));
+        }
+        if let Some(place) = read.faults.name {
+            return Err(DefinitionFault::NoSuchName.at(Some(place)));
+        }
+        if self.is_line_over_limit(limit, len) {
+            return Err(DefinitionFault::Limit.at(None));
+        }
+        if let Some(place) = read.faults.class {
+            return Err(DefinitionFault::BadClass.at(Some(place)));
+        }
+        if self.has_same_name(&read.definition) {
+            return Err(DefinitionFault::SameName.at(name));
+        }
+        Ok(())
     }
 
     /// Whether a canonical line of so many bytes is too long, or goes past what the canonical text may have.
@@ -249,24 +286,22 @@ impl Definitions {
         len > DEFINITION_LIMIT || len >= limit.saturating_sub(self.written)
     }
 
-    /// Whether one more of its kind goes past a limit.
-    fn is_one_too_many(&self, definition: &Definition) -> bool
-        ensures { result ≡ words.is_one_too_many self.now (trees.definition definition.now) }
+    /// Whether as many as may be are defined of its kind.
+    fn has_most(&self, definition: &Definition) -> bool
+        ensures { result ≡ words.has_most self.now (trees.definition definition.now) }
     {
         match definition {
             Definition::Tag(_) => self.tags.len() >= TAG_LIMIT,
             Definition::Set(_, _) => self.sets.len() >= SET_LIMIT,
-            Definition::Rule(_, contexts) => self.is_pattern_over_limit(contexts),
-            Definition::Demand(_, pattern) => self.is_pattern_over_limit(pattern),
+            Definition::Rule(_, _) => self.has_most_patterns(),
+            Definition::Demand(_, _) => self.has_most_patterns(),
         }
     }
 
-    fn is_pattern_over_limit(&self, tree: &PatternTree) -> bool
-        ensures { result ≡ words.is_pattern_over_limit self.now (pattern tree.now) }
+    fn has_most_patterns(&self) -> bool
+        ensures { result ≡ nat_le 256 (length self.now.rules + length self.now.demands) }
     {
         self.rules.len() + self.demands.len() >= PATTERN_LIMIT
-            || !is_within(tree, GROUP_LIMIT, STAR_LIMIT)
-            || without_atoms(tree, self.atoms_left).is_none()
     }
 
     /// Whether its name is that of a tag, a set or a rule.
@@ -290,19 +325,24 @@ impl Definitions {
     }
 
     /// Adds the definition of a line. An `Err` changes nothing.
-    fn add(&mut self, line: DefinitionLine) -> Result<(), AllocError>
-        requires without_fault { AreDefinitions (added self.old (trees.definition line.definition)) }
-        requires len { line.len ≡ length (definition_text self.old.set_names (trees.definition line.definition)) }
-        requires room { canonical_size self.old + (line.len + 1) < 2 ^ 64 }
-        ensures ok { OnOk result (self.new ≡ added self.old (trees.definition line.definition)) }
+    fn add(
+        &mut self,
+        definition: Definition,
+        atoms_left: usize,
+        len: usize,
+    ) -> Result<(), AllocError>
+        requires without_fault { AreDefinitions (added self.old (trees.definition definition)) }
+        requires atoms { atoms_left ≡ 4096 - all_atoms self.old - definition_atoms (trees.definition definition) }
+        requires len { len ≡ length (definition_text self.old.set_names (trees.definition definition)) }
+        requires room { canonical_size self.old + (len + 1) < 2 ^ 64 }
+        ensures ok { OnOk result (self.new ≡ added self.old (trees.definition definition)) }
         ensures err { OnErr result (self.new ≡ self.old) }
     {
-        let DefinitionLine { definition, len } = line;
         match definition {
             Definition::Tag(name) => self.add_tag(name, len),
             Definition::Set(name, set) => self.add_set(name, set, len),
-            Definition::Rule(name, contexts) => self.add_rule(name, contexts, len),
-            Definition::Demand(kind, pattern) => self.add_demand(kind, pattern, len),
+            Definition::Rule(name, contexts) => self.add_rule(name, contexts, atoms_left, len),
+            Definition::Demand(kind, pattern) => self.add_demand(kind, pattern, atoms_left, len),
         }
     }
 
@@ -332,14 +372,20 @@ impl Definitions {
         Ok(())
     }
 
-    fn add_rule(&mut self, name: Name, contexts: PatternTree, len: usize) -> Result<(), AllocError>
+    fn add_rule(
+        &mut self,
+        name: Name,
+        contexts: PatternTree,
+        atoms_left: usize,
+        len: usize,
+    ) -> Result<(), AllocError>
         requires without_fault { AreDefinitions (added self.old (definition.Rule name (pattern contexts))) }
+        requires atoms { atoms_left ≡ 4096 - all_atoms self.old - atoms (pattern contexts) }
         requires len { len ≡ length (definition_text self.old.set_names (definition.Rule name (pattern contexts))) }
         requires room { canonical_size self.old + (len + 1) < 2 ^ 64 }
         ensures ok { OnOk result (self.new ≡ added self.old (definition.Rule name (pattern contexts))) }
         ensures err { OnErr result (self.new ≡ self.old) }
     {
-        let atoms_left = without_atoms(&contexts, self.atoms_left).unwrap();
         self.rules.reserve(1)?;
         self.rule_names.push(name)?;
         self.rules.push(contexts).unwrap();
@@ -352,15 +398,16 @@ impl Definitions {
         &mut self,
         kind: DemandKind,
         tree: PatternTree,
+        atoms_left: usize,
         len: usize,
     ) -> Result<(), AllocError>
         requires without_fault { AreDefinitions (added self.old (definition.Demand kind (pattern tree))) }
+        requires atoms { atoms_left ≡ 4096 - all_atoms self.old - atoms (pattern tree) }
         requires len { len ≡ length (definition_text self.old.set_names (definition.Demand kind (pattern tree))) }
         requires room { canonical_size self.old + (len + 1) < 2 ^ 64 }
         ensures ok { OnOk result (self.new ≡ added self.old (definition.Demand kind (pattern tree))) }
         ensures err { OnErr result (self.new ≡ self.old) }
     {
-        let atoms_left = without_atoms(&tree, self.atoms_left).unwrap();
         self.demands.push(Demand {
             kind,
             pattern: tree,

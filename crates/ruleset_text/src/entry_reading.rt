@@ -1,13 +1,18 @@
 //! Reading the form of an entry or of a range, lexeme by lexeme.
-ghost use Rattle.std.specs.Prelude.{◌≡◌, true, IfOk, OnOk, slice_index};
+ghost use Rattle.std.specs.Prelude.{◌≡◌, true, IfOk, OnOk, bytes_eq, codes, length, slice_index};
 ghost use Rattle.std.specs.Option.{option_map};
 ghost use Rattle.ruleset_text.specs.EntryForms as forms;
 ghost use Rattle.ruleset_text.specs.EntryWords.{point_of};
+ghost use Rattle.ruleset_text.specs.EntryFaults.{notes_of};
 ghost use Rattle.ruleset_text.specs.EntrySteps as steps;
 ghost use Rattle.ruleset_text.specs.LineStops.{Gives};
+ghost use Rattle.ruleset_text.specs.declared.entry_reading.Phase.TheVariants.{Begin};
+ghost use Rattle.ruleset_text.specs.inner.EntryNoted.{names_next, noted, point_noted};
 ghost use Rattle.ruleset_text.specs.inner.EntryTaken.{is_before_name, is_before_word, taken_as};
 
+use crate::definitions::Definitions;
 use crate::entry_form::{EntryForm, Mapped, NamedCondition};
+use crate::entry_notes::{EntryNotes, LinePoint};
 use crate::entry_parts::EntryParts;
 use crate::fault::{FaultPlace, ReadError};
 use crate::names::{Name, is_name, is_one_of};
@@ -20,7 +25,7 @@ use std::mem::replace;
 
 /// What a lexeme is in the line of an entry, where it is no code point and no name.
 #[derive(Clone, Copy, Debug, PartialEq, Eq)]
-pub enum EntryWord {
+enum EntryWord {
     /// `!`
     Mark,
     /// `-`
@@ -72,17 +77,27 @@ struct EntryState {
 }
 
 /// The entry or the range that a line spells, with no other parts than these; or where the line stops being one, which
-/// law `reading_an_entry_is_exact` says. Tags and rules go by their names.
+/// law `reading_an_entry_is_exact` says. Tags and rules go by their names. What its form doesn't show is noted: where
+/// each sequence begins, and what is wrong after these definitions.
 // Always inline, so that it is where a table is read, whoever else calls it. So are each step and the end.
 #[inline(always)]
 #[tactic(auto, unfolding(crate::specs::EntrySteps::entry_read))]
-pub fn read_entry(alloc: Global, parts: EntryParts, line: &[u8]) -> Result<EntryForm, ReadError>
-    ensures { Gives forms.entry_form result (steps.entry_read parts line.now) }
+pub fn read_entry(
+    alloc: Global,
+    parts: EntryParts,
+    definitions: &Definitions,
+    line: &[u8],
+    notes: &mut EntryNotes,
+) -> Result<EntryForm, ReadError>
+    ensures read { Gives forms.entry_form result (steps.entry_read parts line.now) }
+    ensures noted { IfOk result (λ form. forms.notes notes.new ≡
+        notes_of definitions.now (forms.entry_form form) line.now) }
 {
+    notes.clear();
     let mut state = EntryState::new(alloc);
     let mut lexemes = PlacedLexemes::new(line);
     while let Some((place, lexeme)) = lexemes.next() {
-        if !state.step(alloc, parts, lexeme)? {
+        if !state.step(alloc, parts, definitions, notes, place, lexeme)? {
             return Err(ReadError::Stop(FaultPlace::Lexeme(place, lexeme.len())));
         }
     }
@@ -121,15 +136,39 @@ impl EntryState {
     /// A word of a part that is lacking may stand nowhere. A code point is no word.
     #[inline(always)]
     #[tactic(auto, using(crate::proofs::EntryWordLemmas::after_mark, crate::proofs::EntryWordLemmas::after_hyphen, crate::proofs::EntryWordLemmas::after_range))]
-    fn step(&mut self, alloc: Global, parts: EntryParts, lexeme: &[u8]) -> Result<bool, AllocError>
-        ensures { IfOk result (λ taken. steps.step_in parts (steps.state self.old) lexeme.now ≡
+    fn step(
+        &mut self,
+        alloc: Global,
+        parts: EntryParts,
+        definitions: &Definitions,
+        notes: &mut EntryNotes,
+        place: usize,
+        lexeme: &[u8],
+    ) -> Result<bool, AllocError>
+        ensures state { IfOk result (λ taken. steps.step_in parts (steps.state self.old) lexeme.now ≡
             taken_as taken (steps.state self.new)) }
+        ensures notes { IfOk result (λ taken. taken ≡ true → forms.notes notes.new ≡ noted definitions.now
+            (steps.state self.old) (record { place = place; lexeme = lexeme.now }) (forms.notes notes.old)) }
     {
         match self.phase {
-            Phase::Mark | Phase::Hyphen => self.take_point(lexeme),
-            Phase::Range => Ok(self.take_last(lexeme)),
-            Phase::As | Phase::When | Phase::Unless => self.take_name(alloc, parts, lexeme),
-            Phase::Begin | Phase::Point | Phase::Last | Phase::Tag | Phase::Rule => self.take_word(
+            Phase::Mark | Phase::Hyphen => self.take_point(
+                alloc,
+                definitions,
+                notes,
+                place,
+                lexeme,
+            ),
+            Phase::Range => self.take_last(alloc, definitions, notes, place, lexeme),
+            Phase::As | Phase::When | Phase::Unless => self.take_name(
+                alloc,
+                parts,
+                definitions,
+                notes,
+                place,
+                lexeme,
+            ),
+            Phase::Begin => self.begin(alloc, parts, definitions, notes, place, lexeme),
+            Phase::Point | Phase::Last | Phase::Tag | Phase::Rule => self.take_word(
                 alloc, parts, lexeme,
             ),
         }
@@ -142,12 +181,18 @@ impl EntryState {
         &mut self,
         alloc: Global,
         parts: EntryParts,
+        definitions: &Definitions,
+        notes: &mut EntryNotes,
+        place: usize,
         lexeme: &[u8],
     ) -> Result<bool, AllocError>
         requires { is_before_name self.old.phase ≡ true }
-        ensures { IfOk result (λ taken. steps.step_in parts (steps.state self.old) lexeme.now ≡
+        ensures state { IfOk result (λ taken. steps.step_in parts (steps.state self.old) lexeme.now ≡
             taken_as taken (steps.state self.new)) }
+        ensures notes { IfOk result (λ taken. forms.notes notes.new ≡ noted definitions.now (steps.state self.old)
+            (record { place = place; lexeme = lexeme.now }) (forms.notes notes.old)) }
     {
+        notes.add_name(self.names_next(definitions), lexeme, place);
         if !parts.named && is_lacking(parts, false, word_of(lexeme)) {
             return Ok(false);
         }
@@ -158,7 +203,17 @@ impl EntryState {
         }
     }
 
-    /// Takes a word, or the first code point of a source or a variant.
+    /// The names of which one stands next.
+    fn names_next<'a>(&self, definitions: &'a Definitions) -> &'a [Name]
+        ensures { result.now ≡ names_next definitions.now self.now.phase }
+    {
+        match self.phase {
+            Phase::As => definitions.tags(),
+            _ => definitions.rule_names(),
+        }
+    }
+
+    /// Takes a word after a code point or a name.
     #[inline(always)]
     fn take_word(
         &mut self,
@@ -171,23 +226,15 @@ impl EntryState {
             taken_as taken (steps.state self.new)) }
     {
         let word = word_of(lexeme);
-        if is_lacking(parts, self.is_new(), word) {
+        if is_lacking(parts, false, word) {
             return Ok(false);
         }
         match self.phase {
-            Phase::Begin => self.begin(word, lexeme),
             Phase::Point => self.after_point(alloc, word),
             Phase::Last => self.after_points(alloc, word),
             Phase::Tag => self.after_tag(alloc, word),
             _ => self.after_rule(alloc, word),
         }
-    }
-
-    /// Whether nothing of the line was read.
-    fn is_new(&self) -> bool
-        ensures { result ≡ steps.is_new (steps.state self.now) }
-    {
-        self.done.is_empty() && matches!(self.phase, Phase::Begin)
     }
 
     /// Goes on to another phase.
@@ -199,30 +246,71 @@ impl EntryState {
         true
     }
 
-    fn begin(&mut self, word: EntryWord, lexeme: &[u8]) -> Result<bool, AllocError>
-        ensures { IfOk result (λ taken. steps.begin_by (steps.state self.old) word lexeme.now ≡
+    /// Takes `!`, or the first code point of a source or a variant.
+    #[inline(always)]
+    fn begin(
+        &mut self,
+        alloc: Global,
+        parts: EntryParts,
+        definitions: &Definitions,
+        notes: &mut EntryNotes,
+        place: usize,
+        lexeme: &[u8],
+    ) -> Result<bool, AllocError>
+        requires { self.old.phase ≡ Begin }
+        ensures state { IfOk result (λ taken. steps.step_in parts (steps.state self.old) lexeme.now ≡
             taken_as taken (steps.state self.new)) }
+        ensures notes { IfOk result (λ taken. taken ≡ true → forms.notes notes.new ≡ noted definitions.now
+            (steps.state self.old) (record { place = place; lexeme = lexeme.now }) (forms.notes notes.old)) }
     {
-        match word {
-            EntryWord::Mark => {
-                self.current.marked = true;
-                self.phase = Phase::Mark;
-                Ok(true)
-            }
-            _ => self.take_point(lexeme),
+        if !is_mark(lexeme) {
+            return self.take_point(alloc, definitions, notes, place, lexeme);
         }
+        if is_lacking(parts, self.done.is_empty(), EntryWord::Mark) {
+            return Ok(false);
+        }
+        self.current.marked = true;
+        self.phase = Phase::Mark;
+        Ok(true)
     }
 
-    fn take_point(&mut self, lexeme: &[u8]) -> Result<bool, AllocError>
-        ensures { IfOk result (λ taken. steps.at_point (steps.state self.old) (point_of lexeme.now) ≡
+    fn take_point(
+        &mut self,
+        alloc: Global,
+        definitions: &Definitions,
+        notes: &mut EntryNotes,
+        place: usize,
+        lexeme: &[u8],
+    ) -> Result<bool, AllocError>
+        ensures state { IfOk result (λ taken. steps.at_point (steps.state self.old) (point_of lexeme.now) ≡
             taken_as taken (steps.state self.new)) }
+        ensures notes { IfOk result (λ taken. taken ≡ true → forms.notes notes.new ≡ point_noted definitions.now
+            (steps.state self.old) (record { place = place; lexeme = lexeme.now }) (forms.notes notes.old)) }
     {
         let Some(point) = hex_point(without_prefix(lexeme)) else {
             return Ok(false);
         };
+        notes.add_point(alloc, definitions, self.line_point(place, point))?;
         self.current.points.push(point)?;
         self.phase = Phase::Point;
         Ok(true)
+    }
+
+    /// A code point at this place, as the next one of its sequence.
+    fn line_point(&self, place: usize, point: u32) -> LinePoint
+        ensures { result ≡ record {
+          place = place;
+          point = point;
+          sequence = length self.now.done.items;
+          index = length self.now.current.points.items;
+        } }
+    {
+        LinePoint {
+            place,
+            point,
+            sequence: self.done.len(),
+            index: self.current.points.len(),
+        }
     }
 
     fn after_point(&mut self, alloc: Global, word: EntryWord) -> Result<bool, AllocError>
@@ -244,18 +332,29 @@ impl EntryState {
     }
 
     /// Takes the last code point of a range, if it isn't less than the first.
-    fn take_last(&mut self, lexeme: &[u8]) -> bool
-        ensures { steps.at_last (steps.state self.old) (point_of lexeme.now) ≡ taken_as result (steps.state self.new) }
+    fn take_last(
+        &mut self,
+        alloc: Global,
+        definitions: &Definitions,
+        notes: &mut EntryNotes,
+        place: usize,
+        lexeme: &[u8],
+    ) -> Result<bool, AllocError>
+        ensures state { IfOk result (λ taken. steps.at_last (steps.state self.old) (point_of lexeme.now) ≡
+            taken_as taken (steps.state self.new)) }
+        ensures notes { IfOk result (λ taken. taken ≡ true → forms.notes notes.new ≡ point_noted definitions.now
+            (steps.state self.old) (record { place = place; lexeme = lexeme.now }) (forms.notes notes.old)) }
     {
         let Some(last) = hex_point(without_prefix(lexeme)) else {
-            return false;
+            return Ok(false);
         };
         if first_point(&self.current.points) > last {
-            return false;
+            return Ok(false);
         }
+        notes.add_point(alloc, definitions, self.line_point(place, last))?;
         self.last = Some(last);
         self.phase = Phase::Last;
-        true
+        Ok(true)
     }
 
     fn after_points(&mut self, alloc: Global, word: EntryWord) -> Result<bool, AllocError>
@@ -399,7 +498,13 @@ fn is_complete(phase: Phase) -> bool
     matches!(phase, Phase::Point | Phase::Last | Phase::Tag | Phase::Rule)
 }
 
-pub fn word_of(lexeme: &[u8]) -> EntryWord
+fn is_mark(lexeme: &[u8]) -> bool
+    ensures { result ≡ bytes_eq lexeme.now (codes "!") }
+{
+    matches!(lexeme, b"!")
+}
+
+fn word_of(lexeme: &[u8]) -> EntryWord
     ensures { result ≡ steps.word_of lexeme.now }
 {
     match lexeme {

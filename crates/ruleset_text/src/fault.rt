@@ -1,8 +1,8 @@
 //! Why a line is refused, and where.
-ghost use Rattle.std.specs.Prelude.{◌≡◌};
+ghost use Rattle.std.specs.Prelude.{◌≡◌, None};
 ghost use Rattle.ruleset_text.specs.declared.fault.DefinitionFault.TheVariants.{Memory};
 ghost use Rattle.ruleset_text.specs.declared.fault.ReadError.TheVariants.{Memory as NoMemory, Stop};
-ghost use Rattle.ruleset_text.specs.LineStops.{fault_of};
+ghost use Rattle.ruleset_text.specs.LineStops.{refusal_of};
 
 use std::alloc::{AllocError, AllocFailed};
 
@@ -24,29 +24,38 @@ pub enum DefinitionFault {
     Memory,
 }
 
-impl From<AllocError> for DefinitionFault {
-    ghost from_gives = { λ _ e. e ≡ Memory };
+/// Why a line that is to define something is refused, and where, if the step that meets the fault has its place in its
+/// hand.
+#[derive(Clone, Copy, Debug, PartialEq, Eq)]
+pub struct DefinitionRefusal {
+    pub fault: DefinitionFault,
+    pub place: Option<FaultPlace>,
+}
+
+impl DefinitionFault {
+    /// The fault at this place.
+    pub(crate) fn at(self, place: Option<FaultPlace>) -> DefinitionRefusal
+        ensures { result ≡ record { fault = self; place = place } }
+    {
+        DefinitionRefusal { fault: self, place }
+    }
+}
+
+impl From<AllocError> for DefinitionRefusal {
+    ghost from_gives = { λ _ r. r ≡ record { fault = Memory; place = None } };
 
     fn from(_: AllocError) -> Self {
-        DefinitionFault::Memory
+        DefinitionFault::Memory.at(None)
     }
 }
 
-impl<T: Drop> From<AllocFailed<T>> for DefinitionFault {
-    ghost from_gives = { λ _ e. e ≡ Memory };
-
-    fn from(_: AllocFailed<T>) -> Self {
-        DefinitionFault::Memory
-    }
-}
-
-impl From<ReadError> for DefinitionFault {
-    ghost from_gives = { λ e f. f ≡ fault_of e };
+impl From<ReadError> for DefinitionRefusal {
+    ghost from_gives = { λ e r. r ≡ refusal_of e };
 
     fn from(error: ReadError) -> Self {
         match error {
-            ReadError::Stop(_) => DefinitionFault::Syntax,
-            ReadError::Memory => DefinitionFault::Memory,
+            ReadError::Stop(place) => DefinitionFault::Syntax.at(Some(place)),
+            ReadError::Memory => DefinitionFault::Memory.at(None),
         }
     }
 }
@@ -81,6 +90,29 @@ impl<T: Drop> From<AllocFailed<T>> for ReadError {
 
     fn from(_: AllocFailed<T>) -> Self {
         ReadError::Memory
+    }
+}
+
+/// Where a line has faults that its form doesn't show: of each kind the first.
+#[derive(Clone, Copy, Debug, PartialEq, Eq)]
+pub struct LineFaults {
+    /// What goes past a limit.
+    pub limit: Option<FaultPlace>,
+    /// A name that no earlier line defines.
+    pub name: Option<FaultPlace>,
+    /// A code point that no label has.
+    pub class: Option<FaultPlace>,
+}
+
+impl LineFaults {
+    pub fn none() -> Self
+        ensures { result ≡ record { limit = None; name = None; class = None } }
+    {
+        LineFaults {
+            limit: None,
+            name: None,
+            class: None,
+        }
     }
 }
 

@@ -18,12 +18,17 @@ ghost use Rattle.ruleset_text.specs.Definition as definition;
 ghost use Rattle.ruleset_text.specs.Definitions.{Definitions, added, canonical_lines, canonical_size, defined};
 ghost use Rattle.ruleset_text.specs.Definitions.{nothing_defined, with_lines, with_words};
 ghost use Rattle.ruleset_text.specs.DefinitionOrder.{IsDefinitionFault, IsDefinitionLine, SpellsDefinition, SpellsLine};
-ghost use Rattle.ruleset_text.specs.DefinitionReading.{line_read};
+ghost use Rattle.ruleset_text.specs.DefinitionPlaces.{AreFaultsOf, faults_after};
+ghost use Rattle.ruleset_text.specs.DefinitionReading.{definition_read, line_read};
 ghost use Rattle.ruleset_text.specs.LineStops.{IsLineStop};
-ghost use Rattle.std.specs.Result.{result_err};
 ghost use Rattle.ruleset_text.specs.PlacedLexemes.{Placed, unplaced};
 ghost use Rattle.ruleset_text.specs.declared.fault.FaultPlace.{FaultPlace};
-ghost use Rattle.ruleset_text.specs.Grammar.{Is, Whole, SpellsPattern};
+ghost use Rattle.ruleset_text.specs.Grammar.{Is, Whole, SpellsPattern, tokens};
+ghost use Rattle.ruleset_text.specs.EntryFaults.{PlacedWord};
+ghost use Rattle.ruleset_text.specs.LineFaults.{IsFirstTold, first_told};
+ghost use Rattle.ruleset_text.specs.declared.entry_notes.LinePoint.{LinePoint};
+ghost use Rattle.ruleset_text.specs.PatternLimits.{is_past_limits, marks};
+ghost use Rattle.std.specs.List.{list_any};
 ghost use Rattle.ruleset_text.specs.EntrySteps.{entry_in};
 ghost use Rattle.ruleset_text.specs.inner.Examples.{some_defined, written};
 ghost use Rattle.ruleset_text.specs.Lexemes.{lexemes};
@@ -60,14 +65,12 @@ pub fn reading_a_definition_is_exact()
 
 /// What is read of a line is the definition that it spells; or the place where it stops defining something: some
 /// definition begins with the lexemes before, and none goes on with the one that stands there; or the line ends there
-/// too early. The place is the same however the sets are numbered.
+/// too early.
 pub fn a_line_stops_where_no_definition_goes_on()
     ensures read { (names : List (List ℕ)) (end : ℕ) (ws : List Placed) (x : Definition) →
         (line_read names end ws ≡ Ok x) ↔ SpellsLine names (unplaced ws) x }
     ensures place { (names : List (List ℕ)) (end : ℕ) (ws : List Placed) (place : FaultPlace) →
         (line_read names end ws ≡ Err place) ↔ IsLineStop (IsDefinitionLine names) ws end place }
-    ensures alike { (names : List (List ℕ)) (end : ℕ) (ws : List Placed) →
-        result_err (line_read names end ws) ≡ result_err (line_read [] end ws) }
 {}
 
 /// A line that is to define something is refused exactly if some condition of a refusal holds for it, and the fault is
@@ -75,6 +78,30 @@ pub fn a_line_stops_where_no_definition_goes_on()
 pub fn the_first_condition_of_a_definition_is_told()
     ensures { (limit : ℕ) (d : Definitions) (keyword : Keyword) (words : List (List ℕ)) (fault : DefinitionFault) →
         (defined limit d keyword words ≡ Err fault) ↔ IsDefinitionFault limit d keyword words fault }
+{}
+
+/// What is told of the lexemes of a line, of its words or of its code points is told of the first of which something is
+/// told.
+pub fn the_first_lexeme_is_told()
+    ensures lexeme { (f : Placed → Option FaultPlace) (ws : List Placed) (place : FaultPlace) →
+        (first_told f ws ≡ Some place) ↔ IsFirstTold f ws place }
+    ensures word { (f : PlacedWord → Option FaultPlace) (words : List PlacedWord) (place : FaultPlace) →
+        (first_told f words ≡ Some place) ↔ IsFirstTold f words place }
+    ensures point { (f : LinePoint → Option FaultPlace) (points : List LinePoint) (place : FaultPlace) →
+        (first_told f points ≡ Some place) ↔ IsFirstTold f points place }
+{}
+
+/// Each token of a pattern has a mark, and some mark is true exactly if the pattern goes past a limit.
+pub fn tokens_past_limits_are_marked()
+    ensures each { (left : ℕ) (p : Pattern) → length (marks 0 left p) ≡ length (tokens p) }
+    ensures some { (left : ℕ) (p : Pattern) → list_any (λ mark. mark) (marks 0 left p) ≡ is_past_limits left p }
+{}
+
+/// A place is told of a line that defines something exactly where reading refuses it: for a pattern past a limit or a
+/// definition too many, for a set that isn't defined, for a code point that no label has.
+pub fn places_are_told_of_definitions_that_are_refused()
+    ensures { (d : Definitions) (keyword : Keyword) (end : ℕ) (ws : List Placed) (x : Definition) → AreDefinitions d →
+        definition_read d.set_names keyword end ws ≡ Ok x → AreFaultsOf d x (faults_after d x ws) }
 {}
 
 /// The canonical text of a pattern, cut into tokens, is read as that pattern, where its sets are among those that are

@@ -1,95 +1,115 @@
 //! The limits on what a ruleset defines, and those on a pattern.
-ghost use Rattle.std.specs.Prelude.{◌≡◌, ◌↔◌, ◌+◌, ◌<◌, ◌≤◌, MatchOption, IsTrue};
+ghost use Rattle.std.specs.Prelude.{◌≡◌, ◌-◌, nat_le};
+ghost use Rattle.std.specs.Option.{option_or};
 ghost use Rattle.label_patterns.specs.Trees.{pattern};
 ghost use Rattle.ruleset_text.specs.Limits as limits;
-ghost use Rattle.label_patterns.specs.Matches.{HasItsSets};
-ghost use Rattle.ruleset_text.specs.Limits.{IsWithin};
+ghost use Rattle.ruleset_text.specs.inner.PatternSteps as steps;
+ghost use Rattle.ruleset_text.specs.Pieces.{pieces as pieces_of};
 
+use crate::fault::FaultPlace;
+use crate::pieces::Piece;
+use crate::token::Token;
 use label_patterns::PatternTree;
 
 /// The most tags of a ruleset.
 pub const TAG_LIMIT: usize = 8;
 
 /// The most sets.
-pub const SET_LIMIT: usize = 256;
+pub(crate) const SET_LIMIT: usize = 256;
 
 /// The most rules and demands together.
-pub const PATTERN_LIMIT: usize = 256;
+pub(crate) const PATTERN_LIMIT: usize = 256;
 
 /// The most atoms of all patterns together.
-pub const ATOM_LIMIT: usize = 4096;
+pub(crate) const ATOM_LIMIT: usize = 4096;
 
 /// The most groups of a pattern that stand within each other.
-pub const GROUP_LIMIT: usize = 8;
+const GROUP_LIMIT: usize = 8;
 
 /// The most `*` of a pattern that stand within each other.
-pub const STAR_LIMIT: u32 = 2;
+const STAR_LIMIT: u32 = 2;
 
 /// The most bytes of the canonical line of a definition.
 pub(crate) const DEFINITION_LIMIT: usize = 8192;
 
-/// Whether at most so many groups, and at most so many `*`, stand within each other.
-pub fn is_within(tree: &PatternTree, groups: usize, stars: u32) -> bool
-    ensures { IsTrue result ↔ IsWithin groups stars (pattern tree.now) }
+/// The place of a token with which a pattern goes past a limit, unless an earlier one does: a group within eight
+/// others, a `*` after an atom in which two stand within each other, or an atom where none may follow.
+pub fn past_limit(
+    earlier: Option<FaultPlace>,
+    pieces: &[Piece],
+    groups: usize,
+    atoms_left: usize,
+    token: Token,
+    at: FaultPlace,
+) -> Option<FaultPlace>
+    ensures { result ≡ option_or earlier
+        (steps.past_place (pieces_of pieces.now) groups atoms_left at token) }
 {
-    match tree {
-        PatternTree::Point(_) => true,
-        PatternTree::Set(_) => true,
-        PatternTree::Any => true,
-        PatternTree::Start => true,
-        PatternTree::End => true,
-        PatternTree::Anchor => true,
-        PatternTree::Group(part) => groups > 0 && is_within(part, groups - 1, stars),
-        PatternTree::Optional(part) => is_within(part, groups, stars),
-        PatternTree::Many(part) => stars > 0 && is_within(part, groups, stars - 1),
-        PatternTree::Then(first, second) => {
-            is_within(first, groups, stars) && is_within(second, groups, stars)
-        }
-        PatternTree::Either(left, right) => is_within(left, groups, stars)
-            && is_within(right, groups, stars),
+    if earlier.is_some() {
+        return earlier;
+    }
+    is_past(pieces, groups, atoms_left, token).then_some(at)
+}
+
+fn is_past(pieces: &[Piece], groups: usize, atoms_left: usize, token: Token) -> bool
+    ensures { result ≡ steps.is_past (pieces_of pieces.now) groups atoms_left token }
+{
+    match token {
+        Token::Point(_) | Token::Set(_) | Token::Any | Token::Start | Token::End => atoms_left == 0,
+        Token::Open => groups >= GROUP_LIMIT || atoms_left == 0,
+        Token::Many => has_most_stars(pieces),
+        Token::Anchor | Token::Close | Token::Optional | Token::Or | Token::Other => false,
     }
 }
 
-/// What is left of so many atoms, if there are enough.
-pub fn without_atoms(tree: &PatternTree, left: usize) -> Option<usize>
-    ensures { MatchOption result (left < limits.atoms (pattern tree.now))
-        (λ less. limits.atoms (pattern tree.now) + less ≡ left) }
+/// Whether as many `*` as may be stand within each other in the last piece.
+fn has_most_stars(pieces: &[Piece]) -> bool
+    ensures { result ≡ steps.has_most_stars (pieces_of pieces.now) }
 {
-    match tree {
-        PatternTree::Point(_) => left.checked_sub(1),
-        PatternTree::Set(_) => left.checked_sub(1),
-        PatternTree::Any => left.checked_sub(1),
-        PatternTree::Start => left.checked_sub(1),
-        PatternTree::End => left.checked_sub(1),
-        PatternTree::Anchor => Some(left),
-        PatternTree::Group(part) => without_atoms(part, left)?.checked_sub(1),
-        PatternTree::Optional(part) => without_atoms(part, left),
-        PatternTree::Many(part) => without_atoms(part, left),
-        PatternTree::Then(first, second) => without_atoms(second, without_atoms(first, left)?),
-        PatternTree::Either(left_part, right) => without_atoms(
-            right,
-            without_atoms(left_part, left)?,
-        ),
+    match pieces.last() {
+        Some(Piece::Part(item, _)) => has_stars(item, STAR_LIMIT),
+        _ => false,
     }
 }
 
-/// Whether each set is one of the first `count`.
-pub fn has_its_sets(tree: &PatternTree, count: usize) -> bool
-    ensures decides { IsTrue result ↔ HasItsSets count (pattern tree.now) }
-    ensures is { result ≡ limits.has_its_sets count (pattern tree.now) }
+/// Whether at least so many `*` stand within each other.
+fn has_stars(tree: &PatternTree, count: u32) -> bool
+    ensures { result ≡ nat_le count (limits.stars (pattern tree.now)) }
 {
     match tree {
-        PatternTree::Set(set) => *set < count,
-        PatternTree::Point(_) => true,
-        PatternTree::Any => true,
-        PatternTree::Start => true,
-        PatternTree::End => true,
-        PatternTree::Anchor => true,
-        PatternTree::Group(part) => has_its_sets(part, count),
-        PatternTree::Optional(part) => has_its_sets(part, count),
-        PatternTree::Many(part) => has_its_sets(part, count),
-        PatternTree::Then(first, second) => has_its_sets(first, count)
-            && has_its_sets(second, count),
-        PatternTree::Either(left, right) => has_its_sets(left, count) && has_its_sets(right, count),
+        PatternTree::Point(_) => count == 0,
+        PatternTree::Set(_) => count == 0,
+        PatternTree::Any => count == 0,
+        PatternTree::Start => count == 0,
+        PatternTree::End => count == 0,
+        PatternTree::Anchor => count == 0,
+        PatternTree::Group(part) => has_stars(part, count),
+        PatternTree::Optional(part) => has_stars(part, count),
+        PatternTree::Many(part) => count == 0 || has_stars(part, count - 1),
+        PatternTree::Then(first, second) => has_stars(first, count) || has_stars(second, count),
+        PatternTree::Either(left, right) => has_stars(left, count) || has_stars(right, count),
+    }
+}
+
+/// How many atoms may follow a token.
+pub fn without_atom(atoms_left: usize, token: Token) -> usize
+    ensures { result ≡ atoms_left - steps.atoms_at token }
+{
+    if is_counted(token) {
+        atoms_left.saturating_sub(1)
+    } else {
+        atoms_left
+    }
+}
+
+/// Whether it counts as an atom: so do `^` and `$`, and a group at its `(`.
+fn is_counted(token: Token) -> bool
+    ensures { result ≡ steps.is_counted token }
+{
+    match token {
+        Token::Point(_) | Token::Set(_) | Token::Any | Token::Start | Token::End | Token::Open =>
+            true,
+        Token::Anchor | Token::Close | Token::Optional | Token::Many | Token::Or | Token::Other =>
+            false,
     }
 }

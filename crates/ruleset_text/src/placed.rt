@@ -1,7 +1,9 @@
 //! The lexemes of a line with their places.
 ghost use Rattle.std.specs.Prelude.{◌≡◌, ◌≤◌, [], ◌∷◌, length, MatchOption};
+ghost use Rattle.ruleset_text.specs.DefinitionPlaces.{first_place};
 ghost use Rattle.ruleset_text.specs.PlacedLexemes.{placed_lexemes};
 
+use crate::fault::FaultPlace;
 use crate::lexemes::next_lexeme;
 use std::marker::Model;
 
@@ -34,6 +36,24 @@ impl<'a> PlacedLexemes<'a> {
             before: 0,
             rest: line,
         }
+    }
+
+    /// The same lexemes once more.
+    pub fn again(&self) -> PlacedLexemes<'a>
+        ensures { result ≡ self.now }
+    {
+        PlacedLexemes {
+            before: self.before,
+            rest: self.rest,
+        }
+    }
+
+    /// Where the next lexeme stands.
+    pub fn first_place(&self) -> Option<FaultPlace>
+        ensures { result ≡ first_place self.now }
+    {
+        let (place, lexeme) = self.again().next()?;
+        Some(FaultPlace::Lexeme(place, lexeme.len()))
     }
 
     /// The next lexeme, and before it its place.

@@ -3,13 +3,17 @@ ghost use Rattle.std.specs.Prelude.{◌≡◌, ◌+◌, IfOk, IfSome};
 ghost use Rattle.std.specs.Option.{option_map};
 ghost use Rattle.ruleset_text.specs.declared.spans.Held.TheVariants.{Above};
 ghost use Rattle.ruleset_text.specs.Spans as words;
+ghost use Rattle.ruleset_text.specs.DefinitionPlaces.{span_faults};
 ghost use Rattle.ruleset_text.specs.DefinitionReading.{spans_read};
+ghost use Rattle.ruleset_text.specs.LineFaults as places;
 ghost use Rattle.ruleset_text.specs.LineStops.{Gives};
-ghost use Rattle.ruleset_text.specs.inner.Rising.{IsRising};
+ghost use Rattle.ruleset_text.specs.inner.Rising.{IsRising, part_point};
 
-use crate::fault::{FaultPlace, ReadError};
+use crate::classes::bad_place;
+use crate::fault::{FaultPlace, LineFaults, ReadError};
 use crate::placed::PlacedLexemes;
 use crate::tokens::without_prefix;
+use idn_class::Properties;
 use idn_text::hex_point;
 use label_patterns::{PointSet, Span};
 use std::alloc::{AllocError, Global};
@@ -34,25 +38,52 @@ pub enum Held {
     Range(u32),
 }
 
+/// A set, and its faults.
+#[derive(Drop)]
+pub struct ReadSet {
+    pub set: PointSet,
+    pub faults: LineFaults,
+}
+
 /// The set of the spans that lexemes spell, code points and ranges that rise, to the end of a line of `end` bytes.
 pub fn read_spans(
     alloc: Global,
+    properties: Properties,
     mut lexemes: PlacedLexemes<'_>,
     end: usize,
-) -> Result<PointSet, ReadError>
-    ensures { Gives (λ set. set) result (spans_read end lexemes.entry) }
+) -> Result<ReadSet, ReadError>
+    ensures read { Gives (λ r. r.set) result (spans_read end lexemes.entry) }
+    ensures faults { IfOk result (λ r. r.faults ≡ span_faults properties lexemes.entry) }
 {
     let mut spans = Vec::new(alloc);
     let mut held = Held::Above(0);
+    let mut faults = LineFaults::none();
     while let Some((place, lexeme)) = lexemes.next() {
-        let Some(next) = step(&mut spans, held, part_of(lexeme))? else {
+        let part = part_of(lexeme);
+        faults.class = faults.class.or(part_place(alloc, properties, part, place)?);
+        let Some(next) = step(&mut spans, held, part)? else {
             return Err(ReadError::Stop(FaultPlace::Lexeme(place, lexeme.len())));
         };
         held = next;
     }
     match ended(spans, held)? {
-        Some(set) => Ok(set),
+        Some(set) => Ok(ReadSet { set, faults }),
         None => Err(ReadError::Stop(FaultPlace::End(end))),
+    }
+}
+
+/// The place of an end of a span that no label can have.
+fn part_place(
+    alloc: Global,
+    properties: Properties,
+    part: SpanPart,
+    place: usize,
+) -> Result<Option<FaultPlace>, AllocError>
+    ensures { IfOk result (λ found. found ≡ places.bad_place properties place (part_point part)) }
+{
+    match part {
+        SpanPart::Point(point) => bad_place(alloc, properties, place, point),
+        SpanPart::Range | SpanPart::Other => Ok(None),
     }
 }
 

@@ -1,6 +1,8 @@
 //! What lines of a ruleset define, and the first fault of a line that defines nothing.
 use idn_class::Properties;
-use ruleset_text::{DefinitionFault, Definitions, Name, push_pattern, push_spans};
+use ruleset_text::{
+    DefinitionFault, DefinitionRefusal, Definitions, Name, push_pattern, push_spans,
+};
 use std::alloc::{AllocError, Global};
 use std::test::Fail;
 
@@ -68,20 +70,36 @@ const LINES: [(&str, Option<DefinitionFault>); 45] = [
 #[test]
 fn first_faults_of_lines(rt: HostRuntime) {
     for (line, wanted) in LINES {
-        assert_eq!(&rt; fault(&rt, line), wanted, "{line:?}");
+        assert_eq!(&rt; fault(&rt, LIMIT, line), wanted, "{line:?}");
     }
 }
 
-/// The first fault of a line after those above.
-fn fault(rt: &HostRuntime, line: &str) -> Option<DefinitionFault> {
+/// Lines for whose canonical text there is no room, and their first faults.
+const LINES_WITHOUT_ROOM: [(&str, DefinitionFault); 4] = [
+    ("%never @A @nope", DefinitionFault::NoSuchName),
+    ("%never @A", DefinitionFault::Limit),
+    ("%never 0041", DefinitionFault::Limit),
+    ("%set A 0061", DefinitionFault::Limit),
+];
+
+#[test]
+fn first_faults_of_lines_without_room(rt: HostRuntime) {
+    for (line, wanted) in LINES_WITHOUT_ROOM {
+        assert_eq!(&rt; fault(&rt, 0, line), Some(wanted), "{line:?}");
+    }
+}
+
+/// The first fault of a line after those above. The canonical text may have so many bytes.
+fn fault(rt: &HostRuntime, limit: usize, line: &str) -> Option<DefinitionFault> {
     let mut definitions = defined(rt.alloc(), &DEFINED).ok()?;
-    definitions
-        .define_line(rt.alloc(), LIMIT, line.as_bytes())
-        .err()
+    let refusal = definitions
+        .define_line(rt.alloc(), limit, line.as_bytes())
+        .err()?;
+    Some(refusal.fault)
 }
 
 /// What lines define, or the first fault.
-fn defined(alloc: Global, lines: &[&str]) -> Result<Definitions, DefinitionFault> {
+fn defined(alloc: Global, lines: &[&str]) -> Result<Definitions, DefinitionRefusal> {
     let mut definitions = Definitions::new(alloc, Properties::Profile);
     for line in lines {
         definitions.define_line(alloc, LIMIT, line.as_bytes())?;

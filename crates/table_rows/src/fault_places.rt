@@ -2,7 +2,6 @@
 use idn_class::Properties;
 use ruleset_text::FaultPlace;
 use std::test::Fail;
-use table_cause::fault_place;
 use variant_table::{Notation, Table};
 
 const PLACES: [(Notation, &str, Option<FaultPlace>); 11] = [
@@ -81,6 +80,7 @@ fn lines_that_are_too_long(rt: HostRuntime) -> Result<(), Fail> {
 
 /// Where the first fault of a text stands in its line; none of a table without a fault.
 fn place(rt: &HostRuntime, notation: Notation, text: &str) -> Option<FaultPlace> {
-    let refusal = Table::read_by(rt.alloc(), notation, text.as_bytes(), Properties::Profile).err()?;
-    fault_place(rt.alloc(), &refusal.line?, refusal.fault).unwrap_or(None)
+    Table::read_by(rt.alloc(), notation, text.as_bytes(), Properties::Profile)
+        .err()?
+        .place
 }

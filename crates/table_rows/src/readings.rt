@@ -3,27 +3,28 @@ use crate::nets::{BLIND, SHARP_S, points};
 use reading_kinds::Readings;
 use std::alloc::Global;
 use std::test::Fail;
-use variant_list::substitutions_of;
+use variant_list::{Cuts, substitutions_of};
 use variant_table::{Notation, Table};
 
-/// The readings of a label of at most 63 code points under the table or ruleset of a text.
+/// The readings of a label of at most 63 code points under the table or ruleset of a text, by these cuts.
 fn readings_of(
     alloc: Global,
     notation: Notation,
     text: &[u8],
     label: &str,
+    cuts: Cuts,
 ) -> Result<Readings, Fail> {
     let table = Table::read(alloc, notation, text)?;
     let label = points(alloc, label)?;
     if label.len() > 63 {
         return Err("a label of more than 63 code points".into());
     }
-    Ok(Readings::new(alloc, substitutions_of(alloc, &table, &label)?)?)
+    Ok(Readings::new(alloc, substitutions_of(alloc, &table, &label, cuts)?)?)
 }
 
 /// Whether readings spell a label. None of more than 63 code points is asked about.
 pub fn spells(readings: &mut Readings, label: &[u32]) -> bool {
-    label.len() <= 63 && readings.words_of(label).is_some()
+    label.len() <= 63 && readings.spells(label)
 }
 
 /// Two segmentations of aa: one entry for both letters, or one for each.
@@ -65,7 +66,7 @@ const SPELLED: [(&[u8], &str, &str, bool); 24] = [
 fn labels_that_are_spelled(rt: HostRuntime) -> Result<(), Fail> {
     let alloc = rt.alloc();
     for (table, label, other, want) in SPELLED.iter() {
-        let mut readings = readings_of(alloc, Notation::Table, table, label)?;
+        let mut readings = readings_of(alloc, Notation::Table, table, label, Cuts::Segmentations)?;
         let label = points(alloc, label)?;
         let other = points(alloc, other)?;
         for time in 1..4 {
@@ -78,6 +79,41 @@ fn labels_that_are_spelled(rt: HostRuntime) -> Result<(), Fail> {
             let itself = spells(&mut readings, &label);
             assert!(&rt; itself, "{label:?} spells itself, time {time}");
         }
+    }
+    Ok(())
+}
+
+/// а of Cyrillic is outside, and is a variant of a, and a one of it.
+const OUTSIDE: &[u8] = b"%version 3\n0061|!0430\n0062\n!0430|!0061\n";
+
+/// a stands at the beginning alone, and becomes b.
+const AT_THE_START: &[u8] = b"%version 3\n%rule start ^ _\n0061 when start|0062\n0062\n";
+
+/// a becomes b at the beginning alone, wherever it stands.
+const BECOMES_AT_THE_START: &[u8] = b"%version 3\n%rule start ^ _\n0061|0062 when start\n0062\n";
+
+/// Labels, others, and whether the labels spell them, and whether these arise from them.
+const ARISING: [(&[u8], &str, &str, (bool, bool)); 9] = [
+    (OUTSIDE, "ab", "\u{430}b", (true, true)),
+    (OUTSIDE, "\u{430}b", "ab", (false, true)),
+    (OUTSIDE, "\u{430}b", "\u{430}b", (false, true)),
+    (AT_THE_START, "ab", "bb", (true, true)),
+    (AT_THE_START, "ba", "bb", (false, true)),
+    (AT_THE_START, "ba", "ab", (false, false)),
+    (BECOMES_AT_THE_START, "aa", "ba", (true, true)),
+    (BECOMES_AT_THE_START, "aa", "ab", (false, false)),
+    (BECOMES_AT_THE_START, "ac", "bc", (false, false)),
+];
+
+#[test]
+fn labels_that_arise(rt: HostRuntime) -> Result<(), Fail> {
+    let alloc = rt.alloc();
+    for (text, label, other, want) in ARISING {
+        let mut spelled = readings_of(alloc, Notation::Ruleset, text, label, Cuts::Segmentations)?;
+        let mut arising = readings_of(alloc, Notation::Ruleset, text, label, Cuts::Anyhow)?;
+        let other = points(alloc, other)?;
+        let told = (spells(&mut spelled, &other), spells(&mut arising, &other));
+        assert_eq!(&rt; told, want, "{label:?} and {other:?}");
     }
     Ok(())
 }
@@ -110,7 +146,7 @@ const KINDS: [(Notation, &[u8], &str, (u64, u64)); 10] = [
 fn kinds_of_readings(rt: HostRuntime) -> Result<(), Fail> {
     let alloc = rt.alloc();
     for (notation, text, other, want) in KINDS {
-        let mut readings = readings_of(alloc, notation, text, "aa")?;
+        let mut readings = readings_of(alloc, notation, text, "aa", Cuts::Segmentations)?;
         let other = points(alloc, other)?;
         if other.len() > 63 {
             return Err("a label of more than 63 code points".into());

@@ -9,7 +9,7 @@ use std::collections::BTreeSet;
 use std::process::Abort;
 use std::test::Fail;
 use variant_list::plain::all_labels;
-use variant_list::{Cursor, Net, NetFault, substitutions_of};
+use variant_list::{Cursor, Cuts, Net, NetFault, substitutions_of};
 use variant_table::{Notation, Table};
 
 /// How many cases there are.
@@ -175,7 +175,10 @@ fn assert_case(
         }
     };
     assert!(rt; !labels.is_empty(), "{label:?}");
-    let readings = Readings::new(alloc, substitutions_of(alloc, table, label)?)?;
+    let readings = Readings::new(
+        alloc,
+        substitutions_of(alloc, table, label, Cuts::Segmentations)?,
+    )?;
     assert_spelled(rt, readings, &labels, after);
     let mut cursor = Cursor::new(alloc, &net, after)?;
     Ok(assert_listed(rt, &net, &labels, &mut cursor, after))

@@ -1,5 +1,5 @@
 -- What the entries of a line add.
-use Rattle.std.proofs.Common.{◌≡◌, ℕ, ◌+◌, ◌-◌, ◌<◌, ◌≤◌, Bool, true, false, ◌||◌, cond, List, [], ◌∷◌, ◌++◌, length, map, Some, None, Result, Ok, Err, refl, sym, ap, subst, ◌∙◌, arith, length-append}
+use Rattle.std.proofs.Common.{◌≡◌, ℕ, ◌+◌, ◌-◌, ◌<◌, ◌≤◌, Bool, true, false, ◌||◌, cond, List, [], ◌∷◌, ◌++◌, length, map, Some, None, Ok, Err, refl, sym, ap, subst, ◌∙◌, arith, length-append}
 use Rattle.std.specs.Prelude.{nat_lt, slice_index}
 use Rattle.std.specs.List.{AllByRecursion, list_any, range_with_len}
 use Rattle.std.proofs.lemmas.Bool.{le-ltb, lt-ltb, or_from}
@@ -8,37 +8,24 @@ use Rattle.std.proofs.Math.Bool.{or-false}
 use Rattle.ruleset_text.specs.Definitions.{Definitions}
 use Rattle.ruleset_text.specs.Entries.{Mapped, EntryForm}
 use Rattle.ruleset_text.specs.EntryText.{IsForm}
-use Rattle.variant_table.specs.declared.fault.TableFault.{TableFault}
-use Rattle.variant_table.specs.declared.fault.TableFault.TheVariants as tables
 use Rattle.variant_table.specs.declared.version.Version.{Version}
 use Rattle.variant_table.specs.declared.version.Version.TheVariants.{One, Two, Three}
-use Rattle.variant_table.specs.Faults.{LineFault, Limit, NoSuchName, BadClass, SameVariant, SameSource}
+use Rattle.variant_table.specs.Faults.{Limit, NoSuchName, BadClass, SameVariant, SameSource}
 use Rattle.variant_table.specs.Canonical.{table_text, written_text}
 use Rattle.variant_table.specs.Conditions.{is_too_large, is_text_too_long, is_over_limit, has_bad_class, has_repeat, has_source_in}
 use Rattle.variant_table.specs.Entries.{Entry}
 use Rattle.variant_table.specs.Forms.{with_point, written_out, knows_all, variant_of, entry_of, entries_of}
 use Rattle.variant_table.specs.Limits.{text_limit, entry_limit}
 use Rattle.variant_table.specs.Ranges.{range_size}
-use Rattle.variant_table.specs.Reading.{◌>>=◌, with_entries, with_form}
+use Rattle.variant_table.specs.Reading.{with_entries, with_form}
 use Rattle.variant_table.specs.WellFormed.{IsNamed}
 use Rattle.variant_table.specs.inner.Held.{counted, IsCounted}
-use Rattle.variant_table.specs.inner.ReadingSteps.{Fails, with_new_source, with_new_sources}
+use Rattle.variant_table.specs.inner.ReadingSteps.{with_new_source, with_new_sources}
 use Rattle.variant_table.proofs.ConditionLemmas.{IsKnown, known_form, named_form, points_are, text_with}
 use Rattle.variant_table.proofs.LengthLemmas.{range_lines}
 use Rattle.variant_table.proofs.RangeLemmas.{points_from, range_small, range_single, with_range}
 use Rattle.variant_table.proofs.TestLemmas.{with_form-over, with_form-unnamed, with_form-entries, entries-bad, entries-again, entries-new}
 use Rattle.ruleset_text.proofs.LineBytes.{all_joined}
-
--- a fault of the first step is one of both
-pub fails_then : {X Y : Type 0} (number : ℕ) (fault : TableFault) (r : Result X LineFault) (f : X → Result Y LineFault) → Fails number fault r → Fails number fault (r >>= f)
-fails_then number tables.Memory r f h = tt
-fails_then number (tables.Limit line) r f h = (h.0, ap (λ x. x >>= f) h.1)
-fails_then number (tables.Syntax line) r f h = (h.0, ap (λ x. x >>= f) h.1)
-fails_then number (tables.BadClass line) r f h = (h.0, ap (λ x. x >>= f) h.1)
-fails_then number (tables.SameVariant line) r f h = (h.0, ap (λ x. x >>= f) h.1)
-fails_then number (tables.SameSource line) r f h = (h.0, ap (λ x. x >>= f) h.1)
-fails_then number (tables.NoSuchName line) r f h = (h.0, ap (λ x. x >>= f) h.1)
-fails_then number (tables.SameName line) r f h = (h.0, ap (λ x. x >>= f) h.1)
 
 -- ---- the bytes that are counted
 

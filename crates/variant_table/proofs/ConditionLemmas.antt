@@ -12,7 +12,8 @@ use Rattle.std.proofs.lemmas.List.Folds.{list_any_none}
 use Rattle.std.proofs.lemmas.List.Quantifiers.{all_pairs_push}
 use Rattle.std.proofs.lemmas.Slice.Eq.{bytes_eq-Decides}
 use Rattle.idn_text.specs.Points.{is_scalar_value}
-use Rattle.variant_table.specs.WellFormed.{is_table_class, IsPointBy, HasPointsBy, IsTablePoint, IsSequence as IsTableSequence, IsEntry}
+use Rattle.ruleset_text.specs.Classes.{is_label_class}
+use Rattle.variant_table.specs.WellFormed.{IsPointBy, HasPointsBy, IsTablePoint, IsSequence as IsTableSequence, IsEntry}
 use Rattle.idn_class.specs.Class.{class_of, is_scalar}
 use Rattle.idn_class.specs.declared.class.Class.{Class}
 use Rattle.idn_class.specs.declared.class.Class.TheVariants as classes
@@ -42,7 +43,7 @@ use Rattle.variant_table.specs.Reading.{with_form}
 use Rattle.variant_table.specs.WellFormed.{HasItsRule, HasItsNames, IsNamed}
 use Rattle.variant_table.proofs.FormSteps.{tags_named}
 use Rattle.variant_table.proofs.NumberLemmas.{all_back, number_below, numbers_below, numbers_apart}
-use Rattle.variant_table.proofs.RepeatLemmas.{distinct_from, no_repeats}
+use Rattle.variant_table.proofs.RepeatLemmas.{distinct_from, no_repeats, repeat_is}
 use Rattle.variant_table.proofs.TestLemmas.{told_by, with_form-by}
 use Rattle.idn_class.specs.declared.properties.Properties.{Properties}
 use Rattle.idn_class.specs.declared.properties.Properties.TheVariants.{Profile, Unicode}
@@ -58,47 +59,47 @@ AreScalars s = AllByRecursion (λ c. is_scalar_value c ≡ true) s
 no_scalar : (c : ℕ) → is_scalar_value c ≡ false → is_scalar c ≡ false
 no_scalar c h = is_scalar-out c (grind (arith, nat_tests))
 
-scalar_of_class : (p : Properties) (c : ℕ) → is_table_class (class_of p c) ≡ true → is_scalar_value c ≡ true
+scalar_of_class : (p : Properties) (c : ℕ) → is_label_class (class_of p c) ≡ true → is_scalar_value c ≡ true
 scalar_of_class p c h = by_cases (is_scalar_value c) refl
   where
     by_cases : (b : Bool) → is_scalar_value c ≡ b → is_scalar_value c ≡ true
     by_cases true e = e
-    by_cases false e = (let f : true ≡ false = sym h ∙ ap is_table_class (class_of-no_scalar p c (no_scalar c e)) in absurd cc)
+    by_cases false e = (let f : true ≡ false = sym h ∙ ap is_label_class (class_of-no_scalar p c (no_scalar c e)) in absurd cc)
 
 -- what the profile lets a table hold the standard does, too
-table_free : (class : Class) → is_table_class class ≡ true → is_barred class ≡ false
+table_free : (class : Class) → is_label_class class ≡ true → is_barred class ≡ false
 table_free classes.Disallowed h = cc
 table_free classes.Unassigned h = cc
 table_free classes.Pvalid h = refl
 table_free classes.Contextj h = refl
 table_free classes.Contexto h = refl
 
-free_table : (class : Class) → is_barred class ≡ false → is_table_class class ≡ true
+free_table : (class : Class) → is_barred class ≡ false → is_label_class class ≡ true
 free_table classes.Disallowed h = cc
 free_table classes.Unassigned h = cc
 free_table classes.Pvalid h = refl
 free_table classes.Contextj h = refl
 free_table classes.Contexto h = refl
 
-standard_table : (p : Properties) (c : ℕ) → is_table_class (class_of p c) ≡ true → is_table_class (class_of Unicode c) ≡ true
+standard_table : (p : Properties) (c : ℕ) → is_label_class (class_of p c) ≡ true → is_label_class (class_of Unicode c) ≡ true
 standard_table Profile c h = free_table (class_of Unicode c) (unbarred_by Unicode c (table_free (class_of Profile c) h))
 standard_table Unicode c h = h
 
 points_table : (p : Properties) (s : List ℕ) → has_bad_point p s ≡ false → AllByRecursion IsTablePoint s
 points_table p [] k = tt
 points_table p (c ∷ s) k =
-    let q = or_parts (not (is_table_class (class_of p c))) (has_bad_point p s) k in
-    let class : is_table_class (class_of p c) ≡ true = not-false (is_table_class (class_of p c)) q.0 in
+    let q = or_parts (not (is_label_class (class_of p c))) (has_bad_point p s) k in
+    let class : is_label_class (class_of p c) ≡ true = not-false (is_label_class (class_of p c)) q.0 in
     (record { scalar_value = scalar_of_class p c class; class = standard_table p c class }, points_table p s q.1)
 
 points_by : (p : Properties) (s : List ℕ) → has_bad_point p s ≡ false → AllByRecursion (IsPointBy p) s
 points_by p [] k = tt
 points_by p (c ∷ s) k =
-    let q = or_parts (not (is_table_class (class_of p c))) (has_bad_point p s) k in (not-false (is_table_class (class_of p c)) q.0, points_by p s q.1)
+    let q = or_parts (not (is_label_class (class_of p c))) (has_bad_point p s) k in (not-false (is_label_class (class_of p c)) q.0, points_by p s q.1)
 
 points_good : (p : Properties) (s : List ℕ) → AllByRecursion (IsPointBy p) s → has_bad_point p s ≡ false
 points_good p [] h = refl
-points_good p (c ∷ s) h = or_from (not (is_table_class (class_of p c))) (has_bad_point p s) (not_from_true (is_table_class (class_of p c)) h.0) (points_good p s h.1)
+points_good p (c ∷ s) h = or_from (not (is_label_class (class_of p c))) (has_bad_point p s) (not_from_true (is_label_class (class_of p c)) h.0) (points_good p s h.1)
 
 -- ---- one entry
 
@@ -164,7 +165,7 @@ entry_from_tests d (m ∷ ms) l h a b r =
     record {
       sequences = All-from_recursion IsTableSequence (replacements e) (sequences_table d.properties (replacements e) (filled_of d (m ∷ ms) h) (sym (short_of d (m ∷ ms)) ∙ p.1) b);
       few = omega (arith, ltb-false 17 (length (m ∷ ms)) p.0, length-map ms (variant_of d));
-      distinct = distinct_from (itself e ∷ e.variants) r;
+      distinct = distinct_from (itself e ∷ e.variants) (sym (repeat_is e) ∙ r);
     }
 
 pub small_from_entry : (d : Definitions) (ms : List Mapped) → 0 < length ms → IsEntry (entry_of d ms) → is_too_large ms ≡ false
@@ -174,7 +175,7 @@ small_from_entry d (m ∷ ms) l h =
     (short_of d (m ∷ ms) ∙ sequences_short (replacements (entry_of d (m ∷ ms))) (recursion_from_All IsTableSequence (replacements (entry_of d (m ∷ ms))) h.sequences))
 
 pub single_from_entry : (e : Entry) → IsEntry e → has_repeat e ≡ false
-single_from_entry e h = no_repeats (itself e ∷ e.variants) h.distinct
+single_from_entry e h = repeat_is e ∙ no_repeats (itself e ∷ e.variants) h.distinct
 
 -- ---- sources
 

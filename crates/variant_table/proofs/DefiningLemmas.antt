@@ -1,5 +1,5 @@
 -- What a line that defines something makes of a table.
-use Rattle.std.proofs.Common.{◌≡◌, ℕ, ◌+◌, ◌-◌, ◌≤◌, List, ◌++◌, length, Result, Ok, Err, refl, sym, ap, subst, ◌∙◌, arith, length-append}
+use Rattle.std.proofs.Common.{◌≡◌, ℕ, ◌+◌, ◌-◌, ◌≤◌, List, ◌++◌, length, Result, Ok, refl, sym, ap, subst, ◌∙◌, arith, length-append}
 use Rattle.ruleset_text.specs.declared.fault.DefinitionFault.{DefinitionFault}
 use Rattle.ruleset_text.specs.declared.fault.DefinitionFault.TheVariants as definitions
 use Rattle.ruleset_text.specs.declared.keyword.Keyword.{Keyword}
@@ -43,19 +43,19 @@ module _ (v : Version) (d : Definitions) (t : List Entry) (left len : ℕ) (is :
     pub definition_read : (e : Definitions) → defined (left + len) d k words ≡ Ok e → with_definition (table_of v d t) k words ≡ Ok (table_of v e t)
     definition_read e h = with_definition-is ∙ ap (defining (table_of v d t)) h
 
-    fault_told : (number : ℕ) (fault : DefinitionFault) (new : Definitions) (read : Result Definitions DefinitionFault) → steps.Leaves {X = Unit {0}} (Err fault) new read
+    fault_told : (number : ℕ) (fault : DefinitionFault) (read : Result Definitions DefinitionFault) → steps.Refuses fault read
         → Fails number (told_in number fault) (defining (table_of v d t) read)
-    fault_told number definitions.Memory new read h = tt
-    fault_told number definitions.Syntax new read h = (refl, ap (defining (table_of v d t)) h)
-    fault_told number definitions.Limit new read h = (refl, ap (defining (table_of v d t)) h)
-    fault_told number definitions.NoSuchName new read h = (refl, ap (defining (table_of v d t)) h)
-    fault_told number definitions.BadClass new read h = (refl, ap (defining (table_of v d t)) h)
-    fault_told number definitions.SameName new read h = (refl, ap (defining (table_of v d t)) h)
+    fault_told number definitions.Memory read h = tt
+    fault_told number definitions.Syntax read h = (refl, ap (defining (table_of v d t)) h)
+    fault_told number definitions.Limit read h = (refl, ap (defining (table_of v d t)) h)
+    fault_told number definitions.NoSuchName read h = (refl, ap (defining (table_of v d t)) h)
+    fault_told number definitions.BadClass read h = (refl, ap (defining (table_of v d t)) h)
+    fault_told number definitions.SameName read h = (refl, ap (defining (table_of v d t)) h)
 
-    pub definition_fails : (number : ℕ) (fault : DefinitionFault) (new : Definitions) → steps.Leaves {X = Unit {0}} (Err fault) new (defined (left + len) d k words)
+    pub definition_fails : (number : ℕ) (fault : DefinitionFault) → steps.Refuses fault (defined (left + len) d k words)
         → Fails number (told_in number fault) (with_definition (table_of v d t) k words)
-    definition_fails number fault new h =
-        subst (Fails number (told_in number fault)) (sym with_definition-is) (fault_told number fault new (defined (left + len) d k words) h)
+    definition_fails number fault h =
+        subst (Fails number (told_in number fault)) (sym with_definition-is) (fault_told number fault (defined (left + len) d k words) h)
 
     module _ (e : Definitions) (more : ℕ) (are : AreDefinitions d) (read : defined (left + len) d k words ≡ Ok e) (its : more ≡ canonical_size e) where
       grown : Grown (left + len) d e

@@ -1,5 +1,5 @@
 -- The differences of a table.
-use Rattle.std.proofs.Common.{◌≡◌, ◌⊎◌, inl, inr, ◌↔◌, ℕ, zero, suc, Bool, true, false, not, ◌&&◌, ◌||◌, ◌==◌, cond, List, [], ◌∷◌, ◌+◌, ◌-◌, ◌≤◌, drop, map, Option, Some, None, Ok, Err, refl, sym, ap, subst, ◌∙◌, arith, eq-eqb, Vec, Global}
+use Rattle.std.proofs.Common.{◌≡◌, ◌⊎◌, inl, inr, ◌↔◌, ℕ, Bool, true, false, not, ◌&&◌, ◌||◌, ◌==◌, cond, List, [], ◌∷◌, ◌+◌, ◌-◌, ◌≤◌, drop, map, Option, Some, None, Ok, Err, refl, sym, ap, subst, ◌∙◌, arith, eq-eqb, Vec, Global}
 use Rattle.std.specs.Prelude.{bytes_eq, slice_get, IfOk, Result}
 use Rattle.std.specs.Ordering.{nat_cmp, is_lt}
 use Rattle.std.specs.declared.cmp.Ordering.{Ordering}
@@ -16,7 +16,7 @@ use Rattle.variant_table.specs.Conditions.{is_same_kind}
 use Rattle.variant_table.specs.Entries.{Entry, Variant, sequences_in, replacements, whole}
 use Rattle.variant_table.specs.WellFormed.{IsWellFormed}
 use Rattle.variant_table.specs.Places.{entry_with}
-use Rattle.variant_table.specs.Gaps.{IsPair, has_variant, inserted, pair_cmp, pairs_of}
+use Rattle.variant_table.specs.Gaps.{has_variant, pair_cmp, pairs_of}
 use Rattle.variant_table.specs.Differences.{IsPairUnder, IsDifference, AreDifferencesOf, is_same_condition, has_under, has_beyond, differ_by, difference_at, differences_at, differences_of}
 use Rattle.variant_table.proofs.BeginningLemmas.{same_entry, entry_with-found, entry_with-of}
 use Rattle.variant_table.proofs.EntryLemmas.{sequence_found, variant_asked}

@@ -1,5 +1,5 @@
 -- Sources and variants of a form, one after another.
-use Rattle.std.proofs.Common.{◌≡◌, ℕ, zero, suc, ◌+◌, ◌<◌, ◌≤◌, Bool, true, false, ◌&&◌, List, [], ◌∷◌, ◌++◌, length, length-append, map, take, get_or, refl, sym, ap, subst, ◌∙◌, arith}
+use Rattle.std.proofs.Common.{◌≡◌, ℕ, zero, suc, ◌+◌, ◌<◌, ◌≤◌, Bool, true, ◌&&◌, List, [], ◌∷◌, ◌++◌, length, length-append, map, take, get_or, refl, sym, ap, subst, ◌∙◌, arith}
 use Rattle.std.specs.Prelude.{slice_index, slice_index_or, Option, Some}
 use Rattle.std.specs.List.{AllByRecursion, list_all}
 use Rattle.std.proofs.lemmas.Bool.{and_parts}
@@ -11,7 +11,7 @@ use Rattle.ruleset_text.specs.EntryForms.{mapped}
 use Rattle.ruleset_text.specs.Names.{AreNames, is_one_of, number_of}
 use Rattle.ruleset_text.specs.EntryText.{IsForm, MayHaveTags}
 use Rattle.variant_table.specs.Forms.{variant_of}
-use Rattle.variant_table.proofs.NumberLemmas.{few_numbers, numbers_below, numbers_apart, number_after, one_of}
+use Rattle.variant_table.proofs.NumberLemmas.{number_below, few_numbers, numbers_below, numbers_apart}
 
 -- ---- their sequences
 
@@ -46,46 +46,42 @@ names-take (tag ∷ tags) (suc i) h = (h.0, apart-take tag tags i h.1, names-tak
 
 -- ---- the numbers of tags, one after another
 
--- so far: the tags are known, and these are their numbers
-pub record AreFound (names tags : List (List ℕ)) (i : ℕ) (found : List ℕ) : Type 0 where
-  pub known : list_all (is_one_of names) (take i tags) ≡ true
-  pub numbers : found ≡ map (number_of names) (take i tags)
+one_of_names : (test : List ℕ → Bool) (xs : List (List ℕ)) (i : ℕ) (x : List ℕ) → i < length xs → x ≡ get_or xs i x → list_all test xs ≡ true → test x ≡ true
+one_of_names test [] i x l e h = absurd (omega (arith, l))
+one_of_names test (y ∷ xs) zero x l e h = ap test e ∙ (and_parts (test y) (list_all test xs) h).0
+one_of_names test (y ∷ xs) (suc i) x l e h = one_of_names test xs i x (omega (arith, l)) e (and_parts (test y) (list_all test xs) h).1
 
-all-push : (test : List ℕ → Bool) (xs : List (List ℕ)) (x : List ℕ) → list_all test xs ≡ true → test x ≡ true → list_all test (xs ++ x ∷ []) ≡ true
-all-push test [] x h t = ap (λ b. b && true) t
-all-push test (y ∷ xs) x h t = let p = and_parts (test y) (list_all test xs) h in ap (λ b. b && list_all test (xs ++ x ∷ [])) p.0 ∙ all-push test xs x p.1 t
+all-take : (test : List ℕ → Bool) (xs : List (List ℕ)) (i : ℕ) → list_all test xs ≡ true → list_all test (take i xs) ≡ true
+all-take test [] zero h = refl
+all-take test [] (suc i) h = refl
+all-take test (x ∷ xs) zero h = refl
+all-take test (x ∷ xs) (suc i) h = let p = and_parts (test x) (list_all test xs) h in ap (λ b. b && list_all test (take i xs)) p.0 ∙ all-take test xs i p.1
 
-module _ (names tags : List (List ℕ)) (i : ℕ) (found : List ℕ) (tag : List ℕ) (n : ℕ) (is : n ≡ number_of names tag) (so_far : AreFound names tags i found) (l : i < length tags) (at : tag ≡ get_or tags i tag) where
+-- these are the numbers so far
+module _ (names tags : List (List ℕ)) (i : ℕ) (found : List ℕ) (tag : List ℕ) (n : ℕ) (is : n ≡ number_of names tag) (so_far : found ≡ map (number_of names) (take i tags)) (l : i < length tags) (at : tag ≡ get_or tags i tag) (known : list_all (is_one_of names) tags ≡ true) where
   next : take (i + 1) tags ≡ take i tags ++ tag ∷ []
   next = take_more tags i tag l ∙ ap (λ y. take i tags ++ y ∷ []) (sym at)
 
-  pub tag_found : n < length names → AreFound names tags (i + 1) (found ++ n ∷ [])
-  tag_found below = record {
-    known = ap (list_all (is_one_of names)) next ∙ all-push (is_one_of names) (take i tags) tag so_far.known (one_of names tag (omega (arith, is, below)));
-    numbers = ap (λ ns. ns ++ n ∷ []) so_far.numbers ∙ ap (λ m. map (number_of names) (take i tags) ++ m ∷ []) is ∙ sym (map-append (number_of names) (take i tags) (tag ∷ [])) ∙ ap (map (number_of names)) (sym next);
-  }
+  pub tag_below : n < length names
+  tag_below = omega (arith, is, number_below names tag (one_of_names (is_one_of names) tags i tag l at known))
+
+  pub tag_found : found ++ n ∷ [] ≡ map (number_of names) (take (i + 1) tags)
+  tag_found =
+      ap (λ ns. ns ++ n ∷ []) so_far ∙ ap (λ m. map (number_of names) (take i tags) ++ m ∷ []) is ∙ sym (map-append (number_of names) (take i tags) (tag ∷ [])) ∙ ap (map (number_of names)) (sym next)
 
   -- there is room for it
-  pub tag_fits : AreNames tags → n < length names → length names ≤ 8 → length found < 8
-  tag_fits are below few =
-      let all : AreFound names tags (i + 1) (found ++ n ∷ []) = tag_found below in
+  pub tag_fits : AreNames tags → length names ≤ 8 → length found < 8
+  tag_fits are few =
       let kept : AreNames (take (i + 1) tags) = names-take tags (i + 1) are in
+      let all : list_all (is_one_of names) (take (i + 1) tags) ≡ true = all-take (is_one_of names) tags (i + 1) known in
       let most : length (map (number_of names) (take (i + 1) tags)) ≤ length names =
-      few_numbers (length names) (map (number_of names) (take (i + 1) tags)) (numbers_below names (take (i + 1) tags) all.known) (numbers_apart names (take (i + 1) tags) kept all.known) in
-      omega (arith, most, few, ap length all.numbers, length-append found (n ∷ []))
+      few_numbers (length names) (map (number_of names) (take (i + 1) tags)) (numbers_below names (take (i + 1) tags) all) (numbers_apart names (take (i + 1) tags) kept all) in
+      omega (arith, most, few, ap length tag_found, length-append found (n ∷ []))
 
-  -- a tag that isn't known
-  pub tag_unknown : n ≡ length names → list_all (is_one_of names) tags ≡ false
-  tag_unknown none = fails_at (is_one_of names) tags i tag l at (number_after names tag (sym is ∙ none))
-    where
-      fails_at : (test : List ℕ → Bool) (xs : List (List ℕ)) (i : ℕ) (x : List ℕ) → i < length xs → x ≡ get_or xs i x → test x ≡ false → list_all test xs ≡ false
-      fails_at test [] i x l e f = absurd (omega (arith, l))
-      fails_at test (y ∷ xs) zero x l e f = ap (λ z. test z && list_all test xs) (sym e) ∙ ap (λ b. b && list_all test xs) f
-      fails_at test (y ∷ xs) (suc i) x l e f = by_first (test y) (fails_at test xs i x (omega (arith, l)) e f)
-        where
-          by_first : (b : Bool) → list_all test xs ≡ false → (b && list_all test xs) ≡ false
-          by_first true h = h
-          by_first false h = refl
+-- what is tested of all is so of each
+pub all_known : (test : Mapped → Bool) (ms : List Mapped) → list_all test ms ≡ true → AllByRecursion (λ m. test m ≡ true) ms
+all_known test [] h = tt
+all_known test (m ∷ ms) h = let p = and_parts (test m) (list_all test ms) h in (p.0, all_known test ms p.1)
 
 -- ---- the source of a range
 

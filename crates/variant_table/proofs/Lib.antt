@@ -68,3 +68,11 @@ pub mod DefiningLemmas
 pub mod MemberLists
 -- The differences of a table.
 pub mod DifferenceLemmas
+-- What is noted of a line.
+pub mod NoteLemmas
+-- Examples of places.
+mod PlaceExampleLemmas
+-- Where a line has its fault.
+pub mod LinePlaceLemmas
+-- The line that is told is the first faulty one.
+pub mod FaultyLineLemmas

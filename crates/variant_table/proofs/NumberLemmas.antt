@@ -37,19 +37,6 @@ name_back (x ∷ names) name h = by_first (bytes_eq x name) refl h (name_back na
     by_first true e h rest = (bytes_eq-Decides x name).0 e
     by_first false e h rest = ap (name_at (x ∷ names)) (let next : 1 + number_of names name ≡ suc (number_of names name) = omega arith in next) ∙ rest h
 
-pub one_of : (names : List (List ℕ)) (name : List ℕ) → number_of names name < length names → is_one_of names name ≡ true
-unfolding number_of
-one_of [] name l = absurd (omega (arith, l))
-one_of (x ∷ names) name l = by_first (bytes_eq x name) l (one_of names name)
-  where
-    by_first : (b : Bool) → cond (not b) (1 + number_of names name) 0 < length (x ∷ names) → (number_of names name < length names → is_one_of names name ≡ true) → (b || is_one_of names name) ≡ true
-    by_first true l rest = refl
-    by_first false l rest = rest (omega (arith, l))
-
--- a name that is none of them has a number after theirs
-pub number_after : (names : List (List ℕ)) (name : List ℕ) → number_of names name ≡ length names → is_one_of names name ≡ false
-number_after names name e = false_from_ne_true (is_one_of names name) (λ h. omega (arith, e, number_below names name h))
-
 same : (name : List ℕ) → bytes_eq name name ≡ true
 same name = (bytes_eq-Decides name name).1 refl
 
@@ -183,14 +170,3 @@ all_back d [] h = refl
 all_back d (m ∷ mapped) h =
     let p = and_parts (knows_names d m) (knows_all d mapped) h in
     ap (λ x. x ∷ map (mapped_of d) (map (variant_of d) mapped)) (mapped_back d m p.0) ∙ ap (λ xs. m ∷ xs) (all_back d mapped p.1)
-
--- a rule that isn't known
-pub rule_unknown : (d : Definitions) (o : Option NamedCondition) (c : NamedCondition) (n : ℕ) → o ≡ Some c → n ≡ number_of d.rule_names c.rule → n ≡ length d.rule_names → knows_rule d o ≡ false
-rule_unknown d o c n e is none = ap (knows_rule d) e ∙ number_after d.rule_names c.rule (sym is ∙ none)
-
-pub rule_known : (d : Definitions) (o : Option NamedCondition) (c : NamedCondition) (n : ℕ) → o ≡ Some c → n ≡ number_of d.rule_names c.rule → n < length d.rule_names
-    → (knows_rule d o ≡ true) × (Some (record { kind = c.kind; rule = n }) ≡ option_map (numbered d) o)
-rule_known d o c n e is below = (
-  ap (knows_rule d) e ∙ one_of d.rule_names c.rule (omega (arith, is, below)),
-  ap (λ k. Some (record { kind = c.kind; rule = k })) is ∙ sym (ap (option_map (numbered d)) e),
-)

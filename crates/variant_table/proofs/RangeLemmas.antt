@@ -1,13 +1,15 @@
 -- The entries of a range, one by one.
-use Rattle.std.proofs.Common.{◌≡◌, ℕ, suc, ◌+◌, ◌-◌, ◌<◌, ◌≤◌, Bool, true, false, ◌||◌, cond, List, [], ◌∷◌, ◌++◌, map, Ok, Err, refl, sym, ap, ◌∙◌, arith, append_assoc}
-use Rattle.std.specs.Prelude.{bytes_eq}
+use Rattle.std.proofs.Common.{◌≡◌, ℕ, suc, ◌+◌, ◌-◌, ◌<◌, ◌≤◌, Bool, true, false, ◌||◌, cond, List, [], ◌∷◌, ◌++◌, map, Some, Ok, Err, refl, sym, ap, ◌∙◌, arith, append_assoc}
+use Rattle.std.specs.Prelude.{bytes_eq, find, is_some}
 use Rattle.std.specs.List.{range_with_len, list_any}
 use Rattle.std.proofs.lemmas.List.{append-nil}
 use Rattle.std.proofs.lemmas.Bool.{or_right}
 use Rattle.ruleset_text.specs.Entries.{Mapped}
 use Rattle.variant_table.specs.Faults.{SameSource}
 use Rattle.variant_table.specs.Entries.{Variant, Entry}
-use Rattle.variant_table.specs.Conditions.{is_too_large, has_repeat, has_source_in}
+use Rattle.idn_class.specs.declared.properties.Properties.{Properties}
+use Rattle.ruleset_text.specs.Classes.{is_bad_point}
+use Rattle.variant_table.specs.Conditions.{is_too_large, has_bad_class, has_repeat, has_source_in}
 use Rattle.variant_table.specs.Forms.{with_point}
 use Rattle.variant_table.specs.Ranges.{entry_in_range}
 use Rattle.variant_table.specs.Reading.{◌>>=◌}
@@ -35,6 +37,38 @@ points_start v first count = same_range (entry_in_range v) (first + 0) first (co
 
 pub points_end : (v : Variant) (first count i : ℕ) → count ≤ i → points_from v (first + i) (count - i) ≡ []
 points_end v first count i l = same_range (entry_in_range v) (first + i) (first + i) (count - i) 0 refl (omega (arith, l))
+
+-- ---- the first code point of a range that a test is true of
+
+module _ (p : ℕ → Bool) (first count i : ℕ) where
+  find_step : i < count → (b : Bool) → p (first + i) ≡ b → find p (range_with_len (first + i) (count - i)) ≡ cond b (Some (first + i)) (find p (range_with_len (first + (i + 1)) (count - (i + 1))))
+  find_step l b t =
+      ap (λ n. find p (range_with_len (first + i) n)) (let more : count - i ≡ suc (count - (i + 1)) = omega arith in more)
+      ∙ ap (λ c. cond c (Some (first + i)) (find p (range_with_len (first + i + 1) (count - (i + 1))))) t
+      ∙ ap (λ n. cond b (Some (first + i)) (find p (range_with_len n (count - (i + 1))))) (let next : first + i + 1 ≡ first + (i + 1) = omega arith in next)
+
+  pub find_here : i < count → p (first + i) ≡ true → find p (range_with_len (first + i) (count - i)) ≡ find p (range_with_len first count) → Some (first + i) ≡ find p (range_with_len first count)
+  find_here l t inv = sym (find_step l true t) ∙ inv
+
+  pub find_later : i < count → p (first + i) ≡ false → find p (range_with_len (first + i) (count - i)) ≡ find p (range_with_len first count) → find p (range_with_len (first + (i + 1)) (count - (i + 1))) ≡ find p (range_with_len first count)
+  find_later l t inv = sym (find_step l false t) ∙ inv
+
+pub some_found : {X : Type 0} (p : X → Bool) (xs : List X) → is_some (find p xs) ≡ list_any p xs
+some_found p [] = refl
+some_found {X} p (x ∷ xs) = by (p x) (some_found p xs)
+  where
+    by : (b : Bool) → is_some (find p xs) ≡ list_any p xs → is_some (cond b (Some x) (find p xs)) ≡ (b || list_any p xs)
+    by true rest = refl
+    by false rest = rest
+
+one_bad : (b : Bool) → ((b || false) || false) ≡ b
+one_bad true = refl
+one_bad false = refl
+
+pub points_bad : (properties : Properties) (v : Variant) (cs : List ℕ) → list_any (is_bad_point properties) cs ≡ list_any (has_bad_class properties) (map (entry_in_range v) cs)
+points_bad properties v [] = refl
+points_bad properties v (c ∷ cs) =
+    ap (λ b. b || list_any (is_bad_point properties) cs) (sym (one_bad (is_bad_point properties c))) ∙ ap (λ b. ((is_bad_point properties c || false) || false) || b) (points_bad properties v cs)
 
 -- ---- such entries have no fault of their own but a bad class
 

@@ -32,14 +32,14 @@ module _ (n b : ℕ) (t : TableValue) (line : List ℕ) (lines rest : List (List
   lines_step u e = ap (λ k. with_lines (n + 1) k u lines) (sym (add_assoc b (length line) 1)) ∙ sym (ap (further n b line lines) e) ∙ begun
 
   -- the line is the first faulty one
-  pub line_faulty : (fault : TableFault) (whole : Option FaultyLine) → first_faulty b t rest ≡ whole → Fails n fault (with_raw_line b t line) → (fault ≡ tables.Memory) ⊎ (Some (at_line t line) ≡ whole)
+  pub line_faulty : (fault : TableFault) (whole : Option FaultyLine) → first_faulty b t rest ≡ whole → Fails n fault (with_raw_line b t line) → (fault ≡ tables.Memory) ⊎ (Some (at_line b t line) ≡ whole)
   unfolding first_faulty
   line_faulty fault whole same h = by fault h
     where
-      here : (kind : LineFault) → with_raw_line b t line ≡ Err kind → Some (at_line t line) ≡ whole
-      here kind e = sym (ap (or_after (at_line t line) (λ u. first_faulty (b + length line + 1) u lines)) e) ∙ sym (ap (first_faulty b t) cut) ∙ same
+      here : (kind : LineFault) → with_raw_line b t line ≡ Err kind → Some (at_line b t line) ≡ whole
+      here kind e = sym (ap (or_after (at_line b t line) (λ u. first_faulty (b + length line + 1) u lines)) e) ∙ sym (ap (first_faulty b t) cut) ∙ same
 
-      by : (fault : TableFault) → Fails n fault (with_raw_line b t line) → (fault ≡ tables.Memory) ⊎ (Some (at_line t line) ≡ whole)
+      by : (fault : TableFault) → Fails n fault (with_raw_line b t line) → (fault ≡ tables.Memory) ⊎ (Some (at_line b t line) ≡ whole)
       by tables.Memory h = inl refl
       by (tables.Limit k) h = inr (here Limit h.1)
       by (tables.Syntax k) h = inr (here Syntax h.1)
@@ -54,7 +54,7 @@ module _ (n b : ℕ) (t : TableValue) (line : List ℕ) (lines rest : List (List
   unfolding first_faulty
   faulty_later u whole same e =
       ap (λ k. first_faulty k u lines) (sym (add_assoc b (length line) 1))
-      ∙ sym (ap (or_after (at_line t line) (λ v. first_faulty (b + length line + 1) v lines)) e) ∙ sym (ap (first_faulty b t) cut) ∙ same
+      ∙ sym (ap (or_after (at_line b t line) (λ v. first_faulty (b + length line + 1) v lines)) e) ∙ sym (ap (first_faulty b t) cut) ∙ same
 
   failed : (kind : LineFault) → with_raw_line b t line ≡ Err kind → total ≡ Err (n, kind)
   failed kind e = sym begun ∙ ap (further n b line lines) e

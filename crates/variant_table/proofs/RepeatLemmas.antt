@@ -1,20 +1,77 @@
 -- Variants of an entry that stand again, and those that are apart.
-use Rattle.std.proofs.Common.{◌≡◌, ℕ, zero, suc, ◌+◌, ◌<◌, ◌≤◌, Bool, true, false, not, ◌&&◌, ◌||◌, eqb, List, [], ◌∷◌, length, map, drop, get_or, Some, None, Option, refl, sym, ap, ◌∙◌, arith, eq-eqb, length-drop}
-use Rattle.std.specs.Prelude.{bytes_eq, slice_get}
+use Rattle.std.proofs.Common.{◌≡◌, ℕ, zero, suc, ◌+◌, ◌<◌, ◌≤◌, Bool, true, false, not, ◌&&◌, ◌||◌, cond, eqb, min, List, [], ◌∷◌, ◌++◌, length, map, take, drop, get_or, Some, None, Option, refl, sym, ap, ◌∙◌, append_assoc, append-nil, arith, eq-eqb}
+use Rattle.std.specs.Prelude.{bytes_eq, is_some, slice_get}
 use Rattle.std.specs.List.{AllByRecursion, AllPairs, Contains, list_any}
 use Rattle.std.proofs.lemmas.Bool.{and_parts, or_parts, or_from, not-false, eqb-true}
+use Rattle.std.proofs.lemmas.List.{length-take}
+use Rattle.std.proofs.lemmas.List.Folds.{list_any-append}
 use Rattle.std.proofs.lemmas.List.Elements.{All-from_recursion, recursion_from_All}
 use Rattle.std.proofs.lemmas.List.Kept.{AllPairs-cons}
 use Rattle.std.proofs.lemmas.Slice.Eq.{bytes_eq-Decides}
 use Rattle.label_patterns.specs.declared.condition.Condition.{Condition}
 use Rattle.label_patterns.specs.declared.condition.ConditionKind.{ConditionKind}
 use Rattle.label_patterns.specs.declared.condition.ConditionKind.TheVariants.{When, Unless}
-use Rattle.variant_table.specs.Conditions.{is_same_kind, differ, is_again, repeats, has_repeat}
+use Rattle.variant_table.specs.Conditions.{is_same_kind, differ, first_again, is_again, has_repeat, stands_in}
 use Rattle.variant_table.specs.Entries.{Variant, Entry, entry_from, itself, sequences_in}
 use Rattle.variant_table.specs.WellFormed.{AreOther, AreApart, IsEntry}
 use Rattle.variant_table.proofs.EntryLemmas.{sequence_found, variant_asked}
-use Rattle.variant_table.proofs.ListLemmas.{drop_next}
+use Rattle.variant_table.specs.inner.Held.{variants_of}
+use Rattle.variant_table.proofs.ListLemmas.{drop_all, drop_next, take_next}
 use Rattle.variant_table.proofs.NumberLemmas.{pairs_head, pairs_tail}
+
+-- ---- one that stands again later
+
+abbrev pub repeats : List Variant → Bool
+repeats [] = false
+repeats (v ∷ variants) = list_any (is_again v.sequence v.condition) variants || repeats variants
+
+-- the same by what stands before
+abbrev any_again : List Variant → List Variant → Bool
+any_again before [] = false
+any_again before (v ∷ variants) = stands_in before v || any_again (before ++ v ∷ []) variants
+
+some_again : (variants before : List Variant) → is_some (first_again before variants) ≡ any_again before variants
+some_again [] before = refl
+some_again (v ∷ variants) before = by (stands_in before v) (some_again variants (before ++ v ∷ []))
+  where
+    by : (b : Bool) → is_some (first_again (before ++ v ∷ []) variants) ≡ any_again (before ++ v ∷ []) variants
+        → is_some (cond b (Some (length before)) (first_again (before ++ v ∷ []) variants)) ≡ (b || any_again (before ++ v ∷ []) variants)
+    by true rest = refl
+    by false rest = rest
+
+last_moved : (a r q s : Bool) → ((a || (r || false)) || (q || s)) ≡ ((a || q) || (r || s))
+last_moved true r q s = refl
+last_moved false true true s = refl
+last_moved false true false s = refl
+last_moved false false q s = refl
+
+repeats_more : (before : List Variant) (v : Variant) → repeats (before ++ v ∷ []) ≡ (repeats before || stands_in before v)
+repeats_more [] v = refl
+repeats_more (u ∷ before) v =
+    ap (λ c. c || repeats (before ++ v ∷ [])) (list_any-append (is_again u.sequence u.condition) before (v ∷ []))
+    ∙ ap (λ c. (list_any (is_again u.sequence u.condition) before || (is_again u.sequence u.condition v || false)) || c) (repeats_more before v)
+    ∙ last_moved (list_any (is_again u.sequence u.condition) before) (is_again u.sequence u.condition v) (repeats before) (stands_in before v)
+
+first_moved : (s a p : Bool) → ((s || a) || p) ≡ (a || (p || s))
+first_moved true true p = refl
+first_moved true false true = refl
+first_moved true false false = refl
+first_moved false true p = refl
+first_moved false false true = refl
+first_moved false false false = refl
+
+again_repeats : (variants before : List Variant) → (any_again before variants || repeats before) ≡ repeats (before ++ variants)
+again_repeats [] before = ap repeats (sym (append-nil before))
+again_repeats (v ∷ variants) before =
+    first_moved (stands_in before v) (any_again (before ++ v ∷ []) variants) (repeats before)
+    ∙ ap (λ b. any_again (before ++ v ∷ []) variants || b) (sym (repeats_more before v)) ∙ again_repeats variants (before ++ v ∷ []) ∙ ap repeats (append_assoc before (v ∷ []) variants)
+
+or_false : (b : Bool) → b ≡ (b || false)
+or_false true = refl
+or_false false = refl
+
+pub repeat_is : (e : Entry) → has_repeat e ≡ repeats (itself e ∷ e.variants)
+repeat_is e = some_again (itself e ∷ e.variants) [] ∙ or_false (any_again [] (itself e ∷ e.variants)) ∙ again_repeats (itself e ∷ e.variants) []
 
 -- ---- conditions
 
@@ -93,43 +150,77 @@ no_repeats (v ∷ variants) h =
 
 -- ---- one after another
 
-pub repeats_here : (xs : List Variant) (i : ℕ) (x : Variant) → slice_get xs i ≡ Some x → list_any (is_again x.sequence x.condition) (drop (i + 1) xs) ≡ true → repeats (drop i xs) ≡ true
-repeats_here xs i x e t = ap repeats (drop_next xs i x e) ∙ ap (λ b. b || repeats (drop (i + 1) xs)) t
-
-pub repeats_later : (xs : List Variant) (i : ℕ) (x : Variant) → slice_get xs i ≡ Some x → list_any (is_again x.sequence x.condition) (drop (i + 1) xs) ≡ false → repeats (drop i xs) ≡ repeats (drop (i + 1) xs)
-repeats_later xs i x e t = ap repeats (drop_next xs i x e) ∙ ap (λ b. b || repeats (drop (i + 1) xs)) t
-
-pub again_else : (vs : List Variant) (i : ℕ) (s wanted : List ℕ) (d : Option Condition) → slice_get (sequences_in vs) i ≡ Some s → bytes_eq wanted s ≡ false
-    → (v : Variant) × (slice_get vs i ≡ Some v) × (false ≡ is_again wanted d v)
-again_else vs i s wanted d e f =
-    let at = sequence_found vs i s e in
-    (at.0, at.1, sym (ap (λ b. b && not (differ d (at.0).condition)) (ap (bytes_eq wanted) at.2 ∙ f)))
-
-pub again_then : (vs : List Variant) (i : ℕ) (s wanted : List ℕ) (c d : Option Condition) → slice_get (sequences_in vs) i ≡ Some s → slice_get (map (λ v. v.condition) vs) i ≡ Some c → bytes_eq wanted s ≡ true
-    → (v : Variant) × (slice_get vs i ≡ Some v) × (not (differ d c) ≡ is_again wanted d v)
-again_then vs i s wanted c d e f g =
+-- the variant at a number, by its sequence and its condition
+pub asked : (vs : List Variant) (i : ℕ) (s wanted : List ℕ) (c d : Option Condition) → slice_get (sequences_in vs) i ≡ Some s → slice_get (map (λ v. v.condition) vs) i ≡ Some c
+    → (v : Variant) × (slice_get vs i ≡ Some v) × ((bytes_eq s wanted && not (differ c d)) ≡ (bytes_eq v.sequence wanted && not (differ v.condition d)))
+asked vs i s wanted c d e f =
     let at = variant_asked vs i s c e f in
-    (at.0, at.1, sym (ap (λ b. b && not (differ d (at.0).condition)) (ap (bytes_eq wanted) at.2 ∙ g) ∙ ap (λ x. not (differ d x)) at.3))
+    (at.0, at.1, ap (λ x. bytes_eq x wanted && not (differ c d)) (sym at.2) ∙ ap (λ x. bytes_eq (at.0).sequence wanted && not (differ x d)) (sym at.3))
 
--- the last one stands again nowhere
-alone : (vs : List Variant) → length vs ≤ 1 → repeats vs ≡ false
-alone [] l = refl
-alone (v ∷ []) l = refl
-alone (v ∷ w ∷ vs) l = absurd (omega (arith, l))
+-- the same where its sequence is another one
+pub asked_other : (vs : List Variant) (i : ℕ) (s wanted : List ℕ) (d : Option Condition) → slice_get (sequences_in vs) i ≡ Some s → bytes_eq s wanted ≡ false
+    → (v : Variant) × (slice_get vs i ≡ Some v) × (false ≡ (bytes_eq v.sequence wanted && not (differ v.condition d)))
+asked_other vs i s wanted d e f =
+    let at = sequence_found vs i s e in
+    (at.0, at.1, sym (ap (λ b. b && not (differ (at.0).condition d)) (ap (λ x. bytes_eq x wanted) at.2 ∙ f)))
 
-pub repeats_last : (vs : List Variant) (i : ℕ) → length vs ≤ i + 1 → repeats (drop i vs) ≡ false
-repeats_last vs i l = alone (drop i vs) (omega (arith, l, length-drop i vs))
+-- the source as a replacement of itself is the first of those that are compared, and the others are the variants
+pub variant_in : (ss : List Variant) (i : ℕ) (v : Variant) → 0 < i → slice_get ss i ≡ Some v → slice_get (variants_of (entry_from ss)) i ≡ Some v
+variant_in ss zero v l e = absurd (omega (arith, l))
+variant_in [] (suc i) v l e = absurd cc
+variant_in (x ∷ ss) (suc i) v l e = e
 
--- ---- an entry by its sequences
+pub source_stands : (ss : List Variant) (n : ℕ) (s : List ℕ) (v : Variant) → 0 < n → slice_get (sequences_in ss) 0 ≡ Some s → bytes_eq s v.sequence ≡ true → stands_in (take n (variants_of (entry_from ss))) v ≡ true
+source_stands ss zero s v l e h = absurd (omega (arith, l))
+source_stands [] (suc n) s v l e h = absurd cc
+source_stands (x ∷ ss) (suc n) s v l e h =
+    let same : x.sequence ≡ s = cc in
+    ap (λ b. (b && true) || stands_in (take n ss) v) (ap (λ y. bytes_eq y v.sequence) same ∙ h)
 
--- the variants are what follows the first
-pub variants-entry_from : (vs : List Variant) → 0 < length vs → (entry_from vs).variants ≡ drop 1 vs
-variants-entry_from [] l = absurd (omega (arith, l))
-variants-entry_from (v ∷ vs) l = refl
+pub source_apart : (ss : List Variant) (s : List ℕ) (v : Variant) → slice_get (sequences_in ss) 0 ≡ Some s → bytes_eq s v.sequence ≡ false → stands_in (take 1 (variants_of (entry_from ss))) v ≡ false
+source_apart [] s v e h = absurd cc
+source_apart (x ∷ ss) s v e h =
+    let same : x.sequence ≡ s = cc in
+    ap (λ b. (b && true) || false) (ap (λ y. bytes_eq y v.sequence) same ∙ h)
 
-pub repeat_of : (vs : List Variant) (s : List ℕ) → 0 < length vs → slice_get (sequences_in vs) 0 ≡ Some s → has_repeat (entry_from vs) ≡ (list_any (is_again s None) (drop 1 vs) || repeats (drop 1 vs))
-repeat_of [] s l e = absurd (omega (arith, l))
-repeat_of (v ∷ vs) s l e = ap (λ x. list_any (is_again x None) vs || repeats vs) (let same : v.sequence ≡ s = cc in same)
+-- one more of those before
+pub stands_next : (xs : List Variant) (i : ℕ) (u v : Variant) → slice_get xs i ≡ Some u → stands_in (take (i + 1) xs) v ≡ (stands_in (take i xs) v || is_again u.sequence u.condition v)
+stands_next xs i u v e =
+    ap (λ ys. stands_in ys v) (take_next xs i u e) ∙ list_any-append (λ w. is_again w.sequence w.condition v) (take i xs) (u ∷ [])
+    ∙ ap (λ b. stands_in (take i xs) v || b) (sym (or_false (is_again u.sequence u.condition v)))
+
+-- one of those before is one of more
+pub still_stands : (xs : List Variant) (i n : ℕ) (v : Variant) → i ≤ n → stands_in (take i xs) v ≡ true → stands_in (take n xs) v ≡ true
+still_stands xs zero n v l h = absurd cc
+still_stands [] (suc i) n v l h = absurd cc
+still_stands (x ∷ xs) (suc i) zero v l h = absurd (omega (arith, l))
+still_stands (x ∷ xs) (suc i) (suc n) v l h = by (is_again x.sequence x.condition v) h (still_stands xs i n v (omega (arith, l)))
+  where
+    by : (b : Bool) → (b || stands_in (take i xs) v) ≡ true → (stands_in (take i xs) v ≡ true → stands_in (take n xs) v ≡ true) → (b || stands_in (take n xs) v) ≡ true
+    by true k rest = refl
+    by false k rest = rest k
+
+-- one more of those that are looked at
+again_step : (xs : List Variant) (i : ℕ) (v : Variant) → slice_get xs i ≡ Some v → first_again (take i xs) (drop i xs) ≡ cond (stands_in (take i xs) v) (Some (length (take i xs))) (first_again (take (i + 1) xs) (drop (i + 1) xs))
+again_step xs i v e =
+    ap (first_again (take i xs)) (drop_next xs i v e)
+    ∙ ap (λ before. cond (stands_in (take i xs) v) (Some (length (take i xs))) (first_again before (drop (i + 1) xs))) (sym (take_next xs i v e))
+
+module _ (xs : List Variant) (i : ℕ) (v : Variant) (at : slice_get xs i ≡ Some v) (all : Option ℕ) (so_far : first_again (take i xs) (drop i xs) ≡ all) where
+  pub again_here : i ≤ length xs → stands_in (take i xs) v ≡ true → Some i ≡ all
+  again_here l h =
+      ap (λ n. Some n) (sym (length-take i xs ∙ (let least : min i (length xs) ≡ i = omega (arith, l) in least)))
+      ∙ sym (again_step xs i v at ∙ ap (λ b. cond b (Some (length (take i xs))) (first_again (take (i + 1) xs) (drop (i + 1) xs))) h) ∙ so_far
+
+  pub again_later : stands_in (take i xs) v ≡ false → first_again (take (i + 1) xs) (drop (i + 1) xs) ≡ all
+  again_later h = sym (again_step xs i v at ∙ ap (λ b. cond b (Some (length (take i xs))) (first_again (take (i + 1) xs) (drop (i + 1) xs))) h) ∙ so_far
+
+pub again_none : (xs : List Variant) (i : ℕ) (all : Option ℕ) → length xs ≤ i → first_again (take i xs) (drop i xs) ≡ all → None ≡ all
+again_none xs i all l h = sym (ap (first_again (take i xs)) (drop_all xs i l)) ∙ h
+
+pub length-variants : (ss : List Variant) → 0 < length ss → length (variants_of (entry_from ss)) ≡ length ss
+length-variants [] l = absurd (omega (arith, l))
+length-variants (x ∷ ss) l = refl
 
 -- no variant of an entry has the sequence of its source
 at_place : (x : Variant) (variants : List Variant) (v : List ℕ) (k : ℕ) → x.condition ≡ None → AllByRecursion (AreApart x) variants → k < length (sequences_in variants) → get_or (sequences_in variants) k v ≡ v → x.sequence ≡ v → ⊥

@@ -16,7 +16,7 @@ use Rattle.ruleset_text.specs.Canonical.{point_text}
 use Rattle.ruleset_text.specs.Definitions.{Definitions}
 use Rattle.ruleset_text.specs.Entries.{Mapped}
 use Rattle.ruleset_text.specs.EntryText.{mark_text, sequence_text, mapped_text, variants_text, entry_text, IsForm}
-use Rattle.ruleset_text.specs.EntryWords.{Word, Point, Name, Mark, Hyphen, Bar, Colon, Comma, Range, As, When, Unless, IsWord, AreWords, point_of, mark_words, sequence_words, mapped_words, variants_words, entry_words}
+use Rattle.ruleset_text.specs.EntryWords.{Word, Point, Tag, Rule, Mark, Hyphen, Bar, Colon, Comma, Range, As, When, Unless, IsWord, AreWords, point_of, mark_words, sequence_words, mapped_words, variants_words, entry_words}
 use Rattle.ruleset_text.specs.Lexemes.{is_blank, is_joined, lexemes}
 use Rattle.ruleset_text.proofs.HexLemmas.{IsHex, hex_facts, length-point_text}
 use Rattle.variant_table.specs.declared.version.Notation.{Notation}
@@ -129,7 +129,8 @@ word_long Hyphen lexeme h = omega (arith, ap length h)
 word_long Bar lexeme h = omega (arith, ap length h)
 word_long Colon lexeme h = omega (arith, ap length h)
 word_long Mark lexeme h = omega (arith, ap length h)
-word_long (Name name) lexeme h = omega arith
+word_long (Tag name) lexeme h = omega arith
+word_long (Rule name) lexeme h = omega arith
 word_long Comma lexeme h = omega arith
 word_long Range lexeme h = omega arith
 word_long As lexeme h = omega arith

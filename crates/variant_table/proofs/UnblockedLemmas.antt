@@ -11,14 +11,14 @@ use Rattle.std.proofs.lemmas.List.Elements.{All-from_recursion, recursion_from_A
 use Rattle.variant_table.specs.declared.version.Version.{Version}
 use Rattle.variant_table.specs.declared.version.Version.TheVariants.{One, Two, Three}
 use Rattle.variant_table.specs.Canonical.{canonical_line, canonical_text, head_text}
-use Rattle.variant_table.specs.Conditions.{is_again, repeats, has_source_in}
+use Rattle.variant_table.specs.Conditions.{is_again, has_source_in}
 use Rattle.ruleset_text.specs.Definitions.{Definitions, definitions_text}
 use Rattle.variant_table.specs.Entries.{Variant, Entry, IsOfVersion, IsPlain, table_of, sequences_in, replacements, unblocked_entry, unblocked, has_blocked, entry_from, itself, source_of, whole}
 use Rattle.variant_table.specs.inner.Order.{IsOrderOf}
 use Rattle.variant_table.specs.Forms.{mapped_of}
 use Rattle.variant_table.specs.WellFormed.{IsPointBy, HasPointsBy, IsSequence, IsEntry, HasItsNames, IsNamed, IsTable}
 use Rattle.variant_table.proofs.ConditionLemmas.{AreNewSources, distinct_sources, new_sources, no_sources}
-use Rattle.variant_table.proofs.RepeatLemmas.{distinct_from, no_repeats}
+use Rattle.variant_table.proofs.RepeatLemmas.{distinct_from, no_repeats, repeats}
 use Rattle.variant_table.proofs.ListLemmas.{take_next}
 use Rattle.variant_table.proofs.EntryLemmas.{variant_marked}
 use Rattle.variant_table.proofs.LengthLemmas.{pieces_size, length-entry_text}

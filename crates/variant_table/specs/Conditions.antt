@@ -1,10 +1,10 @@
 -- What may be wrong with a line and its entries.
-use Rattle.std.specs.Prelude.{ℕ, ◌+◌, ◌++◌, ◌==◌, Bool, true, false, ◌||◌, ◌&&◌, not, nat_lt, Option, Some, List, [], ◌∷◌, length, bytes_eq}
+use Rattle.std.specs.Prelude.{ℕ, ◌+◌, ◌++◌, ◌==◌, Bool, true, false, ◌||◌, ◌&&◌, not, nat_lt, is_some, Option, Some, None, List, [], ◌∷◌, length, bytes_eq, if◌then◌else◌}
 use Rattle.std.specs.List.{list_any}
-use Rattle.idn_class.specs.Class.{class_of}
 use Rattle.label_patterns.specs.declared.condition.Condition.{Condition}
 use Rattle.label_patterns.specs.declared.condition.ConditionKind.{ConditionKind}
 use Rattle.label_patterns.specs.declared.condition.ConditionKind.TheVariants.{When, Unless}
+use Rattle.ruleset_text.specs.Classes.{is_bad_point}
 use Rattle.ruleset_text.specs.Definitions.{Definitions}
 use Rattle.ruleset_text.specs.Entries.{Mapped}
 use Rattle.variant_table.specs.declared.version.Version.{Version}
@@ -12,7 +12,6 @@ use Rattle.variant_table.specs.declared.version.Version.TheVariants.{One, Two, T
 use Rattle.variant_table.specs.Entries.{Variant, Entry, replacements, itself}
 use Rattle.variant_table.specs.Canonical.{table_text, written_text}
 use Rattle.variant_table.specs.Limits.{line_limit, text_limit, entry_limit}
-use Rattle.variant_table.specs.WellFormed.{is_table_class}
 use Rattle.idn_class.specs.declared.properties.Properties.{Properties}
 
 -- a line that is too long, or one that ends, with its line feed, past the limit of the text, where it comes after so many bytes
@@ -37,7 +36,7 @@ is_over_limit version definitions table entries =
 
 -- a code point of another class than PVALID, CONTEXTJ and CONTEXTO
 abbrev pub has_bad_point : Properties → List ℕ → Bool
-has_bad_point properties s = list_any (λ c. not (is_table_class (class_of properties c))) s
+has_bad_point properties s = list_any (is_bad_point properties) s
 
 -- such a code point in the source or in a variant
 abbrev pub has_bad_class : Properties → Entry → Bool
@@ -58,14 +57,21 @@ differ c d = false
 abbrev pub is_again : List ℕ → Option Condition → Variant → Bool
 is_again sequence condition v = bytes_eq sequence v.sequence && not (differ condition v.condition)
 
--- one that stands again later
-abbrev pub repeats : List Variant → Bool
-repeats [] = false
-repeats (v ∷ variants) = list_any (is_again v.sequence v.condition) variants || repeats variants
+-- the variant is one of these again
+abbrev pub stands_in : List Variant → Variant → Bool
+stands_in before v = list_any (λ u. is_again u.sequence u.condition v) before
 
--- two equal variants, unless their conditions differ; or a variant equal to the source
+-- the number of the first that is one of those before it; these stand before the list
+abbrev pub first_again : List Variant → List Variant → Option ℕ
+first_again before [] = None
+first_again before (v ∷ variants) = if stands_in before v then Some (length before) else first_again (before ++ v ∷ []) variants
+
+-- the first variant that is given again: it is equal to one before it, unless their conditions differ; or to the source, whose number is 0
+abbrev pub given_again : Entry → Option ℕ
+given_again e = first_again [] (itself e ∷ e.variants)
+
 abbrev pub has_repeat : Entry → Bool
-has_repeat e = repeats (itself e ∷ e.variants)
+has_repeat e = is_some (given_again e)
 
 -- a source that an entry of the table has
 abbrev pub has_source_in : List Entry → Entry → Bool

@@ -14,7 +14,9 @@ pub mod Places
 pub mod Singles
 pub mod Reading
 pub mod Faults
+pub mod LinePlaces
 pub mod FaultyLines
+pub mod PlaceExamples
 pub mod Gaps
 pub mod Differences
 pub mod Segmentations

@@ -1,10 +1,9 @@
 -- Which tables are well-formed.
-use Rattle.std.specs.Prelude.{◌≡◌, ◌≢◌, ℕ, ◌<◌, ◌≤◌, Bool, true, false, IsTrue, Option, Some, None, List, [], ◌∷◌, length, All, AllPairs}
+use Rattle.std.specs.Prelude.{◌≡◌, ◌≢◌, ℕ, ◌<◌, ◌≤◌, true, IsTrue, Option, Some, None, List, [], ◌∷◌, length, All, AllPairs}
 use Rattle.idn_text.specs.Points.{IsScalarValue}
-use Rattle.idn_class.specs.declared.class.Class.{Class}
-use Rattle.idn_class.specs.declared.class.Class.TheVariants.{Pvalid, Contextj, Contexto}
 use Rattle.idn_class.specs.Class.{class_of}
 use Rattle.label_patterns.specs.declared.condition.Condition.{Condition}
+use Rattle.ruleset_text.specs.Classes.{is_label_class}
 use Rattle.ruleset_text.specs.Definitions.{Definitions, nothing_defined}
 use Rattle.ruleset_text.specs.WellFormed.{AreDefinitions}
 use Rattle.variant_table.specs.declared.version.Version.{Version}
@@ -15,16 +14,9 @@ use Rattle.variant_table.specs.Limits.{text_limit, entry_limit}
 use Rattle.idn_class.specs.declared.properties.Properties.{Properties}
 use Rattle.idn_class.specs.declared.properties.Properties.TheVariants.{Unicode}
 
--- PVALID, CONTEXTJ or CONTEXTO (RFC 5892, section 3)
-abbrev pub is_table_class : Class → Bool
-is_table_class Pvalid = true
-is_table_class Contextj = true
-is_table_class Contexto = true
-is_table_class other = false
-
 -- these properties let a table hold the code point, and the code points of an entry
 abbrev pub IsPointBy : Properties → ℕ → Type 0
-IsPointBy properties c = IsTrue (is_table_class (class_of properties c))
+IsPointBy properties c = IsTrue (is_label_class (class_of properties c))
 
 abbrev pub HasPointsBy : Properties → Entry → Type 0
 HasPointsBy properties e = All (λ s. All (IsPointBy properties) s) (replacements e)
@@ -32,7 +24,7 @@ HasPointsBy properties e = All (λ s. All (IsPointBy properties) s) (replacement
 -- a code point that a table may hold by some properties
 pub record IsTablePoint (c : ℕ) : Type 0 where
   pub scalar_value : IsScalarValue c
-  pub class : IsTrue (is_table_class (class_of Unicode c))
+  pub class : IsTrue (is_label_class (class_of Unicode c))
 
 -- 1 to 8 code points that a table may hold
 pub record IsSequence (s : List ℕ) : Type 0 where

@@ -1,125 +1,66 @@
 //! What may be wrong with an entry by itself.
-ghost use Rattle.std.specs.Prelude.{◌≡◌, ◌+◌, ◌<◌, ◌≤◌, ◌^◌, length, map, drop, slice_get, Some, IfOk};
-ghost use Rattle.std.specs.List.{list_any, range_with_len};
-ghost use Rattle.ruleset_text.specs.EntryForms.{mapped as form_of};
+ghost use Rattle.std.specs.Prelude.{◌≡◌, ◌&&◌, ◌+◌, ◌<◌, ◌≤◌, ◌^◌, bytes_eq, find, length, not, slice_get, take, Some, IfOk};
+ghost use Rattle.std.specs.List.{range_with_len};
+ghost use Rattle.ruleset_text.specs.Classes.{is_bad_point as is_bad};
 ghost use Rattle.variant_table.specs.Conditions as conditions;
 ghost use Rattle.variant_table.specs.Entries.{Variant, entry_from};
-ghost use Rattle.variant_table.specs.Ranges.{entry_in_range};
-ghost use Rattle.variant_table.specs.WellFormed.{is_table_class};
+ghost use Rattle.variant_table.specs.inner.Held.{variants_of};
 
 use crate::sequences::Sequences;
-use idn_class::{Class, Properties, class_of_by};
+use idn_class::Properties;
 use label_patterns::Condition;
-use ruleset_text::Mapped;
+use ruleset_text::is_bad_point;
 use std::alloc::{AllocError, Global};
 
-/// The most sequences of an entry: a source and 16 variants.
-pub const REPLACEMENT_LIMIT: usize = 17;
-
-/// The most code points of a sequence.
-pub const SEQUENCE_LIMIT: usize = 8;
-
-/// Whether a source has too many variants, or one of the sequences too many code points.
-pub fn is_too_large(entry: &[Mapped]) -> bool
-    ensures { result ≡ conditions.is_too_large (map form_of entry.now) }
-{
-    entry.len() > REPLACEMENT_LIMIT || entry.iter().any(|m| m.points.len() > SEQUENCE_LIMIT)
-}
-
-/// Whether some code point has a class that no table may hold.
-pub fn has_bad_class(
-    alloc: Global,
-    sequences: &Sequences,
-    properties: Properties,
-) -> Result<bool, AllocError>
-    requires { 0 < length sequences.now }
-    ensures { IfOk result (λ bad. bad ≡ conditions.has_bad_class properties (entry_from sequences.now)) }
-{
-    for index in 0..sequences.len() {
-        if has_bad_point(alloc, sequences.get(index), properties)? {
-            return Ok(true);
-        }
-    }
-    Ok(false)
-}
-
-/// Whether one of `count` code points, from `first` on, has a class that no table may hold.
-pub fn has_bad_class_in(
+/// The first of `count` code points, from `first` on, that has a class that no table may hold.
+pub fn first_bad(
     alloc: Global,
     first: u32,
     count: usize,
     properties: Properties,
-) -> Result<bool, AllocError>
+) -> Result<Option<u32>, AllocError>
     requires { first + count ≤ 2 ^ 32 }
-    ensures { IfOk result (λ bad. (v : Variant) →
-        bad ≡ list_any (conditions.has_bad_class properties) (map (entry_in_range v) (range_with_len first count))) }
+    ensures { IfOk result (λ found. found ≡ find (is_bad properties) (range_with_len first count)) }
 {
     for offset in 0..count {
-        if has_bad_point(alloc, &[first + offset as u32], properties)? {
-            return Ok(true);
+        let point = first + offset as u32;
+        if is_bad_point(alloc, properties, point)? {
+            return Ok(Some(point));
         }
     }
-    Ok(false)
+    Ok(None)
 }
 
-/// Whether a code point of the sequence has a class that no table may hold.
-fn has_bad_point(
-    alloc: Global,
-    sequence: &[u32],
-    properties: Properties,
-) -> Result<bool, AllocError>
-    ensures { IfOk result (λ bad. bad ≡ conditions.has_bad_point properties sequence.now) }
-{
-    for point in sequence {
-        if !is_table_class(class_of_by(alloc, *point, properties)?) {
-            return Ok(true);
-        }
-    }
-    Ok(false)
-}
-
-fn is_table_class(class: Class) -> bool
-    ensures { result ≡ is_table_class class }
-{
-    matches!(class, Class::Pvalid | Class::Contextj | Class::Contexto)
-}
-
-/// Whether a variant is equal to the source; or two variants are equal, unless both have a condition and the two
-/// conditions differ.
-pub fn has_repeat(sequences: &Sequences) -> bool
+/// The number of the first variant that is given again: it is equal to the source, or to a variant before it, unless
+/// both have a condition and the two conditions differ. The source has the number 0.
+pub fn given_again(sequences: &Sequences) -> Option<usize>
     requires { 0 < length sequences.now }
-    ensures { result ≡ conditions.has_repeat (entry_from sequences.now) }
+    ensures { result ≡ conditions.given_again (entry_from sequences.now) }
 {
-    if occurs_from(sequences, 1, sequences.get(0), None) {
+    for number in 1..sequences.len() {
+        if stands_before(sequences, number) {
+            return Some(number);
+        }
+    }
+    None
+}
+
+/// Whether the variant of this number is equal to the source or to a variant before it.
+// Always inline, since it is asked for each variant.
+#[inline(always)]
+fn stands_before(sequences: &Sequences, number: usize) -> bool
+    requires some { 0 < number }
+    requires within { number < length sequences.now }
+    ensures { (v : Variant) × (slice_get sequences.now number ≡ Some v) ×
+        (result ≡ conditions.stands_in (take number (variants_of (entry_from sequences.now))) v) }
+{
+    let wanted = sequences.get(number);
+    if sequences.get(0) == wanted {
         return true;
     }
-    // After the last one there is nothing.
-    for index in 1..sequences.len() - 1 {
-        if occurs_from(
-            sequences,
-            index + 1,
-            sequences.get(index),
-            sequences.condition(index),
-        ) {
-            return true;
-        }
-    }
-    false
-}
-
-/// Whether a sequence with this condition occurs again at the number `start` or after it.
-// Always inline, since it is asked for each entry.
-#[inline(always)]
-fn occurs_from(
-    sequences: &Sequences,
-    start: usize,
-    wanted: &[u32],
-    condition: Option<Condition>,
-) -> bool
-    ensures { result ≡ list_any (conditions.is_again wanted.now condition) (drop start sequences.now) }
-{
-    for number in start..sequences.len() {
-        if is_again(sequences, number, wanted, condition) {
+    let condition = sequences.condition(number);
+    for other in 1..number {
+        if is_again(sequences, other, wanted, condition) {
             return true;
         }
     }
@@ -135,9 +76,9 @@ fn is_again(
 ) -> bool
     requires { number < length sequences.now }
     ensures { (v : Variant) × (slice_get sequences.now number ≡ Some v) ×
-        (result ≡ conditions.is_again wanted.now condition v) }
+        (result ≡ (bytes_eq v.sequence wanted.now && not (conditions.differ v.condition condition))) }
 {
-    wanted == sequences.get(number) && !differ(condition, sequences.condition(number))
+    sequences.get(number) == wanted && !differ(sequences.condition(number), condition)
 }
 
 /// Whether these are two conditions, which differ.

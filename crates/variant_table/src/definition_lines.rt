@@ -1,25 +1,21 @@
 //! The lines of a ruleset that define something.
-ghost use Rattle.std.specs.Prelude.{◌≡◌, MatchOption, None, Some};
-ghost use Rattle.ruleset_text.specs.Lexemes.{lexemes};
-ghost use Rattle.variant_table.specs.DefinitionLines as lines;
+ghost use Rattle.std.specs.Prelude.{◌≡◌, ◌<◌, ◌^◌, length, IfSome};
+ghost use Rattle.variant_table.specs.LinePlaces as places;
 ghost use Rattle.variant_table.specs.declared.fault.TableFault.{TableFault};
 ghost use Rattle.variant_table.specs.inner.ReadingSteps.{told_in};
 
 use crate::fault::TableFault;
 use crate::version::Version;
-use ruleset_text::{DefinitionFault, Keyword, keyword_of, next_lexeme};
+use ruleset_text::{DefinitionFault, DefinitionLine};
 
-/// The keyword with which a line begins, and the text after it, if the line defines something.
-pub fn keyword_in(version: Version, line: &[u8]) -> Option<(Keyword, &[u8])>
-    ensures { MatchOption result (lines.keyword_in version (lexemes line.now) ≡ None)
-        (λ found. lines.keyword_in version (lexemes line.now) ≡ Some (found.0, lexemes found.1.now)) }
+/// A line by its keyword, if it begins with one. Versions 1 and 2 have none.
+pub fn definition_line(version: Version, line: &[u8]) -> Option<DefinitionLine<'_>>
+    ensures line { result ≡ places.definition_line version line.now }
+    ensures few { IfSome result (λ defining. length defining.after < 2 ^ 63) }
 {
     match version {
         Version::One | Version::Two => None,
-        Version::Three => {
-            let (word, after) = next_lexeme(line)?;
-            Some((keyword_of(word)?, after))
-        }
+        Version::Three => DefinitionLine::begun(line).ok(),
     }
 }
 

@@ -1,9 +1,8 @@
 //! Why a text is no table.
-ghost use Rattle.std.specs.Prelude.{◌≡◌};
+ghost use Rattle.std.specs.Prelude.{◌≡◌, None};
 ghost use Rattle.variant_table.specs.declared.fault.TableFault.TheVariants.{Memory};
 
-use crate::version::Version;
-use ruleset_text::Definitions;
+use ruleset_text::FaultPlace;
 use std::alloc::{AllocError, AllocFailed};
 use thiserror::Error;
 
@@ -56,18 +55,45 @@ impl<T: Drop> From<AllocFailed<T>> for TableFault {
     }
 }
 
-/// Why a text is not read as a table, and the line of the fault with what was read before it.
-#[derive(Drop)]
-pub struct TableRefusal<'a> {
+/// Why a line is refused, and where, if a place is told.
+#[derive(Clone, Copy, Debug, PartialEq, Eq)]
+pub struct LineRefusal {
     pub fault: TableFault,
-    /// None in a text that lacks its version.
-    pub line: Option<FaultyLine<'a>>,
+    pub place: Option<FaultPlace>,
 }
 
-/// A faulty line as it stands in a text of this version, and what the lines before it define.
-#[derive(Drop)]
-pub struct FaultyLine<'a> {
-    pub version: Version,
-    pub definitions: Definitions,
-    pub line: &'a [u8],
+impl From<AllocError> for LineRefusal {
+    ghost from_gives = { λ _ e. e ≡ record { fault = Memory; place = None } };
+
+    fn from(_: AllocError) -> Self {
+        TableFault::Memory.at(None)
+    }
+}
+
+impl<T: Drop> From<AllocFailed<T>> for LineRefusal {
+    ghost from_gives = { λ _ e. e ≡ record { fault = Memory; place = None } };
+
+    fn from(_: AllocFailed<T>) -> Self {
+        TableFault::Memory.at(None)
+    }
+}
+
+impl TableFault {
+    /// The fault at this place.
+    pub(crate) fn at(self, place: Option<FaultPlace>) -> LineRefusal
+        ensures { result ≡ record { fault = self; place = place } }
+    {
+        LineRefusal { fault: self, place }
+    }
+}
+
+/// Why a text is not read as a table, and where.
+#[derive(Clone, Copy, Debug, PartialEq, Eq)]
+pub struct TableRefusal<'a> {
+    pub fault: TableFault,
+    /// Where the line has the fault, if a place is told: none past a limit of the whole text, as of its entries or its
+    /// canonical text.
+    pub place: Option<FaultPlace>,
+    /// The line as it stands in the text. None in a text that lacks its version.
+    pub line: Option<&'a [u8]>,
 }

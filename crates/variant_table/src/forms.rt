@@ -1,5 +1,5 @@
 //! The sequences of the entry that a line says, with numbers in place of names.
-ghost use Rattle.std.specs.Prelude.{◌≡◌, [], ◌∷◌, ◌++◌, true, false, map, IfOk, MatchOption};
+ghost use Rattle.std.specs.Prelude.{◌≡◌, [], ◌∷◌, ◌++◌, true, map, OnOk};
 ghost use Rattle.std.specs.List.{AllByRecursion, list_all};
 ghost use Rattle.std.specs.Option.{option_map};
 ghost use Rattle.ruleset_text.specs.EntryForms as held;
@@ -13,91 +13,72 @@ use label_patterns::Condition;
 use ruleset_text::{Definitions, Mapped, Name, NamedCondition, number_of};
 use std::alloc::AllocError;
 
-/// Takes the sequences of a source and its variants, in place of what was in `sequences`, and tells whether each tag
-/// and each rule that they name is defined. If one isn't, some sequences may be missing.
+/// Takes the sequences of a source and its variants, whose tags and rules are defined, in place of what was in
+/// `sequences`.
 #[inline(always)]
 pub fn take_sequences(
     sequences: &mut Sequences,
     definitions: &Definitions,
     mapped: &[Mapped],
-) -> Result<bool, AllocError>
-    requires { AllByRecursion IsMapped (map held.mapped mapped.now) }
-    ensures known { IfOk result (λ known. known ≡ forms.knows_all definitions.now (map held.mapped mapped.now)) }
-    ensures taken { IfOk result (λ known. known ≡ true →
-        sequences.new ≡ map (forms.variant_of definitions.now) (map held.mapped mapped.now)) }
+) -> Result<(), AllocError>
+    requires mapped { AllByRecursion IsMapped (map held.mapped mapped.now) }
+    requires known { forms.knows_all definitions.now (map held.mapped mapped.now) ≡ true }
+    ensures { OnOk result (sequences.new ≡ map (forms.variant_of definitions.now) (map held.mapped mapped.now)) }
 {
     sequences.clear();
     for m in mapped {
-        if !take_sequence(sequences, definitions, m)? {
-            return Ok(false);
-        }
+        take_sequence(sequences, definitions, m)?;
     }
-    Ok(true)
+    Ok(())
 }
 
-/// Adds the sequence of a source or a variant, if each tag and the rule that it names are defined.
+/// Adds the sequence of a source or a variant, whose tags and rule are defined.
 // Always inline, with all that it calls, since it is called for each sequence that is read.
 #[inline(always)]
 fn take_sequence(
     sequences: &mut Sequences,
     definitions: &Definitions,
     mapped: &Mapped,
-) -> Result<bool, AllocError>
-    requires { IsMapped (held.mapped mapped.now) }
-    ensures known { IfOk result (λ known. known ≡ forms.knows_names definitions.now (held.mapped mapped.now)) }
-    ensures taken { IfOk result (λ known. known ≡ true →
-        sequences.new ≡ sequences.old ++ forms.variant_of definitions.now (held.mapped mapped.now) ∷ []) }
+) -> Result<(), AllocError>
+    requires mapped { IsMapped (held.mapped mapped.now) }
+    requires known { forms.knows_names definitions.now (held.mapped mapped.now) ≡ true }
+    ensures { OnOk result (sequences.new ≡ sequences.old ++ forms.variant_of definitions.now (held.mapped mapped.now) ∷ []) }
 {
-    let Some(tags) = look_up_tags(definitions, &mapped.tags) else {
-        return Ok(false);
-    };
-    let Some(condition) = look_up_condition(definitions, &mapped.condition) else {
-        return Ok(false);
-    };
-    sequences.push(&mapped.points, mapped.marked, tags.as_slice(), condition)?;
-    Ok(true)
+    let tags = look_up_tags(definitions, &mapped.tags);
+    let condition = look_up_condition(definitions, &mapped.condition);
+    sequences.push(&mapped.points, mapped.marked, tags.as_slice(), condition)
 }
 
-/// The numbers of tags, if they are defined.
+/// The numbers of tags that are defined.
 #[inline(always)]
-fn look_up_tags(definitions: &Definitions, tags: &[Name]) -> Option<Tags>
-    requires { AreNames tags.now }
-    ensures { MatchOption result (list_all (is_one_of definitions.now.tags) tags.now ≡ false)
-        (λ found. (list_all (is_one_of definitions.now.tags) tags.now ≡ true) ×
-        (found ≡ map (number_of definitions.now.tags) tags.now)) }
+fn look_up_tags(definitions: &Definitions, tags: &[Name]) -> Tags
+    requires names { AreNames tags.now }
+    requires known { list_all (is_one_of definitions.now.tags) tags.now ≡ true }
+    ensures { result ≡ map (number_of definitions.now.tags) tags.now }
 {
     let names = definitions.tags();
     let mut found = Tags::new();
     for tag in tags {
-        let number = number_of(names, tag.as_slice());
-        if number == names.len() {
-            return None;
-        }
-        found.push(number as u8);
+        found.push(number_of(names, tag.as_slice()) as u8);
     }
-    Some(found)
+    found
 }
 
-/// The condition with the number of its rule, if the rule is defined.
+/// The condition with the number of its rule, which is defined.
 #[inline(always)]
 fn look_up_condition(
     definitions: &Definitions,
     condition: &Option<NamedCondition>,
-) -> Option<Option<Condition>>
-    ensures { MatchOption result (forms.knows_rule definitions.now condition.now ≡ false)
-        (λ found. (forms.knows_rule definitions.now condition.now ≡ true) ×
-        (found ≡ option_map (forms.numbered definitions.now) condition.now)) }
+) -> Option<Condition>
+    requires { forms.knows_rule definitions.now condition.now ≡ true }
+    ensures { result ≡ option_map (forms.numbered definitions.now) condition.now }
 {
     let Some(condition) = condition else {
-        return Some(None);
-    };
-    let names = definitions.rule_names();
-    let number = number_of(names, condition.rule.as_slice());
-    if number == names.len() {
         return None;
-    }
-    Some(Some(Condition {
+    };
+    let rule = number_of(definitions.rule_names(), condition.rule.as_slice());
+    Some(Condition {
         kind: condition.kind,
-        rule: number as u8,
-    }))
+        rule: rule as u8,
+    })
 }

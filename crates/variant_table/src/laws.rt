@@ -1,6 +1,7 @@
 //! Laws of the definitions, each the contract of a function that does nothing.
-ghost use Rattle.std.specs.Prelude.{◌≡◌, ◌↔◌, ◌⊎◌, ◌≤◌, ℕ, true, false, List, [], ◌∷◌, ◌++◌, length, All, Ok, Err};
-ghost use Rattle.std.specs.Prelude.{Some, codes};
+ghost use Rattle.std.specs.Prelude.{◌≡◌, ◌+◌, ◌↔◌, ◌⊎◌, ◌≤◌, ℕ, true, false, List, [], ◌∷◌, ◌++◌, length, All, Ok, Err};
+ghost use Rattle.std.specs.Prelude.{Some, codes, is_some, not};
+ghost use Rattle.std.specs.List.{list_any};
 ghost use Rattle.idn_text.specs.Lines.{raw_lines, with_last_feed};
 ghost use Rattle.variant_table.specs.Faults.{LineFault};
 ghost use Rattle.variant_table.specs.Canonical.{canonical_line, table_text};
@@ -12,11 +13,20 @@ ghost use Rattle.ruleset_text.specs.WellFormed.{AreDefinitions};
 ghost use Rattle.variant_table.specs.Entries.{Entry, TableValue, IsOfVersion, IsPlain, entry_from, plain_variant};
 ghost use Rattle.variant_table.specs.Entries.{table_of, unblocked, whole};
 ghost use Rattle.ruleset_text.specs.Lexemes.{lexemes};
-ghost use Rattle.variant_table.specs.Forms.{HasForm};
+ghost use Rattle.ruleset_text.specs.EntryFaults.{notes_of};
+ghost use Rattle.ruleset_text.specs.EntrySteps.{entry_in};
+ghost use Rattle.variant_table.specs.Conditions.{has_bad_class, has_repeat, is_too_large};
+ghost use Rattle.variant_table.specs.Forms.{HasForm, entries_of, knows_all, parts_of, written_out};
+ghost use Rattle.variant_table.specs.LinePlaces.{IsSyntaxPlace, body_place, form_place};
+ghost use Rattle.variant_table.specs.PlaceExamples.{ExamplesOfPlaces};
+ghost use Rattle.variant_table.specs.declared.fault.TableFault.TheVariants as tables;
+ghost use Rattle.ruleset_text.specs.EntryStops.{FitsNames};
+ghost use Rattle.ruleset_text.specs.declared.fault.FaultPlace.{FaultPlace};
 ghost use Rattle.variant_table.specs.Reading.{form_in, table_of_text};
-ghost use Rattle.variant_table.specs.Texts.{IsTextOf, IsFaultOf, LineSpells};
+ghost use Rattle.variant_table.specs.FaultyLines.{at_line, faulty_line};
+ghost use Rattle.variant_table.specs.Texts.{IsTextOf, IsFaultOf, IsFirstFaulty, LineSpells};
 ghost use Rattle.variant_table.specs.declared.version.Version.{Version};
-ghost use Rattle.variant_table.specs.Versions.{is_version_line, notation_of, size_of};
+ghost use Rattle.variant_table.specs.Versions.{head_of, is_version_line, notation_of, size_of};
 ghost use Rattle.variant_table.specs.inner.Examples.{conditional, entries_in, repeated, spelled, tagged, text_told};
 ghost use Rattle.variant_table.specs.inner.Examples.{told, two_tags, written, EachTold};
 ghost use Rattle.label_patterns.specs.declared.condition.ConditionKind.TheVariants as kinds;
@@ -38,6 +48,43 @@ pub fn reading_a_line_is_exact()
         (form_in version (lexemes line) ≡ Ok form) ↔ HasForm version line form }
 {}
 
+/// The place that is told of a line without a form, or that defines nothing, is that of the lexeme at which each form
+/// of the version or each definition ends, or its end.
+pub fn places_of_syntax_are_told()
+    ensures { (definitions : Definitions) (number : ℕ) (version : Version) (line : List ℕ) (place : FaultPlace) →
+        FitsNames (parts_of version) line →
+        (body_place definitions (tables.Syntax number) version line ≡ Some place)
+        ↔ IsSyntaxPlace definitions.set_names version line place }
+{}
+
+/// A place is told of an entry or of a range exactly where reading refuses it: past a limit, if it has too many variants
+/// or too long a sequence; for a name, if a tag or a rule that it names isn't defined; for a class, if some code point of
+/// its entries may not be held; for a variant, if one is given again; and always for a source that is given twice.
+pub fn places_are_told_where_reading_refuses()
+    ensures limit { (d : Definitions) (n : ℕ) (line : List ℕ) (form : EntryForm) →
+        entry_in (lexemes line) ≡ Some form →
+        is_some (form_place d (tables.Limit n) form (notes_of d form line)) ≡ list_any is_too_large (written_out form) }
+    ensures name { (d : Definitions) (n : ℕ) (line : List ℕ) (form : EntryForm) →
+        entry_in (lexemes line) ≡ Some form →
+        is_some (form_place d (tables.NoSuchName n) form (notes_of d form line)) ≡ not (knows_all d form.mapped) }
+    ensures class { (d : Definitions) (n : ℕ) (line : List ℕ) (form : EntryForm) →
+        entry_in (lexemes line) ≡ Some form →
+        is_some (form_place d (tables.BadClass n) form (notes_of d form line)) ≡
+        list_any (has_bad_class d.properties) (entries_of d form) }
+    ensures again { (d : Definitions) (n : ℕ) (line : List ℕ) (form : EntryForm) →
+        entry_in (lexemes line) ≡ Some form →
+        is_some (form_place d (tables.SameVariant n) form (notes_of d form line)) ≡
+        list_any has_repeat (entries_of d form) }
+    ensures source { (d : Definitions) (n : ℕ) (line : List ℕ) (form : EntryForm) →
+        entry_in (lexemes line) ≡ Some form →
+        is_some (form_place d (tables.SameSource n) form (notes_of d form line)) ≡ true }
+{}
+
+/// Examples of places, which the definitions compute.
+pub fn definitions_compute_the_places()
+    ensures { ExamplesOfPlaces }
+{}
+
 /// A line has the entries of one entry or range at most.
 pub fn a_line_has_one_form()
     ensures form { (version : Version) (line : List ℕ) (a b : EntryForm) → HasForm version line a →
@@ -52,6 +99,14 @@ pub fn reading_is_exact()
         (table_of_text properties notation text ≡ Ok table) ↔ IsTextOf properties notation text table }
     ensures fault { (properties : Properties) (notation : Notation) (text : List ℕ) (line : ℕ) (kind : LineFault) →
         (table_of_text properties notation text ≡ Err (line, kind)) ↔ IsFaultOf properties notation text line kind }
+{}
+
+/// The line that is told of a text with a fault is its first faulty one, with what the lines before it define.
+pub fn the_first_faulty_line_is_told()
+    ensures { (properties : Properties) (notation : Notation) (text : List ℕ) (number : ℕ) (fault : LineFault)
+        (f : IsFirstFaulty properties notation text number fault) →
+        faulty_line properties notation text
+        ≡ Some (at_line (size_of (head_of notation (raw_lines text)) + size_of f.before) f.table f.line) }
 {}
 
 /// In each notation each text has exactly one table, or exactly one fault: a line and what is told of it.

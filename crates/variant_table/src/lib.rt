@@ -22,9 +22,8 @@ mod tags;
 mod version;
 
 pub use canonical::write_sequence;
-pub use checks::{REPLACEMENT_LIMIT, SEQUENCE_LIMIT};
 pub use entry::Entry;
-pub use fault::{FaultyLine, TableFault, TableRefusal};
+pub use fault::{TableFault, TableRefusal};
 pub use places::EntriesAt;
 pub use table::Table;
 pub use version::{Head, Notation, Version, head_of};

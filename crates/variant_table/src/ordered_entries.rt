@@ -3,11 +3,10 @@ ghost use Rattle.std.specs.Prelude.{◌≡◌, ◌↔◌, ◌<◌, ◌^◌, [], 
 ghost use Rattle.variant_table.specs.Entries.{unblocked, entry_from};
 ghost use Rattle.variant_table.specs.inner.Order.{IsOrderOf, IsPlaceFor, begins_at as begins_at_place, HasNoLonger};
 ghost use Rattle.variant_table.specs.Places.{entry_with};
-ghost use Rattle.variant_table.specs.inner.ReadingSteps.{Leaves, with_new_source};
+ghost use Rattle.variant_table.specs.inner.ReadingSteps.{if_new, with_new_source};
 
 use crate::entries::Entries;
 use crate::entry::Entry;
-use crate::fault::TableFault;
 use crate::sequences::Sequences;
 use std::alloc::{AllocError, Global};
 use std::cmp::Ordering;
@@ -80,22 +79,23 @@ impl OrderedEntries {
         }
     }
 
-    /// Adds the entry of these sequences, of which the first is the source, unless another entry has that
-    /// source. They stand on the line of this number. An `Err` changes nothing.
-    pub fn push(&mut self, number: u64, sequences: &Sequences) -> Result<(), TableFault>
+    /// Adds the entry of these sequences, of which the first is the source, and answers whether the source is new. If
+    /// another entry has it, or memory was refused, nothing changes.
+    pub fn push(&mut self, sequences: &Sequences) -> Result<bool, AllocError>
         requires some { 0 < length sequences.now }
         requires room { length self.old < 2 ^ 16 }
-        ensures read { Leaves number result self.new (with_new_source self.old (entry_from sequences.now)) }
+        ensures read { IfOk result (λ new. with_new_source self.old (entry_from sequences.now) ≡ if_new new self.new) }
+        ensures known { IfOk result (λ new. new ≡ false → self.new ≡ self.old) }
         ensures err { OnErr result (self.new ≡ self.old) }
     {
         let SourcePlace::Absent(place) = search(&self.entries, &self.order, sequences.get(0)) else {
-            return Err(TableFault::SameSource { line: number });
+            return Ok(false);
         };
         let entry = self.entries.len() as u16;
         self.order.reserve(1)?;
         self.entries.push(sequences)?;
         self.order.insert(place, entry).unwrap();
-        Ok(())
+        Ok(true)
     }
 
     /// The entries without their blocked variants. Their sources keep their order.

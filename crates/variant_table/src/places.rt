@@ -3,9 +3,9 @@ ghost use Rattle.std.specs.Prelude.{◌≡◌, ◌≤◌, length};
 ghost use Rattle.std.specs.Iterator.{YieldsFirst, item_count};
 ghost use Rattle.variant_table.specs.Places.{entries_at as entries_at_place};
 
-use crate::checks::SEQUENCE_LIMIT;
 use crate::entry::Entry;
 use crate::ordered_entries::{LookUp, OrderedEntries};
+use ruleset_text::SEQUENCE_LIMIT;
 use std::marker::Model;
 
 /// The entries of a table whose source begins a label at a place, by rising source length. It is an

@@ -1,7 +1,7 @@
 //! Reading the definitions and entries of a text, line by line.
-ghost use Rattle.std.specs.Prelude.{◌≡◌, ◌+◌, ◌<◌, ◌≤◌, ◌^◌, [], Some, None, length, map, IfErr, OnErr, OnOk};
+ghost use Rattle.std.specs.Prelude.{◌≡◌, ◌+◌, ◌<◌, ◌≤◌, ◌^◌, [], Some, None, length, map, IfErr, IfOk, OnErr, OnOk};
 ghost use Rattle.variant_table.specs.inner.Held.{IsCounted};
-ghost use Rattle.ruleset_text.specs.EntryForms.{mapped as form_of};
+ghost use Rattle.ruleset_text.specs.EntryForms.{entry_form, mapped as form_of, notes};
 ghost use Rattle.ruleset_text.specs.EntryText.{IsForm};
 ghost use Rattle.variant_table.specs.Limits.{text_limit};
 ghost use Rattle.ruleset_text.specs.Definitions.{nothing_defined};
@@ -11,12 +11,15 @@ ghost use Rattle.variant_table.specs.declared.version.Version.TheVariants.{Three
 ghost use Rattle.variant_table.specs.Entries.{entry_from, source_of};
 ghost use Rattle.variant_table.specs.Reading.{with_definition, with_line, with_raw_line, table_of_text};
 ghost use Rattle.variant_table.specs.Reading.{is_skipped as is_skipped_line};
-ghost use Rattle.variant_table.specs.FaultyLines.{IsRefusalOf, at_line, faulty_line_of};
-ghost use Rattle.variant_table.specs.inner.ReadingSteps.{Leaves, Reads, with_points_of};
+ghost use Rattle.variant_table.specs.FaultyLines.{IsRefusalOf};
+ghost use Rattle.variant_table.specs.inner.ReadingSteps.{Leaves, Reads, if_new, with_points_of, without_place};
+ghost use Rattle.variant_table.specs.LinePlaces.{AreFaultsOf, body_place, definition_place, entry_place, form_place};
+ghost use Rattle.variant_table.specs.LinePlaces.{read_place};
+ghost use Rattle.ruleset_text.specs.PlacedLexemes.{unplaced};
 
-use crate::checks::{has_bad_class, has_bad_class_in, has_repeat, is_too_large};
-use crate::definition_lines::{fault_in, keyword_in};
-use crate::fault::{FaultyLine, TableFault, TableRefusal};
+use crate::checks::{first_bad, given_again};
+use crate::definition_lines::{definition_line, fault_in};
+use crate::fault::{LineRefusal, TableFault, TableRefusal};
 use crate::forms::take_sequences;
 use crate::lengths::{left_after_entry, left_after_range};
 use crate::ordered_entries::OrderedEntries;
@@ -24,8 +27,11 @@ use crate::sequences::Sequences;
 use crate::version::{Notation, Version, head_of};
 use idn_class::Properties;
 use idn_text::without_carriage_return;
-use ruleset_text::{Definitions, Keyword, Mapped, ReadError, read_entry, without_blanks};
-use std::alloc::Global;
+use ruleset_text::{
+    DefinitionLine, Definitions, EntryForm, EntryNotes, FaultPlace, Mapped, ReadError, read_entry,
+    without_blanks,
+};
+use std::alloc::{AllocError, Global};
 
 /// What a text spells.
 #[derive(Drop)]
@@ -49,6 +55,7 @@ pub fn read_text<'a>(
     let Some(head) = head_of(notation, text) else {
         return Err(TableRefusal {
             fault: TableFault::Syntax { line: 1 },
+            place: None,
             line: None,
         });
     };
@@ -57,8 +64,12 @@ pub fn read_text<'a>(
     let mut bytes = head.bytes;
     for line in head.body {
         number += 1;
-        if let Err(fault) = reader.add_raw_line(number, bytes, line) {
-            return Err(reader.refusal(fault, line));
+        if let Err(refused) = reader.add_raw_line(number, bytes, line) {
+            return Err(TableRefusal {
+                fault: refused.fault,
+                place: refused.place,
+                line: Some(line),
+            });
         }
         bytes += line.len() + 1;
     }
@@ -76,6 +87,8 @@ struct Reader {
     version: Version,
     /// The sequences of the entry that is being added. Their memory is used again for each line.
     sequences: Sequences,
+    /// What is noted of the line of an entry. Its memory is used again, too.
+    notes: EntryNotes,
     definitions: Definitions,
     entries: OrderedEntries,
     /// How many bytes the canonical text may have more, where the version limits them.
@@ -96,50 +109,45 @@ impl Reader {
             alloc,
             version,
             sequences: Sequences::new(alloc),
+            notes: EntryNotes::new(alloc),
             definitions: Definitions::new(alloc, properties),
             entries: OrderedEntries::new(alloc),
             left: left_after_head(version),
         }
     }
 
-    /// What is told of a line with a fault.
-    fn refusal(self, fault: TableFault, line: &[u8]) -> TableRefusal<'_>
-        ensures fault { result.fault ≡ fault }
-        ensures line { faulty_line_of result.line ≡ Some (at_line (so_far self) line.now) }
-    {
-        TableRefusal {
-            fault,
-            line: Some(FaultyLine {
-                version: self.version,
-                definitions: self.definitions,
-                line,
-            }),
-        }
-    }
-
     /// Adds what the line of this number says, as it stands in a text after `bytes` bytes.
     #[tactic(auto, unfolding(crate::specs::Reading::with_raw_line))]
-    fn add_raw_line(&mut self, number: u64, bytes: usize, line: &[u8]) -> Result<(), TableFault>
+    fn add_raw_line(&mut self, number: u64, bytes: usize, line: &[u8]) -> Result<(), LineRefusal>
         requires bytes { bytes ≤ text_limit self.old.version }
         requires counted { IsCountedIn self.old }
-        ensures read { Leaves number result (so_far self.new) (with_raw_line bytes (so_far self.old) line.now) }
+        ensures read { Leaves number (without_place result) (so_far self.new)
+            (with_raw_line bytes (so_far self.old) line.now) }
+        ensures place { IfErr result (λ r. r.place ≡
+            read_place self.old.definitions r.fault self.old.version bytes line.now) }
         ensures within { OnOk result (bytes + length line.now + 1 ≤ text_limit self.old.version) }
         ensures counted { OnOk result (IsCountedIn self.new) }
         ensures version { self.new.version ≡ self.old.version }
         ensures definitions { OnErr result (self.new.definitions ≡ self.old.definitions) }
     {
         let version = self.version;
-        if line.len() > version.line_limit() || bytes + line.len() + 1 > version.text_limit() {
-            return Err(TableFault::Limit { line: number });
+        if line.len() > version.line_limit() {
+            let place = FaultPlace::Byte(version.line_limit());
+            return Err(TableFault::Limit { line: number }.at(Some(place)));
+        }
+        if bytes + line.len() + 1 > version.text_limit() {
+            return Err(TableFault::Limit { line: number }.at(None));
         }
         self.add_line(number, without_carriage_return(line))
     }
 
     /// Adds what the line of this number says.
     #[tactic(auto, unfolding(crate::specs::Reading::with_line))]
-    fn add_line(&mut self, number: u64, line: &[u8]) -> Result<(), TableFault>
+    fn add_line(&mut self, number: u64, line: &[u8]) -> Result<(), LineRefusal>
         requires { IsCountedIn self.old }
-        ensures read { Leaves number result (so_far self.new) (with_line (so_far self.old) line.now) }
+        ensures read { Leaves number (without_place result) (so_far self.new) (with_line (so_far self.old) line.now) }
+        ensures place { IfErr result (λ r. r.place ≡
+            body_place self.old.definitions r.fault self.old.version line.now) }
         ensures counted { OnOk result (IsCountedIn self.new) }
         ensures version { self.new.version ≡ self.old.version }
         ensures definitions { OnErr result (self.new.definitions ≡ self.old.definitions) }
@@ -147,52 +155,68 @@ impl Reader {
         if is_skipped(line) {
             return Ok(());
         }
-        if let Some((keyword, after)) = keyword_in(self.version, line) {
-            return self.add_definition(number, keyword, after);
+        if let Some(defining) = definition_line(self.version, line) {
+            return self.add_definition(number, defining);
         }
         self.add_entries(number, line)
     }
 
-    /// Adds what a keyword and the text after it define, unless it has a fault.
+    /// Adds what a line defines, unless it has a fault.
     #[tactic(auto, unfolding(crate::specs::Reading::with_definition))]
-    fn add_definition(
-        &mut self,
-        number: u64,
-        keyword: Keyword,
-        after: &[u8],
-    ) -> Result<(), TableFault>
+    fn add_definition(&mut self, number: u64, line: DefinitionLine<'_>) -> Result<(), LineRefusal>
         requires ruleset { self.old.version ≡ Three }
+        requires few { length line.after < 2 ^ 63 }
         requires counted { IsCountedIn self.old }
-        ensures read { Leaves number result (so_far self.new)
-            (with_definition (so_far self.old) keyword (lexemes after.now)) }
+        ensures read { Leaves number (without_place result) (so_far self.new)
+            (with_definition (so_far self.old) line.entry.keyword (unplaced line.entry.after)) }
+        ensures place { IfErr result (λ r. r.place ≡ definition_place self.old.definitions r.fault line.entry) }
         ensures counted { OnOk result (IsCountedIn self.new) }
         ensures version { self.new.version ≡ self.old.version }
         ensures definitions { OnErr result (self.new.definitions ≡ self.old.definitions) }
     {
         // The canonical text has a limit: what is left of it, and what the definitions already take.
         let room = self.left + self.definitions.canonical_len();
-        match self.definitions.define(self.alloc, room, keyword, after) {
+        match self.definitions.define(self.alloc, room, line) {
             Ok(()) => {
                 self.left = room - self.definitions.canonical_len();
                 Ok(())
             }
-            Err(fault) => Err(fault_in(number, fault)),
+            Err(refusal) => Err(fault_in(number, refusal.fault).at(refusal.place)),
         }
     }
 
     /// Adds the entries that the line of this number spells, if they are without a fault.
-    fn add_entries(&mut self, number: u64, line: &[u8]) -> Result<(), TableFault>
+    fn add_entries(&mut self, number: u64, line: &[u8]) -> Result<(), LineRefusal>
         requires { IsCountedIn self.old }
-        ensures read { Leaves number result self.new.entries (with_words_of self.old (lexemes line.now)) }
+        ensures read { Leaves number (without_place result) self.new.entries
+            (with_words_of self.old (lexemes line.now)) }
+        ensures place { IfErr result (λ r. r.place ≡
+            entry_place self.old.definitions r.fault self.old.version line.now) }
         ensures counted { OnOk result (IsCountedIn self.new) }
         ensures version { self.new.version ≡ self.old.version }
         ensures definitions { self.new.definitions ≡ self.old.definitions }
     {
-        let form = match read_entry(self.alloc, self.version.entry_parts(), line) {
-            Ok(form) => form,
-            Err(ReadError::Stop(_)) => return Err(TableFault::Syntax { line: number }),
-            Err(ReadError::Memory) => return Err(TableFault::Memory),
-        };
+        let parts = self.version.entry_parts();
+        match read_entry(self.alloc, parts, &self.definitions, line, &mut self.notes) {
+            Ok(form) => self.add_form(number, &form),
+            Err(ReadError::Stop(place)) => Err(TableFault::Syntax { line: number }.at(Some(place))),
+            Err(ReadError::Memory) => Err(TableFault::Memory.at(None)),
+        }
+    }
+
+    /// Adds the entries of a form, by what was noted of its line, if they are without a fault.
+    fn add_form(&mut self, number: u64, form: &EntryForm) -> Result<(), LineRefusal>
+        requires form { IsForm (entry_form form.now).mapped (entry_form form.now).last }
+        requires faults { AreFaultsOf self.old.definitions (entry_form form.now) self.old.notes.faults }
+        requires counted { IsCountedIn self.old }
+        ensures read { Leaves number (without_place result) self.new.entries
+            (with_form_of self.old (entry_form form.now).mapped (entry_form form.now).last) }
+        ensures place { IfErr result (λ r. r.place ≡
+            form_place self.old.definitions r.fault (entry_form form.now) (notes self.old.notes)) }
+        ensures counted { OnOk result (IsCountedIn self.new) }
+        ensures version { self.new.version ≡ self.old.version }
+        ensures definitions { self.new.definitions ≡ self.old.definitions }
+    {
         match form.last {
             None => self.add_entry(number, &form.mapped),
             Some(last) => self.add_range(number, &form.mapped, last),
@@ -200,41 +224,54 @@ impl Reader {
     }
 
     /// Adds the entry of a source and its variants, unless it has a fault.
-    fn add_entry(&mut self, number: u64, mapped: &[Mapped]) -> Result<(), TableFault>
+    fn add_entry(&mut self, number: u64, mapped: &[Mapped]) -> Result<(), LineRefusal>
         requires form { IsForm (map form_of mapped.now) None }
+        requires faults { AreFaultsOf self.old.definitions (record { mapped = map form_of mapped.now; last = None })
+            self.old.notes.faults }
         requires counted { IsCountedIn self.old }
-        ensures read { Leaves number result self.new.entries (with_form_of self.old (map form_of mapped.now) None) }
+        ensures read { Leaves number (without_place result) self.new.entries
+            (with_form_of self.old (map form_of mapped.now) None) }
+        ensures place { IfErr result (λ r. r.place ≡ form_place self.old.definitions r.fault
+            (record { mapped = map form_of mapped.now; last = None }) (notes self.old.notes)) }
         ensures counted { OnOk result (IsCountedIn self.new) }
         ensures version { self.new.version ≡ self.old.version }
         ensures definitions { self.new.definitions ≡ self.old.definitions }
     {
-        if self.entries.len() >= self.version.entry_limit() || is_too_large(mapped) {
-            return Err(TableFault::Limit { line: number });
+        let faults = &self.notes.faults;
+        if self.entries.len() >= self.version.entry_limit() || faults.limit.is_some() {
+            return Err(TableFault::Limit { line: number }.at(faults.limit));
         }
         let Some(left) = left_after_entry(self.version, mapped, self.left) else {
-            return Err(TableFault::Limit { line: number });
+            return Err(TableFault::Limit { line: number }.at(faults.limit));
         };
-        if !take_sequences(&mut self.sequences, &self.definitions, mapped)? {
-            return Err(TableFault::NoSuchName { line: number });
+        if faults.name.is_some() {
+            return Err(TableFault::NoSuchName { line: number }.at(faults.name));
         }
-        let sequences = &self.sequences;
-        if has_bad_class(self.alloc, sequences, self.definitions.properties())? {
-            return Err(TableFault::BadClass { line: number });
+        if faults.class.is_some() {
+            return Err(TableFault::BadClass { line: number }.at(faults.class));
         }
-        if has_repeat(sequences) {
-            return Err(TableFault::SameVariant { line: number });
+        take_sequences(&mut self.sequences, &self.definitions, mapped)?;
+        if let Some(again) = given_again(&self.sequences) {
+            let place = self.notes.variant_place(again);
+            return Err(TableFault::SameVariant { line: number }.at(place));
         }
-        self.entries.push(number, sequences)?;
+        if !self.entries.push(&self.sequences)? {
+            return Err(TableFault::SameSource { line: number }.at(self.notes.source_place()));
+        }
         self.left = left;
         Ok(())
     }
 
     /// Adds the entries of a range from its source, one code point, to the last code point, unless one has a fault.
-    fn add_range(&mut self, number: u64, mapped: &[Mapped], last: u32) -> Result<(), TableFault>
+    fn add_range(&mut self, number: u64, mapped: &[Mapped], last: u32) -> Result<(), LineRefusal>
         requires form { IsForm (map form_of mapped.now) (Some last) }
+        requires faults { AreFaultsOf self.old.definitions
+            (record { mapped = map form_of mapped.now; last = Some last }) self.old.notes.faults }
         requires counted { IsCountedIn self.old }
-        ensures read { Leaves number result self.new.entries
+        ensures read { Leaves number (without_place result) self.new.entries
             (with_form_of self.old (map form_of mapped.now) (Some last)) }
+        ensures place { IfErr result (λ r. r.place ≡ form_place self.old.definitions r.fault
+            (record { mapped = map form_of mapped.now; last = Some last }) (notes self.old.notes)) }
         ensures counted { OnOk result (IsCountedIn self.new) }
         ensures version { self.new.version ≡ self.old.version }
         ensures definitions { self.new.definitions ≡ self.old.definitions }
@@ -243,26 +280,23 @@ impl Reader {
         let first = source.points[0];
         let count = (last - first) as usize + 1;
         let limit = self.version.entry_limit();
+        let faults = &self.notes.faults;
         if count > limit || self.entries.len() > limit - count {
-            return Err(TableFault::Limit { line: number });
+            return Err(TableFault::Limit { line: number }.at(faults.limit));
         }
         let Some(left) = left_after_range(self.version, source, first, count, self.left) else {
-            return Err(TableFault::Limit { line: number });
+            return Err(TableFault::Limit { line: number }.at(faults.limit));
         };
-        if !take_sequences(&mut self.sequences, &self.definitions, mapped)? {
-            return Err(TableFault::NoSuchName { line: number });
+        if faults.name.is_some() {
+            return Err(TableFault::NoSuchName { line: number }.at(faults.name));
         }
-        if has_bad_class_in(self.alloc, first, count, self.definitions.properties())? {
-            return Err(TableFault::BadClass { line: number });
+        if let Some(bad) = first_bad(self.alloc, first, count, self.definitions.properties())? {
+            return Err(TableFault::BadClass { line: number }.at(self.notes.range_place(bad)));
         }
-        push_points(
-            self.alloc,
-            &mut self.entries,
-            number,
-            &self.sequences,
-            first,
-            count,
-        )?;
+        take_sequences(&mut self.sequences, &self.definitions, mapped)?;
+        if !push_points(self.alloc, &mut self.entries, &self.sequences, first, count)? {
+            return Err(TableFault::SameSource { line: number }.at(self.notes.source_place()));
+        }
         self.left = left;
         Ok(())
     }
@@ -276,20 +310,19 @@ fn left_after_head(version: Version) -> usize
 }
 
 /// Adds the entries of `count` code points, from `first` on, with the mark, the tags and the condition of the first of
-/// the sequences, if their sources are new.
+/// the sequences, as long as their sources are new, and answers whether all of them are.
 fn push_points(
     alloc: Global,
     entries: &mut OrderedEntries,
-    number: u64,
     range: &Sequences,
     first: u32,
     count: usize,
-) -> Result<(), TableFault>
+) -> Result<bool, AllocError>
     requires some { 0 < length range.now }
     requires last { first + count ≤ 2 ^ 32 }
     requires room { length entries.old + count ≤ 65536 }
-    ensures { Leaves number result entries.new
-        (with_points_of entries.old (source_of (entry_from range.now)) first count) }
+    ensures { IfOk result (λ new. with_points_of entries.old (source_of (entry_from range.now)) first count
+        ≡ if_new new entries.new) }
 {
     let mut sequences = Sequences::new(alloc);
     for offset in 0..count {
@@ -300,9 +333,11 @@ fn push_points(
             range.tags(0),
             range.condition(0),
         )?;
-        entries.push(number, &sequences)?;
+        if !entries.push(&sequences)? {
+            return Ok(false);
+        }
     }
-    Ok(())
+    Ok(true)
 }
 
 /// Whether a line has nothing but blanks, or a comment.

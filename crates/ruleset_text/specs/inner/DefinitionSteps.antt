@@ -1,36 +1,80 @@
 -- What each step of reading a definition gives.
-use Rattle.std.specs.Prelude.{◌≡◌, ℕ, ◌<◌, IsTrue, false, Result, Ok, Err, List, length}
+use Rattle.std.specs.Prelude.{◌≡◌, ℕ, ◌-◌, ◌<◌, IsTrue, true, false, Result, Ok, Err, List, length}
+use Rattle.label_patterns.specs.Patterns.{Pattern}
 use Rattle.label_patterns.specs.Sets.{Rise}
-use Rattle.ruleset_text.specs.declared.definition_line.DefinitionLine.{DefinitionLine}
+use Rattle.label_patterns.specs.Trees.{pattern}
+use Rattle.ruleset_text.specs.declared.definition_reading.ReadDefinition.{ReadDefinition}
+use Rattle.ruleset_text.specs.declared.reading.Earlier.{Earlier}
+use Rattle.ruleset_text.specs.declared.reading.ReadPattern.{ReadPattern}
 use Rattle.ruleset_text.specs.declared.fault.DefinitionFault.{DefinitionFault}
 use Rattle.ruleset_text.specs.declared.fault.DefinitionFault.TheVariants as fault
+use Rattle.ruleset_text.specs.declared.fault.DefinitionRefusal.{DefinitionRefusal}
 use Rattle.ruleset_text.specs.declared.fault.FaultPlace.{FaultPlace}
 use Rattle.ruleset_text.specs.declared.fault.ReadError.{ReadError}
 use Rattle.ruleset_text.specs.Signs as sign
-use Rattle.ruleset_text.specs.Canonical.{definition_text}
 use Rattle.ruleset_text.specs.Definition as definition
 use Rattle.ruleset_text.specs.Definition.{Definition}
-use Rattle.ruleset_text.specs.Definitions.{Definitions}
+use Rattle.ruleset_text.specs.DefinitionPlaces.{definition_faults, pattern_faults}
+use Rattle.ruleset_text.specs.Canonical.{definition_text}
+use Rattle.ruleset_text.specs.Definitions.{Definitions, all_atoms, definition_atoms, has_bad_class, has_known_sets, has_same_name, is_line_over_limit, is_one_too_many}
+use Rattle.ruleset_text.specs.WellFormed.{AreDefinitions}
 use Rattle.ruleset_text.specs.DefinitionTrees as trees
 use Rattle.ruleset_text.specs.Grammar.{Is, Whole}
+use Rattle.ruleset_text.specs.Limits.{atoms}
 use Rattle.ruleset_text.specs.LineStops.{StopsAt}
+use Rattle.ruleset_text.specs.PlacedLexemes.{Placed}
 use Rattle.ruleset_text.specs.Names.{is_name}
 use Rattle.ruleset_text.specs.Rules.{has, is_rule}
 
--- the line of the definition that was read, or the place where the line stops: the definition, and how many bytes its canonical line has
-abbrev pub GivesLine : List (List ℕ) → Result DefinitionLine ReadError → Result Definition FaultPlace → Type 0
-GivesLine names (Ok line) read = (read ≡ Ok (trees.definition line.definition)) × (line.len ≡ length (definition_text names (trees.definition line.definition)))
-GivesLine names (Err error) read = StopsAt error read
+-- a pattern that was read, how many atoms may follow, and its faults
+pub record IsReadPattern (e : Earlier) (ws : List Placed) (r : ReadPattern) (answer : Result Pattern FaultPlace) : Type 0 where
+  pub read : answer ≡ Ok (pattern r.tree)
+  pub atoms : r.atoms_left ≡ e.atoms_left - atoms (pattern r.tree)
+  pub faults : r.faults ≡ pattern_faults e.sets.now e.atoms_left e.properties (pattern r.tree) ws
 
--- the call gives what reading gives; or its fault, unless memory was refused
-abbrev pub Leaves : {X : Type 0} → Result X DefinitionFault → Definitions → Result Definitions DefinitionFault → Type 0
+-- or the place where the line stops
+abbrev pub GivesPattern : Earlier → List Placed → Result ReadPattern ReadError → Result Pattern FaultPlace → Type 0
+GivesPattern e ws (Ok r) read = IsReadPattern e ws r read
+GivesPattern e ws (Err error) read = StopsAt error read
+
+-- the same of a definition, by the lexemes after its keyword
+pub record IsReadDefinition (e : Earlier) (ws : List Placed) (r : ReadDefinition) (answer : Result Definition FaultPlace) : Type 0 where
+  pub read : answer ≡ Ok (trees.definition r.definition)
+  pub atoms : r.atoms_left ≡ e.atoms_left - definition_atoms (trees.definition r.definition)
+  pub faults : r.faults ≡ definition_faults e.sets.now e.atoms_left e.properties (trees.definition r.definition) ws
+
+abbrev pub GivesDefinition : Earlier → List Placed → Result ReadDefinition ReadError → Result Definition FaultPlace → Type 0
+GivesDefinition e ws (Ok r) read = IsReadDefinition e ws r read
+GivesDefinition e ws (Err error) read = StopsAt error read
+
+-- what is known before a line, after these definitions
+pub record IsEarlier (e : Earlier) (d : Definitions) : Type 0 where
+  pub sets : e.sets.now ≡ d.set_names
+  pub atoms : e.atoms_left ≡ 4096 - all_atoms d
+  pub properties : e.properties ≡ d.properties
+  pub without_fault : AreDefinitions d
+
+-- nothing is wrong with a definition
+pub record IsFaultless (limit : ℕ) (d : Definitions) (x : Definition) : Type 0 where
+  pub count : is_one_too_many d x ≡ false
+  pub known : has_known_sets (length d.sets) x ≡ true
+  pub line : is_line_over_limit limit d (length (definition_text d.set_names x)) ≡ false
+  pub class : has_bad_class d.properties x ≡ false
+  pub name : has_same_name d x ≡ false
+
+-- the fault is that of reading, unless memory was refused
+abbrev pub Refuses : DefinitionFault → Result Definitions DefinitionFault → Type 0
+Refuses fault.Memory read = Unit {0}
+Refuses fault.Syntax read = read ≡ Err fault.Syntax
+Refuses fault.Limit read = read ≡ Err fault.Limit
+Refuses fault.NoSuchName read = read ≡ Err fault.NoSuchName
+Refuses fault.BadClass read = read ≡ Err fault.BadClass
+Refuses fault.SameName read = read ≡ Err fault.SameName
+
+-- the call gives what reading gives, or its fault
+abbrev pub Leaves : {X : Type 0} → Result X DefinitionRefusal → Definitions → Result Definitions DefinitionFault → Type 0
 Leaves (Ok x) new read = read ≡ Ok new
-Leaves (Err fault.Memory) new read = Unit {0}
-Leaves (Err fault.Syntax) new read = read ≡ Err fault.Syntax
-Leaves (Err fault.Limit) new read = read ≡ Err fault.Limit
-Leaves (Err fault.NoSuchName) new read = read ≡ Err fault.NoSuchName
-Leaves (Err fault.BadClass) new read = read ≡ Err fault.BadClass
-Leaves (Err fault.SameName) new read = read ≡ Err fault.SameName
+Leaves (Err refusal) new read = Refuses refusal.fault read
 
 -- what the form of a definition alone says of it
 abbrev pub HasForm : Definition → Type 0

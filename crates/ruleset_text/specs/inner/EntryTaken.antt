@@ -16,9 +16,8 @@ is_before_name phase.When = true
 is_before_name phase.Unless = true
 is_before_name p = false
 
--- a word does, or the first code point of a source or a variant
+-- a word does, after a code point or a name
 abbrev pub is_before_word : Phase → Bool
-is_before_word phase.Begin = true
 is_before_word phase.Point = true
 is_before_word phase.Last = true
 is_before_word phase.Tag = true

@@ -1,5 +1,5 @@
 -- How a table lies in memory: sequences are parts of one vector of code points, entries are parts of the sequences.
-use Rattle.std.specs.Prelude.{◌≡◌, ℕ, ◌+◌, ◌<◌, ◌≤◌, Option, Some, None, List, length, map, All}
+use Rattle.std.specs.Prelude.{◌≡◌, ℕ, ◌+◌, ◌<◌, ◌≤◌, Option, Some, None, List, ◌∷◌, length, map, All}
 use Rattle.std.specs.List.{AllByRecursion, slice_range}
 use Rattle.label_patterns.specs.declared.condition.Condition.{Condition}
 use Rattle.ruleset_text.specs.declared.entry_form.NamedCondition.{NamedCondition}
@@ -7,7 +7,7 @@ use Rattle.ruleset_text.specs.Definitions.{Definitions}
 use Rattle.ruleset_text.specs.Entries.{Mapped}
 use Rattle.variant_table.specs.declared.sequences.Span.{Span}
 use Rattle.variant_table.specs.declared.sequences.HeldSequence.{HeldSequence}
-use Rattle.variant_table.specs.Entries.{Variant, Entry, entry_from}
+use Rattle.variant_table.specs.Entries.{Variant, Entry, entry_from, itself}
 use Rattle.variant_table.specs.declared.version.Version.{Version}
 use Rattle.variant_table.specs.declared.version.Version.TheVariants.{One, Two, Three}
 use Rattle.variant_table.specs.Canonical.{table_text}
@@ -46,6 +46,10 @@ entry_at sequences s = entry_from (part_at sequences s)
 -- the entries whose sequences the spans name
 abbrev pub entries_of : List Variant → List Span → List Entry
 entries_of sequences spans = map (entry_at sequences) spans
+
+-- the source, as a replacement of itself, and the variants
+abbrev pub variants_of : Entry → List Variant
+variants_of e = itself e ∷ e.variants
 
 -- none of the sequences is empty
 abbrev pub HasNoEmptySequence : List Mapped → Type 0

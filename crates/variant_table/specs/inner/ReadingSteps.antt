@@ -1,8 +1,9 @@
 -- What each step of reading leaves: the table so far, or the fault of its line.
-use Rattle.std.specs.Prelude.{◌≡◌, ◌⊎◌, ℕ, List, [], ◌∷◌, ◌++◌, map, Result, Ok, Err, if◌then◌else◌}
+use Rattle.std.specs.Prelude.{◌≡◌, ◌⊎◌, ℕ, Bool, true, false, List, [], ◌∷◌, ◌++◌, map, Result, Ok, Err, if◌then◌else◌}
 use Rattle.std.specs.List.{range_with_len}
 use Rattle.ruleset_text.specs.declared.fault.DefinitionFault.{DefinitionFault}
 use Rattle.ruleset_text.specs.declared.fault.DefinitionFault.TheVariants as definitions
+use Rattle.variant_table.specs.declared.fault.LineRefusal.{LineRefusal}
 use Rattle.variant_table.specs.declared.fault.TableFault.{TableFault}
 use Rattle.variant_table.specs.declared.fault.TableFault.TheVariants as tables
 use Rattle.variant_table.specs.declared.fault.TableRefusal.{TableRefusal}
@@ -29,9 +30,19 @@ abbrev pub Leaves : {X Y : Type 0} → ℕ → Result X TableFault → Y → Res
 Leaves number (Ok x) y read = read ≡ Ok y
 Leaves number (Err fault) y read = Fails number fault read
 
+-- what a call gives, without the place of its fault
+abbrev pub without_place : {X : Type 0} → Result X LineRefusal → Result X TableFault
+without_place (Ok x) = Ok x
+without_place (Err refusal) = Err refusal.fault
+
 -- the table with an entry, whose source is to be new
 abbrev pub with_new_source : List Entry → Entry → Result (List Entry) LineFault
 with_new_source table e = if has_source_in table e then Err SameSource else Ok (table ++ e ∷ [])
+
+-- the table that a call leaves, by whether all sources that it was to add are new
+abbrev pub if_new : Bool → List Entry → Result (List Entry) LineFault
+if_new true table = Ok table
+if_new false table = Err SameSource
 
 -- the table with entries, one after another, whose sources are to be new
 abbrev pub with_new_sources : List Entry → List Entry → Result (List Entry) LineFault

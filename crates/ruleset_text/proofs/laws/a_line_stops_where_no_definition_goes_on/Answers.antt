@@ -1,4 +1,3 @@
-use Rattle.ruleset_text.proofs.AlikeLemmas.{line_alike}
 use Rattle.ruleset_text.proofs.DefinitionStopLemmas.{the_definition, the_stop}
 use Rattle.ruleset_text.proofs.laws.a_line_stops_where_no_definition_goes_on.Goals as goal
 
@@ -7,6 +6,3 @@ returns-clause-read c = the_definition
 
 pub returns-clause-place : goal.returns-clause-place
 returns-clause-place c = the_stop
-
-pub returns-clause-alike : goal.returns-clause-alike
-returns-clause-alike c = line_alike

@@ -1,4 +1,4 @@
-use Rattle.std.proofs.Common.{◌≡◌, ℕ, true, false, [], ◌∷◌, refl}
+use Rattle.std.proofs.Common.{◌≡◌, ℕ, true, false, [], ◌∷◌, Some, refl}
 use Rattle.std.specs.Prelude.{codes}
 use Rattle.idn_class.specs.Class.{class_of}
 use Rattle.idn_class.specs.declared.class.Class.TheVariants.{Disallowed}
@@ -7,15 +7,13 @@ use Rattle.idn_text.specs.Points.{point_of_hex}
 use Rattle.ruleset_text.specs.Canonical.{point_text}
 use Rattle.ruleset_text.specs.Definitions.{all_atoms, canonical_size, with_definition}
 use Rattle.ruleset_text.specs.Classes.{has_bad_end}
-use Rattle.ruleset_text.specs.declared.keyword.Keyword.TheVariants as keyword
 use Rattle.ruleset_text.specs.Definition as definition
 use Rattle.ruleset_text.specs.inner.Examples.{some_defined}
 use Rattle.ruleset_text.specs.Names.{number_of}
 use Rattle.ruleset_text.specs.Reading.{pattern_of}
-use Rattle.ruleset_text.specs.SetNames.{names_on}
 use Rattle.ruleset_text.specs.Spans.{span, spans_in}
 use Rattle.ruleset_text.specs.Tokens.{tokens_in}
-use Rattle.ruleset_text.proofs.DefinitionOrderLemmas.{by_tests}
+use Rattle.ruleset_text.proofs.DefineLemmas.{by_tests}
 use Rattle.ruleset_text.proofs.laws.definitions_compute_the_lines.Goals as goal
 use Rattle.idn_class.specs.declared.properties.Properties.TheVariants.{Profile}
 
@@ -28,187 +26,187 @@ unfolding in_table
 bad-41 = disallowed 65 (class_of-in_table Profile 65 Disallowed refl)
 
 pub returns-clause-tag : goal.returns-clause-tag
-unfolding with_definition names_on canonical_size all_atoms point_text pattern_of spans_in tokens_in number_of point_of_hex
+unfolding with_definition canonical_size all_atoms point_text pattern_of spans_in tokens_in number_of point_of_hex
 returns-clause-tag c = refl
 
 pub returns-clause-capital : goal.returns-clause-capital
-unfolding with_definition names_on canonical_size all_atoms point_text pattern_of spans_in tokens_in number_of point_of_hex
+unfolding with_definition canonical_size all_atoms point_text pattern_of spans_in tokens_in number_of point_of_hex
 returns-clause-capital c = refl
 
 pub returns-clause-rule : goal.returns-clause-rule
-unfolding with_definition names_on canonical_size all_atoms point_text pattern_of spans_in tokens_in number_of point_of_hex
+unfolding with_definition canonical_size all_atoms point_text pattern_of spans_in tokens_in number_of point_of_hex
 returns-clause-rule c = refl
 
 pub returns-clause-demand : goal.returns-clause-demand
-unfolding with_definition names_on canonical_size all_atoms point_text pattern_of spans_in tokens_in number_of point_of_hex
+unfolding with_definition canonical_size all_atoms point_text pattern_of spans_in tokens_in number_of point_of_hex
 returns-clause-demand c = refl
 
 pub returns-clause-no_word : goal.returns-clause-no_word
-unfolding with_definition names_on canonical_size all_atoms point_text pattern_of spans_in tokens_in number_of point_of_hex
+unfolding with_definition canonical_size all_atoms point_text pattern_of spans_in tokens_in number_of point_of_hex
 returns-clause-no_word c = refl
 
 pub returns-clause-version : goal.returns-clause-version
-unfolding with_definition names_on canonical_size all_atoms point_text pattern_of spans_in tokens_in number_of point_of_hex
+unfolding with_definition canonical_size all_atoms point_text pattern_of spans_in tokens_in number_of point_of_hex
 returns-clause-version c = refl
 
 pub returns-clause-capital_keyword : goal.returns-clause-capital_keyword
-unfolding with_definition names_on canonical_size all_atoms point_text pattern_of spans_in tokens_in number_of point_of_hex
+unfolding with_definition canonical_size all_atoms point_text pattern_of spans_in tokens_in number_of point_of_hex
 returns-clause-capital_keyword c = refl
 
 pub returns-clause-blank_in_keyword : goal.returns-clause-blank_in_keyword
-unfolding with_definition names_on canonical_size all_atoms point_text pattern_of spans_in tokens_in number_of point_of_hex
+unfolding with_definition canonical_size all_atoms point_text pattern_of spans_in tokens_in number_of point_of_hex
 returns-clause-blank_in_keyword c = refl
 
 pub returns-clause-no_name : goal.returns-clause-no_name
-unfolding with_definition names_on canonical_size all_atoms point_text pattern_of spans_in tokens_in number_of point_of_hex
+unfolding with_definition canonical_size all_atoms point_text pattern_of spans_in tokens_in number_of point_of_hex
 returns-clause-no_name c = refl
 
 pub returns-clause-no_span : goal.returns-clause-no_span
-unfolding with_definition names_on canonical_size all_atoms point_text pattern_of spans_in tokens_in number_of point_of_hex
+unfolding with_definition canonical_size all_atoms point_text pattern_of spans_in tokens_in number_of point_of_hex
 returns-clause-no_span c = refl
 
 pub returns-clause-falling : goal.returns-clause-falling
-unfolding with_definition names_on canonical_size all_atoms point_text pattern_of spans_in tokens_in number_of point_of_hex
+unfolding with_definition canonical_size all_atoms point_text pattern_of spans_in tokens_in number_of point_of_hex
 returns-clause-falling c = refl
 
 pub returns-clause-touching : goal.returns-clause-touching
-unfolding with_definition names_on canonical_size all_atoms point_text pattern_of spans_in tokens_in number_of point_of_hex
+unfolding with_definition canonical_size all_atoms point_text pattern_of spans_in tokens_in number_of point_of_hex
 returns-clause-touching c = refl
 
 pub returns-clause-turned : goal.returns-clause-turned
-unfolding with_definition names_on canonical_size all_atoms point_text pattern_of spans_in tokens_in number_of point_of_hex
+unfolding with_definition canonical_size all_atoms point_text pattern_of spans_in tokens_in number_of point_of_hex
 returns-clause-turned c = refl
 
 pub returns-clause-set_in_set : goal.returns-clause-set_in_set
-unfolding with_definition names_on canonical_size all_atoms point_text pattern_of spans_in tokens_in number_of point_of_hex
+unfolding with_definition canonical_size all_atoms point_text pattern_of spans_in tokens_in number_of point_of_hex
 returns-clause-set_in_set c = refl
 
 pub returns-clause-two_digits : goal.returns-clause-two_digits
-unfolding with_definition names_on canonical_size all_atoms point_text pattern_of spans_in tokens_in number_of point_of_hex
+unfolding with_definition canonical_size all_atoms point_text pattern_of spans_in tokens_in number_of point_of_hex
 returns-clause-two_digits c = refl
 
 pub returns-clause-digit_first : goal.returns-clause-digit_first
-unfolding with_definition names_on canonical_size all_atoms point_text pattern_of spans_in tokens_in number_of point_of_hex
+unfolding with_definition canonical_size all_atoms point_text pattern_of spans_in tokens_in number_of point_of_hex
 returns-clause-digit_first c = refl
 
 pub returns-clause-hyphen : goal.returns-clause-hyphen
-unfolding with_definition names_on canonical_size all_atoms point_text pattern_of spans_in tokens_in number_of point_of_hex
+unfolding with_definition canonical_size all_atoms point_text pattern_of spans_in tokens_in number_of point_of_hex
 returns-clause-hyphen c = refl
 
 pub returns-clause-no_tag : goal.returns-clause-no_tag
-unfolding with_definition names_on canonical_size all_atoms point_text pattern_of spans_in tokens_in number_of point_of_hex
+unfolding with_definition canonical_size all_atoms point_text pattern_of spans_in tokens_in number_of point_of_hex
 returns-clause-no_tag c = refl
 
 pub returns-clause-two_tags : goal.returns-clause-two_tags
-unfolding with_definition names_on canonical_size all_atoms point_text pattern_of spans_in tokens_in number_of point_of_hex
+unfolding with_definition canonical_size all_atoms point_text pattern_of spans_in tokens_in number_of point_of_hex
 returns-clause-two_tags c = refl
 
 pub returns-clause-long_name : goal.returns-clause-long_name
-unfolding with_definition names_on canonical_size all_atoms point_text pattern_of spans_in tokens_in number_of point_of_hex
+unfolding with_definition canonical_size all_atoms point_text pattern_of spans_in tokens_in number_of point_of_hex
 returns-clause-long_name c = refl
 
 pub returns-clause-no_anchor : goal.returns-clause-no_anchor
-unfolding with_definition names_on canonical_size all_atoms point_text pattern_of spans_in tokens_in number_of point_of_hex
+unfolding with_definition canonical_size all_atoms point_text pattern_of spans_in tokens_in number_of point_of_hex
 returns-clause-no_anchor c = refl
 
 pub returns-clause-two_anchors : goal.returns-clause-two_anchors
-unfolding with_definition names_on canonical_size all_atoms point_text pattern_of spans_in tokens_in number_of point_of_hex
+unfolding with_definition canonical_size all_atoms point_text pattern_of spans_in tokens_in number_of point_of_hex
 returns-clause-two_anchors c = refl
 
 pub returns-clause-no_context : goal.returns-clause-no_context
-unfolding with_definition names_on canonical_size all_atoms point_text pattern_of spans_in tokens_in number_of point_of_hex
+unfolding with_definition canonical_size all_atoms point_text pattern_of spans_in tokens_in number_of point_of_hex
 returns-clause-no_context c = refl
 
 pub returns-clause-rule_range : goal.returns-clause-rule_range
-unfolding with_definition names_on canonical_size all_atoms point_text pattern_of spans_in tokens_in number_of point_of_hex
+unfolding with_definition canonical_size all_atoms point_text pattern_of spans_in tokens_in number_of point_of_hex
 returns-clause-rule_range c = refl
 
 pub returns-clause-rule_sequence : goal.returns-clause-rule_sequence
-unfolding with_definition names_on canonical_size all_atoms point_text pattern_of spans_in tokens_in number_of point_of_hex
+unfolding with_definition canonical_size all_atoms point_text pattern_of spans_in tokens_in number_of point_of_hex
 returns-clause-rule_sequence c = refl
 
 pub returns-clause-no_pattern : goal.returns-clause-no_pattern
-unfolding with_definition names_on canonical_size all_atoms point_text pattern_of spans_in tokens_in number_of point_of_hex
+unfolding with_definition canonical_size all_atoms point_text pattern_of spans_in tokens_in number_of point_of_hex
 returns-clause-no_pattern c = refl
 
 pub returns-clause-place : goal.returns-clause-place
-unfolding with_definition names_on canonical_size all_atoms point_text pattern_of spans_in tokens_in number_of point_of_hex
+unfolding with_definition canonical_size all_atoms point_text pattern_of spans_in tokens_in number_of point_of_hex
 returns-clause-place c = refl
 
 pub returns-clause-word : goal.returns-clause-word
-unfolding with_definition names_on canonical_size all_atoms point_text pattern_of spans_in tokens_in number_of point_of_hex
+unfolding with_definition canonical_size all_atoms point_text pattern_of spans_in tokens_in number_of point_of_hex
 returns-clause-word c = refl
 
 pub returns-clause-first_branch : goal.returns-clause-first_branch
-unfolding with_definition names_on canonical_size all_atoms point_text pattern_of spans_in tokens_in number_of point_of_hex
+unfolding with_definition canonical_size all_atoms point_text pattern_of spans_in tokens_in number_of point_of_hex
 returns-clause-first_branch c = refl
 
 pub returns-clause-groups : goal.returns-clause-groups
-unfolding with_definition names_on canonical_size all_atoms point_text pattern_of spans_in tokens_in number_of point_of_hex
+unfolding with_definition canonical_size all_atoms point_text pattern_of spans_in tokens_in number_of point_of_hex
 returns-clause-groups c = refl
 
 pub returns-clause-stars : goal.returns-clause-stars
-unfolding with_definition names_on canonical_size all_atoms point_text pattern_of spans_in tokens_in number_of point_of_hex
+unfolding with_definition canonical_size all_atoms point_text pattern_of spans_in tokens_in number_of point_of_hex
 returns-clause-stars c = refl
 
 pub returns-clause-limit_before_name : goal.returns-clause-limit_before_name
-unfolding with_definition names_on canonical_size all_atoms point_text pattern_of spans_in tokens_in number_of point_of_hex
+unfolding with_definition canonical_size all_atoms point_text pattern_of spans_in tokens_in number_of point_of_hex
 returns-clause-limit_before_name c = refl
 
 pub returns-clause-form_before_limit : goal.returns-clause-form_before_limit
-unfolding with_definition names_on canonical_size all_atoms point_text pattern_of spans_in tokens_in number_of point_of_hex
+unfolding with_definition canonical_size all_atoms point_text pattern_of spans_in tokens_in number_of point_of_hex
 returns-clause-form_before_limit c = refl
 
 pub returns-clause-limit_before_class : goal.returns-clause-limit_before_class
-unfolding with_definition names_on canonical_size all_atoms point_text pattern_of spans_in tokens_in number_of point_of_hex
+unfolding with_definition canonical_size all_atoms point_text pattern_of spans_in tokens_in number_of point_of_hex
 returns-clause-limit_before_class c = refl
 
 pub returns-clause-unknown : goal.returns-clause-unknown
-unfolding with_definition names_on canonical_size all_atoms point_text pattern_of spans_in tokens_in number_of point_of_hex
+unfolding with_definition canonical_size all_atoms point_text pattern_of spans_in tokens_in number_of point_of_hex
 returns-clause-unknown c = refl
 
 pub returns-clause-no_set : goal.returns-clause-no_set
-unfolding with_definition names_on canonical_size all_atoms point_text pattern_of spans_in tokens_in number_of point_of_hex
+unfolding with_definition canonical_size all_atoms point_text pattern_of spans_in tokens_in number_of point_of_hex
 returns-clause-no_set c = refl
 
 pub returns-clause-second : goal.returns-clause-second
-unfolding with_definition names_on canonical_size all_atoms point_text pattern_of spans_in tokens_in number_of point_of_hex
+unfolding with_definition canonical_size all_atoms point_text pattern_of spans_in tokens_in number_of point_of_hex
 returns-clause-second c = refl
 
 pub returns-clause-name_before_class : goal.returns-clause-name_before_class
-unfolding with_definition names_on canonical_size all_atoms point_text pattern_of spans_in tokens_in number_of point_of_hex
+unfolding with_definition canonical_size all_atoms point_text pattern_of spans_in tokens_in number_of point_of_hex
 returns-clause-name_before_class c = refl
 
 pub returns-clause-name_before_same_name : goal.returns-clause-name_before_same_name
-unfolding with_definition names_on canonical_size all_atoms point_text pattern_of spans_in tokens_in number_of point_of_hex
+unfolding with_definition canonical_size all_atoms point_text pattern_of spans_in tokens_in number_of point_of_hex
 returns-clause-name_before_same_name c = refl
 
 pub returns-clause-class : goal.returns-clause-class
-unfolding names_on canonical_size all_atoms point_text pattern_of spans_in tokens_in number_of point_of_hex
+unfolding canonical_size all_atoms point_text pattern_of spans_in tokens_in number_of point_of_hex
 returns-clause-class c =
-    by_tests 1000 some_defined keyword.Set (codes "C" ∷ codes "0041" ∷ []) (definition.Set (codes "C") (span 65 65 ∷ [])) refl false true true false refl refl bad-41 refl
+    let x = definition.Set (codes "C") (span 65 65 ∷ []) in by_tests 1000 some_defined (Some x) x false true false true false refl refl refl refl bad-41 refl
 
 pub returns-clause-class_before_same_name : goal.returns-clause-class_before_same_name
-unfolding names_on canonical_size all_atoms point_text pattern_of spans_in tokens_in number_of point_of_hex
+unfolding canonical_size all_atoms point_text pattern_of spans_in tokens_in number_of point_of_hex
 returns-clause-class_before_same_name c =
-    by_tests 1000 some_defined keyword.Set (codes "t" ∷ codes "0041" ∷ []) (definition.Set (codes "t") (span 65 65 ∷ [])) refl false true true true refl refl bad-41 refl
+    let x = definition.Set (codes "t") (span 65 65 ∷ []) in by_tests 1000 some_defined (Some x) x false true false true true refl refl refl refl bad-41 refl
 
 pub returns-clause-same_tag : goal.returns-clause-same_tag
-unfolding with_definition names_on canonical_size all_atoms point_text pattern_of spans_in tokens_in number_of point_of_hex
+unfolding with_definition canonical_size all_atoms point_text pattern_of spans_in tokens_in number_of point_of_hex
 returns-clause-same_tag c = refl
 
 pub returns-clause-set_as_tag : goal.returns-clause-set_as_tag
-unfolding with_definition names_on canonical_size all_atoms point_text pattern_of spans_in tokens_in number_of point_of_hex
+unfolding with_definition canonical_size all_atoms point_text pattern_of spans_in tokens_in number_of point_of_hex
 returns-clause-set_as_tag c = refl
 
 pub returns-clause-rule_as_tag : goal.returns-clause-rule_as_tag
-unfolding with_definition names_on canonical_size all_atoms point_text pattern_of spans_in tokens_in number_of point_of_hex
+unfolding with_definition canonical_size all_atoms point_text pattern_of spans_in tokens_in number_of point_of_hex
 returns-clause-rule_as_tag c = refl
 
 pub returns-clause-rule_again : goal.returns-clause-rule_again
-unfolding with_definition names_on canonical_size all_atoms point_text pattern_of spans_in tokens_in number_of point_of_hex
+unfolding with_definition canonical_size all_atoms point_text pattern_of spans_in tokens_in number_of point_of_hex
 returns-clause-rule_again c = refl
 
 pub returns-clause-set_as_rule : goal.returns-clause-set_as_rule
-unfolding with_definition names_on canonical_size all_atoms point_text pattern_of spans_in tokens_in number_of point_of_hex
+unfolding with_definition canonical_size all_atoms point_text pattern_of spans_in tokens_in number_of point_of_hex
 returns-clause-set_as_rule c = refl

@@ -4,7 +4,6 @@ use Rattle.ruleset_text.specs.Definitions.{all_atoms, canonical_size}
 use Rattle.ruleset_text.specs.Definitions.{with_definition as with_definition_of}
 use Rattle.ruleset_text.specs.Names.{number_of}
 use Rattle.ruleset_text.specs.Reading.{pattern_of}
-use Rattle.ruleset_text.specs.SetNames.{names_on}
 use Rattle.ruleset_text.specs.Spans.{spans_in}
 use Rattle.ruleset_text.specs.Tokens.{tokens_in}
 use Rattle.variant_table.specs.Reading.{table_of_lines, with_definition, with_lines, with_raw_line, with_line, with_form, with_entries}
@@ -85,35 +84,35 @@ unfolding point_of_hex point_text entry_in table_of_lines with_lines with_raw_li
 returns-clause-marked c = refl
 
 pub returns-clause-defined : goal.returns-clause-defined
-unfolding point_of_hex point_text entry_in table_of_lines with_lines with_raw_line with_line with_form with_entries with_definition with_definition_of canonical_size all_atoms names_on number_of pattern_of spans_in tokens_in
+unfolding point_of_hex point_text entry_in table_of_lines with_lines with_raw_line with_line with_form with_entries with_definition with_definition_of canonical_size all_atoms number_of pattern_of spans_in tokens_in
 returns-clause-defined c = refl
 
 pub returns-clause-defined_written : goal.returns-clause-defined_written
-unfolding point_of_hex point_text entry_in table_of_lines with_lines with_raw_line with_line with_form with_entries with_definition with_definition_of canonical_size all_atoms names_on number_of pattern_of spans_in tokens_in
+unfolding point_of_hex point_text entry_in table_of_lines with_lines with_raw_line with_line with_form with_entries with_definition with_definition_of canonical_size all_atoms number_of pattern_of spans_in tokens_in
 returns-clause-defined_written c = refl
 
 pub returns-clause-defined_in_version_2 : goal.returns-clause-defined_in_version_2
-unfolding point_of_hex point_text entry_in table_of_lines with_lines with_raw_line with_line with_form with_entries with_definition with_definition_of canonical_size all_atoms names_on number_of pattern_of spans_in tokens_in
+unfolding point_of_hex point_text entry_in table_of_lines with_lines with_raw_line with_line with_form with_entries with_definition with_definition_of canonical_size all_atoms number_of pattern_of spans_in tokens_in
 returns-clause-defined_in_version_2 c = refl
 
 pub returns-clause-same_name : goal.returns-clause-same_name
-unfolding point_of_hex point_text entry_in table_of_lines with_lines with_raw_line with_line with_form with_entries with_definition with_definition_of canonical_size all_atoms names_on number_of pattern_of spans_in tokens_in
+unfolding point_of_hex point_text entry_in table_of_lines with_lines with_raw_line with_line with_form with_entries with_definition with_definition_of canonical_size all_atoms number_of pattern_of spans_in tokens_in
 returns-clause-same_name c = refl
 
 pub returns-clause-no_such_name : goal.returns-clause-no_such_name
-unfolding point_of_hex point_text entry_in table_of_lines with_lines with_raw_line with_line with_form with_entries with_definition with_definition_of canonical_size all_atoms names_on number_of pattern_of spans_in tokens_in
+unfolding point_of_hex point_text entry_in table_of_lines with_lines with_raw_line with_line with_form with_entries with_definition with_definition_of canonical_size all_atoms number_of pattern_of spans_in tokens_in
 returns-clause-no_such_name c = refl
 
 pub returns-clause-no_name : goal.returns-clause-no_name
-unfolding point_of_hex point_text entry_in table_of_lines with_lines with_raw_line with_line with_form with_entries with_definition with_definition_of canonical_size all_atoms names_on number_of pattern_of spans_in tokens_in
+unfolding point_of_hex point_text entry_in table_of_lines with_lines with_raw_line with_line with_form with_entries with_definition with_definition_of canonical_size all_atoms number_of pattern_of spans_in tokens_in
 returns-clause-no_name c = refl
 
 pub returns-clause-stars : goal.returns-clause-stars
-unfolding point_of_hex point_text entry_in table_of_lines with_lines with_raw_line with_line with_form with_entries with_definition with_definition_of canonical_size all_atoms names_on number_of pattern_of spans_in tokens_in
+unfolding point_of_hex point_text entry_in table_of_lines with_lines with_raw_line with_line with_form with_entries with_definition with_definition_of canonical_size all_atoms number_of pattern_of spans_in tokens_in
 returns-clause-stars c = refl
 
 pub returns-clause-demand : goal.returns-clause-demand
-unfolding point_of_hex point_text entry_in table_of_lines with_lines with_raw_line with_line with_form with_entries with_definition with_definition_of canonical_size all_atoms names_on number_of pattern_of spans_in tokens_in
+unfolding point_of_hex point_text entry_in table_of_lines with_lines with_raw_line with_line with_form with_entries with_definition with_definition_of canonical_size all_atoms number_of pattern_of spans_in tokens_in
 returns-clause-demand c = refl
 
 pub returns-clause-outside_gaps : goal.returns-clause-outside_gaps
@@ -132,17 +131,17 @@ pub returns-clause-tagged_gaps : goal.returns-clause-tagged_gaps
 returns-clause-tagged_gaps c = refl
 
 pub returns-clause-condition_in_version_2 : goal.returns-clause-condition_in_version_2
-unfolding point_of_hex point_text entry_in table_of_lines with_lines with_raw_line with_line with_form with_entries with_definition with_definition_of canonical_size all_atoms names_on number_of pattern_of spans_in tokens_in
+unfolding point_of_hex point_text entry_in table_of_lines with_lines with_raw_line with_line with_form with_entries with_definition with_definition_of canonical_size all_atoms number_of pattern_of spans_in tokens_in
 returns-clause-condition_in_version_2 c = refl
 
 pub returns-clause-tag_in_version_2 : goal.returns-clause-tag_in_version_2
-unfolding point_of_hex point_text entry_in table_of_lines with_lines with_raw_line with_line with_form with_entries with_definition with_definition_of canonical_size all_atoms names_on number_of pattern_of spans_in tokens_in
+unfolding point_of_hex point_text entry_in table_of_lines with_lines with_raw_line with_line with_form with_entries with_definition with_definition_of canonical_size all_atoms number_of pattern_of spans_in tokens_in
 returns-clause-tag_in_version_2 c = refl
 
 pub returns-clause-demand_in_version_2 : goal.returns-clause-demand_in_version_2
-unfolding point_of_hex point_text entry_in table_of_lines with_lines with_raw_line with_line with_form with_entries with_definition with_definition_of canonical_size all_atoms names_on number_of pattern_of spans_in tokens_in
+unfolding point_of_hex point_text entry_in table_of_lines with_lines with_raw_line with_line with_form with_entries with_definition with_definition_of canonical_size all_atoms number_of pattern_of spans_in tokens_in
 returns-clause-demand_in_version_2 c = refl
 
 pub returns-clause-capital : goal.returns-clause-capital
-unfolding point_of_hex point_text entry_in table_of_lines with_lines with_raw_line with_line with_form with_entries with_definition with_definition_of canonical_size all_atoms names_on number_of pattern_of spans_in tokens_in
+unfolding point_of_hex point_text entry_in table_of_lines with_lines with_raw_line with_line with_form with_entries with_definition with_definition_of canonical_size all_atoms number_of pattern_of spans_in tokens_in
 returns-clause-capital c = refl

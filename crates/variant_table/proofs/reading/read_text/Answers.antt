@@ -3,14 +3,14 @@ use Rattle.idn_text.specs.Lines.{raw_lines}
 use Rattle.variant_table.specs.declared.version.Notation.{Notation}
 use Rattle.variant_table.specs.declared.version.Version.{Version}
 use Rattle.variant_table.specs.Entries.{TableValue}
-use Rattle.variant_table.specs.FaultyLines.{FaultyLine, IsRefusalOf, at_line, faulty_line}
-use Rattle.variant_table.specs.declared.fault.TableFault.TheVariants.{Memory}
+use Rattle.variant_table.specs.FaultyLines.{FaultyLine, at_line, faulty_line, line_of, place_in}
+use Rattle.variant_table.specs.declared.fault.TableFault.{TableFault}
+use Rattle.variant_table.specs.declared.fault.TableFault.TheVariants.{Memory, Syntax}
 use Rattle.variant_table.specs.declared.reading.Reader.{Reader}
 use Rattle.variant_table.specs.inner.Readers.{so_far}
 use Rattle.variant_table.specs.Limits.{text_limit}
 use Rattle.variant_table.specs.Versions.{version_of, head_of}
 use Rattle.variant_table.specs.Reading.{table_of_text}
-use Rattle.variant_table.specs.inner.ReadingSteps.{FailsIn}
 use Rattle.variant_table.proofs.FaultlessLemmas.{head_within}
 use Rattle.variant_table.proofs.ReadLemmas.{faulty_begins, faulty_later, faulty_lacks, line_faulty, lines_begin, lines_lack, lines_counted, lines_step, lines_fail, lines_end}
 use Rattle.variant_table.proofs.reading.read_text.Goals as goal
@@ -37,10 +37,8 @@ loop-line-init c =
 pub returns-in-Err-clause-read : goal.returns-in-Err-clause-read
 returns-in-Err-clause-read c =
     let t : TableValue = so_far c.loop-line.reader in
-    let fails : FailsIn c.in-Err.fault (table_of_text c.args.properties c.args.notation c.args.text.now) =
     lines_fail (c.loop-line.number + 1) c.loop-line.bytes t c.in-Some-line.line.now c.next.new.self c.loop-line.line-iterator (table_of_text c.args.properties c.args.notation c.args.text.now)
-    c.in-Some-line.ensures.steps c.loop-line.invariant.same c.in-Err.fault c.in-Err.ensures.read in
-    subst (λ f. FailsIn f (table_of_text c.args.properties c.args.notation c.args.text.now)) (sym c.refusal.ensures.fault) fails
+    c.in-Some-line.ensures.steps c.loop-line.invariant.same c.in-Err.refused.fault c.in-Err.ensures.read
 
 pub returns-in-Err-clause-line : goal.returns-in-Err-clause-line
 returns-in-Err-clause-line c = by told
@@ -48,26 +46,27 @@ returns-in-Err-clause-line c = by told
     old : Reader
     old = c.loop-line.reader
 
-    new : Reader
-    new = c.add_raw_line.new.self
-
     line : List ℕ
     line = c.in-Some-line.line.now
+
+    fault : TableFault
+    fault = c.in-Err.refused.fault
 
     whole : Option FaultyLine
     whole = faulty_line c.args.properties c.args.notation c.args.text.now
 
-    kept : at_line (so_far new) line ≡ at_line (so_far old) line
-    kept = ap (λ v. record { version = v; definitions = new.definitions; line = line }) c.add_raw_line.ensures.version ∙ ap (λ d. record { version = old.version; definitions = d; line = line }) c.in-Err.ensures.definitions
+    bytes : ℕ
+    bytes = c.loop-line.bytes
 
-    told : (c.in-Err.fault ≡ Memory) ⊎ (Some (at_line (so_far old) line) ≡ whole)
+    told : (fault ≡ Memory) ⊎ (Some (at_line bytes (so_far old) line) ≡ whole)
     told =
         line_faulty (c.loop-line.number + 1) c.loop-line.bytes (so_far old) line c.next.new.self c.loop-line.line-iterator (table_of_text c.args.properties c.args.notation c.args.text.now)
-        c.in-Some-line.ensures.steps c.loop-line.invariant.same c.in-Err.fault whole c.loop-line.invariant.faulty c.in-Err.ensures.read
+        c.in-Some-line.ensures.steps c.loop-line.invariant.same fault whole c.loop-line.invariant.faulty c.in-Err.ensures.read
 
-    by : (c.in-Err.fault ≡ Memory) ⊎ (Some (at_line (so_far old) line) ≡ whole) → IsRefusalOf c.args.properties c.args.notation c.args.text.now c.refusal.result
-    by (inl memory) = inl (c.refusal.ensures.fault ∙ memory)
-    by (inr is) = inr (c.refusal.ensures.line ∙ ap (λ f. Some f) kept ∙ is)
+    by : (fault ≡ Memory) ⊎ (Some (at_line bytes (so_far old) line) ≡ whole)
+        → (fault ≡ Memory) ⊎ ((Some line ≡ line_of (faulty_line c.args.properties c.args.notation c.args.text.now)) × (c.in-Err.refused.place ≡ place_in fault (faulty_line c.args.properties c.args.notation c.args.text.now)))
+    by (inl memory) = inl memory
+    by (inr is) = inr (ap line_of is, c.in-Err.ensures.place ∙ ap (place_in fault) is)
 
 pub loop-line-preserved : goal.loop-line-preserved
 loop-line-preserved c =
@@ -93,4 +92,6 @@ pub returns-in_default-clause-read : goal.returns-in_default-clause-read
 returns-in_default-clause-read c = lines_lack c.args.properties c.args.notation (raw_lines c.args.text.now) c.in_default.ensures.version
 
 pub returns-in_default-clause-line : goal.returns-in_default-clause-line
-returns-in_default-clause-line c = inr (faulty_lacks c.args.properties c.args.notation c.args.text.now c.in_default.ensures.version)
+returns-in_default-clause-line c =
+    let lacks = faulty_lacks c.args.properties c.args.notation c.args.text.now c.in_default.ensures.version in
+    inr (ap line_of lacks, ap (place_in (Syntax 1)) lacks)

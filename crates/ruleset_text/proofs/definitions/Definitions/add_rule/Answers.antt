@@ -7,24 +7,18 @@ use Rattle.ruleset_text.specs.Definition as definition
 use Rattle.ruleset_text.specs.Definitions.{Definitions}
 use Rattle.ruleset_text.specs.inner.Held.{held}
 use Rattle.ruleset_text.specs.Limits.{atoms}
-use Rattle.ruleset_text.proofs.AddedLemmas.{counted_more, atoms_are_left, some_left, is_left}
+use Rattle.ruleset_text.proofs.AddedLemmas.{counted_more, fewer_left}
 use Rattle.ruleset_text.proofs.definitions.Definitions.add_rule.Goals as goal
-
-pub unwrap-atoms_left-requires : goal.unwrap-atoms_left-requires
-unwrap-atoms_left-requires c =
-    let i = c.self.invariant in
-    let p : Pattern = pattern c.args.contexts in
-    some_left c.without_atoms.result (atoms p) c.self.inside.atoms_left c.without_atoms.ensures
-    (atoms_are_left (held c.self.inside) c.args.self.now (definition.Rule c.args.name p) c.self.inside.atoms_left c.self.inside.written c.self.view_is
-    (record { without_fault = i.without_fault; left = i.left; size = i.size }) c.requires.without_fault)
 
 pub invariant_of-self-2 : goal.invariant_of-self-2
 invariant_of-self-2 c =
     let d : Definitions = held c.self.inside in
     let i = c.self.invariant in
     let p : Pattern = pattern c.args.contexts in
-    let less : ℕ = c.unwrap-atoms_left.result in
-    let left : atoms p + less ≡ c.self.inside.atoms_left = is_left c.without_atoms.result (atoms p) c.self.inside.atoms_left less c.without_atoms.ensures c.unwrap-atoms_left.ensures in
+    let less : ℕ = c.args.atoms_left in
+    let left : atoms p + less ≡ c.self.inside.atoms_left =
+    fewer_left d c.args.self.now (definition.Rule c.args.name p) c.self.inside.atoms_left c.self.inside.written less c.self.view_is
+    (record { without_fault = i.without_fault; left = i.left; size = i.size }) c.requires.without_fault c.requires.atoms in
     let rules : c.push-2.new.self.items ≡ c.self.inside.rules.items ++ c.args.contexts ∷ [] =
     c.push-2.ensures.items ∙ ap (λ r. cond (is_ok r) (c.reserve.new.self.items ++ c.args.contexts ∷ []) c.reserve.new.self.items) c.unwrap.ensures
     ∙ ap (λ l. l ++ c.args.contexts ∷ []) c.in_ok-reserve.ensures.items in

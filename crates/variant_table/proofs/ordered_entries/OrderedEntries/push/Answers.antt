@@ -1,4 +1,4 @@
-use Rattle.std.proofs.Common.{cond, ◌≡◌, ◌++◌, ◌∷◌, [], List, ℕ, length, true, refl, ap, sym, subst, ◌∙◌, Ok, Err}
+use Rattle.std.proofs.Common.{cond, ◌≡◌, ◌++◌, ◌∷◌, [], List, ℕ, length, true, ap, sym, subst, ◌∙◌, Ok, Err}
 use Rattle.std.specs.Prelude.{is_ok}
 use Rattle.std.specs.List.{insert}
 use Rattle.variant_table.specs.Faults.{SameSource}
@@ -18,7 +18,7 @@ returns-in_default-clause-read c =
     let e : Entry = entry_from c.args.sequences.now in
     let found = subst (λ o. IsPlaceFor table o c.get.result.now (Found c.in_default.field-0)) c.deref.ensures.value c.in_default.ensures in
     let known : has_source_in table e ≡ true = known-at table order c.in_default.field-0 e c.self.invariant found.0 (found.1 ∙ sym (source-first c.args.sequences.now c.get.result.now c.get.ensures)) in
-    (refl, ap (λ t. with_new_source t e) (sym c.self.view_is) ∙ ap (λ b. cond b (Err SameSource) (Ok (table ++ e ∷ []))) known)
+    ap (λ t. with_new_source t e) (sym c.self.view_is) ∙ ap (λ b. cond b (Err SameSource) (Ok (table ++ e ∷ []))) known
 
 pub invariant_of-self-2 : goal.invariant_of-self-2
 invariant_of-self-2 c =

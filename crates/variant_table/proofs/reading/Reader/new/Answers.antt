@@ -5,5 +5,5 @@ use Rattle.variant_table.proofs.reading.Reader.new.Goals as goal
 
 pub returns-clause-counted : goal.returns-clause-counted
 returns-clause-counted c =
-    subst (λ d. IsCounted c.args.version d c.left_after_head.result c.new-3.result) (sym c.new-2.ensures)
-    (subst (λ es. IsCounted c.args.version (nothing_defined c.args.properties) c.left_after_head.result es) (sym c.new-3.ensures) (c.left_after_head.ensures c.args.properties))
+    subst (λ d. IsCounted c.args.version d c.left_after_head.result c.new-4.result) (sym c.new-3.ensures)
+    (subst (λ es. IsCounted c.args.version (nothing_defined c.args.properties) c.left_after_head.result es) (sym c.new-4.ensures) (c.left_after_head.ensures c.args.properties))

@@ -1,8 +1,6 @@
-use Rattle.std.proofs.Common.{rules, ◌≡◌, Err, sym, subst}
-use Rattle.std.specs.Prelude.{IfErr}
-use Rattle.variant_table.specs.declared.fault.TableFault.TheVariants.{Memory}
+use Rattle.std.proofs.Common.{subst}
 use Rattle.variant_table.specs.Entries.{TableValue, table_of}
-use Rattle.variant_table.specs.Texts.{IsTextOf, IsToldOf}
+use Rattle.variant_table.specs.Texts.{IsTextOf}
 use Rattle.variant_table.specs.Canonical.{table_text}
 use Rattle.variant_table.specs.Versions.{notation_of}
 use Rattle.variant_table.proofs.FaultlessLemmas.{read_text}

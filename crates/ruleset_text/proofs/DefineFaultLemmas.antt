@@ -1,0 +1,195 @@
+-- What reading a definition tells is what makes reading refuse it.
+use Rattle.std.proofs.Common.{◌≡◌, ℕ, ◌+◌, ◌-◌, ◌≤◌, nat_le, nat_lt, Bool, true, false, cond, not, ◌||◌, List, [], ◌∷◌, length, Some, Result, Ok, Err, refl, sym, ap, subst, ◌∙◌, arith}
+use Rattle.std.specs.Prelude.{is_some}
+use Rattle.std.specs.Result.{IsErr, IsErrAnd, result_ok}
+use Rattle.std.proofs.lemmas.Bool.Decides.{nat_tests}
+use Rattle.label_patterns.specs.Patterns.{Pattern}
+use Rattle.ruleset_text.specs.declared.definition.DemandKind.{DemandKind}
+use Rattle.ruleset_text.specs.declared.definition.DemandKind.TheVariants as demand
+use Rattle.ruleset_text.specs.declared.definition_reading.ReadDefinition.{ReadDefinition}
+use Rattle.ruleset_text.specs.declared.fault.DefinitionFault.{DefinitionFault}
+use Rattle.ruleset_text.specs.declared.fault.DefinitionFault.TheVariants as fault
+use Rattle.ruleset_text.specs.declared.fault.DefinitionRefusal.{DefinitionRefusal}
+use Rattle.ruleset_text.specs.declared.fault.FaultPlace.{FaultPlace}
+use Rattle.ruleset_text.specs.declared.fault.FaultPlace.TheVariants.{End}
+use Rattle.ruleset_text.specs.declared.fault.ReadError.{ReadError}
+use Rattle.ruleset_text.specs.declared.fault.ReadError.TheVariants as unread
+use Rattle.ruleset_text.specs.declared.keyword.Keyword.{Keyword}
+use Rattle.ruleset_text.specs.declared.keyword.Keyword.TheVariants as keyword
+use Rattle.ruleset_text.specs.declared.reading.Earlier.{Earlier}
+use Rattle.ruleset_text.specs.Definition as definition
+use Rattle.ruleset_text.specs.Definition.{Definition, definition_of}
+use Rattle.ruleset_text.specs.DefinitionPlaces.{AreFaultsOf, definition_faults, faults_after, without_first}
+use Rattle.ruleset_text.specs.DefinitionReading.{after_name, definition_read, named, pattern_read, rule_read, set_read, spans_read, tag_read}
+use Rattle.ruleset_text.specs.Definitions.{Definitions, all_atoms, defined, definition_atoms, is_pattern_over_limit}
+use Rattle.ruleset_text.specs.DefinitionTrees as trees
+use Rattle.ruleset_text.specs.inner.DefinitionSteps.{HasForm, IsEarlier, IsReadDefinition, Leaves, Refuses}
+use Rattle.ruleset_text.specs.Limits.{atoms, groups, has_its_sets, stars}
+use Rattle.ruleset_text.specs.LineFaults.{first_unknown, lexeme_place}
+use Rattle.ruleset_text.specs.LineStops.{StopsAt, map_read, refusal_of}
+use Rattle.ruleset_text.specs.Names.{is_name}
+use Rattle.ruleset_text.specs.PatternLimits.{limit_place}
+use Rattle.ruleset_text.specs.PlacedLexemes.{Placed, unplaced}
+use Rattle.ruleset_text.specs.WellFormed.{AreDefinitions}
+use Rattle.ruleset_text.proofs.DefinedLemmas.{form as form_of}
+use Rattle.ruleset_text.proofs.DefineLemmas.{formless}
+use Rattle.ruleset_text.proofs.DefinitionStopLemmas.{definition_as_read}
+use Rattle.ruleset_text.proofs.LineFaultLemmas.{bad_refused, span_refused, unknown_refused}
+use Rattle.ruleset_text.proofs.PatternLimitLemmas.{limit_refused}
+
+-- ---- the spans or the pattern that was read
+
+abbrev HasRead : List (List ℕ) → ℕ → List Placed → Definition → Type 0
+HasRead names end ws (definition.Tag name) = Unit {0}
+HasRead names end ws (definition.Set name spans) = spans_read end (without_first ws) ≡ Ok spans
+HasRead names end ws (definition.Rule name contexts) = pattern_read true names end (without_first ws) ≡ Ok contexts
+HasRead names end ws (definition.Demand kind p) = (r : Bool) × (pattern_read r names end ws ≡ Ok p)
+
+mapped : {X : Type 0} (f : X → Definition) (read : Result X FaultPlace) (x : Definition) → map_read f read ≡ Ok x → (y : X) × (read ≡ Ok y) × (f y ≡ x)
+mapped {X} f (Ok y) x e = (y, refl, cc)
+mapped {X} f (Err place) x e = absurd (let clash : (let r : Result Definition FaultPlace = Err place in r) ≡ Ok x = e in cc)
+
+no_ok : {X : Type 0} (place : FaultPlace) (x : Definition) → (let r : Result Definition FaultPlace = Err place in r) ≡ Ok x → X
+no_ok place x e = absurd cc
+
+module _ (names : List (List ℕ)) (end : ℕ) where
+  named_reads : (f : List ℕ → List Placed → Result Definition FaultPlace) (ws : List Placed) (x : Definition)
+      → ((name : List ℕ) → f name (without_first ws) ≡ Ok x → HasRead names end ws x) → named f end ws ≡ Ok x → HasRead names end ws x
+  named_reads f [] x reads e = no_ok (End end) x e
+  named_reads f (w ∷ ws) x reads e = by (is_name w.lexeme) e
+    where
+      by : (b : Bool) → after_name f (cond b (Ok (w.lexeme, ws)) (Err (lexeme_place w))) ≡ Ok x → HasRead names end (w ∷ ws) x
+      by true k = reads w.lexeme k
+      by false k = no_ok (lexeme_place w) x k
+
+  tag_reads : (name : List ℕ) (ws rest : List Placed) (x : Definition) → tag_read end name rest ≡ Ok x → HasRead names end ws x
+  tag_reads name ws [] x e = let same : definition.Tag name ≡ x = cc in subst (HasRead names end ws) same tt
+  tag_reads name ws (w ∷ rest) x e = no_ok (lexeme_place w) x e
+
+  set_reads : (name : List ℕ) (ws : List Placed) (x : Definition) → set_read end name (without_first ws) ≡ Ok x → HasRead names end ws x
+  set_reads name ws x e = let y = mapped (definition.Set name) (spans_read end (without_first ws)) x e in subst (HasRead names end ws) y.2 y.1
+
+  rule_reads : (name : List ℕ) (ws : List Placed) (x : Definition) → rule_read names end name (without_first ws) ≡ Ok x → HasRead names end ws x
+  rule_reads name ws x e = let y = mapped (definition.Rule name) (pattern_read true names end (without_first ws)) x e in subst (HasRead names end ws) y.2 y.1
+
+  demand_reads : (kind : DemandKind) (ws : List Placed) (x : Definition) → map_read (definition.Demand kind) (pattern_read false names end ws) ≡ Ok x → HasRead names end ws x
+  demand_reads kind ws x e = let y = mapped (definition.Demand kind) (pattern_read false names end ws) x e in subst (HasRead names end ws) y.2 (false, y.1)
+
+  has_read : (k : Keyword) (ws : List Placed) (x : Definition) → definition_read names k end ws ≡ Ok x → HasRead names end ws x
+  has_read keyword.Tag ws x e = named_reads (tag_read end) ws x (λ name. tag_reads name ws (without_first ws) x) e
+  has_read keyword.Set ws x e = named_reads (set_read end) ws x (λ name. set_reads name ws x) e
+  has_read keyword.Rule ws x e = named_reads (rule_read names end) ws x (λ name. rule_reads name ws x) e
+  has_read keyword.Never ws x e = demand_reads demand.Never ws x e
+  has_read keyword.Always ws x e = demand_reads demand.Always ws x e
+
+-- ---- what is wrong with it
+
+-- what all patterns together may have more
+fewer : (n a : ℕ) → n ≤ 4096 → nat_lt 4096 (n + a) ≡ nat_lt (4096 - n) a
+fewer n a l = grind (arith, nat_tests)
+
+regroup : (a b c e : Bool) → (((a || b) || c) || e) ≡ (a || ((b || c) || e))
+regroup true b c e = refl
+regroup false b c e = refl
+
+module _ (d : Definitions) (are : AreDefinitions d) (end : ℕ) where
+  names_known : (p : Pattern) → has_its_sets (length d.sets) p ≡ has_its_sets (length d.set_names) p
+  names_known p = ap (λ n. has_its_sets n p) (sym are.named_sets)
+
+  swapped : (a b : Bool) → b ≡ not a → a ≡ not b
+  swapped true b e = ap not (sym e)
+  swapped false b e = ap not (sym e)
+
+  pattern_limit : (r : Bool) (ws : List Placed) (p : Pattern) → pattern_read r d.set_names end ws ≡ Ok p
+      → is_pattern_over_limit d p ≡ (nat_le 256 (length d.rules + length d.demands) || is_some (limit_place (4096 - all_atoms d) p ws))
+  pattern_limit r ws p read =
+      let many = nat_le 256 (length d.rules + length d.demands) in
+      ap (λ b. ((many || nat_lt 8 (groups p)) || nat_lt 2 (stars p)) || b) (fewer (all_atoms d) (atoms p) are.few_atoms)
+      ∙ regroup many (nat_lt 8 (groups p)) (nat_lt 2 (stars p)) (nat_lt (4096 - all_atoms d) (atoms p))
+      ∙ ap (λ b. many || b) (sym (limit_refused r d.set_names end ws p (4096 - all_atoms d) read))
+
+  pattern_known : (r : Bool) (ws : List Placed) (p : Pattern) → pattern_read r d.set_names end ws ≡ Ok p → has_its_sets (length d.sets) p ≡ not (is_some (first_unknown d.set_names ws))
+  pattern_known r ws p read = names_known p ∙ swapped (has_its_sets (length d.set_names) p) (is_some (first_unknown d.set_names ws)) (unknown_refused r d.set_names end ws p read)
+
+  or_none : (a : Bool) → a ≡ (a || false)
+  or_none true = refl
+  or_none false = refl
+
+  faults_so : (ws : List Placed) (x : Definition) → HasRead d.set_names end ws x → AreFaultsOf d x (faults_after d x ws)
+  faults_so ws (definition.Tag name) read = record { limit = or_none (nat_le 8 (length d.tags)); name = refl; class = refl }
+  faults_so ws (definition.Set name spans) read = record { limit = or_none (nat_le 256 (length d.sets)); name = refl; class = sym (span_refused d.properties end (without_first ws) spans read) }
+  faults_so ws (definition.Rule name p) read = record {
+    limit = pattern_limit true (without_first ws) p read;
+    name = pattern_known true (without_first ws) p read;
+    class = sym (bad_refused d.properties true d.set_names end (without_first ws) p read);
+  }
+  faults_so ws (definition.Demand kind p) read = record {
+    limit = pattern_limit read.0 ws p read.1;
+    name = pattern_known read.0 ws p read.1;
+    class = sym (bad_refused d.properties read.0 d.set_names end ws p read.1);
+  }
+
+pub faults_told : (d : Definitions) (k : Keyword) (end : ℕ) (ws : List Placed) (x : Definition) → AreDefinitions d → definition_read d.set_names k end ws ≡ Ok x → AreFaultsOf d x (faults_after d x ws)
+faults_told d k end ws x are read = faults_so d are end ws x (has_read d.set_names end k ws x read)
+
+-- ---- a call that reads
+
+-- a definition that was read after them
+pub record IsReadAfter (d : Definitions) (k : Keyword) (end : ℕ) (ws : List Placed) (r : ReadDefinition) : Type 0 where
+  pub read : definition_read d.set_names k end ws ≡ Ok (trees.definition r.definition)
+  pub spelled : definition_of d.set_names k (unplaced ws) ≡ Some (trees.definition r.definition)
+  pub atoms : r.atoms_left ≡ 4096 - all_atoms d - definition_atoms (trees.definition r.definition)
+  pub faults : r.faults ≡ faults_after d (trees.definition r.definition) ws
+  pub told : AreFaultsOf d (trees.definition r.definition) r.faults
+  pub form : HasForm (trees.definition r.definition)
+
+pub read_after : (e : Earlier) (d : Definitions) (k : Keyword) (end : ℕ) (ws : List Placed) (r : ReadDefinition) → IsEarlier e d
+    → IsReadDefinition e ws r (definition_read e.sets.now k end ws) → IsReadAfter d k end ws r
+read_after e d k end ws r is given = record {
+  read = read;
+  spelled = spelled;
+  atoms = given.atoms ∙ ap (λ n. n - definition_atoms x) is.atoms;
+  faults = faults;
+  told = subst (AreFaultsOf d x) (sym faults) (faults_told d k end ws x is.without_fault read);
+  form = form_of d.set_names k (unplaced ws) x spelled;
+}
+  where
+    x : Definition
+    x = trees.definition r.definition
+
+    read : definition_read d.set_names k end ws ≡ Ok x
+    read = ap (λ names. definition_read names k end ws) (sym is.sets) ∙ given.read
+
+    spelled : definition_of d.set_names k (unplaced ws) ≡ Some x
+    spelled = sym (definition_as_read d.set_names k end ws) ∙ ap result_ok read
+
+    faults : r.faults ≡ faults_after d x ws
+    faults =
+        given.faults ∙ ap (λ names. definition_faults names e.atoms_left e.properties x ws) is.sets ∙ ap (λ n. definition_faults d.set_names n e.properties x ws) is.atoms
+        ∙ ap (λ p. definition_faults d.set_names (4096 - all_atoms d) p x ws) is.properties
+
+-- a line without the form
+fault_told : (limit : ℕ) (d : Definitions) (k : Keyword) (end : ℕ) (ws : List Placed) (error : ReadError) → StopsAt error (definition_read d.set_names k end ws) → Refuses (refusal_of error).fault (defined limit d k (unplaced ws))
+fault_told limit d k end ws unread.Memory stops = tt
+fault_told limit d k end ws (unread.Stop place) stops =
+    formless limit d (definition_of d.set_names k (unplaced ws)) (sym (definition_as_read d.set_names k end ws) ∙ ap result_ok stops)
+
+pub stop_told : {X : Type 0} (limit : ℕ) (sets : List (List ℕ)) (d : Definitions) (k : Keyword) (end : ℕ) (ws : List Placed) (error : ReadError) (result : Result X DefinitionRefusal) → sets ≡ d.set_names
+    → IsErr result → IsErrAnd result (λ r. r ≡ refusal_of error) → StopsAt error (definition_read sets k end ws) → Leaves result d (defined limit d k (unplaced ws))
+stop_told limit sets d k end ws error (Ok x) e err is stops = absurd (let clash : false ≡ true = err in cc)
+stop_told limit sets d k end ws error (Err refusal) e err is stops =
+    subst (λ r. Refuses r.fault (defined limit d k (unplaced ws))) (sym is) (fault_told limit d k end ws error (subst (λ names. StopsAt error (definition_read names k end ws)) e stops))
+
+-- a definition that is refused
+refused_as : (f : DefinitionFault) (read : Result Definitions DefinitionFault) → read ≡ Err f → Refuses f read
+refused_as fault.Memory read e = tt
+refused_as fault.Syntax read e = e
+refused_as fault.Limit read e = e
+refused_as fault.NoSuchName read e = e
+refused_as fault.BadClass read e = e
+refused_as fault.SameName read e = e
+
+pub check_told : {X : Type 0} (limit : ℕ) (d : Definitions) (k : Keyword) (ws : List Placed) (refusal : DefinitionRefusal) (result : Result X DefinitionRefusal)
+    → IsErr result → IsErrAnd result (λ r. r ≡ refusal) → defined limit d k (unplaced ws) ≡ Err refusal.fault → Leaves result d (defined limit d k (unplaced ws))
+check_told limit d k ws refusal (Ok x) err is e = absurd (let clash : false ≡ true = err in cc)
+check_told limit d k ws refusal (Err r) err is e = subst (λ r. Refuses r.fault (defined limit d k (unplaced ws))) (sym is) (refused_as refusal.fault (defined limit d k (unplaced ws)) e)

@@ -1,0 +1,47 @@
+-- Faults of a line that its form alone doesn't show, and where it has them. Places are bytes of the line, counted from 0.
+use Rattle.std.specs.Prelude.{◌≡◌, ℕ, nat_le, Option, Some, None, List, [], ◌∷◌, ◌++◌, length, if◌then◌else◌}
+use Rattle.std.specs.List.{AllByRecursion}
+use Rattle.std.specs.Option.{option_or}
+use Rattle.ruleset_text.specs.declared.fault.FaultPlace.{FaultPlace}
+use Rattle.ruleset_text.specs.declared.fault.FaultPlace.TheVariants.{Lexeme, Point}
+use Rattle.ruleset_text.specs.declared.token.Token.{Token}
+use Rattle.ruleset_text.specs.declared.token.Token.TheVariants as token
+use Rattle.ruleset_text.specs.Classes.{is_bad_point}
+use Rattle.ruleset_text.specs.EntryWords.{point_of}
+use Rattle.ruleset_text.specs.PlacedLexemes.{Placed}
+use Rattle.ruleset_text.specs.Tokens.{token_of}
+use Rattle.idn_class.specs.declared.properties.Properties.{Properties}
+
+abbrev pub lexeme_place : Placed → FaultPlace
+lexeme_place w = Lexeme w.place (length w.lexeme)
+
+-- what is told of the first of these of which something is told
+abbrev pub first_told : {X : Type 0} → (X → Option FaultPlace) → List X → Option FaultPlace
+first_told f [] = None
+first_told f (w ∷ ws) = option_or (f w) (first_told f ws)
+
+-- one of which it is told, and of none before it anything
+pub record IsFirstTold {X : Type 0} (f : X → Option FaultPlace) (ws : List X) (place : FaultPlace) : Type 0 where
+  pub before : List X
+  pub w : X
+  pub after : List X
+  pub cut : ws ≡ before ++ w ∷ after
+  pub earlier : AllByRecursion (λ v. f v ≡ None) before
+  pub told : f w ≡ Some place
+
+-- a code point that no label has
+abbrev pub bad_place : Properties → ℕ → Option ℕ → Option FaultPlace
+bad_place properties place None = None
+bad_place properties place (Some c) = if is_bad_point properties c then Some (Point place c) else None
+
+abbrev pub first_bad : Properties → List Placed → Option FaultPlace
+first_bad properties ws = first_told (λ w. bad_place properties w.place (point_of w.lexeme)) ws
+
+-- a set that is none of so many
+abbrev pub unknown_place : ℕ → FaultPlace → Token → Option FaultPlace
+unknown_place sets at (token.Set n) = if nat_le sets n then Some at else None
+unknown_place sets at t = None
+
+-- the first by a name that is none of these
+abbrev pub first_unknown : List (List ℕ) → List Placed → Option FaultPlace
+first_unknown names ws = first_told (λ w. unknown_place (length names) (lexeme_place w) (token_of names w.lexeme)) ws

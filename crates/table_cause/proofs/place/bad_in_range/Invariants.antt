@@ -1,9 +1,0 @@
-use Rattle.std.proofs.Common.{◌≡◌, ◌+◌, ◌-◌}
-use Rattle.std.specs.Prelude.{find}
-use Rattle.std.specs.List.{range_with_len}
-use Rattle.table_cause.specs.FaultPlaces.{is_bad_point}
-use Rattle.table_cause.proofs.place.bad_in_range.Given as goal
-
--- the first that is bad is still to be found
-abbrev pub invariant-loop-offset : goal.invariant-loop-offset
-invariant-loop-offset l = find (is_bad_point l.properties) (range_with_len (l.first + l.offset) (l.count - l.offset)) ≡ find (is_bad_point l.properties) (range_with_len l.first l.count)
