@@ -1,8 +1,22 @@
 -- Lemmas that several proofs cite, and those of one subject.
+pub mod BodyLemmas
 pub mod CharacterLemmas
+pub mod DeclarationLemmas
+pub mod DocumentStates
+pub mod DocumentTrees
+pub mod DocumentBodies
+pub mod DocumentHeld
+pub mod DocumentLive
+pub mod DocumentReads
+pub mod DocumentRuns
+pub mod FileLemmas
+pub mod LineEndLemmas
 pub mod ListLemmas
 pub mod NumberLemmas
+pub mod OneDocument
+pub mod Runs
 pub mod TagLive
 pub mod TagReached
 pub mod TagReads
 pub mod TagRuns
+pub mod Words

@@ -1,5 +1,5 @@
 -- Whatever was read of a tag, some tag goes on.
-use Rattle.std.proofs.Common.{◌≡◌, ℕ, ◌+◌, ◌<◌, zero, suc, ◌⊎◌, inl, inr, Bool, true, false, ◌||◌, List, [], ◌∷◌, ◌++◌, length, bytes_eq, refl, sym, ap, ◌∙◌, subst, append_assoc, append-nil, length-append, arith}
+use Rattle.std.proofs.Common.{◌≡◌, ℕ, ◌+◌, ◌<◌, zero, suc, inl, inr, Bool, true, false, ◌||◌, List, [], ◌∷◌, ◌++◌, length, bytes_eq, refl, sym, ap, ◌∙◌, subst, append_assoc, append-nil, length-append, arith}
 use Rattle.std.specs.List.{list_all}
 use Rattle.std.proofs.lemmas.List.Folds.{list_all-append}
 use Rattle.std.proofs.lemmas.Slice.Eq.{bytes_eq-Decides}
@@ -12,7 +12,7 @@ use Rattle.xml_text.specs.declared.state.Phase.TheVariants as phase
 use Rattle.xml_text.specs.Attributes.{Attribute, is_named}
 use Rattle.xml_text.specs.Names.{is_name_start, is_name_byte, is_name}
 use Rattle.xml_text.specs.Tags.{quote_byte, IsTag}
-use Rattle.xml_text.specs.TagStops.{IsATag, IsInReference}
+use Rattle.xml_text.specs.TagStops.{IsATag, IsBegun}
 use Rattle.xml_text.specs.inner.TagSteps.{State, tag_of}
 use Rattle.xml_text.proofs.ListLemmas.{and_both, both_and}
 use Rattle.xml_text.proofs.TagReached.{AtBlanks, AtName, AtLeft, AtRight, AtValue, AtTagName, ReachedBy, blanks_of, name_done, tag_closed, empty_closed, value_closed}
@@ -102,7 +102,7 @@ tag_name_live n given text at = blanks_live n given text (blanks_of n given text
 begin_live : (text : List ℕ) → text ≡ 60 ∷ [] → Begins IsATag text
 begin_live text e = later text (97 ∷ []) (tag_name_live (97 ∷ []) [] (text ++ 97 ∷ []) (record { spelled = ap (λ (t : List ℕ). t ++ 97 ∷ []) e; is = refl; none = refl }))
 
-pub live_by : (p : Phase) (s : State) (text : List ℕ) → ReachedBy p s text → Begins IsATag text ⊎ IsInReference text
+pub live_by : (p : Phase) (s : State) (text : List ℕ) → ReachedBy p s text → IsBegun IsATag text
 live_by phase.Open s text at = inl (later text (60 ∷ []) (begin_live (text ++ 60 ∷ []) (ap (λ (t : List ℕ). t ++ 60 ∷ []) at.spelled)))
 live_by phase.Begin s text at = inl (begin_live text at.spelled)
 live_by phase.Name s text at = inl (tag_name_live s.name s.attributes text at)

@@ -28,10 +28,10 @@ reached_from s front (b ∷ bs) u r e = by (step s b) refl e (λ t at f. reached
     by None at f further = no_state u (sym (run_none step bs) ∙ f)
     by (Some t) at f further = subst (λ (x : List ℕ). Reached u x) (append_assoc front (b ∷ []) bs) (further t at f)
 
-reached : (text : List ℕ) (u : State) → run step (Some start) text ≡ Some u → Reached u text
+pub reached : (text : List ℕ) (u : State) → run step (Some start) text ≡ Some u → Reached u text
 reached text u e = reached_from start [] text u begun e
 
-ended_phase : (p : Phase) (kind : TagKind) → kind_of p ≡ Some kind → p ≡ phase.Ended kind
+pub ended_phase : (p : Phase) (kind : TagKind) → kind_of p ≡ Some kind → p ≡ phase.Ended kind
 ended_phase phase.Open kind e = absurd (cc)
 ended_phase phase.Begin kind e = absurd (cc)
 ended_phase phase.Name kind e = absurd (cc)
@@ -74,7 +74,7 @@ cut (x ∷ before) after (b ∷ front) rest e =
     ]
 
 -- a tag that is complete takes no byte more
-ended_takes_none : (p : Phase) (kind : TagKind) (s : State) (b : ℕ) → p ≡ phase.Ended kind → step_by p s b ≡ None
+pub ended_takes_none : (p : Phase) (kind : TagKind) (s : State) (b : ℕ) → p ≡ phase.Ended kind → step_by p s b ≡ None
 ended_takes_none p kind s b e = ap (λ (q : Phase). step_by q s b) e
 
 no_further : (front : List ℕ) (t : Tag) (b : ℕ) (more : List ℕ) (u : State) → IsTag front t → run step (Some start) (front ++ b ∷ more) ≡ Some u → ⊥

@@ -4,7 +4,6 @@ use Rattle.std.specs.List.{flat_map, list_all}
 use Rattle.std.proofs.lemmas.Bool.Decides.{nat_tests}
 use Rattle.std.proofs.Common.{arith}
 use Rattle.ruleset_text.specs.Stops.{run}
-use Rattle.ruleset_text.proofs.StopLemmas.{run_append}
 use Rattle.xml_text.specs.declared.attribute.TagKind.{TagKind}
 use Rattle.xml_text.specs.declared.attribute.TagKind.TheVariants.{Start, Empty}
 use Rattle.xml_text.specs.declared.quote.Quote.{Quote}
@@ -18,6 +17,8 @@ use Rattle.xml_text.specs.Tags
 use Rattle.xml_text.specs.Tags.{Tag, Part, spaced, utf8_of_reference, part_text, part_value, is_part, quote_byte, Written, written_text, IsWritten, attribute_of, HaveNewNames, end_text, tag_text, AreWritten, IsTag}
 use Rattle.xml_text.specs.inner.TagSteps.{State, start, with_phase, moved, named, with_attribute, with_attribute_byte, with_value, closed, resolved, with_reference_byte, end_step, after_step, equals_step, step, tag_of}
 use Rattle.xml_text.proofs.ListLemmas.{and_both}
+use Rattle.xml_text.proofs.Runs
+use Rattle.xml_text.proofs.Runs.{yes, no}
 
 -- ---- runs
 
@@ -25,37 +26,29 @@ abbrev at : Phase → List ℕ → List Attribute → List ℕ → List ℕ → 
 at p n given a v r = record { name = n; attributes = given; attribute = a; value = v; reference = r; phase = p }
 
 abbrev Leads : State → List ℕ → State → Type 0
-Leads s bytes u = run step (Some s) bytes ≡ Some u
+Leads s bytes u = Runs.Leads step s bytes u
 
 then : (s t u : State) (xs ys : List ℕ) → Leads s xs t → Leads t ys u → Leads s (xs ++ ys) u
-then s t u xs ys e f = run_append step xs ys (Some s) ∙ ap (λ (o : Option State). run step o ys) e ∙ f
+then s t u xs ys e f = Runs.then step s t u xs ys e f
 
 first : (s t u : State) (b : ℕ) (bs : List ℕ) → step s b ≡ Some t → Leads t bs u → Leads s (b ∷ bs) u
-first s t u b bs e f = ap (λ (o : Option State). run step o bs) e ∙ f
-
-yes : (b : Bool) (x y : Option State) → b ≡ true → cond b x y ≡ x
-yes true x y e = refl
-yes false x y e = absurd (cc)
-
-no : (b : Bool) (x y : Option State) → b ≡ false → cond b x y ≡ y
-no false x y e = refl
-no true x y e = absurd (cc)
+first s t u b bs e f = Runs.first step s t u b bs e f
 
 -- ---- tests
 
 blank_starts_no_name : (b : ℕ) → is_blank b ≡ true → is_name_start b ≡ false
 blank_starts_no_name b e = grind (arith, nat_tests)
 
-blank_in_no_name : (b : ℕ) → is_blank b ≡ true → is_name_byte b ≡ false
+pub blank_in_no_name : (b : ℕ) → is_blank b ≡ true → is_name_byte b ≡ false
 blank_in_no_name b e = grind (arith, nat_tests)
 
-blank_is_none : (b c : ℕ) → is_blank b ≡ true → is_blank c ≡ false → (b == c) ≡ false
+pub blank_is_none : (b c : ℕ) → is_blank b ≡ true → is_blank c ≡ false → (b == c) ≡ false
 blank_is_none b c e f = grind (arith, nat_tests)
 
-start_is_name_byte : (b : ℕ) → is_name_start b ≡ true → is_name_byte b ≡ true
+pub start_is_name_byte : (b : ℕ) → is_name_start b ≡ true → is_name_byte b ≡ true
 start_is_name_byte b e = ap (λ (x : Bool). x || (nat_le 48 b && nat_le b 57) || b == 45 || b == 46) e
 
-no_semicolon : (b : ℕ) → is_reference_byte b ≡ true → (b == 59) ≡ false
+pub no_semicolon : (b : ℕ) → is_reference_byte b ≡ true → (b == 59) ≡ false
 no_semicolon b e = grind (arith, nat_tests)
 
 -- ---- blanks
@@ -116,7 +109,7 @@ own_quote : (q : Quote) → (quote_byte q == quote_byte q) ≡ true
 own_quote quote.Double = refl
 own_quote quote.Single = refl
 
-not_false : (b : Bool) → not b ≡ true → b ≡ false
+pub not_false : (b : Bool) → not b ≡ true → b ≡ false
 not_false false e = refl
 not_false true e = absurd (cc)
 

@@ -1,7 +1,10 @@
 -- Examples of XML 1.0.
 use Rattle.std.specs.Prelude.{List, [], ◌∷◌, ◌++◌, ℕ, codes}
 use Rattle.xml_text.specs.declared.attribute.TagKind.TheVariants.{Start, Empty}
+use Rattle.xml_text.specs.Documents.{IsBody}
 use Rattle.xml_text.specs.Tags.{IsTag}
+use Rattle.xml_text.specs.Tokens
+use Rattle.xml_text.specs.Tokens.{Token}
 
 abbrev pub quoted : List ℕ → List ℕ
 quoted bytes = 34 ∷ bytes ++ 34 ∷ []
@@ -21,3 +24,12 @@ IsEmptyExample = IsTag (codes "<br a=" ++ quoted (codes "&#xd;A&#xa;") ++ codes 
   attributes = record { name = codes "a"; value = 13 ∷ 65 ∷ 10 ∷ [] } ∷ [];
   kind = Empty;
 })
+
+abbrev on : ℕ → Tokens.Said → Token
+on line said = record { said = said; line = line }
+
+-- a document (section 2.1), with what sections 2.5, 2.6 and 2.7 add: a comment, an instruction, a section, and a line
+abbrev pub IsDocumentExample : Type 0
+IsDocumentExample =
+    IsBody 1 (10 ∷ codes "<greeting>Hi<!-- B -->&lt;<![CDATA[<]]>" ++ 10 ∷ codes "</greeting><?x y?>")
+    (on 2 (Tokens.Open (codes "greeting") []) ∷ on 3 (Tokens.Text (codes "Hi<<" ++ 10 ∷ [])) ∷ on 3 Tokens.Close ∷ [])

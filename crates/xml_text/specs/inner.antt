@@ -1,2 +1,3 @@
 -- The definitions that inner functions and private fields cite.
+pub mod DocumentSteps
 pub mod TagSteps

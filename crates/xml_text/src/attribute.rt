@@ -1,6 +1,6 @@
 //! What a tag says.
 ghost use Rattle.std.specs.Prelude.{◌≡◌};
-ghost use Rattle.xml_text.specs.Attributes.{is_named};
+ghost use Rattle.xml_text.specs.Attributes.{is as is_attribute, is_named};
 
 use std::marker::Model;
 
@@ -36,6 +36,13 @@ impl Attribute {
         ensures { result.now ≡ self.now.value }
     {
         &self.value
+    }
+
+    /// Whether it has this name and this value.
+    pub fn is(&self, name: &[u8], value: &[u8]) -> bool
+        ensures { result ≡ is_attribute self.now name.now value.now }
+    {
+        self.name() == name && self.value() == value
     }
 }
 

@@ -72,7 +72,17 @@ impl TagState {
         }
     }
 
-    #[inline]
+    /// `<` was read.
+    pub fn begun(alloc: Global) -> Self
+        ensures { state result ≡ steps.with_phase steps.start Phase.Begin }
+    {
+        TagState {
+            phase: Phase::Begin,
+            ..TagState::new(alloc)
+        }
+    }
+
+    #[inline(always)]
     pub fn step(&mut self, alloc: Global, byte: u8) -> Result<bool, AllocError>
         ensures { IfOk result (λ taken. steps.step (state self.old) byte ≡ taken_as taken (state self.new)) }
     {
@@ -116,6 +126,7 @@ impl TagState {
         Ok(self.go_on(Phase::Name))
     }
 
+    #[inline(always)]
     fn name(&mut self, byte: u8) -> Result<bool, AllocError>
         ensures { IfOk result (λ taken. steps.name_step (state self.old) byte ≡ taken_as taken (state self.new)) }
     {
@@ -151,6 +162,7 @@ impl TagState {
         Ok(self.go_on(Phase::Attribute))
     }
 
+    #[inline(always)]
     fn attribute(&mut self, byte: u8) -> Result<bool, AllocError>
         ensures { IfOk result (λ taken. steps.attribute_step (state self.old) byte ≡ taken_as taken (state self.new)) }
     {
@@ -180,6 +192,7 @@ impl TagState {
         }
     }
 
+    #[inline(always)]
     fn value(&mut self, alloc: Global, quote: Quote, byte: u8) -> Result<bool, AllocError>
         ensures { IfOk result (λ taken. steps.value_step quote (state self.old) byte ≡
             taken_as taken (state self.new)) }

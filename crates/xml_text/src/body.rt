@@ -1,0 +1,30 @@
+//! Reading what follows the declaration of a document.
+ghost use Rattle.std.specs.Prelude.{◌+◌, ◌≤◌, length, IfOk, IfErr};
+ghost use Rattle.xml_text.specs.Documents.{IsBody};
+ghost use Rattle.xml_text.specs.Files.{StopsBody, max_bytes};
+ghost use Rattle.xml_text.specs.LineEnds.{line_feeds};
+
+use crate::document_state::DocumentState;
+use crate::fault::ReadError;
+use crate::token::Token;
+use std::alloc::Global;
+
+/// What a document says whose declaration is followed by this text, which begins on this line.
+pub fn read_body(alloc: Global, text: &[u8], line: usize) -> Result<Vec<Token>, ReadError>
+    requires short { length text.now ≤ max_bytes }
+    requires line { line ≤ max_bytes + 1 }
+    ensures read { IfOk result (λ tokens. IsBody line (line_feeds text.now) tokens.items) }
+    ensures stop { IfErr result (StopsBody line text.now) }
+{
+    let mut state = DocumentState::new(alloc, line);
+    for (place, byte) in text.iter().enumerate() {
+        if !state.read(alloc, *byte)? {
+            return Err(ReadError::Stop(place));
+        }
+    }
+    if state.is_complete() {
+        Ok(state.into_tokens())
+    } else {
+        Err(ReadError::Stop(text.len()))
+    }
+}

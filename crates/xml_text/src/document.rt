@@ -1,0 +1,87 @@
+//! Reading a document.
+ghost use Rattle.std.specs.Prelude.{◌≡◌, ◌≤◌, length, take, IfOk, IfErr};
+ghost use Rattle.xml_text.specs.Files.{IsDocument, IsFault, IsFront, HasWrongDeclaration, max_bytes, mark_of};
+
+use crate::body::read_body;
+use crate::characters::first_wrong_character;
+use crate::declaration::declaration_length;
+use crate::fault::{DocumentError, Place, ReadError};
+use crate::lines::line_after;
+use crate::token::Token;
+use std::alloc::Global;
+
+/// How many bytes a document may have: 64 MiB.
+const MAX_BYTES: usize = 67_108_864;
+
+/// What a document of XML 1.0 says that is written in UTF-8 and has no document type, or the first byte with which no
+/// document goes on.
+pub fn read_document(alloc: Global, text: &[u8]) -> Result<Vec<Token>, DocumentError>
+    ensures read { IfOk result (λ tokens. IsDocument text.now tokens.items) }
+    ensures fault { IfErr result (IsFault text.now) }
+{
+    if text.len() > MAX_BYTES {
+        return Err(DocumentError::TooLong);
+    }
+    if let Some(byte) = first_wrong_character(text) {
+        return Err(DocumentError::NoCharacter(Place::new(text, byte)));
+    }
+    let begin = front_length(alloc, text)?;
+    let (front, body) = text.split_at(begin);
+    match read_body(alloc, body, line_after(front)) {
+        Ok(tokens) => Ok(tokens),
+        Err(ReadError::Stop(place)) => Err(DocumentError::Stop(Place::new(text, begin + place))),
+        Err(ReadError::Memory) => Err(DocumentError::Memory),
+    }
+}
+
+/// How many bytes the mark and the declaration have with which a text begins.
+fn front_length(alloc: Global, text: &[u8]) -> Result<usize, DocumentError>
+    requires { length text.now ≤ max_bytes }
+    ensures within { IfOk result (λ n. n ≤ length text.now) }
+    ensures front { IfOk result (λ n. IsFront text.now (take n text.now)) }
+    ensures wrong { IfErr result (IsFault text.now) }
+{
+    let mark = mark_length(text);
+    let (_, rest) = text.split_at(mark);
+    Ok(mark + declaration_length(alloc, rest)?)
+}
+
+/// How many bytes the byte order mark has with which a text begins.
+fn mark_length(text: &[u8]) -> usize
+    ensures mark { result ≡ length (mark_of text.now) }
+    ensures within { result ≤ length text.now }
+    ensures is { take result text.now ≡ mark_of text.now }
+{
+    match text {
+        [0xEF, 0xBB, 0xBF, ..] => 3,
+        _ => 0,
+    }
+}
+
+#[cfg(test)]
+mod tests {
+    use super::*;
+    use crate::token::Said;
+    use std::test::Fail;
+
+    #[test]
+    fn reads_a_document(rt: HostRuntime) -> Result<(), Fail> {
+        let tokens = read_document(
+            rt.alloc(),
+            b"<?xml version='1.0'?>\n<a b='&lt;'>x\r\ny</a>\n",
+        )?;
+        assert_eq!(rt; tokens.len(), 3);
+        assert!(rt; matches!(tokens[0].said(), Said::Open(_, attributes) if attributes.len() == 1));
+        assert!(rt;
+            matches!(tokens[1].said(), Said::Text(bytes) if bytes.as_slice() == b"x\ny".as_slice())
+        );
+        assert_eq!(rt; tokens[2].line(), 3);
+        Ok(())
+    }
+
+    #[test]
+    fn tells_the_place_of_a_fault(rt: HostRuntime) {
+        let read = read_document(rt.alloc(), b"<a>\r\n</b>");
+        assert!(rt; matches!(read, Err(DocumentError::Stop(Place { byte: 7, line: 2 }))));
+    }
+}

@@ -1,0 +1,465 @@
+//! Reading a document byte by byte: what was read of it, and which byte may follow.
+ghost use Rattle.std.specs.Prelude.{◌≡◌, ◌==◌, ◌+◌, ◌<◌, ◌≤◌, ◌^◌, [], ◌∷◌, false, IfOk, OnOk, Some};
+ghost use Rattle.ruleset_text.specs.Stops.{run};
+ghost use Rattle.xml_text.specs.LineEnds.{line_feeds_after};
+ghost use Rattle.xml_text.specs.inner.DocumentSteps as steps;
+ghost use Rattle.xml_text.specs.inner.DocumentSteps.{state, taken_as};
+ghost use Rattle.xml_text.specs.inner.TagSteps.{tag_of};
+ghost use Rattle.xml_text.specs.Pieces.{is_xml as is_xml_name};
+ghost use Rattle.xml_text.specs.References.{referenced as referenced_by};
+
+use crate::attribute::{Tag, TagKind};
+use crate::bytes::{is_blank, is_name_byte, is_name_start, is_reference_byte};
+use crate::names::Names;
+use crate::reference::referenced;
+use crate::repeats::Repeats;
+use crate::state::TagState;
+use crate::token::{Said, Token};
+use std::alloc::{AllocError, Global};
+use std::mem::replace;
+
+/// How many elements may be open at once.
+pub const MAX_LEVELS: usize = 64;
+
+/// What begins a section of character data, after `<![`.
+const SECTION: &[u8] = b"CDATA[";
+
+/// What was read last.
+#[derive(Clone, Copy, Debug, PartialEq, Eq)]
+pub enum Part {
+    /// A tag, a comment and the like, or character data: perhaps `]`.
+    Content(Repeats),
+    /// `&`, or a byte after it.
+    Reference,
+    /// `<`
+    Markup,
+    /// A part of a start tag.
+    Tag,
+    /// `</` and so many bytes of the name.
+    EndName(usize),
+    /// A blank after that.
+    EndBlank,
+    /// `<!`
+    Exclamation,
+    /// `<!-`
+    CommentBegin,
+    /// A part of a comment: perhaps `-`.
+    Comment(Repeats),
+    /// `<![` and so many bytes of what begins a section.
+    SectionBegin(usize),
+    /// A part of a section: perhaps `]`.
+    Section(Repeats),
+    /// `<?`
+    Question,
+    /// A byte of the name of a processing instruction.
+    Target,
+    /// `?` after it.
+    TargetEnd,
+    /// A part of what follows it, and whether that is `?`.
+    Instruction(bool),
+}
+
+/// What was read of a document.
+#[derive(Drop)]
+pub struct DocumentState {
+    tokens: Vec<Token>,
+    /// The names of the elements that are open, the innermost first.
+    names: Names,
+    /// Whether the root element has begun.
+    is_rooted: bool,
+    /// What the text says since the last tag.
+    said: Vec<u8>,
+    line: usize,
+    /// Whether CR was read last, which LF may follow in one end of a line.
+    is_after_return: bool,
+    /// The line on which the tag begins that isn't complete.
+    begun: usize,
+    /// What was read of it.
+    tag: TagState,
+    /// What was read of a reference, or of the name of a processing instruction.
+    word: Vec<u8>,
+    part: Part,
+}
+
+/// Each step answers whether its byte may stand there. If it may not, or memory was refused, the state is of no use any
+/// more.
+impl DocumentState {
+    /// Nothing was read before this line.
+    pub fn new(alloc: Global, line: usize) -> Self
+        ensures start { state result ≡ steps.start line }
+        ensures after { result.is_after_return ≡ false }
+    {
+        DocumentState {
+            tokens: Vec::new(alloc),
+            names: Names::new(alloc),
+            is_rooted: false,
+            said: Vec::new(alloc),
+            line,
+            is_after_return: false,
+            begun: line,
+            tag: TagState::new(alloc),
+            word: Vec::new(alloc),
+            part: Part::Content(Repeats::Zero),
+        }
+    }
+
+    /// Reads a byte of a text whose lines end in CR LF, LF or CR.
+    // Always inline, as what it calls for each byte: reading wants no call for a byte.
+    #[inline(always)]
+    pub fn read(&mut self, alloc: Global, byte: u8) -> Result<bool, AllocError>
+        requires { self.old.line + 1 < 2 ^ 64 }
+        ensures taken { IfOk result (λ taken.
+            run steps.step (Some (state self.old)) (line_feeds_after self.old.is_after_return (byte ∷ [])) ≡
+            taken_as taken (state self.new)) }
+        ensures line { OnOk result (self.new.line ≤ self.old.line + 1) }
+        ensures after { OnOk result (self.new.is_after_return ≡ (byte == 13)) }
+    {
+        let is_taken = match byte {
+            b'\r' => self.step(alloc, b'\n')?,
+            b'\n' if self.is_after_return => true,
+            _ => self.step(alloc, byte)?,
+        };
+        self.is_after_return = byte == b'\r';
+        Ok(is_taken)
+    }
+
+    #[inline(always)]
+    fn step(&mut self, alloc: Global, byte: u8) -> Result<bool, AllocError>
+        requires { self.old.line + 1 < 2 ^ 64 }
+        ensures taken { IfOk result (λ taken. steps.step (state self.old) byte ≡ taken_as taken (state self.new)) }
+        ensures line { OnOk result (self.new.line ≤ self.old.line + 1) }
+    {
+        let line = if byte == b'\n' {
+            self.line + 1
+        } else {
+            self.line
+        };
+        let is_taken = self.take(alloc, byte)?;
+        self.line = line;
+        Ok(is_taken)
+    }
+
+    #[inline(always)]
+    fn take(&mut self, alloc: Global, byte: u8) -> Result<bool, AllocError>
+        ensures { IfOk result (λ taken. steps.take (state self.old) byte ≡ taken_as taken (state self.new)) }
+    {
+        match self.part {
+            Part::Content(brackets) => self.content(brackets, byte),
+            Part::Reference => self.reference(byte),
+            Part::Markup => self.markup(alloc, byte),
+            Part::Tag => self.tag(alloc, byte),
+            Part::EndName(at) => self.end_name(alloc, at, byte),
+            Part::EndBlank => self.end_blank(alloc, byte),
+            Part::Exclamation => Ok(self.exclamation(byte)),
+            Part::CommentBegin => Ok(byte == b'-' && self.go_on(Part::Comment(Repeats::Zero))),
+            Part::Comment(dashes) => Ok(self.comment(dashes, byte)),
+            Part::SectionBegin(at) => Ok(self.section_begin(at, byte)),
+            Part::Section(brackets) => self.section(brackets, byte),
+            Part::Question => self.question(byte),
+            Part::Target => self.target(byte),
+            Part::TargetEnd => Ok(byte == b'>' && self.go_on(Part::Content(Repeats::Zero))),
+            Part::Instruction(is_mark) => Ok(self.instruction(is_mark, byte)),
+        }
+    }
+
+    /// Goes on to another part.
+    fn go_on(&mut self, part: Part) -> bool
+        ensures { steps.moved (state self.old) part ≡ taken_as result (state self.new) }
+    {
+        self.part = part;
+        true
+    }
+
+    #[inline(always)]
+    fn content(&mut self, brackets: Repeats, byte: u8) -> Result<bool, AllocError>
+        ensures { IfOk result (λ taken. steps.content_step brackets (state self.old) byte ≡
+            taken_as taken (state self.new)) }
+    {
+        if byte == b'<' {
+            self.begun = self.line;
+            return Ok(self.go_on(Part::Markup));
+        }
+        if self.names.is_empty() {
+            return Ok(is_blank(byte) && self.go_on(Part::Content(Repeats::Zero)));
+        }
+        match byte {
+            b'&' => {
+                self.word.clear();
+                Ok(self.go_on(Part::Reference))
+            }
+            b'>' if brackets.is_two() => Ok(false),
+            _ => {
+                self.said.push(byte)?;
+                Ok(self.go_on(Part::Content(brackets.after(byte == b']'))))
+            }
+        }
+    }
+
+    fn reference(&mut self, byte: u8) -> Result<bool, AllocError>
+        ensures { IfOk result (λ taken. steps.reference_step (state self.old) byte ≡ taken_as taken (state self.new)) }
+    {
+        if byte == b';' {
+            return self.resolve();
+        }
+        if !is_reference_byte(byte) {
+            return Ok(false);
+        }
+        self.word.push(byte)?;
+        Ok(true)
+    }
+
+    /// Puts the character in place of a reference that is complete.
+    fn resolve(&mut self) -> Result<bool, AllocError>
+        ensures { IfOk result (λ taken. steps.resolved (state self.old) (referenced_by self.old.word.items) ≡
+            taken_as taken (state self.new)) }
+    {
+        let Some(character) = referenced(&self.word) else {
+            return Ok(false);
+        };
+        let mut room = [0; 4];
+        let utf8 = character.encode_utf8(&mut room);
+        self.said.extend_from_slice(utf8.as_bytes())?;
+        Ok(self.go_on(Part::Content(Repeats::Zero)))
+    }
+
+    fn markup(&mut self, alloc: Global, byte: u8) -> Result<bool, AllocError>
+        ensures { IfOk result (λ taken. steps.markup_step (state self.old) byte ≡ taken_as taken (state self.new)) }
+    {
+        match byte {
+            b'!' => Ok(self.go_on(Part::Exclamation)),
+            b'?' => Ok(self.go_on(Part::Question)),
+            b'/' => Ok(!self.names.is_empty() && self.go_on(Part::EndName(0))),
+            _ => self.begin_tag(alloc, byte),
+        }
+    }
+
+    /// Whether an element may begin.
+    fn may_open(&self) -> bool
+        ensures { result ≡ steps.may_open self.now.is_rooted self.now.names }
+    {
+        if self.names.is_empty() {
+            !self.is_rooted
+        } else {
+            self.names.len() < MAX_LEVELS
+        }
+    }
+
+    fn begin_tag(&mut self, alloc: Global, byte: u8) -> Result<bool, AllocError>
+        ensures { IfOk result (λ taken. steps.begin_tag_step (state self.old) byte ≡ taken_as taken (state self.new)) }
+    {
+        if !self.may_open() {
+            return Ok(false);
+        }
+        self.tag = TagState::begun(alloc);
+        Ok(self.tag.step(alloc, byte)? && self.go_on(Part::Tag))
+    }
+
+    #[inline(always)]
+    fn tag(&mut self, alloc: Global, byte: u8) -> Result<bool, AllocError>
+        ensures { IfOk result (λ taken. steps.tag_step (state self.old) byte ≡ taken_as taken (state self.new)) }
+    {
+        if !self.tag.step(alloc, byte)? {
+            return Ok(false);
+        }
+        match self.tag.kind() {
+            Some(kind) => self.open(alloc, kind),
+            None => Ok(true),
+        }
+    }
+
+    /// Opens the element of a tag that is complete.
+    fn open(&mut self, alloc: Global, kind: TagKind) -> Result<bool, AllocError>
+        ensures { IfOk result (λ taken. Some (steps.opened (state self.old) (tag_of (state self.old).tag kind)) ≡
+            taken_as taken (state self.new)) }
+    {
+        self.end_text(alloc)?;
+        let Tag {
+            name,
+            attributes,
+            ..
+        } = replace(&mut self.tag, TagState::new(alloc)).into_tag(kind);
+        self.names.open(kind, &name)?;
+        self.tokens
+            .push(Token::new(Said::Open(name, attributes), self.begun))?;
+        self.end_empty(kind)?;
+        self.is_rooted = true;
+        Ok(self.go_on(Part::Content(Repeats::Zero)))
+    }
+
+    /// Closes an element that is empty.
+    fn end_empty(&mut self, kind: TagKind) -> Result<(), AllocError>
+        ensures { OnOk result (state self.new ≡ steps.ended_empty (state self.old) kind) }
+    {
+        if kind == TagKind::Empty {
+            self.tokens.push(Token::new(Said::Close, self.begun))?;
+        }
+        Ok(())
+    }
+
+    /// Ends the text before a tag.
+    fn end_text(&mut self, alloc: Global) -> Result<(), AllocError>
+        ensures { OnOk result (state self.new ≡ steps.with_text (state self.old)) }
+    {
+        if !self.said.is_empty() {
+            let said = Said::Text(replace(&mut self.said, Vec::new(alloc)));
+            self.tokens.push(Token::new(said, self.begun))?;
+        }
+        Ok(())
+    }
+
+    fn end_name(&mut self, alloc: Global, at: usize, byte: u8) -> Result<bool, AllocError>
+        ensures { IfOk result (λ taken. steps.end_name_step at (state self.old) byte ≡
+            taken_as taken (state self.new)) }
+    {
+        let Some(name) = self.names.innermost() else {
+            return Ok(false);
+        };
+        match name.get(at) {
+            Some(expected) => Ok(*expected == byte && self.go_on(Part::EndName(at + 1))),
+            None => self.end_blank(alloc, byte),
+        }
+    }
+
+    fn end_blank(&mut self, alloc: Global, byte: u8) -> Result<bool, AllocError>
+        ensures { IfOk result (λ taken. steps.end_blank_step (state self.old) byte ≡ taken_as taken (state self.new)) }
+    {
+        if byte == b'>' {
+            return self.close(alloc);
+        }
+        Ok(is_blank(byte) && self.go_on(Part::EndBlank))
+    }
+
+    /// Closes the innermost element.
+    fn close(&mut self, alloc: Global) -> Result<bool, AllocError>
+        ensures { IfOk result (λ taken. Some (steps.closed (state self.old)) ≡ taken_as taken (state self.new)) }
+    {
+        self.end_text(alloc)?;
+        self.names.pop();
+        self.tokens.push(Token::new(Said::Close, self.begun))?;
+        Ok(self.go_on(Part::Content(Repeats::Zero)))
+    }
+
+    fn exclamation(&mut self, byte: u8) -> bool
+        ensures { steps.exclamation_step (state self.old) byte ≡ taken_as result (state self.new) }
+    {
+        match byte {
+            b'-' => self.go_on(Part::CommentBegin),
+            b'[' => !self.names.is_empty() && self.go_on(Part::SectionBegin(0)),
+            _ => false,
+        }
+    }
+
+    fn comment(&mut self, dashes: Repeats, byte: u8) -> bool
+        ensures { steps.comment_step dashes (state self.old) byte ≡ taken_as result (state self.new) }
+    {
+        if dashes.is_two() {
+            return byte == b'>' && self.go_on(Part::Content(Repeats::Zero));
+        }
+        self.go_on(Part::Comment(dashes.after(byte == b'-')))
+    }
+
+    fn section_begin(&mut self, at: usize, byte: u8) -> bool
+        ensures { steps.section_begin_step at (state self.old) byte ≡ taken_as result (state self.new) }
+    {
+        if SECTION.get(at) != Some(&byte) {
+            return false;
+        }
+        let next = at + 1;
+        self.go_on(if next == SECTION.len() {
+            Part::Section(Repeats::Zero)
+        } else {
+            Part::SectionBegin(next)
+        })
+    }
+
+    fn section(&mut self, brackets: Repeats, byte: u8) -> Result<bool, AllocError>
+        ensures { IfOk result (λ taken. steps.section_step brackets (state self.old) byte ≡
+            taken_as taken (state self.new)) }
+    {
+        if byte == b']' {
+            return self.section_bracket(brackets);
+        }
+        if brackets.is_two() && byte == b'>' {
+            return Ok(self.go_on(Part::Content(Repeats::Zero)));
+        }
+        match brackets {
+            Repeats::Zero => {}
+            Repeats::One => self.said.push(b']')?,
+            Repeats::Two => {
+                self.said.push(b']')?;
+                self.said.push(b']')?;
+            }
+        }
+        self.said.push(byte)?;
+        Ok(self.go_on(Part::Section(Repeats::Zero)))
+    }
+
+    /// Reads a bracket in a section: the last two may end it.
+    fn section_bracket(&mut self, brackets: Repeats) -> Result<bool, AllocError>
+        ensures { IfOk result (λ taken. steps.bracket_in_section brackets (state self.old) ≡
+            taken_as taken (state self.new)) }
+    {
+        if brackets.is_two() {
+            self.said.push(b']')?;
+        }
+        Ok(self.go_on(Part::Section(brackets.after(true))))
+    }
+
+    fn question(&mut self, byte: u8) -> Result<bool, AllocError>
+        ensures { IfOk result (λ taken. steps.question_step (state self.old) byte ≡ taken_as taken (state self.new)) }
+    {
+        if !is_name_start(byte) {
+            return Ok(false);
+        }
+        self.word.clear();
+        self.word.push(byte)?;
+        Ok(self.go_on(Part::Target))
+    }
+
+    fn target(&mut self, byte: u8) -> Result<bool, AllocError>
+        ensures { IfOk result (λ taken. steps.target_step (state self.old) byte ≡ taken_as taken (state self.new)) }
+    {
+        if is_name_byte(byte) {
+            self.word.push(byte)?;
+            return Ok(true);
+        }
+        if is_xml(&self.word) {
+            return Ok(false);
+        }
+        if byte == b'?' {
+            return Ok(self.go_on(Part::TargetEnd));
+        }
+        Ok(is_blank(byte) && self.go_on(Part::Instruction(false)))
+    }
+
+    fn instruction(&mut self, is_mark: bool, byte: u8) -> bool
+        ensures { steps.instruction_step is_mark (state self.old) byte ≡ taken_as result (state self.new) }
+    {
+        if is_mark && byte == b'>' {
+            return self.go_on(Part::Content(Repeats::Zero));
+        }
+        self.go_on(Part::Instruction(byte == b'?'))
+    }
+
+    /// Whether what was read is a document.
+    pub fn is_complete(&self) -> bool
+        ensures { result ≡ steps.is_complete (state self.now) }
+    {
+        self.is_rooted && self.names.is_empty() && matches!(self.part, Part::Content(_))
+    }
+
+    /// What a document says that is complete.
+    pub fn into_tokens(self) -> Vec<Token>
+        ensures { result.items ≡ self.tokens.items }
+    {
+        let DocumentState { tokens, .. } = self;
+        tokens
+    }
+}
+
+/// Whether this is `xml` in any case, which names no processing instruction.
+fn is_xml(name: &[u8]) -> bool
+    ensures { result ≡ is_xml_name name.now }
+{
+    name.eq_ignore_ascii_case(b"xml")
+}
