@@ -6,7 +6,10 @@ use Rattle.answer_json.specs.Answers.{Answer, json_of, text_of}
 use Rattle.answer_json.specs.Details.{Details, no_details}
 use Rattle.answer_json.specs.Inputs.{as_text, as_octets, not_kept}
 use Rattle.answer_json.specs.Objects.{looked_up, registered, decoded, refused, variant, trailer, pair, checked, table_fault}
+use Rattle.answer_json.specs.Objects.{collision}
 use Rattle.answer_json.specs.declared.block.Disposition.TheVariants.{Allocatable}
+use Rattle.answer_json.specs.declared.collision.Regard.TheVariants.{NoVariant}
+use Rattle.answer_json.specs.declared.collision.Regard.TheVariants as regard
 use Rattle.answer_json.specs.declared.checked.PairFinding.TheVariants.{Missing, Differs}
 
 -- an answer and its text
@@ -73,6 +76,13 @@ answers =
     ∷ record {
       answer = variant 1 (utf8_of (codes "中国")) (codes "xn--fiqs8s") None;
       text = utf8_of (codes "{\"line\":1,\"ulabel\":\"中国\",\"alabel\":\"xn--fiqs8s\"}");
+    }
+    ∷ record {
+      answer =
+          collision 1 (utf8_of (codes "ςα")) (codes "xn--mxa7a") (record { there = NoVariant; back = regard.Allocatable });
+      text =
+          utf8_of (codes "{\"line\":1,\"ulabel\":\"ςα\",\"alabel\":\"xn--mxa7a\",")
+          ++ codes "\"there\":\"none\",\"back\":\"allocatable\"}";
     }
     ∷ record {
       answer = trailer 1 (as_text (utf8_of (codes "straße"))) 2 None;

@@ -8,6 +8,10 @@ use Rattle.answer_json.specs.declared.checked.PairFinding.{PairFinding}
 use Rattle.answer_json.specs.declared.checked.PairFinding.TheVariants.{Missing, Differs}
 use Rattle.answer_json.specs.declared.block.Disposition.{Disposition}
 use Rattle.answer_json.specs.declared.block.Disposition.TheVariants.{Allocatable, Blocked}
+use Rattle.answer_json.specs.declared.collision.Regard.{Regard}
+use Rattle.answer_json.specs.declared.collision.Regard.TheVariants.{NoVariant, Variant}
+use Rattle.answer_json.specs.declared.collision.Regard.TheVariants as regard
+use Rattle.answer_json.specs.declared.collision.Regards.{Regards}
 
 -- an answer that is no refusal
 abbrev pub answered : List Field → Answer
@@ -58,6 +62,25 @@ abbrev pub variant : ℕ → List ℕ → List ℕ → Option Disposition → An
 variant line ulabel alabel disposition =
     answered (line_field line ∷ (codes "ulabel", text ulabel) ∷ (codes "alabel", text alabel)
     ∷ if_given (codes "disposition") (λ d. text (disposition_text d)) disposition)
+
+-- ---- the block of a label that is asked among registered ones: those that collide with it, and a trailer
+
+-- what a label is to another one
+abbrev pub regard_text : Regard → List ℕ
+regard_text NoVariant = codes "none"
+regard_text Variant = codes "variant"
+regard_text regard.Blocked = codes "blocked"
+regard_text regard.Allocatable = codes "allocatable"
+
+-- what the one that was found is to the one that was asked about, and the other way round
+abbrev pub regard_fields : Regards → List Field
+regard_fields regards =
+    (codes "there", text (regard_text regards.there)) ∷ (codes "back", text (regard_text regards.back)) ∷ []
+
+-- {"line":1,"ulabel":"ςα","alabel":"xn--mxa7a","there":"none","back":"allocatable"}
+abbrev pub collision : ℕ → List ℕ → List ℕ → Regards → Answer
+collision line ulabel alabel regards =
+    answered (line_field line ∷ (codes "ulabel", text ulabel) ∷ (codes "alabel", text alabel) ∷ regard_fields regards)
 
 -- a block is complete, or there may be more variants after a label
 abbrev pub end_fields : Option (List ℕ) → List Field

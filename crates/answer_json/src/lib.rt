@@ -5,6 +5,7 @@
 mod answered;
 mod block;
 mod checked;
+mod collision;
 mod details;
 mod ends;
 mod escaping;
@@ -19,6 +20,7 @@ mod room;
 pub use answered::{write_decoded, write_least, write_looked_up, write_registered};
 pub use block::{Disposition, write_trailer, write_variant};
 pub use checked::{PairFinding, write_checked, write_pair};
+pub use collision::{Regard, Regards, write_collision};
 pub use input::Input;
 pub use laws::{objects_are_lines, objects_are_read_back, objects_are_unicode, objects_have_texts};
 pub use refusal_members::RefusalMembers;

@@ -16,3 +16,5 @@ pub mod AllocatableLabels
 pub mod DisposedLabels
 -- What a line that is registered stands for.
 pub mod RegisteredLines
+-- The tests of collisions are true where the definitions hold.
+pub mod CollisionTests

@@ -2,3 +2,4 @@
 pub mod Said
 pub mod Answers
 pub mod Transcript
+pub mod Collisions

@@ -36,7 +36,7 @@ use Rattle.idn2_answers.proofs.AdmittedLabels.{admitted-made, admitted_answer, a
 use Rattle.variant_table.proofs.MemberLemmas.{Contains-none}
 
 -- what a label spells is valid where the table asks nothing
-spelled-valid : (table : TableValue) (label v : List ℕ) → IsSound table → Spells table label v → asks_nothing table ≡ true → IsValid table v
+pub spelled-valid : (table : TableValue) (label v : List ℕ) → IsSound table → Spells table label v → asks_nothing table ≡ true → IsValid table v
 spelled-valid table label v sound spells free =
     nothing-is-asked.valid table v ((tests-agree.nothing table sound.entries).0 free) (spelled-replacements Whole table label v spells)
 

@@ -31,7 +31,7 @@ use Rattle.variant_table.proofs.MemberLists.{all-members}
 
 -- ---- the field that is told is that of the table
 
-field-is : (table : TableValue) (label v : List ℕ) (told : Dispositions Asked) → IsWellFormed table.entries → AreOfLabel table label told → Contains (spelled table label) v → field_by told v ≡ disposition table label v
+pub field-is : (table : TableValue) (label v : List ℕ) (told : Dispositions Asked) → IsWellFormed table.entries → AreOfLabel table label told → Contains (spelled table label) v → field_by told v ≡ disposition table label v
 field-is table label v Unstated well is h = ap (λ (n : Version). disposition_in n (is_allocatable table label v)) (sym is)
 field-is table label v AllAllocatable well is h =
     ap (λ (b : Bool). Some (allocation b)) (sym ((allocatable-test table label v well).1 (inr (Unblocked, is.1, all_unblocked table label v is.2 ((spelled-Spells table label v well).0 h)))))

@@ -40,3 +40,5 @@ pub mod CollisionSteps
 pub mod JumpAnswers
 -- A run has printed the listings of its lines.
 pub mod HeadlineLemmas
+-- What two labels are to each other, by what is found of them.
+pub mod DecisionLemmas

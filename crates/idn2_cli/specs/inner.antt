@@ -9,3 +9,4 @@ pub mod Asked
 pub mod ServedLines
 pub mod Ruling
 pub mod ForGood
+pub mod Decided

@@ -24,3 +24,5 @@ pub mod ReadBackCauses
 mod ReadBackTables
 -- What a listing counts.
 pub mod ReadBackCounts
+-- Laws of the labels that collide.
+pub mod CollisionLaws

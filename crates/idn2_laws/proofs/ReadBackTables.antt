@@ -19,8 +19,8 @@ use Rattle.ruleset_text.specs.Canonical.{point_text}
 use Rattle.ruleset_text.specs.EntryText.{sequence_text}
 use Rattle.variant_table.specs.Differences.{differences_of}
 use Rattle.variant_table.specs.Gaps.{gaps_of}
-use Rattle.table_cause.specs.FaultPlaces.{fault_place, line_place, place_at}
-use Rattle.variant_table.specs.FaultyLines.{FaultyLine, faulty_line}
+use Rattle.variant_table.specs.FaultyLines.{fault_place}
+use Rattle.variant_table.specs.FaultyLines.{faulty_line, line_of}
 use Rattle.ruleset_text.specs.declared.fault.FaultPlace.{FaultPlace}
 use Rattle.idn2_refusals.specs.Explained.{ByRegisteredLine, bad_byte, body_cause, points_cause, u_label_cause}
 use Rattle.idn2_laws.specs.ReadBack.{byte_of, FindingsAreReadBack, IsReadBack, IsShortBody, RegisteredFaultsAreReadBack, TableFaultsAreReadBack, TellsFewOctetsIfAny}
@@ -93,7 +93,6 @@ findings_read_back table sound few =
 -- ---- the fault of a table
 
 pub table_faults_read_back : TableFaultsAreReadBack
-unfolding fault_place
 table_faults_read_back properties wanted notation bytes fault line refusal small within =
     table_fault_good line small refusal (told_if wanted (fault_cause properties notation bytes fault)) (by_wanted wanted (by_mark (begins_with_mark bytes && is_syntax_of_first fault)))
   where
@@ -101,13 +100,16 @@ table_faults_read_back properties wanted notation bytes fault line refusal small
     by_place line None small = tt
     by_place line (Some place) small = small place refl
 
-    by_line : (line : Option FaultyLine) → ((place : FaultPlace) → place_at fault line ≡ Some place → byte_of place < 2 ^ 63) → IsFittingIfTold (line_cause fault line)
-    by_line None small = tt
-    by_line (Some f) small = by_place f.line (line_place f.version f.definitions fault f.line) small
+    told : Option FaultPlace
+    told = fault_place properties notation bytes fault
 
-    by_mark : (b : Bool) → IsFittingIfTold (cond b (Some ByteOrderMark) (line_cause fault (faulty_line properties notation bytes)))
+    by_line : (line : Option (List ℕ)) → IsFittingIfTold (line_cause told line)
+    by_line None = tt
+    by_line (Some line) = by_place line told within
+
+    by_mark : (b : Bool) → IsFittingIfTold (cond b (Some ByteOrderMark) (line_cause told (line_of (faulty_line properties notation bytes))))
     by_mark true = tt
-    by_mark false = by_line (faulty_line properties notation bytes) within
+    by_mark false = by_line (line_of (faulty_line properties notation bytes))
 
     by_wanted : (b : Bool) → IsFittingIfTold (fault_cause properties notation bytes fault) → IsFittingIfTold (told_if b (fault_cause properties notation bytes fault))
     by_wanted true h = h

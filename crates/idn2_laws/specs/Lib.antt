@@ -7,3 +7,5 @@ pub mod Examples
 pub mod ListingExamples
 pub mod CauseExamples
 pub mod ToldAlike
+pub mod CollisionLaws
+pub mod CollisionExamples

@@ -15,7 +15,7 @@ use Rattle.variant_table.specs.Entries.{TableValue}
 use Rattle.variant_table.specs.Gaps.{gaps_of}
 use Rattle.variant_table.specs.declared.fault.TableFault.{TableFault}
 use Rattle.variant_table.specs.declared.version.Notation.{Notation}
-use Rattle.table_cause.specs.FaultPlaces.{fault_place}
+use Rattle.variant_table.specs.FaultyLines.{fault_place}
 use Rattle.ruleset_text.specs.declared.fault.FaultPlace.{FaultPlace}
 use Rattle.ruleset_text.specs.declared.fault.FaultPlace.TheVariants as places
 use Rattle.valid_labels.specs.Validity.{IsSound}

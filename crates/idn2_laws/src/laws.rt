@@ -9,6 +9,8 @@ ghost use Rattle.idn2_laws.specs.LineCauses.{RefusalsAreExplained};
 ghost use Rattle.idn2_laws.specs.ReadBack.{FindingsAreReadBack, RefusalsAreReadBack, RegisteredFaultsAreReadBack};
 ghost use Rattle.idn2_laws.specs.ReadBack.{SaidIsReadBack, TableFaultsAreReadBack};
 ghost use Rattle.idn2_laws.specs.ListingExamples.{ListingsOfExamples};
+ghost use Rattle.idn2_laws.specs.CollisionLaws.{CollisionsGoBothWays, RegardsAreTold};
+ghost use Rattle.idn2_laws.specs.CollisionExamples.{HoldersMayHave, ListingsDecide, RelationDecides};
 ghost use Rattle.idn2_laws.specs.CauseExamples.{ExamplesOfCauses};
 ghost use Rattle.idn2_laws.specs.Examples.{ExamplesOfAllocations, ExamplesOfARun, ExamplesOfBlocks, ExamplesOfLines};
 ghost use Rattle.idn2_laws.specs.Examples.{ExamplesOfRefusals, ExamplesOfTranscripts};
@@ -42,6 +44,23 @@ pub fn not_valid_is_never_told()
 /// What a label spells is valid where the table asks nothing.
 pub fn spelled_labels_are_valid()
     ensures { SpelledAreValid }
+{}
+
+/// Two labels collide whichever is asked about, and what collides is near.
+pub fn collisions_go_both_ways()
+    ensures { CollisionsGoBothWays }
+{}
+
+/// What a label is to another one is told.
+pub fn regards_are_told()
+    ensures { RegardsAreTold }
+{}
+
+/// Worked examples of collisions hold of the definitions themselves.
+pub fn collisions_are_decided()
+    ensures listings { ListingsDecide }
+    ensures holders { HoldersMayHave }
+    ensures relation { RelationDecides }
 {}
 
 /// The check of a table of which no variant has a condition finds its gaps, and nothing that differs.

@@ -1,5 +1,5 @@
 //! The kinds of the readings of one label after another.
-ghost use Rattle.std.specs.Prelude.{◌≡◌, ◌≤◌, ◌<◌, ◌↔◌, ℕ, length, take, IfOk, IsSome, IfSome};
+ghost use Rattle.std.specs.Prelude.{◌≡◌, ◌≤◌, ◌<◌, ◌↔◌, ℕ, length, take, IfOk, IsSome, IfSome, IsTrue};
 ghost use Rattle.std.specs.Int.{bit_at};
 ghost use Rattle.reading_kinds.specs.Readings.{AreSubstitutions, SubstitutionsSpell, SomeHas, SomeLacks};
 
@@ -74,6 +74,15 @@ impl Readings {
         self.label[..label.len()].copy_from_slice(label);
         self.count = label.len();
         self.board.words(&self.substitutions, label)
+    }
+
+    /// Whether the substitutions spell a label of at most 63 code points. Takes no memory.
+    pub fn spells(&mut self, label: &[u32]) -> bool
+        requires { length label.now ≤ 63 }
+        ensures same { self.new ≡ self.old }
+        ensures spelled { IsTrue result ↔ SubstitutionsSpell self.old label.now }
+    {
+        self.words_of(label).is_some()
     }
 }
 

@@ -2,9 +2,10 @@
 use Rattle.std.proofs.Common.{◌≡◌, inl, inr, ℕ, ◌+◌, List, [], ◌∷◌, ◌++◌, length, refl, sym, ap, ◌∙◌}
 use Rattle.std.specs.List.{Contains, AllByRecursion, flat_map}
 use Rattle.variant_table.specs.Entries.{Entry, TableValue}
+use Rattle.variant_list.specs.Arising.{Arises}
 use Rattle.variant_list.specs.Closure.{GoTogether, PairUp, AreNear}
 use Rattle.variant_list.specs.Parts.Part.{Whole}
-use Rattle.variant_list.specs.Spelling.{JoinsReplacements, Spells}
+use Rattle.variant_list.specs.Spelling.{JoinsReplacements}
 use Rattle.variant_list.proofs.PartLemmas.{Replaces-of_entry}
 
 joins_near : (table : TableValue) (label : List ℕ) (segmentation : List Entry) (place : ℕ) (v : List ℕ) → AllByRecursion (Contains table.entries) segmentation → JoinsReplacements Whole table label place segmentation v
@@ -20,8 +21,8 @@ joins_near table label (e ∷ segmentation) place v of joins =
       ap (λ w. r ++ w) rest.4 ∙ sym joins.4,
     )
 
-pub AreNear-spelled : (table : TableValue) (label v : List ℕ) → Spells table label v → AreNear table label v
-AreNear-spelled table label v s = let g = joins_near table label s.0 0 v s.1.of_table s.2 in (g.0, g.1, g.2, g.3 ∙ s.1.joined, g.4)
+pub AreNear-arising : (table : TableValue) (label v : List ℕ) → Arises table label v → AreNear table label v
+AreNear-arising table label v a = let g = joins_near table label a.0 0 v a.1.0 a.2 in (g.0, g.1, g.2, g.3 ∙ a.1.1, g.4)
 
 pairs_turned : (table : TableValue) (parts others : List (List ℕ)) → PairUp table parts others → PairUp table others parts
 pairs_turned table [] [] pairs = tt

@@ -9,8 +9,9 @@ ghost use Rattle.variant_list.specs.inner.Turned.{sequences_of};
 
 use crate::reversed::Reversed;
 use reading_kinds::{LabelSubstitutions, SubstitutionsDraft};
+use ruleset_text::SEQUENCE_LIMIT;
 use std::alloc::{AllocError, Global};
-use variant_table::{Entry, SEQUENCE_LIMIT, Table};
+use variant_table::{Entry, Table};
 
 /// The substitutions of the labels that are near a label: what goes together with each part of it.
 pub(crate) fn near_substitutions_of(

@@ -1,14 +1,17 @@
 //! The substitutions of a label under a table: what may stand in the place of which of its code points.
-ghost use Rattle.std.specs.Prelude.{◌≡◌, ◌+◌, ◌<◌, ◌≤◌, not, ◌&&◌, map, length, slice_get, Some, Contains, IfOk, OnOk};
+ghost use Rattle.std.specs.Prelude.{◌≡◌, ◌+◌, ◌<◌, ◌≤◌, ◌↔◌, ℕ, List, not, ◌&&◌, map, length, slice_get, Some, Contains};
+ghost use Rattle.std.specs.Prelude.{IfOk, OnOk};
 ghost use Rattle.variant_table.specs.Entries.{Variant, replacements, whole};
 ghost use Rattle.variant_table.specs.WellFormed.{IsWellFormed};
 ghost use Rattle.reading_kinds.specs.Drafts.{with_substitutions};
-ghost use Rattle.reading_kinds.specs.Readings.{AreSubstitutions};
+ghost use Rattle.reading_kinds.specs.Readings.{AreSubstitutions, SubstitutionsSpell};
+ghost use Rattle.variant_list.specs.Arising.{Gives, table_for};
 ghost use Rattle.variant_list.specs.Parts.{are_of, full_replacements, kinds_of};
 ghost use Rattle.variant_list.specs.Parts.Part.{Whole};
-ghost use Rattle.variant_list.specs.Substitutions.{holds_for, may_stand, may_replace, substitutions_of_entry};
+ghost use Rattle.variant_list.specs.Substitutions.{holds_for, may_replace, substitutions_of_entry};
 ghost use Rattle.variant_list.specs.Substitutions.{substitutions_at, substitutions_of};
 ghost use Rattle.variant_list.specs.inner.Asking.{CanAsk};
+ghost use Rattle.variant_list.specs.inner.Standing.{stands_by};
 
 use label_patterns::{SeenLabel, condition_holds};
 use reading_kinds::{LabelSubstitutions, SubstitutionsDraft};
@@ -22,15 +25,28 @@ pub const BLOCKED: u32 = 0;
 /// How many kinds there are: a table has at most 8 tags.
 const KINDS: u8 = 9;
 
-/// The substitutions of a label: those of each of its places are the replacements of each entry there, as far as their
-/// conditions hold in the label.
+/// Which cuts of a label into sources count.
+#[derive(Clone, Copy, PartialEq, Eq, Debug)]
+pub enum Cuts {
+    /// Its segmentations: no source is outside, and the condition of each holds where it stands.
+    Segmentations,
+    /// Any: nothing is asked of a source. A label that the table refuses today may have some.
+    Anyhow,
+}
+
+/// The substitutions of a label: those of each of its places are the replacements of each entry that may stand there,
+/// as far as their conditions hold in the label.
 pub fn substitutions_of<'a>(
     alloc: Global,
     table: &'a Table,
     label: &'a [u32],
+    cuts: Cuts,
 ) -> Result<LabelSubstitutions, AllocError>
     requires { length label.now ≤ 63 }
-    ensures substitutions { IfOk result (λ substitutions. substitutions ≡ substitutions_of Whole table.now label.now) }
+    ensures substitutions { IfOk result (λ substitutions. substitutions ≡
+        substitutions_of Whole (table_for cuts table.now) label.now) }
+    ensures gives { IfOk result (λ substitutions. (v : List ℕ) →
+        SubstitutionsSpell substitutions v ↔ Gives cuts table.now label.now v) }
     ensures fit { IfOk result (λ substitutions. AreSubstitutions substitutions) }
     ensures places { IfOk result (λ substitutions. length substitutions ≡ length label.now) }
     ensures well_formed { IsWellFormed table.now.entries }
@@ -39,13 +55,25 @@ pub fn substitutions_of<'a>(
     let _entries = table.len();
     if !table.has_conditions() {
         let seen = None;
-        return Substitutions { table, label, seen }.found(alloc);
+        return Substitutions {
+            table,
+            label,
+            cuts,
+            seen,
+        }
+        .found(alloc);
     }
     // The sets of the table are looked up in the label once, for all its conditions.
     let sets = table.definitions().sets();
     let mut masks = vec![in alloc; 0; sets.len()]?;
     let seen = Some(SeenLabel::new(sets, label, &mut masks));
-    Substitutions { table, label, seen }.found(alloc)
+    Substitutions {
+        table,
+        label,
+        cuts,
+        seen,
+    }
+    .found(alloc)
 }
 
 /// What tells the substitutions of a label under a table.
@@ -53,6 +81,7 @@ pub fn substitutions_of<'a>(
 struct Substitutions<'a> {
     table: &'a Table,
     label: &'a [u32],
+    cuts: Cuts,
     /// The label as conditions are asked of it. Without it the table has no conditions.
     seen: Option<SeenLabel<'a>>,
 }
@@ -62,7 +91,7 @@ impl<'a> Substitutions<'a> {
     fn found(&self, alloc: Global) -> Result<LabelSubstitutions, AllocError>
         requires asked { CanAsk self.now.table.now self.now.label.now self.now.seen }
         ensures { IfOk result (λ substitutions. substitutions ≡
-            substitutions_of Whole self.now.table.now self.now.label.now) }
+            substitutions_of Whole (table_for self.now.cuts self.now.table.now) self.now.label.now) }
     {
         let mut draft = SubstitutionsDraft::new(alloc);
         for place in 0..self.label.len() {
@@ -76,8 +105,8 @@ impl<'a> Substitutions<'a> {
     fn add_at(&self, draft: &mut SubstitutionsDraft, place: usize) -> Result<(), AllocError>
         requires asked { CanAsk self.now.table.now self.now.label.now self.now.seen }
         requires place { place < length self.now.label.now }
-        ensures { OnOk result (draft.new ≡
-            with_substitutions draft.old (substitutions_at Whole self.now.table.now self.now.label.now place)) }
+        ensures { OnOk result (draft.new ≡ with_substitutions draft.old
+            (substitutions_at Whole (table_for self.now.cuts self.now.table.now) self.now.label.now place)) }
     {
         for entry in self.table.entries_at(self.label, place) {
             if self.may_stand(&entry, place) {
@@ -87,15 +116,18 @@ impl<'a> Substitutions<'a> {
         Ok(())
     }
 
-    /// Whether an entry may be in a segmentation of the label, with its source at the place. A label that is asked
-    /// about has no outside source.
+    /// Whether an entry may be in a cut of the label, with its source at the place. A segmentation has no outside
+    /// source.
     fn may_stand(&self, entry: &Entry<'_>, place: usize) -> bool
         requires asked { CanAsk self.now.table.now self.now.label.now self.now.seen }
         requires in_table { Contains self.now.table.now.entries entry.now }
         requires within { place + length entry.now.source ≤ length self.now.label.now }
-        ensures { result ≡ may_stand self.now.table.now self.now.label.now place entry.now }
+        ensures { result ≡ stands_by self.now.cuts self.now.table.now self.now.label.now place entry.now }
     {
-        !entry.is_outside() && self.holds_for(entry, 0, place)
+        match self.cuts {
+            Cuts::Segmentations => !entry.is_outside() && self.holds_for(entry, 0, place),
+            Cuts::Anyhow => true,
+        }
     }
 
     /// Adds the substitutions of an entry: each of its replacements whose condition holds may stand in the place of its

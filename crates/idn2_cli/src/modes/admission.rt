@@ -3,6 +3,7 @@
 ghost use Rattle.std.specs.Prelude.{◌≡◌, ◌≢◌, ◌≤◌, ℕ, List, length, All, IfOk, IfErr, IsOk};
 ghost use Rattle.idn_text.specs.Points.{AreScalarValues};
 ghost use Rattle.idn_text.specs.declared.refusal.Refusal.TheVariants as refusals;
+ghost use Rattle.valid_labels.specs.Testing.{IsAdmission};
 ghost use Rattle.valid_labels.specs.Validity.{IsAdmitted, IsSound};
 ghost use Rattle.variant_list.specs.Spelled.{spelled};
 ghost use Rattle.variant_list.specs.Variants.{in_order};
@@ -12,7 +13,7 @@ ghost use Rattle.idn2_cli.specs.inner.Ruling.{ruling_in, ruling_of};
 
 use idn_text::Refusal;
 use std::alloc::{AllocError, Global};
-use valid_labels::{Admission, Segments, Validity, ValidityTest, asks_nothing};
+use valid_labels::{Admission, Segments, Validity, ValidityTest, asks_nothing, is_made_of_sources};
 use variant_list::{Net, NetFault};
 use variant_table::Table;
 
@@ -38,6 +39,30 @@ pub(crate) fn validity_test_by<'p>(
     match ruling {
         None => Ok(None),
         Some(segments) => Ok(Some(ValidityTest::new(alloc, segments)?)),
+    }
+}
+
+/// Whether the table admits a label of at most 63 code points, and if not, why. What a test keeps stays as it is.
+pub(crate) fn admission_by(
+    test: &mut Option<ValidityTest<'_>>,
+    table: &Table,
+    label: &[u32],
+) -> Admission
+    requires short { length label.now ≤ 63 }
+    requires sound { IsSound table.now }
+    requires ruling { ruling_in test.old ≡ ruling_of table.now }
+    ensures admission { IsAdmission table.now label.now result }
+    ensures same { test.new ≡ test.old }
+{
+    match test {
+        None => {
+            if is_made_of_sources(table, label) {
+                Admission::Admitted
+            } else {
+                Admission::NotCut
+            }
+        }
+        Some(test) => test.admission(label),
     }
 }
 

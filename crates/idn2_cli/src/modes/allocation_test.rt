@@ -10,7 +10,7 @@ ghost use Rattle.idn2_cli.specs.inner.Dispositions.{IsOfSubTable};
 use reading_kinds::{Readings, Words};
 use std::alloc::{AllocError, Global};
 use std::marker::Model;
-use variant_list::{BLOCKED, substitutions_of};
+use variant_list::{BLOCKED, Cuts, substitutions_of};
 use variant_table::Table;
 
 /// The test of which variants of a label may be allocated, by the kinds of their readings. Contracts see the table and
@@ -51,7 +51,7 @@ impl<'l> AllocationTest<'l> {
         requires { length label.now ≤ 63 }
         ensures { IfOk result (λ test. test ≡ record { table = table.now; label = label.now }) }
     {
-        let substitutions = substitutions_of(alloc, table, label)?;
+        let substitutions = substitutions_of(alloc, table, label, Cuts::Segmentations)?;
         let readings = Readings::new(alloc, substitutions)?;
         Ok(AllocationTest {
             table,

@@ -215,7 +215,7 @@ fn serve_by_table<R: Source, W: Sink, E: Sink>(
         Ok(table) => table,
         Err(refusal) => {
             let wanted = options.tells_causes();
-            return refuse_table(alloc, options.form, wanted, text, &refusal, console);
+            return refuse_table(options.form, wanted, text, &refusal, console);
         }
     };
     match mode {

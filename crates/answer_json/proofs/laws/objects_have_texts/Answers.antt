@@ -11,7 +11,7 @@ returns-clause-escapes c = (simp decimal_1, (simp (decimal_1, decimal_2, decimal
 
 pub returns-clause-answers : goal.returns-clause-answers
 unfolding encode_utf8 escape_byte print_from
-returns-clause-answers c = (simp decimal_1, (simp decimal_1, (simp decimal_1, (simp decimal_1, (simp decimal_1, (simp (decimal_1, decimal_2), (simp decimal_1, tt)))))))
+returns-clause-answers c = (simp decimal_1, (simp decimal_1, (simp decimal_1, (simp decimal_1, (simp decimal_1, (simp decimal_1, (simp (decimal_1, decimal_2), (simp decimal_1, tt))))))))
 
 pub returns-clause-refusals : goal.returns-clause-refusals
 unfolding encode_utf8 escape_byte hex_of_byte point_text print_from

@@ -1,0 +1,164 @@
+-- What two labels are to each other, by what is found of them.
+use Rattle.std.proofs.Common.{◌≡◌, ◌↔◌, ◌&&◌, ℕ, Bool, true, false, List, [], ◌∷◌, Option, Some, None, refl, sym, ap, subst, ◌∙◌}
+use Rattle.std.specs.Prelude.{IfSome, IsSome, unwrap_or, Result, Ok, Err, IfOk}
+use Rattle.std.proofs.lemmas.Bool.{false_from_ne_true}
+use Rattle.idn_class.specs.declared.properties.Properties.{Properties}
+use Rattle.idn_label.specs.FirstFault.{IsRegistrable}
+use Rattle.idn_label.proofs.RequirementLemmas.{MeetsRequirements-registrable}
+use Rattle.variant_table.specs.Entries.{TableValue}
+use Rattle.valid_labels.specs.declared.validity.Admission.{Admission}
+use Rattle.valid_labels.specs.declared.validity.Admission.TheVariants.{NotCut, NotAdmitted, Admitted}
+use Rattle.valid_labels.specs.Testing.{IsAdmission}
+use Rattle.idn2_answers.proofs.AdmittedLabels.{admitted-made}
+use Rattle.valid_labels.specs.Validity.{IsAdmitted, IsSound, IsValid}
+use Rattle.valid_labels.proofs.NothingLemmas.{admitted-valid}
+use Rattle.variant_list.specs.Arising.{Arises, unasked}
+use Rattle.variant_list.specs.Spelled.{spelled}
+use Rattle.variant_list.specs.Labels.{IsBelow}
+use Rattle.variant_list.specs.Spelling.{Spells}
+use Rattle.answer_json.specs.declared.collision.Regard.{Regard}
+use Rattle.answer_json.specs.declared.collision.Regard.TheVariants.{NoVariant}
+use Rattle.idn2_options.specs.Settings.{Settings}
+use Rattle.idn2_answers.specs.Answers.{Filter, disposition, filter_of, is_among, is_registrable}
+use Rattle.idn2_answers.specs.Collisions.{IsBarred, IsGood, IsVariantOf, barred_in, regard_by, regard_of}
+use Rattle.idn2_answers.proofs.CollisionTests.{arises-told, regard-barred, regard-none, regard-variant}
+use Rattle.idn2_answers.proofs.FilterLemmas.{accepted-is}
+use Rattle.idn2_cli.specs.inner.Decided.{IsOfPair, IsStanding, MayBeListed}
+use Rattle.idn2_cli.specs.declared.modes.decided.Decisions.{Decisions}
+use Rattle.idn2_cli.specs.inner.Ruling.{filter_by, passes, ruling_of}
+use Rattle.idn2_cli.specs.declared.modes.decided.Standing.{Standing}
+use Rattle.idn2_cli.specs.declared.modes.decided.Standing.TheVariants.{Good, VariantAlone, Refused}
+use Rattle.idn2_cli.proofs.BlockMembers.{spelled-valid}
+use Rattle.idn2_cli.proofs.RuledFilters.{accepts-failed, accepts-passed, filter_by-ruling}
+
+-- another answer than that it is admitted
+pub not_admitted : (table : TableValue) (v : List ℕ) (admission : Admission) → IsAdmission table v admission → (admission ≡ Admitted → ⊥) → ¬ IsAdmitted table v
+not_admitted table v NotCut is other = λ admitted. is (admitted-made table v admitted)
+not_admitted table v NotAdmitted is other = is.1
+not_admitted table v Admitted is other = absurd (other refl)
+
+-- what a listing accepts of what a label spells is what may be registered and is valid
+module _ (properties : Properties) (table : TableValue) (sound : IsSound table) where
+  accepts_by : (v : List ℕ) → ((filter_by properties (ruling_of table)).accepts v ≡ true) → ((filter_of properties table).accepts v ≡ true)
+  accepts_by v is = subst (λ (f : Filter). f.accepts v ≡ true) (filter_by-ruling properties table) is
+
+  passed : (v : List ℕ) → IsRegistrable properties v → (b : Bool) → passes (ruling_of table) v ≡ b → (filter_of properties table).accepts v ≡ true → b ≡ true
+  passed v registrable true told accepted = refl
+  passed v registrable false told accepted =
+      let none : (filter_of properties table).accepts v ≡ false = subst (λ (f : Filter). f.accepts v ≡ false) (filter_by-ruling properties table) (accepts-failed properties (ruling_of table) v told) in
+      let clash : false ≡ true = sym none ∙ accepted in
+      cc
+
+  pub listed-valid : (label v : List ℕ) → Spells table label v → MayBeListed properties table v → IsValid table v
+  listed-valid label v spells may =
+      ((accepted-is properties table v sound (spelled-valid table label v sound spells)).0 (accepts_by v (accepts-passed properties (ruling_of table) v may.0 may.1))).1
+
+  pub valid-listed : (v : List ℕ) → IsRegistrable properties v → IsValid table v → MayBeListed properties table v
+  valid-listed v registrable valid =
+      (registrable, passed v registrable (passes (ruling_of table) v) refl ((accepted-is properties table v sound (λ free. valid)).1 (registrable, valid)))
+
+module _ (o : Settings) (table : TableValue) (sound : IsSound table) where
+  registrable : List ℕ → Bool
+  registrable = is_registrable o.properties
+
+  above-empty : (w : List ℕ) → IsRegistrable o.properties w → IsBelow [] w
+  above-empty [] is = absurd ((MeetsRequirements-registrable o.properties [] is).some refl)
+  above-empty (c ∷ w) is = tt
+
+  is_variant : (v w : List ℕ) → IsGood o table v → Spells table v w → MayBeListed o.properties table w → IsVariantOf o table v w
+  is_variant v w good spells may = record {
+    good = good;
+    listed = record { registrable = may.0; valid = listed-valid o.properties table sound v w spells may; greater = above-empty w may.0; spelled = spells; kept = tt };
+  }
+
+  -- it is spelled
+  pub regard-spelled : (v w : List ℕ) → IsGood o table v → Spells table v w → MayBeListed o.properties table w → regard_by (disposition table v w) ≡ regard_of (is_registrable o.properties) table v w
+  regard-spelled v w good spells may = regard-variant o table sound v w (is_variant v w good spells may)
+
+  -- both are good, and it isn't
+  pub regard-good : (v w : List ℕ) → IsGood o table v → IsGood o table w → ¬ Spells table v w → NoVariant ≡ regard_of (is_registrable o.properties) table v w
+  regard-good v w good other none = regard-none o table sound v w (λ i. none i.listed.spelled) (λ b. b.refused (good, other))
+
+  -- one of them isn't good, and it is no variant
+  pub regard-arising : (v w : List ℕ) (regard : Regard) → ¬ (IsGood o table v × IsGood o table w) → ¬ IsVariantOf o table v w
+      → (Arises table v w → regard ≡ barred_in table.version) → (¬ Arises table v w → regard ≡ NoVariant) → regard ≡ regard_of (is_registrable o.properties) table v w
+  regard-arising v w regard refused unlisted arising none = by_test (is_among (spelled (unasked table) v) w) (arises-told o table sound v w)
+    where
+      by_test : (told : Bool) → (told ≡ true) ↔ Arises table v w → regard ≡ regard_of (is_registrable o.properties) table v w
+      by_test true told =
+          let arises = told.0 refl in
+          arising arises ∙ regard-barred o table sound v w (record { refused = refused; unlisted = unlisted; arises = arises })
+      by_test false told =
+          let free : ¬ Arises table v w = λ a. (let clash : false ≡ true = told.1 a in cc) in
+          none free ∙ regard-none o table sound v w unlisted (λ b. free b.arises)
+
+-- ---- by what today's rules say of the other label
+
+-- what the listing has of it
+abbrev pub IsListedAs : TableValue → List ℕ → List ℕ → Option Regard → Type 0
+IsListedAs table v w listed = (IsSome listed ↔ Spells table v w) × IfSome listed (λ regard. regard ≡ regard_by (disposition table v w))
+
+unlisted : {table : TableValue} {v w : List ℕ} → IsListedAs table v w None → ¬ Spells table v w
+unlisted is spells = let clash : false ≡ true = is.0.1 spells in cc
+
+-- what is found where it isn't listed
+abbrev pub IsBarredAs : TableValue → List ℕ → List ℕ → Regard → Type 0
+IsBarredAs table v w regard = (Arises table v w → regard ≡ barred_in table.version) × (¬ Arises table v w → regard ≡ NoVariant)
+
+module _ (o : Settings) (table : TableValue) (sound : IsSound table) (v w : List ℕ) where
+  -- both are good
+  pub of_good : IsGood o table v → IsGood o table w → (listed : Option Regard) → IsListedAs table v w listed → unwrap_or listed NoVariant ≡ regard_of (is_registrable o.properties) table v w
+  of_good good other None is = regard-good o table sound v w good other (unlisted is)
+  of_good good other (Some regard) is = is.1 ∙ regard-spelled o table sound v w good (is.0.0 refl) (valid-listed o.properties table sound w other.registrable (admitted-valid table w other.admitted).0)
+
+  module _ (good : IsGood o table v) where
+    -- it isn't good, and may be a variant
+    pub of_variant_alone : (standing : Standing) → standing ≡ VariantAlone → IsStanding o.properties table w standing → (regard : Regard) → IsListedAs table v w (Some regard) → regard ≡ regard_of (is_registrable o.properties) table v w
+    of_variant_alone standing same stands regard is =
+        let here : IsStanding o.properties table w VariantAlone = subst (IsStanding o.properties table w) same stands in
+        is.1 ∙ regard-spelled o table sound v w good (is.0.0 refl) here.0
+
+    pub of_unlisted : (standing : Standing) → standing ≡ VariantAlone → IsStanding o.properties table w standing → IsListedAs table v w None → (regard : Regard) → IsBarredAs table v w regard → regard ≡ regard_of (is_registrable o.properties) table v w
+    of_unlisted standing same stands is regard barred =
+        let here : IsStanding o.properties table w VariantAlone = subst (IsStanding o.properties table w) same stands in
+        regard-arising o table sound v w regard (λ both. here.1 both.1.admitted) (λ i. unlisted is i.listed.spelled) barred.0 barred.1
+
+    -- it is no variant
+    pub of_refused : (standing : Standing) → standing ≡ Refused → IsStanding o.properties table w standing → (regard : Regard) → IsBarredAs table v w regard → regard ≡ regard_of (is_registrable o.properties) table v w
+    of_refused standing same stands regard barred =
+        let here : IsStanding o.properties table w Refused = subst (IsStanding o.properties table w) same stands in
+        regard-arising o table sound v w regard (λ both. here.0 (both.1.registrable, both.1.admitted))
+        (λ i. here.1 (valid-listed o.properties table sound w i.listed.registrable i.listed.valid)) barred.0 barred.1
+
+  -- there is no listing of it
+  pub back-barred : (¬ IsGood o table v) → (regard : Regard) → IsBarredAs table v w regard → regard ≡ regard_of (is_registrable o.properties) table v w
+  back-barred bad regard barred = regard-arising o table sound v w regard (λ both. bad both.0) (λ i. bad i.good) barred.0 barred.1
+
+-- ---- what a call gives
+
+-- no answer but that it is good
+pub not_good : (o : Settings) (table : TableValue) (w : List ℕ) (standing : Standing) → (standing ≡ Good → ⊥) → IsStanding o.properties table w standing → ¬ IsGood o table w
+not_good o table w Good other stands = absurd (other refl)
+not_good o table w VariantAlone other stands = λ good. stands.1 good.admitted
+not_good o table w Refused other stands = λ good. stands.0 (good.registrable, good.admitted)
+
+pub is_good_by : (o : Settings) (table : TableValue) (w : List ℕ) (standing : Standing) → standing ≡ Good → IsStanding o.properties table w standing → IsGood o table w
+is_good_by o table w standing same stands =
+    let here : IsStanding o.properties table w Good = subst (IsStanding o.properties table w) same stands in
+    record { registrable = here.0; admitted = here.1 }
+
+pub barred_to : {E : Type 0} (table : TableValue) (v w : List ℕ) (P : Regard → Type 0) (r : Result Regard E) → ((regard : Regard) → IsBarredAs table v w regard → P regard)
+    → IfOk r (λ regard. Arises table v w → regard ≡ barred_in table.version) → IfOk r (λ regard. ¬ Arises table v w → regard ≡ NoVariant) → IfOk r P
+barred_to {E} table v w P (Ok regard) from arising none = from regard (arising, none)
+barred_to {E} table v w P (Err fault) from arising none = tt
+
+-- the same of the table and the label that decisions are of
+pub of_pair : (o : Settings) (table : TableValue) (label other : List ℕ) (d : Decisions) (standing : Standing) (P : TableValue → List ℕ → Type 0) → IsOfPair table label d
+    → (IsGood o d.table.now d.label.now → IsStanding o.properties d.table.now other standing → P d.table.now d.label.now) → IsGood o table label → IsStanding o.properties table other standing → P table label
+of_pair o table label other d standing P pair from =
+    let at_table : IsGood o table d.label.now → IsStanding o.properties table other standing → P table d.label.now =
+    subst (λ (t : TableValue). IsGood o t d.label.now → IsStanding o.properties t other standing → P t d.label.now) pair.table_is from in
+    subst (λ (l : List ℕ). IsGood o table l → IsStanding o.properties table other standing → P table l) pair.label_is at_table
+
+pub pair_of : (table : TableValue) (label : List ℕ) (d e : Decisions) → IsOfPair table label d → IsOfPair d.table.now d.label.now e → IsOfPair table label e
+pair_of table label d e first second = record { table_is = second.table_is ∙ first.table_is; label_is = second.label_is ∙ first.label_is }
