@@ -136,7 +136,7 @@ bench: all
 	python3 bench/limits.py
 	python3 bench/rulesets.py
 	python3 bench/registry.py
-	python3 bench/service.py --python /usr/bin/python3
+	python3 bench/service.py
 
 # Compares the program with libidn2, with a reference implementation of the rules and of the table notation, and with Unicode's
 # IDNA test file where IDNA_TEST_FILE names it; and publishes six thousand tables and reads them back.

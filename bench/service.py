@@ -1,15 +1,16 @@
 #!/usr/bin/env python3
 """Times idn2-registry serve by wrk with fifty connections, while one label in a hundred is the most costly one that was found:
-python3 bench/service.py [--postgresql URI]
+python3 bench/service.py
 
     at rest     checks a second, and the slowest of 99 in 100 in milliseconds
-    disturbed   the same while each second a process of the program is killed and the tables are read again; what isn't known
-                then is told, and nothing else fails
+    disturbed   the same while each second a process of the program is killed and the tables are read again, and every third
+                second PostgreSQL is started again; what isn't known then is told, and nothing else fails
 
 The service has one processor and two processes of the program, which have the others; with --together they share the one. The
-register is a file of SQLite, or with --postgresql URI an empty database, which is filled.
+register is a file of SQLite, and then, where Debian's packages of it are installed, a database of PostgreSQL.
 """
 
+import itertools
 import os
 import re
 import shutil
@@ -23,6 +24,11 @@ import urllib.request
 import registered
 from bench import HERE
 from runs import Failed, measured, words_of
+
+sys.path.append(str(HERE.parent / "tests"))
+
+from postgresql import restart, server, uri_of
+from program import python_with
 
 CHECKS_WANTED, SLOWEST_WANTED = 2_000, 50
 CONNECTIONS, SECONDS = 50, 10
@@ -41,14 +47,14 @@ end
 """
 
 
-def service(options, folder, uri):
+def service(options, folder, python, uri):
     """The service, when it listens, and its address."""
     labels = registered.german_words(options.labels)
     (folder / "labels.txt").write_text("".join(f"{label}\n" for label in labels), "utf-8")
     (folder / "registry.toml").write_text(f'register = "{uri}"\nprocesses = 2\n[tables]\nde = "{registered.GERMAN}"\n'
                                           '[service]\nlisten = "127.0.0.1:0"\n', "utf-8")
     environment = {**os.environ, "PYTHONPATH": str(HERE.parent / "registry"), "LC_ALL": "C.UTF-8"}
-    command = [options.python, "-m", "idn2_registry"]
+    command = [python, "-m", "idn2_registry"]
     subprocess.run([*command, "load", "--idn2", str(options.ours), "labels.txt"], cwd=folder, env=environment, check=True,
                    stdout=subprocess.DEVNULL)
     command += ["serve", "--idn2", str(options.ours)]
@@ -77,13 +83,18 @@ def place(process, together):
         os.sched_setaffinity(int(task), {first})
 
 
-def disturb(process, is_over, together):
-    """Kills a process each second, and has the tables read again."""
-    while not is_over.wait(1):
+def disturb(process, is_over, options, database):
+    """Kills a process each second, and has the tables read again. Every third second the server of a database is started
+    again."""
+    for second in itertools.count(1):
+        if is_over.wait(1):
+            break
         os.kill(children(process)[0], signal.SIGKILL)
         os.kill(process, signal.SIGHUP)
+        if database and second % 3 == 0:
+            restart(database)
         time.sleep(0.1)
-        place(process, together)
+        place(process, options.together)
 
 
 def asked(folder, address):
@@ -100,36 +111,43 @@ def processor_seconds(address):
         return float(re.search(r"^idn2_registry_processor_seconds_total (.*)$", told.read().decode(), re.MULTILINE)[1])
 
 
+def measure_service(options, folder, python, uri, database=None):
+    """The service with a register; the folder of a database is that of its server."""
+    started, address = service(options, folder, python, uri)
+    try:
+        asked(folder, address)
+        place(started.pid, options.together)
+        for name in ("at rest", "disturbed"):
+            is_over = threading.Event()
+            disturbing = threading.Thread(target=disturb, args=(started.pid, is_over, options, database))
+            if name == "disturbed":
+                disturbing.start()
+            before = processor_seconds(address)
+            rate, slowest, unknown, failed = asked(folder, address)
+            each = (processor_seconds(address) - before) / (rate * SECONDS) * 1000
+            is_over.set()
+            print(f"{uri.partition(':')[0]}, {name}: {rate:,.0f} checks a second ({CHECKS_WANTED:,} wanted), 99 in 100 within "
+                  f"{slowest:.1f} ms ({SLOWEST_WANTED} wanted), {unknown} not known, {failed} failed; {each:.2f} ms of the "
+                  "processor each, without the program's", flush=True)
+    finally:
+        started.kill()
+        started.wait()
+
+
 def measure(options, folder):
-    if not shutil.which("wrk"):
-        raise Failed("wrk is not installed")
+    python = python_with("aiohttp")
+    for name, is_there in (("wrk", shutil.which("wrk")), ("python3-aiohttp", python)):
+        if not is_there:
+            raise Failed(f"{name} is not installed")
     (folder / "wrk.lua").write_text(SCRIPT, "ascii")
-    for uri in filter(None, ("sqlite:register.db", options.postgresql)):
-        started, address = service(options, folder, uri)
-        try:
-            asked(folder, address)
-            place(started.pid, options.together)
-            for name in ("at rest", "disturbed"):
-                is_over = threading.Event()
-                disturbing = threading.Thread(target=disturb, args=(started.pid, is_over, options.together))
-                if name == "disturbed":
-                    disturbing.start()
-                before = processor_seconds(address)
-                rate, slowest, unknown, failed = asked(folder, address)
-                each = (processor_seconds(address) - before) / (rate * SECONDS) * 1000
-                is_over.set()
-                print(f"{uri.partition(':')[0]}, {name}: {rate:,.0f} checks a second ({CHECKS_WANTED:,} wanted), 99 in 100 within "
-                      f"{slowest:.1f} ms ({SLOWEST_WANTED} wanted), {unknown} not known, {failed} failed; {each:.2f} ms of the "
-                      "processor each, without the program's")
-        finally:
-            started.kill()
-            started.wait()
+    measure_service(options, folder, python, "sqlite:register.db")
+    with server() as (environment, _):
+        if environment:
+            measure_service(options, folder, python_with("aiohttp, psycopg"), uri_of(environment), environment["PGHOST"])
 
 
 if __name__ == "__main__":
     words = words_of(__doc__, 1)
     words.add_argument("--labels", default=100_000, type=int, help="registered labels")
-    words.add_argument("--postgresql", metavar="URI", help="an empty database")
-    words.add_argument("--python", default=sys.executable, help="a Python with aiohttp")
     words.add_argument("--together", action="store_true", help="the program's processes share the one processor")
     sys.exit(measured(words, measure))

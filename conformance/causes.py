@@ -7,8 +7,8 @@ import unicodedata
 
 from registration import (BAD_A_LABEL, BIDI, CONTEXT_J, CONTEXT_O, HYPHEN, IS_DISALLOWED, IS_UNASSIGNED, LABEL_TOO_LONG,
                           LEADING_MARK, MOST_OCTETS, NOT_NFC, Refused, a_label, lowered, points_of)
+from idn2_registry.unicode_data import DISALLOWED, EXCEPTIONS, IGNORABLE_BLOCKS, OLD_HANGUL_JAMO, UNASSIGNED, is_in
 from rules import NEUTRAL, RIGHT_TO_LEFT, fails_as_a_name, stands_between_joining
-from unicode_data import DISALLOWED, EXCEPTIONS, IGNORABLE_BLOCKS, OLD_HANGUL_JAMO, UNASSIGNED, is_in
 
 NOT_UTF8, LINE_TOO_LONG, OUT_OF_ORDER, FILE_TOO_LONG, INVALID, BAD_LENGTH, NOT_IN_TABLE, NOT_VALID = 1, 2, 4, 5, 20, 21, 40, 41
 # RFC 1035, section 2.3.4, without the last full stop and the lengths of labels.

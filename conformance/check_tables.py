@@ -17,7 +17,7 @@ import tempfile
 from compare import HERE, PROGRAM
 
 import check
-from unicode_data import Classes
+from idn2_registry.unicode_data import Classes
 
 SEED = 5891
 TABLES = HERE.parent / "tables"

@@ -20,14 +20,14 @@ import subprocess
 import sys
 
 HERE = pathlib.Path(__file__).resolve().parent
-sys.path.insert(0, str(HERE.parent / "tables"))
+sys.path[:0] = [str(HERE.parent / folder) for folder in ("registry", "tables")]
 
 import kinds
 import names
+from idn2_registry.unicode_data import Classes, version
 from libidn2 import LibIdn2
-from rules import UnicodeProperties
 from reference_run import Reference
-from unicode_data import Classes, version
+from rules import UnicodeProperties
 
 PROGRAM = HERE.parent / "crates/idn2/out/idn2"
 MESSAGE = re.compile(r"idn2: line (\d+): (\d+) .+")

@@ -1,6 +1,6 @@
 """Draws rulesets of version 3: with tags, sets, rules, demands, conditions and outside sources, most of them well-formed."""
 
-from notation.points import spelled as spelled_points
+from idn2_registry.notation.points import spelled as spelled_points
 
 TAGS, RULES = ("simp", "trad", "Kana9"), ("r", "follows", "Ends_2")
 # Lines with a fault, wherever they stand, or where what they name isn't defined, or where other patterns have more than six atoms.

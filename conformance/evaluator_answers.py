@@ -4,11 +4,12 @@
 FOLDER has rulesets in XML, and answers.txt with a line for each label: the ruleset's file, a tab, the label, a tab, and
 'invalid' or the variants that the ruleset finds valid, the label itself among them, each with '=allocatable' or '=blocked',
 parted by blanks. Labels are written as code points in hexadecimal, joined by hyphens. This project's own evaluator,
-tables/rfc7940, answers from the XML. tables/from_lgr.py converts each ruleset, and verifies it with drawn labels; the program lists
+idn2_registry.rfc7940, answers from the XML. idn2-registry convert converts each ruleset, and verifies it with drawn labels; the program lists
 its labels; the reference implementation, ruleset_labels.py, tells the same without it. What RFC 5891 refuses is left out on all sides. The
 status is 0 where all answers agree."""
 
 import collections
+import os
 import pathlib
 import re
 import subprocess
@@ -16,13 +17,14 @@ import sys
 import tempfile
 
 from compare import HERE, PROGRAM
-from notation import reading
-from rfc7940.drawn_labels import every_variant
-from rfc7940.reader import read
-from rfc7940.ruleset import Asked, Verdict
+from idn2_registry.notation import reading
+from idn2_registry.rfc7940.drawn_labels import every_variant
+from idn2_registry.rfc7940.reader import read
+from idn2_registry.rfc7940.ruleset import Asked, Verdict
 from ruleset_labels import RulesetLabels
 
-SCRIPT = HERE.parent / "tables" / "from_lgr.py"
+COMMAND = [sys.executable, "-m", "idn2_registry", "convert", "--idn2", PROGRAM]
+ENVIRONMENT = {**os.environ, "PYTHONPATH": str(HERE.parent / "registry")}
 # No answer has so many variants.
 MOST_SPELLED = 1_000_000
 
@@ -43,7 +45,7 @@ def answers_of(folder):
 
 def converted(path):
     """The text that the converter makes of a ruleset; None if it is refused, which is told."""
-    done = subprocess.run([sys.executable, SCRIPT, "--idn2", PROGRAM, path], capture_output=True, check=False)
+    done = subprocess.run([*COMMAND, path], env=ENVIRONMENT, capture_output=True, check=False)
     if done.returncode:
         print(done.stderr.decode().strip())
         return None

@@ -29,12 +29,12 @@ import kinds
 import names
 from causes import BAD_LENGTH, INVALID, Causes
 from drawn_rulesets import DrawnRuleset, spelled
+from idn2_registry.unicode_data import Classes, version
 from libidn2 import LibIdn2
-from registration import EMPTY, LABEL_TOO_LONG, a_label
-from rules import UnicodeProperties
 from objects import Wrong, as_explained, without_what_objects_leave_out
 from reference_run import LINE_LIMIT, TEXTS, Bad, Options, Reference, Show, Unknown, bodies
-from unicode_data import Classes, version
+from registration import EMPTY, LABEL_TOO_LONG, a_label
+from rules import UnicodeProperties
 
 SHOWN = 400
 # The most memory of the program, in bytes: one that takes more answers 70, which is told as a difference.

@@ -7,8 +7,8 @@ import unicodedata
 from typing import Callable, NamedTuple, Optional
 
 import rules
+from idn2_registry.unicode_data import DISALLOWED, LEFT_OUT, is_in
 from registration import CHANGED, lowered
-from unicode_data import DISALLOWED, LEFT_OUT, is_in
 
 
 LDH = set("abcdefghijklmnopqrstuvwxyz0123456789-")

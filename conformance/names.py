@@ -6,7 +6,7 @@ All come from a fixed seed, and none has a line feed, a carriage return or a NUL
 import random
 import unicodedata
 
-from unicode_data import CONTEXTJ, CONTEXTO, PVALID, properties
+from idn2_registry.unicode_data import CONTEXTJ, CONTEXTO, PVALID, properties
 
 SEED = 5891
 JOINERS = "\u200c\u200d"

@@ -11,10 +11,10 @@ import collections
 import pathlib
 import sys
 
-sys.path.insert(0, str(pathlib.Path(__file__).resolve().parent.parent / "tables"))
+sys.path.insert(0, str(pathlib.Path(__file__).resolve().parent.parent / "registry"))
 
+from idn2_registry.unicode_data import MAY_STAND_IN_A_TABLE, is_in
 from kit_data import Kit, KitClasses, KitProperties, NoKit, profile_ranges
-from unicode_data import MAY_STAND_IN_A_TABLE, is_in
 
 ARABIC_BLOCK = (0x0600, 0x06FF)
 ZERO_WIDTH_JOINER = 0x200D

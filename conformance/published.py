@@ -21,29 +21,29 @@ import multiprocessing
 import pathlib
 import random
 import re
-import subprocess
 import sys
 import tempfile
 from collections.abc import Iterator
 
 ROOT = pathlib.Path(__file__).resolve().parent.parent
-for folder in ("conformance", "registry", "tables", "tests"):
+for folder in ("conformance", "registry", "tests"):
     sys.path.append(str(ROOT / folder))
 
 from drawn_rulesets import DrawnRuleset, spelled
-from lgr import command
-from lgr.program import Program as ConvertingProgram
-from lgr.ruleset import Fault
-from notation import canonical
-from notation.ruleset import Entry, Ruleset
-from rfc7940 import reader
-from rfc7940.drawn_labels import DrawnLabels
 from rich_ruleset import RichRuleset
 
 from idn2_registry.faults import Unsayable, Unusable
+from idn2_registry.form import Form
+from idn2_registry.lgr import command
+from idn2_registry.lgr.program import Asked
+from idn2_registry.lgr.ruleset import Fault
+from idn2_registry.notation import canonical
+from idn2_registry.notation.ruleset import Entry, Ruleset
 from idn2_registry.parsed_table import ParsedTable
 from idn2_registry.program import Program
-from idn2_registry.publish import Form, publish, read_back
+from idn2_registry.publish import publish, read_back
+from idn2_registry.rfc7940 import reader
+from idn2_registry.rfc7940.drawn_labels import DrawnLabels
 from idn2_registry.tables import Table, checked
 
 PROGRAM = ROOT / "crates/idn2/out/idn2"
@@ -58,14 +58,14 @@ class Drawn:
 
     def __init__(self, program: Program, seed: int) -> None:
         self.program, self.seed = program, seed
-        self.converting = ConvertingProgram(program.path)
+        self.asked = Asked(program)
 
     def text(self, number: int) -> bytes | None:
         """The text of one; None if it is none of XML."""
         chance = random.Random(f"{self.seed} {number}")
         if number % 3 == 0:
             rich = RichRuleset(chance.random())
-            return converted(WHOLE.format(rich.data, rich.rules).encode(), self.converting)
+            return converted(WHOLE.format(rich.data, rich.rules).encode(), self.asked)
         letters = chance.choice(ALPHABETS)
         entries = self.entries(chance, letters)
         if number % 3 == 1:
@@ -92,13 +92,12 @@ class Drawn:
         return entries
 
 
-def converted(xml: bytes, program: ConvertingProgram) -> bytes | None:
+def converted(xml: bytes, asked: Asked) -> bytes | None:
     """What the converter makes of a file, before it is verified."""
     try:
-        made: bytes | None = command.made(xml, program, command.options_of(["drawn.xml"]), lambda _: None)
+        return command.made(xml, asked, command.options_of(["drawn.xml"]), lambda _: None)
     except Fault:
         return None
-    return made
 
 
 def with_tags_by_use(ruleset: Ruleset) -> Ruleset:
@@ -162,9 +161,8 @@ def examples(program: Program) -> Iterator[tuple[str, bytes | None]]:
     """The tables of the repository, and what is made of the rulesets of the tests."""
     for path in sorted((ROOT / "tables").glob("**/*.txt")):
         yield str(path.relative_to(ROOT)), path.read_bytes()
-    converting = ConvertingProgram(program.path)
     for path in sorted((ROOT / "tests/rulesets").iterdir()):
-        yield str(path.relative_to(ROOT)), converted(path.read_bytes(), converting)
+        yield str(path.relative_to(ROOT)), converted(path.read_bytes(), Asked(program))
 
 
 def reason_of(outcome: str) -> str:

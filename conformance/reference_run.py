@@ -13,9 +13,9 @@ import unicodedata
 import check
 import table_places
 from causes import Causes
-from notation import reading
-from notation.faults import TableFault
-from notation.ruleset import Entry, Mapped, Ruleset
+from idn2_registry.notation import reading
+from idn2_registry.notation.faults import TableFault
+from idn2_registry.notation.ruleset import Entry, Mapped, Ruleset
 from registration import Registration, a_label
 from rules import ProfileProperties, UnicodeProperties
 from ruleset_labels import NOT_MADE_OF_ENTRIES, NOT_VALID, RulesetLabels, Unknown
@@ -59,6 +59,8 @@ class RegisteredFault(Exception):
 
 
 class Options:
+    """The words are read from left to right, so the first use of an option that is wrong is the one that is told."""
+
     def __init__(self, words):
         self.given, self.strings = {}, []
         words = iter(words)
@@ -82,9 +84,16 @@ class Options:
         if not has_value:
             value = next(words, None)
             if value is None or (value.startswith("-") and value != "-"):
-                next_option = value if value is None or value.startswith("--") else value[:2]
-                raise Bad(unknown_option(next_option) or f"{name} takes a value")
+                self.miss_value(name, value)
         self.take(name, value)
+
+    def miss_value(self, name, word):
+        """The word in place of the value names options, or there is none. An unknown option there is what is wrong."""
+        unknown = unknown_option(word if word is None or word.startswith("--") else word[:2])
+        if unknown is None:
+            raise Bad(f"{name} takes a value")
+        self.take(name, None)
+        raise Bad(unknown)
 
     def take_flag(self, word):
         if word not in FLAGS:
@@ -359,9 +368,9 @@ def ending(words, number, cause):
 
 
 def unknown_option(word):
-    """That there is no option of the name that a word begins with; None if there is."""
+    """That there is no option of the name that a word begins with; None if there is, or no word but `--`."""
     name = word.partition("=")[0] if word and word.startswith("--") else word
-    if name in (None, "--") or name in FLAGS or name in VALUES:
+    if word in (None, "--") or name in FLAGS or name in VALUES:
         return None
     return f"unknown option '{in_one_line(name)}'"
 

@@ -9,7 +9,7 @@ points of a label are in both, and have kept their properties since.
 import unicodedata
 
 import rules
-from unicode_data import DISALLOWED, UNASSIGNED, properties
+from idn2_registry.unicode_data import DISALLOWED, UNASSIGNED, properties
 
 # Code points whose General_Category or Bidi_Class changed between Unicode 15 and 18, from nonspacing mark.
 CHANGED = "\u1b3a\u1b3c\u1b42\U0001171e"

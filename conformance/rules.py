@@ -7,7 +7,7 @@ reason why two programs answer differently.
 import functools
 import unicodedata
 
-from unicode_data import is_in, lines_of, properties
+from idn2_registry.unicode_data import is_in, lines_of, properties
 
 ZERO_WIDTH_NON_JOINER, ZERO_WIDTH_JOINER = 0x200C, 0x200D
 # Bidi classes of right-to-left labels alone, and of labels of both directions.

@@ -3,8 +3,8 @@
 Which labels RFC 5891 lets be registered is no matter of it. Labels are texts; a place is a number of letters before it.
 """
 
-from notation.patterns import Group, Many, Optional, Point, Set, Sign
-from notation.reading import MOST_POINTS
+from idn2_registry.notation.patterns import Group, Many, Optional, Point, Set, Sign
+from idn2_registry.notation.reading import MOST_POINTS
 
 NOT_MADE_OF_ENTRIES, NOT_VALID = 40, 41
 SPELLED_LIMIT = 1_000

@@ -3,7 +3,7 @@
 The version line is left out of the rulesets here, except where a text is given as it stands.
 """
 
-from notation.faults import TEXTS
+from idn2_registry.notation.faults import TEXTS
 from reference_run import TEXTS as REFUSALS
 
 VERSION_LINE = "%version 3\n"

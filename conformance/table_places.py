@@ -8,8 +8,8 @@ import collections
 import itertools
 import re
 
-from notation.forms import Tokens, entry_of
-from notation.patterns import NoForm
+from idn2_registry.notation.forms import Tokens, entry_of
+from idn2_registry.notation.patterns import NoForm
 
 SYNTAX, SAME_SOURCE, SAME_VARIANT, BAD_CLASS, LIMIT, NO_SUCH_NAME, SAME_NAME = range(30, 37)
 LINE_LIMITS = {1: 1024, 2: 1024, 3: 8192}

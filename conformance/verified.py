@@ -1,5 +1,5 @@
 #!/usr/bin/env python3
-"""Compares a ruleset, which may have been edited, with the file from which it was made, as tables/from_lgr.py does
+"""Compares a ruleset, which may have been edited, with the file from which it was made, as idn2-registry convert does
 before it prints one: python3 conformance/verified.py [--idn2 PROGRAM] [--all] RULESET FILE [LABELS]
 
 RULESET is in the notation of docs/NOTATION.md, FILE is a ruleset of RFC 7940 in XML, and LABELS has a label on each
@@ -13,10 +13,10 @@ import pathlib
 import sys
 
 ROOT = pathlib.Path(__file__).resolve().parent.parent
-sys.path.append(str(ROOT / "tables"))
+sys.path.append(str(ROOT / "registry"))
 
-from rfc7940.reader import Refused, read
-from rfc7940.verified import Unanswered, differences, labels_for
+from idn2_registry.rfc7940.reader import Refused, read
+from idn2_registry.rfc7940.verified import Unanswered, differences, labels_for
 
 PROGRAM = ROOT / "crates/idn2/out/idn2"
 

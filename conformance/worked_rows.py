@@ -18,11 +18,11 @@ import check
 import label_rows
 import ruleset_rows
 import run_rows
-from notation import canonical, reading
-from notation.faults import TEXTS as FAULT_TEXTS
-from run_rows import ADLAM, DOUBLED, SHARP_S
+from idn2_registry.notation import canonical, reading
+from idn2_registry.notation.faults import TEXTS as FAULT_TEXTS
+from idn2_registry.unicode_data import Classes
 from reference_run import TEXTS, Reference, Unknown
-from unicode_data import Classes
+from run_rows import ADLAM, DOUBLED, SHARP_S
 
 # The words before the table's file, the table, the label, and what is printed.
 LISTINGS = [

@@ -1,10 +1,11 @@
-"""Tags as `xml_text` reads them, beside Python's expat: the same verdict, the same name and the same attributes.
+"""Documents as `xml_text` reads them, beside Python's expat: the same verdict, the same tags, texts and lines; and where
+one is refused, expat takes what stands before the place.
 
     python3 conformance/xml_beside_expat.py [--texts N] [--seed N]
 
-A tag is drawn, changed in a few places, and read by both. It makes a program of its own in a temporary folder, which it builds without
-a proof. What differs by intent isn't compared: a name outside ASCII, and what is no UTF-8 of characters that XML may have, which
-`first_wrong_character` tells.
+A document is drawn, changed in a few places, and read by both. It makes a program of its own in a temporary folder, which it
+builds without a proof. What differs by intent isn't compared: a document type, another encoding or version, names outside
+ASCII, more than 64 levels.
 """
 
 from __future__ import annotations
@@ -16,19 +17,21 @@ import shutil
 import subprocess
 import sys
 import tempfile
-from dataclasses import dataclass
+from collections import Counter
+from dataclasses import dataclass, field
 from pathlib import Path
 from xml.parsers import expat
 
 ROOT = Path(__file__).resolve().parent.parent
 CRATES = ("idn_text", "idn_class", "label_patterns", "ruleset_text", "xml_text")
+LEVELS = 64
 
-PROGRAM = """//! Reads a line of hexadecimal digits as a text that begins with a tag, and prints what it says.
+PROGRAM = """//! Reads lines of hexadecimal digits as documents, and prints a sum of what each says, or where it stops.
 #![tactic(auto)]
 
 use std::alloc::Global;
 use std::io;
-use xml_text::{ReadError, TagKind, read_tag};
+use xml_text::{DocumentError, Said, Token, read_document};
 
 fn bytes_of(alloc: Global, digits: &[u8]) -> Result<Vec<u8>, std::alloc::AllocError> {
     let mut bytes = Vec::new(alloc);
@@ -46,139 +49,223 @@ fn bytes_of(alloc: Global, digits: &[u8]) -> Result<Vec<u8>, std::alloc::AllocEr
     Ok(bytes)
 }
 
+fn add(sum: u64, byte: u8) -> u64 {
+    (sum ^ u64::from(byte)).wrapping_mul(0x100000001b3)
+}
+
+fn add_text(mut sum: u64, text: &[u8]) -> u64 {
+    for byte in text {
+        sum = add(sum, *byte);
+    }
+    add(sum, 0)
+}
+
+fn add_token(mut sum: u64, token: &Token) -> u64 {
+    match token.said() {
+        Said::Open(name, attributes) => {
+            sum = add_text(add(add(sum, 1), (token.line() % 251) as u8), name);
+            for attribute in attributes {
+                sum = add_text(add_text(sum, attribute.name()), attribute.value());
+            }
+            sum
+        }
+        Said::Text(bytes) => add_text(add(sum, 2), bytes),
+        Said::Close => add(sum, 3),
+    }
+}
+
 fn main(rt: HostRuntime) -> io::Result<()> {
     for line in rt.lines(rt.alloc()) {
         let line = line?;
         let text = bytes_of(rt.alloc(), line.as_str().as_bytes())?;
-        match read_tag(rt.alloc(), &text) {
-            Ok((tag, len)) => {
-                let kind = if tag.kind == TagKind::Empty { "empty" } else { "start" };
-                print!(rt; "{kind} {len} {:?}", tag.name)?;
-                for attribute in &tag.attributes {
-                    print!(rt; " {:?} {:?}", attribute.name(), attribute.value())?;
+        match read_document(rt.alloc(), &text) {
+            Ok(tokens) => {
+                let mut sum = 0xcbf29ce484222325;
+                for token in &tokens {
+                    sum = add_token(sum, token);
                 }
-                println!(rt; "")?;
+                println!(rt; "says {sum}")?;
             }
-            Err(ReadError::Stop(place)) => println!(rt; "stop {place}")?,
-            Err(ReadError::Memory) => println!(rt; "memory")?,
+            Err(DocumentError::Stop(place)) => println!(rt; "stop {}", place.byte)?,
+            Err(DocumentError::NoCharacter(place)) => println!(rt; "character {}", place.byte)?,
+            Err(DocumentError::Declaration) => println!(rt; "declaration 0")?,
+            Err(DocumentError::TooLong) => println!(rt; "long 0")?,
+            Err(DocumentError::Memory) => println!(rt; "memory 0")?,
         }
     }
     Ok(())
 }
 """
 
-NAMES = ("a", "b", "cp", "when", "not-when", "x:y", "_", "A1", "ref.2", "when")
-VALUES = ("", "0061", "a b", "\t\n", "&lt;&gt;&amp;&apos;&quot;", "&#65;&#x4e2D;", "&#x10FFFF;&#0065;", "é中😀", "]]>", "a>b/")
+NAMES = (b"a", b"b", b"cp", b"not-when", b"x:y", b"_", b"A1", b"ref.2")
+VALUES = (b"", b"0061", b"a b", b"\t\n", b"\r\n", b"&lt;&gt;&amp;", b"&#65;&#x4e2D;", b"\xc3\xa9", b"]]>", b"a>b/")
+CONTENTS = (b"x", b"]", b">", b"\r", b"\n", b"\r\n", b"&amp;", b"&#x41;", b"&quot;", b"y y", b"\xe4\xb8\x80")
+COMMENTS = (b"", b"x", b"-x", b"\n", b"- ", b"<a>")
+INSTRUCTIONS = (b"", b" ", b" x", b" ?", b" x?y", b"\n>")
+SECTIONS = (b"", b"x", b"]", b"]]", b"<a>", b"\r\n", b"] ]>", b"&lt;")
+DECLARATIONS = (
+    b"", b"", b'<?xml version="1.0"?>', b"<?xml version='1.0' encoding=\"utf-8\"?>\n", b"\xef\xbb\xbf",
+    b'<?xml version="1.0" encoding="US-ASCII" standalone = "yes" ?>\r\n',
+)
 PIECES = (
-    "<", ">", "/", "/>", "=", '"', "'", "&", ";", " ", "\n", "\t", "a", "a=''", ' b="1"', "&lt;", "&#0;", "&#xD800;", "&#xFFFE;", "&#x110000;",
-    "&#;", "&#x;", "&#X41;", "&foo;", "&lt", "&#65", "&#99999999999;", "&#x000000000041;", "<!--", "-->", "<![CDATA[", "]]>", "<?a?>", "-", ".", "1", "é",
+    b"<", b">", b"&", b";", b'"', b"'", b"/", b"?", b"!", b"-", b"--", b"-->", b"<!--", b"]]>", b"]", b"[", b"<![CDATA[",
+    b"<?", b"?>", b"=", b" ", b"\n", b"\r", b"\r\n", b"\t", b"a", b"</a>", b"<b>", b"</b>", b"<a/>", b"&lt;", b"&#1;",
+    b"&#x10FFFF;", b"&#x110000;", b"&#13;", b"&#x;", b"&foo;", b"\xc3\xa9", b"\xef\xbf\xbe", b"\xed\xa0\x80", b"\xc0\x80",
+    b"\x00", b"\x7f", b"\xf4\x90\x80\x80", b"\xf0\x9f\x98\x80", b"<?xml?>", b"<?XML x?>", b'x="1"', b"<!DOCTYPE a>", b".", b":",
 )
 # What is written in one run has at most a MiB.
 TEXTS_A_RUN = 25_000
-CHARACTERS = re.compile("[\t\n\r\u0020-\ud7ff\ue000-\ufffd\U00010000-\U0010ffff]*")
+SUM = 0xCBF29CE484222325
 
 
-@dataclass(frozen=True)
-class Read:
-    """A tag: its text, whether it is one of an empty element, its name and its attributes."""
-
-    len: int
-    is_empty: bool
-    name: bytes
-    attributes: tuple[tuple[bytes, bytes], ...]
-
-
-def drawn(rng: random.Random) -> str:
-    """A tag, well formed but for what it may say twice."""
-    def blanks(least: int) -> str:
-        return "".join(rng.choice(" \t\n") for _ in range(max(least, rng.choice((0, 0, 1, 2)))))
-
-    parts = ["<", rng.choice(NAMES)]
-    for _ in range(rng.randrange(4)):
-        quote = rng.choice("\"'")
-        value = "".join(rng.choice(VALUES) for _ in range(rng.randrange(3))).replace(quote, "&#34;")
-        parts += [blanks(1), rng.choice(NAMES), blanks(0), "=", blanks(0), quote, value, quote]
-    return "".join([*parts, blanks(0), rng.choice((">", "/>"))])
+def element(rng: random.Random, depth: int) -> bytes:
+    """An element, well formed but for a name that stands twice in a tag."""
+    name = rng.choice(NAMES)
+    tag = b"<" + name
+    for _ in range(rng.choice((0, 0, 1, 2))):
+        quote = rng.choice((b'"', b"'"))
+        value = b"".join(rng.choice(VALUES) for _ in range(rng.randrange(3)))
+        tag += rng.choice((b" ", b"\n", b"  ")) + rng.choice(NAMES) + rng.choice((b"=", b" =\t")) + quote + value + quote
+    if rng.random() < 0.2:
+        return tag + rng.choice((b"", b" ")) + b"/>"
+    return tag + b">" + content(rng, depth) + b"</" + name + rng.choice((b"", b" ", b"\n")) + b">"
 
 
-def changed(rng: random.Random, text: str) -> str:
-    """The text with a few changes: cut, a piece put in, a piece taken out, one doubled."""
+def content(rng: random.Random, depth: int) -> bytes:
+    parts = []
+    for _ in range(rng.randrange(5)):
+        kind = rng.randrange(8)
+        if kind == 0 and depth < 5:
+            parts.append(element(rng, depth + 1))
+        elif kind == 1:
+            parts.append(b"<!--" + rng.choice(COMMENTS) + b"-->")
+        elif kind == 2:
+            parts.append(b"<?t" + rng.choice(INSTRUCTIONS) + b"?>")
+        elif kind == 3:
+            parts.append(b"<![CDATA[" + rng.choice(SECTIONS) + b"]]>")
+        else:
+            parts.append(rng.choice(CONTENTS))
+    return b"".join(parts)
+
+
+def drawn(rng: random.Random) -> bytes:
+    """A document. Some have nearly as many levels as one may have, or one more."""
+    if rng.random() < 0.02:
+        levels = LEVELS - 2 + rng.randrange(3)
+        return b"<a>" * levels + element(rng, 5) + b"</a>" * levels
+    return rng.choice(DECLARATIONS) + rng.choice((b"", b"<!--p-->\n")) + element(rng, 0) + rng.choice((b"", b"\n", b"<?e?>"))
+
+
+def changed(rng: random.Random, text: bytes) -> bytes:
+    """The text with a few changes: cut, a piece put in, bytes taken out, moved or replaced."""
     for _ in range(rng.choice((0, 1, 1, 1, 2, 3))):
         at = rng.randrange(len(text) + 1)
-        end = min(len(text), at + rng.randrange(1, 4))
-        text = rng.choice((text[:at], text[:at] + rng.choice(PIECES) + text[at:], text[:at] + text[end:], text[:end] + text[at:], text[:at] + rng.choice(PIECES) + text[end:]))
-    return text.replace("\r\n", "\n").replace("\r", "\n")
+        end = min(len(text), at + rng.choice((1, 1, 2, 3, 20)))
+        text = rng.choice((
+            text[:at], text[:at] + rng.choice(PIECES) + text[at:], text[:at] + text[end:], text[:end] + text[at:],
+            text[:at] + bytes([rng.randrange(256)]) + text[at + 1:], text[:at] + rng.choice(PIECES) + text[end:],
+        ))
+    return text
 
 
 def build(folder: Path) -> list[str]:
-    """A program in the folder that reads tags, and the command that runs it."""
+    """A program in the folder that reads documents, and the command that runs it."""
     for crate in CRATES:
-        shutil.copytree(ROOT / "crates" / crate, folder / "crates" / crate, ignore=shutil.ignore_patterns("out", "planted", "wrong-bodies", "must-fail"))
+        ignored = shutil.ignore_patterns("out", "planted", "wrong-bodies", "must-fail")
+        shutil.copytree(ROOT / "crates" / crate, folder / "crates" / crate, ignore=ignored)
     lines = [line for line in (ROOT / "crates.txt").read_text().splitlines() if line.split(":")[0] in CRATES]
-    (folder / "crates.txt").write_text("\n".join([*lines, "xml_tags: xml_text", ""]))
-    source = folder / "crates" / "xml_tags" / "src"
+    (folder / "crates.txt").write_text("\n".join([*lines, "xml_documents: xml_text", ""]))
+    source = folder / "crates" / "xml_documents" / "src"
     source.mkdir(parents=True)
     (source / "main.rt").write_text(PROGRAM)
-    return ["rt", "try", "xml_tags", "--seconds", "600"]
+    return ["rt", "try", "xml_documents", "--seconds", "600"]
 
 
-def bytes_in(text: str) -> bytes:
-    return bytes(int(number) for number in re.findall(r"\d+", text))
+def answers(folder: Path, command: list[str], texts: list[bytes]) -> list[tuple[str, int]]:
+    """What the program says of each text: a word and a number."""
+    given = "".join(f"{text.hex()}\n" for text in texts)
+    place = folder / "crates" / "xml_documents"
+    run = subprocess.run(command, cwd=place, input=given, capture_output=True, text=True, check=False)
+    said = re.findall(r"^(says|stop|character|declaration|long|memory) (\d+)$", run.stdout, re.MULTILINE)
+    if len(said) != len(texts):
+        sys.exit(f"{len(said)} answers to {len(texts)} texts\n{run.stdout[-2000:]}\n{run.stderr[-2000:]}")
+    return [(word, int(number)) for word, number in said]
 
 
-def answers(folder: Path, command: list[str], texts: list[bytes]) -> list[Read | int]:
-    """What the program says of each text: the tag, or the place at which it stops."""
-    run = subprocess.run(command, cwd=folder / "crates" / "xml_tags", input="".join(f"{text.hex()}\n" for text in texts), capture_output=True, text=True, check=False)
-    lines = [line for line in run.stdout.splitlines() if line.startswith(("stop ", "start ", "empty "))]
-    if len(lines) != len(texts):
-        sys.exit(f"{len(lines)} answers to {len(texts)} texts\n{run.stdout[-2000:]}\n{run.stderr[-2000:]}")
-    return [answer(line) for line in lines]
+def added(total: int, data: bytes) -> int:
+    for byte in data:
+        total = ((total ^ byte) * 0x100000001B3) % (1 << 64)
+    return total
 
 
-def answer(line: str) -> Read | int:
-    words = line.split(" ", 2)
-    if words[0] == "stop":
-        return int(words[1])
-    lists = [bytes_in(part) for part in re.findall(r"\[[^]]*\]", words[2])]
-    return Read(int(words[1]), words[0] == "empty", lists[0], tuple(zip(lists[1::2], lists[2::2])))
+@dataclass
+class Expat:
+    """What expat says of a text, or that it refuses it, and whether the text is of another kind."""
+
+    total: int = SUM
+    text: bytes = b""
+    level: int = 0
+    is_refused: bool = False
+    others: set[str] = field(default_factory=set)
+
+    def end_text(self) -> None:
+        if self.text:
+            self.total = added(self.total, b"\2" + self.text + b"\0")
+        self.text = b""
+
+    def open(self, name: str, attributes: list[str], line: int) -> None:
+        self.end_text()
+        words = b"".join(word.encode() + b"\0" for word in (name, *attributes))
+        self.total = added(self.total, bytes((1, line % 251)) + words)
+        self.level += 1
+        if self.level > LEVELS:
+            self.others.add("too many levels")
+        if not all(word.isascii() for word in (name, *attributes[::2])):
+            self.others.add("a name outside ASCII")
+
+    def close(self) -> None:
+        self.end_text()
+        self.total = added(self.total, b"\3")
+        self.level -= 1
+
+    def say(self, text: str) -> None:
+        self.text += text.encode()
+
+    def declare(self, version: str, encoding: str | None) -> None:
+        if version != "1.0" or (encoding or "utf-8").lower() not in ("utf-8", "us-ascii"):
+            self.others.add("another version or encoding")
 
 
-def by_expat(text: bytes, is_final: bool) -> list[tuple[str, list[str]]] | None:
-    """The elements that begin in a text, or None where expat refuses it."""
-    found: list[tuple[str, list[str]]] = []
-    parser = expat.ParserCreate("UTF-8")
+def by_expat(text: bytes, is_final: bool) -> Expat:
+    said = Expat()
+    parser = expat.ParserCreate()
     parser.ordered_attributes = True
-    parser.StartElementHandler = lambda name, attributes: found.append((name, attributes))
+    parser.StartElementHandler = lambda name, attributes: said.open(name, attributes, parser.CurrentLineNumber)
+    parser.EndElementHandler = lambda name: said.close()
+    parser.CharacterDataHandler = said.say
+    parser.StartDoctypeDeclHandler = lambda *words: said.others.add("a document type")
+    parser.XmlDeclHandler = lambda version, encoding, standalone: said.declare(version, encoding)
+    parser.ProcessingInstructionHandler = lambda name, data: None if name.isascii() else said.others.add("a name outside ASCII")
     try:
         parser.Parse(text, is_final)
-    except expat.ExpatError:
-        return None
-    return found
+    except (expat.ExpatError, ValueError, LookupError):
+        said.is_refused = True
+    return said
 
 
-def difference(text: bytes, read: Read | int) -> str | None:
-    """How the two differ, if they do."""
-    if isinstance(read, int):
-        if by_expat(text, True) is not None:
-            return "expat takes it"
-        # A reference is judged where it ends, so what stands before it counts.
-        if by_expat(re.sub(rb"&[\w:.#-]*$", b"", text[:read]), False) is None:
-            return "expat stops before"
-        return None
-    closed = text[: read.len] if read.is_empty else text[: read.len] + b"</" + read.name + b">"
-    found = by_expat(closed, True)
-    if found is None:
-        return "expat refuses it"
-    names = [word.encode() for pair in read.attributes for word in (pair[0].decode(), pair[1].decode())]
-    if found != [(read.name.decode(), [name.decode() for name in names])]:
-        return f"expat reads {found}"
+def difference(text: bytes, word: str, number: int) -> str | None:
+    """How the two differ, if they do; or 'another kind: ' and why they aren't compared."""
+    said = by_expat(text, True)
+    if word == "says":
+        if said.is_refused:
+            return "expat refuses it"
+        return None if said.total == number else "expat says something else"
+    if not said.is_refused:
+        return f"another kind: {min(said.others)}" if said.others else "expat takes it"
+    # A reference is judged where it ends, so what stands before it counts.
+    if word == "stop" and by_expat(re.sub(rb"&[\w:.#-]*$", b"", text[:number]), False).is_refused:
+        return "expat stops before"
     return None
-
-
-def is_compared(text: str) -> bool:
-    """Whether both read texts of this kind: characters of XML, no name outside ASCII, nothing before the tag."""
-    outside_values = re.sub("\"[^\"]*\"|'[^']*'", "", text)
-    return CHARACTERS.fullmatch(text) is not None and outside_values.isascii() and re.match(r"\s|<[?!]", text) is None
 
 
 def main() -> int:
@@ -187,18 +274,21 @@ def main() -> int:
     parser.add_argument("--seed", type=int, default=1)
     arguments = parser.parse_args()
     rng = random.Random(arguments.seed)
-    texts = [text.encode() for text in (changed(rng, drawn(rng)) for _ in range(arguments.texts)) if is_compared(text)]
-    read: list[Read | int] = []
+    texts = [changed(rng, drawn(rng)) for _ in range(arguments.texts)]
+    read: list[tuple[str, int]] = []
     with tempfile.TemporaryDirectory() as folder:
         command = build(Path(folder))
         for first in range(0, len(texts), TEXTS_A_RUN):
             read += answers(Path(folder), command, texts[first : first + TEXTS_A_RUN])
-    wrong = [(text, said, why) for text, said in zip(texts, read) if (why := difference(text, said)) is not None]
-    for text, said, why in wrong[:20]:
-        print(f"{text!r}: {said}: {why}")
-    tags = sum(isinstance(said, Read) for said in read)
-    print(f"{len(texts)} texts, {tags} tags, {len(wrong)} differences")
-    return 1 if wrong or tags == 0 or tags == len(texts) else 0
+    found = [(text, word, difference(text, word, number)) for text, (word, number) in zip(texts, read)]
+    wrong = [(text, word, why) for text, word, why in found if why is not None and not why.startswith("another kind")]
+    for text, word, why in wrong[:20]:
+        print(f"{text!r}: {word}: {why}")
+    for why, count in sorted(Counter(why for _, _, why in found if why is not None and why.startswith("another")).items()):
+        print(f"{why}: {count} not compared")
+    documents = sum(word == "says" for _, word, _ in found)
+    print(f"{len(texts)} texts, {documents} documents, {len(wrong)} differences")
+    return 1 if wrong or documents in (0, len(texts)) else 0
 
 
 if __name__ == "__main__":

@@ -1,5 +1,5 @@
 #!/usr/bin/env python3
-"""Packs idn2-registry and the converter into one file that Python runs: python3 registry/pack.py PROGRAM_NAME FILE
+"""Packs idn2-registry into one file that Python runs: python3 registry/pack.py PROGRAM_NAME FILE
 
 PROGRAM_NAME is the name of the program idn2 beside it. The same sources make the same bytes."""
 
@@ -9,10 +9,7 @@ from collections.abc import Iterator
 from pathlib import Path
 
 HERE = Path(__file__).resolve().parent
-TABLES = HERE.parent / "tables"
-# The converter, with the evaluator that verifies it, and what it stands on.
-PACKAGES = (HERE / "idn2_registry", TABLES / "lgr", TABLES / "rfc7940", TABLES / "notation")
-MODULES = (TABLES / "unicode_data.py",)
+PACKAGE = HERE / "idn2_registry"
 SUFFIXES = (".py", ".typed", ".txt", ".css", ".js", ".svg")
 NAME_FILE = "idn2_registry/program_name.txt"
 START = """import sys
@@ -31,13 +28,10 @@ sys.exit(main())
 def files(program_name: str) -> Iterator[tuple[str, bytes]]:
     """The names and the texts of what is packed."""
     yield "__main__.py", START.encode()
-    for package in PACKAGES:
-        for path in sorted(package.rglob("*")):
-            if path.suffix in SUFFIXES:
-                name = f"{package.name}/{path.relative_to(package)}"
-                yield name, f"{program_name}\n".encode() if name == NAME_FILE else path.read_bytes()
-    for path in MODULES:
-        yield path.name, path.read_bytes()
+    for path in sorted(PACKAGE.rglob("*")):
+        if path.suffix in SUFFIXES:
+            name = str(path.relative_to(HERE))
+            yield name, f"{program_name}\n".encode() if name == NAME_FILE else path.read_bytes()
 
 
 def packed(program_name: str, target: Path) -> None:

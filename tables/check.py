@@ -1,26 +1,33 @@
 #!/usr/bin/env python3
 """Checks variant tables from outside the program: python3 tables/check.py [--standard] FILE..
 
-Written from docs/NOTATION.md alone, with the classes of Unicode's own data (unicode_data.py), so that the program
-can be compared with it. For each table it prints what `idn2 --check-table` prints, after the file's name, all on the
+Written from docs/NOTATION.md alone, with the classes of Unicode's own data (Debian's package unicode-data), so that the
+program can be compared with it. For each table it prints what `idn2 --check-table` prints, after the file's name, all on the
 output: the pairs that are found and the last line, or the message of the first faulty line. A file whose first line is that of
-version 3 is checked as a ruleset, by notation/. With --standard a table may have all that RFC 5892 allows, as for the program.
+version 3 is checked as a ruleset, by idn2_registry.notation. With --standard a table may have all that RFC 5892 allows, as for the program.
 
-Status: 0 nothing is found in a table, and none has a fault; 1 else; 2 a file can't be read, which a message on standard error says,
-or Unicode's data is missing, or no file is named.
+Status: 0 nothing is found in a table, and none has a fault; 1 else; 2 a file can't be read or the output can't be written,
+which a message on standard error says, or Unicode's data is missing, or the words are no files.
 """
 
+import contextlib
 import dataclasses
+import os
+import pathlib
 import re
 import sys
 
-from notation import reading
-from notation.differences import differences
-from notation.faults import TableFault
-from notation.gaps import gaps
-from notation.lines import first_line, raw_lines, says_nothing, without_return
-from notation.points import is_scalar_value, spelled
-from unicode_data import Classes
+# The package is a folder of the repository, and one file of the archive.
+HERE = pathlib.Path(__file__).resolve().parent
+sys.path += [str(HERE.parent / place) for place in ("registry", "bin/idn2-registry")]
+
+from idn2_registry.notation import reading
+from idn2_registry.notation.differences import differences
+from idn2_registry.notation.faults import TableFault
+from idn2_registry.notation.gaps import gaps
+from idn2_registry.notation.lines import first_line, raw_lines, says_nothing, without_return
+from idn2_registry.notation.points import is_scalar_value, spelled
+from idn2_registry.unicode_data import Classes
 
 MOST_LINE_BYTES = 1024
 MOST_TEXT_BYTES = 1_048_576
@@ -29,6 +36,7 @@ MOST_VARIANTS = 16
 MOST_POINTS = 8
 
 CLEAN, FAULTY, UNUSABLE = 0, 1, 2
+STANDARD_OUTPUT, STANDARD_ERROR = 1, 2
 
 STANDARD = "--standard"
 VERSION_LINE = b"%version 2"
@@ -149,7 +157,7 @@ def report(variants_of):
 
 def main(words):
     paths = [word for word in words if word != STANDARD]
-    if not paths:
+    if not paths or any(path.startswith("-") for path in paths):
         return unusable("usage: check.py [--standard] FILE..")
     try:
         classes = Classes().whole() if STANDARD in words else Classes()
@@ -165,12 +173,24 @@ def main(words):
             continue
         lines, is_clean = (check_ruleset if reading.is_ruleset(text) else check)(text, classes)
         status = max(status, CLEAN if is_clean else FAULTY)
-        print(f"{path}: " + "\n".join(lines))
+        try:
+            write(STANDARD_OUTPUT, f"{path}: " + "\n".join(lines))
+        except OSError as error:
+            return unusable(f"{path}: the answer could not be written: {error.strerror}")
     return status
 
 
+def write(stream, text):
+    """Writes all of a text and a line feed; or an OSError, also where the stream is closed."""
+    rest = memoryview(os.fsencode(text + "\n"))
+    while rest:
+        rest = rest[os.write(stream, rest):]
+
+
 def unusable(message):
-    print(message, file=sys.stderr)
+    # Where messages can't be written, the status stands.
+    with contextlib.suppress(OSError):
+        write(STANDARD_ERROR, str(message))
     return UNUSABLE
 
 

@@ -1,8 +1,8 @@
 """The ruleset of Chinese, rulesets/chinese.txt, which make.py makes together with the table han.txt: the same sets of
 variants, with a tag for each kind of character."""
 
-from notation.points import spelled
-from unicode_data import han_field
+from idn2_registry.notation.points import spelled
+from idn2_registry.unicode_data import han_field
 
 # The tag of a character, by the field of Unihan that tells of the character set that it has to be in.
 CHARACTER_SETS = {"simp": "kGB0", "trad": "kBigFive"}

@@ -9,7 +9,7 @@ It reads these files of Debian's package unicode-data (/usr/share/unicode, or th
     Unihan_OtherMappings.txt.bz2            han.txt: kGB0, kBigFive, the character sets that both ends stand in; in
                                             rulesets/chinese.txt they tell which characters are simplified (chinese.py)
     Unihan_DictionaryLikeData.txt.bz2       han.txt: kGradeLevel, the characters that schools teach
-    and those of properties that a code point's class comes from (unicode_data.py)
+    and those of properties that a code point's class comes from (idn2_registry.unicode_data)
 
 The letters of German are written out below, since Unicode's character data does not list letters by language.
 The tables are closed under symmetry and transitivity, so `idn2 --check-table` prints no gap; nor does `--check-ruleset`.
@@ -17,13 +17,16 @@ The tables are closed under symmetry and transitivity, so `idn2 --check-table` p
 
 import pathlib
 import re
+import sys
+
+# The package is a folder of the repository, and one file of the archive.
+HERE = pathlib.Path(__file__).resolve().parent
+sys.path += [str(HERE.parent / place) for place in ("registry", "bin/idn2-registry")]
 
 import chinese
-import unicode_data
-from notation.points import spelled
-from unicode_data import MAY_STAND_IN_A_TABLE, Classes
-
-HERE = pathlib.Path(__file__).resolve().parent
+from idn2_registry import unicode_data
+from idn2_registry.notation.points import spelled
+from idn2_registry.unicode_data import MAY_STAND_IN_A_TABLE, Classes
 
 HYPHEN = 0x002D
 ASCII_DIGITS = range(0x0030, 0x003A)

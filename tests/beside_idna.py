@@ -17,9 +17,9 @@ import unicodedata
 
 from program import LIMIT, ROOT, is_there, python_with, run, run_tests
 
-sys.path += [os.path.join(ROOT, "conformance"), os.path.join(ROOT, "tables")]
+sys.path += [os.path.join(ROOT, folder) for folder in ("conformance", "registry", "tables")]
 
-import unicode_data
+from idn2_registry import unicode_data
 from kit_data import Kit, ranges_in
 from registration import CHANGED, a_label
 from rules import UnicodeProperties

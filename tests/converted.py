@@ -1,5 +1,5 @@
 #!/usr/bin/env python3
-"""Makes rulesets of version 3 of the table notation with tables/from_lgr.py, and asks them for labels.
+"""Makes rulesets of version 3 of the table notation with idn2-registry convert, and asks them for labels.
 
 Each part of RFC 7940 has a small ruleset here (converted_rows.py), with the text that it becomes and with answers that the RFC
 gives. Random rulesets (rich_ruleset.py) are asked beside a plain reading of the RFC (plain_ruleset.py). The reference implementation
@@ -22,17 +22,19 @@ from rich_ruleset import RichRuleset
 from rulesets import comments_of, converted as verified, entries_of, listings, registrable, ruleset, stored
 from version_3 import BY_PROGRAM
 
-sys.path += [os.path.join(ROOT, "conformance"), os.path.join(ROOT, "tables")]
+sys.path += [os.path.join(ROOT, folder) for folder in ("conformance", "registry", "tables")]
 
-import rfc7940.drawn_labels
-import unicode_data
-from lgr import command, convert, exact, tags
-from lgr.contexts import Holds
-from lgr.joinings import Joinings
-from lgr.program import Program
-from lgr.ruleset import Fault
-from notation import reading
-from notation.ruleset import Mapped
+from idn2_registry import unicode_data
+from idn2_registry.configuration import LabelRules
+from idn2_registry.lgr import command, convert, exact, tags
+from idn2_registry.lgr.contexts import Holds
+from idn2_registry.lgr.joinings import Joinings
+from idn2_registry.lgr.program import Asked
+from idn2_registry.lgr.ruleset import Fault
+from idn2_registry.notation import reading
+from idn2_registry.notation.ruleset import Mapped
+from idn2_registry.program import Program
+from idn2_registry.rfc7940 import drawn_labels
 from ruleset_labels import NOT_VALID, RulesetLabels, Unknown
 
 UNSAYABLE = "refused: there is no such table\n"
@@ -42,7 +44,7 @@ LEAST_CONVERTED, LEAST_ACCEPTED = 20, 300
 MOST_SPELLED = 60
 
 
-class KnownProgram(Program):
+class KnownProgram(Asked):
     """Asks the program for each code point once."""
 
     known = {}
@@ -57,8 +59,8 @@ def converted(path, *options):
     """What is made of a file, without a process and before it is verified: the text, the messages and the status."""
     told, given = [], command.options_of([*options, path])
     try:
-        program = KnownProgram(PROGRAM, ["--standard"] if given.standard else [])
-        text = command.made(command.bytes_of(path), program, given, told.append)
+        rules = LabelRules.STANDARD if given.standard else LabelRules.PROFILE
+        text = command.made(command.bytes_of(path), KnownProgram(Program(PROGRAM, rules)), given, told.append)
     except Fault as fault:
         text, told = None, [str(fault)]
     messages = "".join(line + "\n" for line in told)
@@ -158,7 +160,8 @@ def leaves_out_what_the_program_does_not_register_only_if_asked(folder):
             options = ["--version", version]
             text, messages, status = converted(path, *options)
             if lines is None:
-                assert (text, messages, status) == ("", "no entry of it can stand in a table\n" + told, 1), (data, messages)
+                wanted = f"no entry of it can stand in a table\n{told}--standard has the code points that RFC 5892 allows\n"
+                assert (text, messages, status) == ("", wanted, 1), (data, messages)
             elif told:
                 *lines_told, last = messages.splitlines(keepends=True)
                 assert (text, "".join(lines_told), status) == ("", told, 1) and "--leave-out does so" in last, (data, messages)
@@ -330,7 +333,7 @@ def verifies_with_the_labels_of_a_registry(folder):
     """The labels of a file, with holders and as A-labels; what isn't asked, and what can't be used."""
     path, lines = ruleset(folder, *VERIFIED), table_file(folder, b"U+0061\n", "lines.txt")
     labels = table_file(folder, "ab\tH1\nxn--4ca\n\n-\n".encode(), "labels.txt")
-    drawn = mock.patch.object(rfc7940.drawn_labels.DrawnLabels, "labels", lambda _: [])
+    drawn = mock.patch.object(drawn_labels.DrawnLabels, "labels", lambda _: [])
     with drawn:
         assert verified(path, "--verify", labels)[2] == 0
         with mock.patch.object(exact, "say_demands", NOTHING_SAID):
@@ -349,7 +352,12 @@ def verifies_with_the_labels_of_a_registry(folder):
 
 
 def needs_a_program_that_answers(folder):
-    """Nothing is printed where the program can't be asked for listings."""
+    """Nothing is printed where the program can't be asked for listings, or lists more than it was asked for."""
+    text = f'#!/bin/sh\n{PROGRAM} "$@"\nended=$?\n[ "$1" != --ruleset ] || echo "#end 0"\nexit $ended\n'
+    chatty = table_file(folder, text.encode(), "chatty")
+    os.chmod(chatty, 0o755)
+    output, told, status = verified(ruleset(folder, *VERIFIED), "--idn2", chatty)
+    assert (output, status) == ("", 2) and told.endswith(f"\nit can't be verified: {chatty} lists more than it was asked\n"), (output, told)
     stops = table_file(folder, f'#!/bin/sh\n[ "$1" != --ruleset ] || exit 3\nexec {PROGRAM} "$@"\n'.encode(), "idn2")
     os.chmod(stops, 0o755)
     output, told, status = verified(ruleset(folder, *VERIFIED), "--idn2", stops)

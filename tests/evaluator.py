@@ -1,5 +1,5 @@
 #!/usr/bin/env python3
-"""Tests the evaluator of RFC 7940 (conformance/rfc7940.py): that it says of small rulesets what was worked out by
+"""Tests the evaluator of RFC 7940 (idn2_registry.rfc7940): that it says of small rulesets what was worked out by
 hand, and refuses what isn't as the standard has it; that its grid finds what the definitions find that are written out
 here; that labels drawn from a ruleset find a change of it; and that a listing of the program is compared in all that
 it says. The last line is 'N passed, M failed', and the exit status is 0 where nothing failed."""
@@ -20,17 +20,17 @@ from program import PROGRAM, ROOT, run_tests
 from random_ruleset import RandomRuleset
 from rich_ruleset import RichRuleset
 
-sys.path += [os.path.join(ROOT, "conformance"), os.path.join(ROOT, "tables")]
+sys.path += [os.path.join(ROOT, folder) for folder in ("conformance", "registry", "tables")]
 
 import verified as command
-from rfc7940 import unicode_properties, verified
-from rfc7940.drawn_labels import DrawnLabels, every_variant
-from rfc7940.reader import read
-from rfc7940.rules import AllOf, Anchor, AnyOf, End, Literal, OneOf, Start, Times
-from rfc7940.ruleset import INVALID, PREDEFINED, UNMAPPED, UNTYPED, Asked, Verdict
-from rfc7940.schema import Refused
-from rfc7940.unicode_properties import test_of
-from rfc7940.verified import Block, Kind
+from idn2_registry.rfc7940 import unicode_properties, verified
+from idn2_registry.rfc7940.drawn_labels import DrawnLabels, every_variant
+from idn2_registry.rfc7940.reader import read
+from idn2_registry.rfc7940.rules import AllOf, Anchor, AnyOf, End, Literal, OneOf, Start, Times
+from idn2_registry.rfc7940.ruleset import INVALID, PREDEFINED, UNMAPPED, UNTYPED, Asked, Verdict
+from idn2_registry.rfc7940.schema import Refused
+from idn2_registry.rfc7940.unicode_properties import test_of
+from idn2_registry.rfc7940.verified import Block, Kind
 
 LETTER_OF = {"allocatable": "A", "blocked": "B", "unclear": "U"}
 

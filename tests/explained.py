@@ -8,6 +8,7 @@ and the exit status is 0 where nothing failed."""
 
 import os
 import re
+import shutil
 import subprocess
 import sys
 
@@ -494,11 +495,23 @@ def tells_which_words_cannot_be_used(folder):
         (["-", "x", "--limits"], "unknown option '--limits'"),
         (["--limit", "--foo"], "unknown option '--foo'"),
         (["--a\nb"], "unknown option '--a\\u{a}b'"),
+        (["--limit=1", "--limit", "2", "--foo"], "--limit is given twice"),
+        (["--limit=1", "--limit", "--foo"], "--limit is given twice"),
+        (["--after", "-xr", "-r", "-r"], "unknown option '-x'"),
+        (["--after", "-rx", "y"], "--after takes a value"),
+        (["--limit", "--=x"], "unknown option '--'"),
         (["--limit"], "--limit takes a value"),
         (["--variants", "t", "--limit", "--json", "x"], "--limit takes a value"),
         (["--variants", "t", "--limit", "1", "--limit=2", "x"], "--limit is given twice"),
+        (["--limit=1", "--limit", "-r", "x"], "--limit takes a value"),
         (["-r", "-r", "x"], "--register is given twice"),
+        (["-drd", "-r", "x"], "--decode is given twice"),
+        (["--after", "-", "--register", "--after=", "-r"], "--after is given twice"),
         (["--json=1", "x"], "--json takes no value"),
+        (["--json", "--json=1", "x"], "--json takes no value"),
+        (["--limit", "--json=1", "x"], "--limit takes a value"),
+        (["--after", "--jump=1"], "--after takes a value"),
+        (["--help=1"], "--help takes no value"),
         (["--json=' for '--limit", "x"], "--json takes no value"),
         (["-r", "-d", "x"], "two modes are named"),
         (["--variants", "t", "--check-table", "t"], "two modes are named"),
@@ -545,6 +558,19 @@ def tells_which_file_cannot_be_read(folder):
     ):
         expect(["--explain", *words], b"", b"", f"idn2: 60 read fault: {name}: {cause}\n".encode(), 3)
         expect(words, b"", b"", b"idn2: 60 read fault\n", 3)
+    barred = table_file(folder, b"0061\n", "barred.txt")
+    os.chmod(barred, 0)
+    os.chmod(folder, 0o755)
+    # Root may read it all the same, so somebody else asks.
+    somebody = {} if os.geteuid() else {"user": 65534, "group": 65534, "extra_groups": []}
+    words = [shutil.copy(PROGRAM, folder), "--explain", "--variants", barred, "x"]
+    done = subprocess.run(words, capture_output=True, timeout=LIMIT, **somebody)
+    assert (done.stderr, done.returncode) == (f"idn2: 60 read fault: {barred}: permission denied\n".encode(), 3), done
+    # The standard input has no name that was given.
+    descriptor = os.open(folder, os.O_RDONLY)
+    done = subprocess.run([PROGRAM, "--explain", "-r"], stdin=descriptor, capture_output=True, timeout=LIMIT)
+    os.close(descriptor)
+    assert (done.stdout, done.stderr, done.returncode) == (b"", b"idn2: 60 read fault\n", 3), done
 
 
 def tells_why_the_output_cannot_be_written(folder):

@@ -64,7 +64,7 @@ def on_a_full_disk():
 def makes_each_file_of_an_output_by_its_status(folder):
     """What makes a table goes to a new file, which gets its name only after status 0."""
     for command in COMMANDS:
-        if re.match(r"(idn2-registry (convert|join)|python3 \S+) .*[^2]> ", command):
+        if re.match(r"idn2-registry (convert|join) .*[^2]> ", command):
             assert re.search(r" > (\w+)\.new && mv \1\.new \1\.txt$|2> told\.txt$", command), command
     assert len(RECIPES) >= 4, RECIPES
 
@@ -92,8 +92,7 @@ def leaves_a_file_as_it_was_where_its_recipe_fails(folder):
             kit.write(file, text)
         for end in ("exit 127", "kill -9 $$"):
             kit.instead_of("idn2", f"#!/bin/sh\necho 0061\necho lost >&2\n{end}\n")
-            if "from_lgr" not in command:  # which takes the program beside it
-                expect_failure(end, command, name)
+            expect_failure(end, command, name)
             os.remove(os.path.join(kit.bin, "idn2"))
             os.symlink(PROGRAM, os.path.join(kit.bin, "idn2"))
         expect_failure("a full disk", command, name, preexec_fn=on_a_full_disk)

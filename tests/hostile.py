@@ -5,6 +5,7 @@ line is 'N passed, M failed', and the exit status is 0 where nothing failed."""
 
 import concurrent.futures
 import fcntl
+import itertools
 import os
 import resource
 import subprocess
@@ -658,6 +659,23 @@ def serves_lines_with_bytes_out_of_place(folder):
     assert [int(each.split()[2][:-1]) for each in refused if each.endswith(": 1 not UTF-8")] == wanted, refused
 
 
+# Octets on both sides of each edge of RFC 3629, section 4, and of the places from which the Bidi rule is asked no more.
+EDGES = bytes.fromhex("2e617f808e8f909fa0a3a4bfc0c1c2d5d6d7dfe0e1e2ecedeeeff0f4f5ff")
+
+
+def tells_each_short_text_that_is_utf8(folder):
+    """All texts of up to three such octets, alone and at the end of longer ones, as Python decodes them."""
+    texts = [bytes(octets) for length in (1, 2, 3) for octets in itertools.product(EDGES, repeat=length)]
+    for front in (b"", b"a" * 6, b"a" * 14):
+        lines = [front + text for text in texts]
+        wanted = [line for line, text in enumerate(lines, 1) if told_of(text, set()) == 1]
+        messages = "".join(f"idn2: line {line}: 1 not UTF-8\n" for line in wanted)
+        answers = b"".join(line + b"\n" for line in lines if told_of(line, set()) is None)
+        expect(["-d"], b"\n".join(lines), answers, messages.encode(), 1)
+        refused = run(["-d", "--standard"], b"\n".join(lines)).stderr.decode().splitlines()
+        assert [int(each.split()[2][:-1]) for each in refused if each.endswith(": 1 not UTF-8")] == wanted, front
+
+
 def block_of_labels(length):
     """All labels of so many letters a to z, a line each, in order."""
     lines = [""]
@@ -790,6 +808,7 @@ TESTS = [
     tells_of_registered_labels_that_cannot_be_read,
     refuses_input_without_a_line_feed,
     serves_lines_with_bytes_out_of_place,
+    tells_each_short_text_that_is_utf8,
     tells_of_memory_within_any_address_space,
     lists_in_pages_what_it_lists_at_once,
     collides_in_pages_as_at_once,

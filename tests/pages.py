@@ -16,7 +16,7 @@ import sys
 
 from program import LIMIT, PROGRAM, ROOT, TABLES, expect, is_installed, is_there, make, manual_blocks, run, run_tests, sessions_of, text_of
 
-sys.path += [os.path.join(ROOT, "conformance"), os.path.join(ROOT, "tables")]
+sys.path += [os.path.join(ROOT, folder) for folder in ("conformance", "registry", "tables")]
 
 import explained
 import quoted
@@ -420,6 +420,10 @@ def packs_each_path_that_its_documents_name(folder):
     assert "tables/check.py" in named, named
     absent = [path for path in sorted(named) if not os.path.exists(os.path.join(top, path))]
     assert not absent, absent
+    # What `make dist` compared with the program.
+    texts = (text_of("README.md"), text_of("docs", "GUIDE.md"))
+    libraries = [re.findall(r"GNU C library, version ([\d.]+) or later", text) for text in texts]
+    assert libraries[0] == libraries[1] and len(libraries[0]) == 1, libraries
     # The scripts that are named find what they stand on there: without a file they tell how they are called.
     for script in sorted(path for path in named if path.endswith(".py") and path != "tables/make.py"):
         done = subprocess.run([sys.executable, script], cwd=top, capture_output=True, encoding="utf-8", timeout=LIMIT)
@@ -661,6 +665,23 @@ def runs_the_main_job_without_a_proof_until_make_has_made_it(folder):
     expect_unproved("no program")
 
 
+# The package of what a test asks for, where it has another name.
+PACKAGES = {"groff": "groff-base", "objdump": "binutils"}
+
+
+def packages():
+    return set(re.sub("#.*", "", text_of("tests", "packages.txt")).split())
+
+
+def lists_each_package_that_a_test_asks_for(folder):
+    """Without one that tests/packages.txt lacks, a test would be skipped on each fresh machine."""
+    paths = glob.glob(os.path.join(ROOT, "tests", "*.py")) + glob.glob(os.path.join(ROOT, "registry", "tests", "*.py"))
+    named = r'\b(?:is_installed\(|is_there\(|pytest\.skip\(|reason=)"(\w[^"{]*)"'
+    asked = {name for path in paths for names in re.findall(named, text_of(path)) for name in names.split(", ")}
+    asked -= {"a package", "the Rattle kit"}
+    assert len(asked) > 12 and {PACKAGES.get(name, name) for name in asked} <= packages(), asked
+
+
 SKIPPING = """import sys
 sys.path.insert(0, {!r})
 from program import is_there, run_tests
@@ -700,10 +721,9 @@ def names_what_it_skipped_in_its_last_lines(folder):
         lines = done.stdout.splitlines()
         assert (lines[-1], done.returncode != 0) == (f"{len(tests) + 2 - failed} passed, {failed} failed", failed > 0), (words, done)
         assert "guide asks ... SKIPPED what needs a package: make packages installs what tests use" in lines[-5:-1], (words, done)
-    packages = set(re.sub("#.*", "", text_of("tests", "packages.txt")).split())
     with open(os.path.join(folder, "installed"), encoding="utf-8") as file:
         update, install = file.read().splitlines()
-    assert update == "update" and packages < set(install.split()) and len(packages) > 8, (update, install)
+    assert update == "update" and packages() < set(install.split()) and len(packages()) > 8, (update, install)
     done = subprocess.run(["make", "-s", "run"], cwd=folder, env=environment, capture_output=True, encoding="utf-8", timeout=LIMIT)
     assert done.stdout.endswith("\nproved\n"), done
 
@@ -775,6 +795,7 @@ TESTS = [
     names_the_logic_that_proves_it,
     ends_as_the_readme_shows,
     runs_the_main_job_without_a_proof_until_make_has_made_it,
+    lists_each_package_that_a_test_asks_for,
     names_what_it_skipped_in_its_last_lines,
     tells_which_answers_changed,
     quotes_definitions_as_they_stand,

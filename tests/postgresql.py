@@ -1,4 +1,4 @@
-"""A PostgreSQL server for a test, where Debian's packages postgresql and python3-psycopg are installed."""
+"""A PostgreSQL server for a test or a measurement, where Debian's packages postgresql and python3-psycopg are installed."""
 
 import contextlib
 import glob
@@ -39,6 +39,11 @@ def server():
             run(control, "-D", data, "-m", "immediate", "stop")
     finally:
         shutil.rmtree(folder)
+
+
+def uri_of(environment):
+    """The database as a configuration names it."""
+    return f"postgresql://{environment['PGUSER']}@/registry?host={environment['PGHOST']}"
 
 
 def restart(folder):

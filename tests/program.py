@@ -519,7 +519,7 @@ def packs_what_a_server_needs(folder):
     files = sorted(os.path.relpath(os.path.join(at, name), packed) for at, _, names in os.walk(packed) for name in names)
     for name in ("bin/idn2", "share/man/man1/idn2.1", "share/bash-completion/completions/idn2", "tables/german.txt",
                  "share/zsh/site-functions/_idn2", "share/fish/vendor_completions.d/idn2.fish",
-                 "share/idn2/tables/rulesets/latin.txt", "tables/from_lgr.py", "docs/GUIDE.md", "CHANGELOG.md",
+                 "share/idn2/tables/rulesets/latin.txt", "bin/idn2-registry", "tables/check.py", "docs/GUIDE.md", "CHANGELOG.md",
                  "lib/systemd/system/idn2-registry.service", "docs/pictures/label.png"):
         assert name in files, (name, files)
     words = [os.path.join(packed, "bin", "idn2"), "--variants", os.path.join(packed, "tables", "german.txt"), "aß"]

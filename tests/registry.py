@@ -1,5 +1,6 @@
 #!/usr/bin/env python3
-"""Runs the tests of idn2-registry, which stand in registry/tests, by pytest, and those of its types by mypy. The last line is
+"""Runs the tests of idn2-registry, which stand in registry/tests, by pytest, those of its types by mypy, and those of its form by
+pyflakes, pycodestyle and isort: Debian has no ruff, whose rules of these names registry/pyproject.toml has. The last line is
 'N passed, M failed', and the exit status is 0 where nothing failed."""
 
 import concurrent.futures
@@ -14,6 +15,11 @@ from program import ROOT, is_installed, is_there, python_with, run_tests
 PACKAGE = os.path.join(ROOT, "registry")
 # What some of the tests import, too.
 MODULES = ("pytest", "psycopg", "distributed", "aiohttp")
+SOURCES = ("idn2_registry", "pack.py", "tests")
+# What is only a matter of taste: names for lambdas, and where a line ends before an operator or in a bracket.
+TASTE = "E12,E203,E701,E704,E731,W503,W504"
+FORMS = (["pyflakes3", *SOURCES], ["pycodestyle", "--max-line-length=128", f"--ignore={TASTE}", *SOURCES],
+         ["isort", "--check", "--quiet", *SOURCES])
 LIMIT = 600
 
 
@@ -62,5 +68,12 @@ def has_types(folder):
         assert done.returncode == 0, done.stdout
 
 
+def has_the_form_that_its_settings_ask(folder):
+    for words in FORMS:
+        if is_installed(words[0]):
+            done = subprocess.run(words, cwd=PACKAGE, capture_output=True, text=True, timeout=LIMIT)
+            assert done.returncode == 0, (words[0], done.stdout + done.stderr)
+
+
 if __name__ == "__main__":
-    sys.exit(run_tests("registry", [does_what_its_tests_say, has_types]))
+    sys.exit(run_tests("registry", [does_what_its_tests_say, has_types, has_the_form_that_its_settings_ask]))

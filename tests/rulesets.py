@@ -1,12 +1,11 @@
 #!/usr/bin/env python3
-"""Makes tables of version 1 and 2 from rulesets, with tables/from_lgr.py, and lets the built program read them.
+"""Makes tables of version 1 and 2 from rulesets, with idn2-registry convert, and lets the built program read them.
 
 tests/rulesets/ has the rulesets of RFC 7940, appendix A, and the model table of RFC 4290, as they stand there, and
 others that were written for what their first comments say. Each table is asked of every label of up to three entries,
 beside a plain reading of the ruleset (plain_ruleset.py). The last line is 'N passed, M failed', and the exit status is
 0 where nothing failed."""
 
-import ast
 import contextlib
 import io
 import itertools
@@ -24,12 +23,13 @@ from program import LIMIT, PROGRAM, ROOT, make, run, run_tests, table_file
 from random_ruleset import RandomRuleset
 from standard_rules import CONDITIONS, LETTERS_AND_SIGNS, RULES, STARTS
 
-sys.path.append(os.path.join(ROOT, "tables"))
+sys.path.append(os.path.join(ROOT, "registry"))
 
-from lgr import command
+from idn2_registry.lgr import command
 
 RULESETS = os.path.join(ROOT, "tests", "rulesets")
-SCRIPT = os.path.join(ROOT, "tables", "from_lgr.py")
+COMMAND = [sys.executable, "-m", "idn2_registry", "convert"]
+ENVIRONMENT = {**os.environ, "PYTHONPATH": os.path.join(ROOT, "registry")}
 HEAD = '<lgr xmlns="urn:ietf:params:xml:ns:lgr-1.0"><data>\n'
 
 DIGITS = "".join(f"{point:04X}\n" for point in range(0x30, 0x3A))
@@ -43,7 +43,7 @@ UNSAYABLE = "refused: there is no such table\n"
 
 
 def converted(path, *options):
-    """What the script prints for a file, its messages without the file's name, and its status, in this process."""
+    """What the converter prints for a file, its messages without the file's name, and its status, in this process."""
     usage = io.StringIO()
     with tempfile.TemporaryFile() as output, tempfile.TemporaryFile() as messages, contextlib.redirect_stderr(usage), \
             mock.patch.multiple(command, STANDARD_OUTPUT=output.fileno(), STANDARD_ERROR=messages.fileno()):
@@ -612,17 +612,19 @@ def files_and_words_that_cannot_be_used(folder):
         output, told, status = converted(path, *options)
         assert (output, status) == ("", 2) and "Traceback" not in told, (options, told, status)
     # Another program of the same name, and none.
-    told = "/bin/true is not the idn2 of these scripts: name it with --idn2\n"
+    told = "/bin/true: another program of this name: name the right one with --idn2 PROGRAM\n"
     expect_refusal(path, ["--idn2", "/bin/true"], told, 2)
-    expect_refusal(path, ["--idn2", "/none"], "/none: No such file or directory\n", 2)
-    words = [sys.executable, SCRIPT, "--version", "2", "--idn2", PROGRAM, path]
+    told = "/none: no such program: install it beside this one, or name it with --idn2 PROGRAM\n"
+    expect_refusal(path, ["--idn2", "/none"], told, 2)
+    words = [*COMMAND, "--version", "2", "--idn2", PROGRAM, path]
     with open("/dev/full", "wb") as full:
-        done = subprocess.run(words, stdout=full, stderr=subprocess.PIPE, text=True, timeout=LIMIT)
+        done = subprocess.run(words, env=ENVIRONMENT, stdout=full, stderr=subprocess.PIPE, text=True, timeout=LIMIT)
     told = f"{path}: the table could not be written: No space left on device\n"
     assert (done.returncode, done.stderr) == (2, told), done
     # Messages that can't be written change neither the table nor the status.
     with open("/dev/full", "wb") as full:
-        done = subprocess.run([*words[:-1], stored("gaps.xml")], stdout=subprocess.PIPE, stderr=full, timeout=LIMIT)
+        done = subprocess.run([*words[:-1], stored("gaps.xml")], env=ENVIRONMENT, stdout=subprocess.PIPE, stderr=full,
+                              timeout=LIMIT)
     assert (done.returncode, done.stdout.decode()) == (0, made(stored("gaps.xml"))[0]), done
     if os.geteuid() != 0:
         os.chmod(table_file(folder, b"U+0061\n", "closed.txt"), 0)
@@ -646,23 +648,13 @@ def damaged_files(folder):
         assert status == 0 or told, number
 
 
-def pythons_that_are_too_old(folder):
-    """The script can be read by an older Python, and gives it one line and a status."""
-    with open(SCRIPT, encoding="ascii") as file:
-        text = file.read()
-    ast.parse(text, feature_version=(3, 4))
-    old = "import runpy, sys; sys.version_info = (3, 9, 2); runpy.run_path(sys.argv[1], run_name='__main__')"
-    done = subprocess.run([sys.executable, "-c", old, SCRIPT], capture_output=True, text=True, timeout=LIMIT)
-    told = "from_lgr.py: Python 3.10 or later is needed, and this is 3.9\n"
-    assert (done.stdout, done.stderr, done.returncode) == ("", told, 2), done
-
-
 def works_from_the_archive(folder):
     """What `make dist` packs converts a ruleset with the program that stands beside it."""
     assert make(folder, "dist", f"DIST={folder}").returncode == 0
     subprocess.run("tar xf idn2-*.tar.gz", shell=True, cwd=folder, check=True, timeout=LIMIT)
     [packed] = [name for name in os.listdir(folder) if os.path.isdir(os.path.join(folder, name))]
-    words = [sys.executable, os.path.join(packed, "tables", "from_lgr.py"), "--version", "2", stored("hyphen-rule.xml")]
+    command = os.path.join(packed, "bin", "idn2-registry")
+    words = [sys.executable, command, "convert", "--version", "2", stored("hyphen-rule.xml")]
     environment = {**os.environ, "PATH": "", "PYTHONDONTWRITEBYTECODE": "1"}
     done = subprocess.run(words, capture_output=True, text=True, cwd=folder, env=environment, timeout=LIMIT)
     assert (entries_of(done.stdout), done.stderr, done.returncode) == (RANGES, "", 0), done
@@ -722,7 +714,6 @@ TESTS = [
     faults_of_the_text,
     files_and_words_that_cannot_be_used,
     damaged_files,
-    pythons_that_are_too_old,
     works_from_the_archive,
     line_format,
     lines_with_comments_and_returns,

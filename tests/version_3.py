@@ -1,5 +1,5 @@
 #!/usr/bin/env python3
-"""Asks the reference implementation of rulesets (conformance/ruleset_labels.py, tables/notation/) for the worked rows of version 3, and the
+"""Asks the reference implementation of rulesets (conformance/ruleset_labels.py, idn2_registry.notation) for the worked rows of version 3, and the
 program for what the rulesets of tables/rulesets/ and of docs/NOTATION.md say. Which labels may be registered, and which code
 points may stand in a table, the program tells the reference implementation. The last line is 'N passed, M failed', and the exit status
 is 0 where nothing failed."""
@@ -14,15 +14,15 @@ import textwrap
 
 from program import LIMIT, ROOT, is_there, run, run_tests, table_file
 
-sys.path += [os.path.join(ROOT, "conformance"), os.path.join(ROOT, "tables")]
+sys.path += [os.path.join(ROOT, folder) for folder in ("conformance", "registry", "tables")]
 
 import check
 import ruleset_rows
-import unicode_data
-from notation import canonical, reading
-from notation.gaps import gaps
-from ruleset_labels import RulesetLabels
+from idn2_registry import unicode_data
+from idn2_registry.notation import canonical, reading
+from idn2_registry.notation.gaps import gaps
 from reference_run import Run, Reference, Unknown
+from ruleset_labels import RulesetLabels
 
 DISALLOWED, UNASSIGNED = 10, 11
 
@@ -212,12 +212,18 @@ def check_script_tells_what_it_cannot_read(folder):
     rows = [([], "", usage, 2), ([absent], "", told, 2), ([folder], "", f"{folder}: Is a directory\n", 2),
             ([absent, path], f"{path}: #table 42 0\n", told, 2), ([path], f"{path}: #table 42 0\n", "", 0),
             ([gap, absent], f"{gap}: missing 0062|0061\n#table 1 1\n", told, 2), (["--standard"], "", usage, 2),
+            (["--help"], "", usage, 2), ([path, "--Standard"], "", usage, 2),
             ([adlam], f"{adlam}: idn2: table line 1: 33 code point not allowed in a table\n", "", 1),
             (["--standard", adlam, path], f"{adlam}: #table 1 0\n{path}: #table 42 0\n", "", 0)]
-    for words, output, message, status in rows if is_there("unicode-data", unicode_data.FOLDER.is_dir()) else rows[:1]:
+    has_data = is_there("unicode-data", unicode_data.FOLDER.is_dir())
+    for words, output, message, status in rows if has_data else rows[:1]:
         command = [sys.executable, os.path.join(ROOT, "tables", "check.py"), *words]
         done = subprocess.run(command, capture_output=True, encoding="utf-8", timeout=LIMIT)
         assert (done.stdout, done.stderr, done.returncode) == (output, message, status), (words, done)
+    for stream, reason in ((">/dev/full", "No space left on device"), (">&-", "Bad file descriptor")) if has_data else ():
+        words = ["sh", "-c", f'"$@" {stream}', "sh", *command[:2], gap]
+        done = subprocess.run(words, capture_output=True, encoding="utf-8", timeout=LIMIT)
+        assert (done.stderr, done.returncode) == (f"{gap}: the answer could not be written: {reason}\n", 2), done
     environment = {**os.environ, "UNICODE_DATA": folder}
     done = subprocess.run([*command[:2], path], env=environment, capture_output=True, encoding="utf-8", timeout=LIMIT)
     assert (done.stdout, done.returncode) == ("", 2) and done.stderr.startswith(f"no Unicode data in {folder}: "), done

@@ -12,7 +12,7 @@ from program import ROOT, run_tests, text_of
 
 DOCUMENTS = ("*.md", "docs/*")
 SOURCES = ("crates/*/src/**/*.rt", "crates/*/specs/**/*.antt", "crates/*/proofs/**/*.antt", "bench/*.py", "conformance/*.py",
-           "registry/**/*.py", "tables/*.py", "tables/rfc7940/*.py", "tests/*.py", "Makefile")
+           "registry/**/*.py", "tables/*.py", "tests/*.py", "Makefile")
 GLOSSARY = os.path.join(ROOT, "docs", "GLOSSARY.md")
 # What begins a comment, by the ending of a file.
 COMMENT = {".rt": r"//[/!]?(.*)$", ".antt": r"--(.*)$", ".py": r"(?:^|\s)#(.*)$", "": r"(?:^|\s)#(.*)$"}

@@ -8,7 +8,7 @@ import sys
 from hostile import refusing_library
 from program import ROOT, run, run_tests, table_file
 
-sys.path += [os.path.join(ROOT, "conformance"), os.path.join(ROOT, "tables")]
+sys.path += [os.path.join(ROOT, folder) for folder in ("conformance", "registry", "tables")]
 
 import label_rows
 import ruleset_rows

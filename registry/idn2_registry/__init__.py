@@ -10,12 +10,13 @@ from typing import TYPE_CHECKING, Any
 
 from .answers import Answer, Refusal, RegisteredLabel, Status, Variant
 from .faults import Unknown, Unusable
-from .zone import Zone
+from .zone import Check, Zone
 
 if TYPE_CHECKING:
     from .async_zone import AsyncZone
 
-__all__ = ["Answer", "AsyncZone", "Refusal", "RegisteredLabel", "Status", "Unknown", "Unusable", "Variant", "Zone"]
+__all__ = ["Answer", "AsyncZone", "Check", "Refusal", "RegisteredLabel", "Status", "Unknown", "Unusable", "Variant",
+           "Zone"]
 
 
 def __getattr__(name: str) -> Any:

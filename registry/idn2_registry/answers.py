@@ -3,9 +3,11 @@
 import math
 import re
 from collections.abc import Mapping
-from dataclasses import dataclass, field
+from dataclasses import dataclass, field, replace
 from enum import Enum
 from typing import Any
+
+from .faults import Fault, Unusable
 
 Object = dict[str, Any]
 CONTROL_CHARACTER = re.compile(r"[\x00-\x1f\x7f-\x9f]")
@@ -109,15 +111,14 @@ class Refusal:
         where = str(told["code_point"]) if "code_point" in told else ""
         if "place" in told:
             where += f" at place {told['place']}"
-        if "rule" in told:
-            where += f" ({told['rule']})"
-        return f"{words}: {where.strip()}" if where else words
+        words += f": {where.strip()}" if where else ""
+        return f"{words} ({told['rule']})" if "rule" in told else words
 
 
 def furthest_first(refusals: Mapping[str, Refusal]) -> dict[str, Refusal]:
-    """Why tables refuse a label, by their names. First comes what says most of the label: that it isn't valid, though it is made
-    of entries; then the refusal whose place is the furthest. A broken demand, which has no place, is found after all places.
-    Tables that say as much stay in their order."""
+    """Why tables refuse a label, by their names. First comes what says most of the label: that it isn't valid, though it is
+    made of entries; then the refusal whose place is the furthest. A broken demand, which has no place, is found after all
+    places. Tables that say as much stay in their order."""
     def order(each: tuple[str, Refusal]) -> tuple[bool, float]:
         return each[1].number != NOT_VALID, -each[1].details.get("place", math.inf)
 
@@ -128,8 +129,8 @@ def furthest_first(refusals: Mapping[str, Refusal]) -> dict[str, Refusal]:
 class Answer:
     """What is said of one label. Only members that its status has are told.
 
-    `reason` says why an answer isn't known, and `lasts` whether it stays so until an operator mends something. `after` is where a
-    listing that isn't `complete` goes on."""
+    `reason` says why an answer isn't known, `told` what of that is told over HTTP, and `lasts` whether it stays so
+    until an operator mends something. `after` is where a listing that isn't `complete` goes on."""
 
     label: str
     status: Status
@@ -142,7 +143,18 @@ class Answer:
     variants: tuple[Variant, ...] | None = None
     after: str | None = None
     reason: str | None = None
+    told: str | None = None
     lasts: bool = False
+
+    @classmethod
+    def unknown(cls, label: str, fault: Fault) -> "Answer":
+        """What is said of a label where something went wrong."""
+        return cls(label, Status.UNKNOWN, reason=str(fault), told=fault.told, lasts=isinstance(fault, Unusable))
+
+    @property
+    def public(self) -> "Answer":
+        """The answer as it is told over HTTP, where its reason names nothing of the operator's."""
+        return self if self.told is None else replace(self, reason=self.told)
 
     @property
     def complete(self) -> bool:

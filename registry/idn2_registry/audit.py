@@ -147,7 +147,8 @@ def groups_of(pairs: Iterable[tuple[Each, Each]]) -> list[list[Each]]:
     return sorted(sorted(set(group)) for group in {id(group): group for group in joined.values()}.values())
 
 
-def findings(program: Program, admitting: Sequence[Table], zone: Table, holdings: Holdings, means: Means, name: str) -> Findings:
+def findings(program: Program, admitting: Sequence[Table], zone: Table, holdings: Holdings, means: Means,
+             name: str) -> Findings:
     """All that is wrong with the labels of a register under some tables. The program reads no registered labels with one that
     may not be registered. Only where it says so, each label is tested alone."""
     try:

@@ -2,7 +2,7 @@
 
 from .answers import ExitStatus
 from .configuration import Configuration
-from .faults import Unknown, Unusable
+from .faults import Fault, Unusable
 from .join import lacking
 from .output import Output
 from .program import Program
@@ -32,7 +32,8 @@ def check_tables(configuration: Configuration, program: Program, output: Output)
             continue
         tables[name] = table
         told = {"table": name, "file": str(path), "entries": table.entries, "gaps": len(table.gaps)}
-        output.fact(told, f"{path}: {name}: {counted(table.entries, 'entry', 'entries')}, {counted(len(table.gaps), 'gap')}", ExitStatus.YES)
+        output.fact(told, f"{path}: {name}: {counted(table.entries, 'entry', 'entries')}, {counted(len(table.gaps), 'gap')}",
+                    ExitStatus.YES)
         for gap in table.gaps[:SHOWN_PAIRS]:
             output.fact({"table": name, "missing": gap}, f"{path}: add the pair {gap}", ExitStatus.NO)
         for pair in table.differences[:SHOWN_PAIRS]:
@@ -53,7 +54,7 @@ def check_register(configuration: Configuration, output: Output) -> None:
         faults = register.faults()
         count = sum(1 for _ in register.rows())
         register.close()
-    except (Unusable, Unknown) as error:
+    except Fault as error:
         output.fact({"register": configuration.register, "fault": str(error)}, str(error), ExitStatus.NOT_KNOWN)
         return
     for fault in faults:

@@ -33,7 +33,7 @@ def done_by_cluster(address: str, task: Task, parts: dict[int, bytes]) -> Iterat
 
 
 class Sending:
-    """Parts on their way: two for each worker, since the task goes with each of them. A part that stood on what another worker has
+    """Parts on their way: two for each worker, since the task goes with each. A part that stood on what another worker has
     might wait for ever once that worker is lost."""
 
     def __init__(self, client: Any, task: Task, parts: dict[int, bytes]) -> None:

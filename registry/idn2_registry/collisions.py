@@ -2,12 +2,13 @@
 
 import json
 import re
-from collections.abc import Callable, Sequence
+from collections.abc import Sequence
 
 from .answers import NOT_MADE, NOT_VALID, Object, Refusal
 from .faults import Unknown
-from .processes import Pool, Question, only
+from .processes import Question, Questions, only
 from .program import HeldFile, Program
+from .register import Row, Transaction
 from .tables import Table
 
 ALLOCATABLE = "allocatable"
@@ -26,24 +27,26 @@ class Collisions:
         self._table = table
         self._jump = Question((self._list, table.held.path, "--jump"), (table.held,))
 
-    def of(self, label: str, pool: Pool, first_from: Callable[[str], str | None]) -> list[str]:
-        """The registered labels that collide with a label, in label order. `first_from` tells the first registered label at
-        or after a text. Raises Unknown if the table refuses the label, too."""
-        found: list[str] = []
-        text = ""
+    async def of(self, label: str, transaction: Transaction, questions: Questions) -> list[Row]:
+        """The registered labels that collide with a label, in label order, each with its holder; itself, too, whatever
+        the table says. Raises Unknown if the table refuses the label."""
+        found: list[Row] = []
+        near, first = await self._first_near(label, "", questions), None
         # The program and the register take turns: each goes on from what the other has.
-        while (near := self._first_near(label, text, pool)) is not None and (registered := first_from(near)) is not None:
-            if registered == near:
-                found.append(registered)
-                # The least text above it.
-                text = registered + "\0"
-            else:
-                text = registered
+        while near is not None:
+            if first is None or first[0] < near:
+                first = await transaction.first_from(near)
+            if first is None:
+                break
+            if first[0] == near:
+                found.append(first)
+            # The least text above it, where it is registered.
+            near = await self._first_near(label, near + "\0" if first[0] == near else first[0], questions)
         return found
 
-    def refusal(self, label: str, pool: Pool) -> Refusal | None:
+    async def refusal(self, label: str, questions: Questions) -> Refusal | None:
         """Why the table refuses a label that may be registered; None if it admits it."""
-        answer = only(pool.ask(self._jump, label.encode()), "ulabel")
+        answer = only(await questions.ask(self._jump, label.encode()), "ulabel")
         if "refusal" not in answer:
             return None
         refusal = Refusal.read(answer["refusal"])
@@ -51,15 +54,16 @@ class Collisions:
             raise Unknown(f"the program gave another answer than it should: {refusal}")
         return refusal
 
-    def _first_near(self, label: str, text: str, pool: Pool) -> str | None:
-        answer = only(pool.ask(self._jump, f"{label}\t{text}".encode()), "ulabel")
+    async def _first_near(self, label: str, text: str, questions: Questions) -> str | None:
+        """The first label at or after a text that is the label itself or one of its variants."""
+        answer = only(await questions.ask(self._jump, (f"{label}\t{text}" if text else label).encode()), "ulabel")
         if "refusal" in answer:
             refusal = answer["refusal"]
             raise Unknown(f"the table {self._table.name} refuses it: {refusal['number']} {refusal['text']}")
-        near: str | None = answer["ulabel"]
-        if near is not None and near < text:
-            raise Unknown(f"the program went back: {near}")
-        return near
+        variant: str | None = answer["ulabel"]
+        if variant is not None and variant < text:
+            raise Unknown(f"the program went back: {variant}")
+        return min((each for each in (label, variant) if each is not None and each >= text), default=None)
 
     def is_offered(self, label: str, registered: str, program: Program, seconds: float) -> bool:
         """Whether the holder of a registered label may have the label, too: it is one of its allocatable variants."""

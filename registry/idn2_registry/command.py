@@ -10,33 +10,48 @@ from pathlib import Path
 from .answers import Answer, ExitStatus
 from .audit import audit as audit_all
 from .change import change as change_all
+from .check_config import check_configuration
 from .co_process import CoProcess
-from .compare import Comparison
 from .configuration import DEFAULT_PATH, Configuration, read_configuration
-from .convert import convert as convert_file
-from .faults import Unknown, Unsayable, Unusable
+from .faults import Fault, Unsayable, Unusable
+from .form import Form
 from .holdings import Holdings
 from .join import join as joined
 from .load import dump as dump_register
 from .load import load as load_file
 from .output import Output, complain
-from .parsed_table import ParsedTable
 from .program import Program
-from .publish import Form
-from .publish import publish as published
-from .register import open_register
-from .check_config import check_configuration
+from .register import checked_holder, open_register
 from .tables import Table, read_tables
 from .work import Means
-from .zone import Zone
+from .zone import Zone, checked_after, checked_page
 
 Words = argparse.Namespace
 Job = Callable[[Words, Output], None]
+
+# The standard streams, and how one that is closed is opened: so that its use fails, and that of messages does nothing.
+STREAMS = (("stdin", os.O_WRONLY, "r"), ("stdout", os.O_RDONLY, "w"), ("stderr", os.O_WRONLY, "w"))
 
 
 def text_of_word(word: str) -> str:
     """A word of the command line, which is UTF-8 in every locale."""
     return os.fsencode(word).decode("utf-8", "surrogateescape")
+
+
+def taken(check: Callable[[str], object]) -> Callable[[str], object]:
+    """What reads a word by a check that raises ValueError."""
+    def read(word: str) -> object:
+        try:
+            return check(text_of_word(word))
+        except ValueError as error:
+            raise argparse.ArgumentTypeError(str(error)) from error
+
+    return read
+
+
+def page_of(word: str) -> object:
+    """The size of a page."""
+    return checked_page(int(word) if word.isascii() and word.isdigit() else 0)
 
 
 def labels_of(words: Words) -> Iterator[str]:
@@ -128,7 +143,7 @@ def holdings(configuration: Configuration) -> Holdings:
 
 
 def load(words: Words, output: Output) -> None:
-    """Puts the labels of a file into the register, whole or not at all. Each line is a label, or a label, a tab and a holder."""
+    """Puts the labels of a file into the register, all or none. Each line is a label, or a label, a tab and a holder."""
     configuration = read_configuration(words.config)
     load_file(configuration, program(words, configuration), means(words, configuration), words.file, words.rest, output)
 
@@ -172,12 +187,18 @@ def join(words: Words, output: Output) -> None:
 
 def publish(words: Words, output: Output) -> None:
     """Writes a table as others read it: XML of RFC 7940, lines of RFC 4290, or a page."""
+    # No other job waits for what reads tables.
+    from .publish import publish as published
+
     [table], asked = named_tables(words, [words.table])
     output.text(published(table, Form(words.form), words.meta, asked))
 
 
 def compare(words: Words, output: Output) -> None:
     """Tells what two tables say otherwise, and whether they are identical, contained, overlapping or apart."""
+    from .compare import Comparison
+    from .parsed_table import ParsedTable
+
     tables, _ = named_tables(words, [words.first, words.second])
     one, other = map(ParsedTable.read, tables)
     Comparison.of(one, other).tell(output)
@@ -205,13 +226,14 @@ def parser() -> argparse.ArgumentParser:
         return added
 
     for name, job in (("check", check), ("register", register)):
-        add(name, job).add_argument("--holder", metavar="HOLDER", type=text_of_word, help="who asks, and may have variants of own labels")
+        add(name, job).add_argument("--holder", metavar="HOLDER", type=taken(checked_holder),
+                                    help="who asks, and may have variants of own labels")
     jobs.choices["check"].add_argument("--variants", action="store_true", help="list the variants, too")
     add("release", release)
     listing = add("variants", variants)
     listing.add_argument("--table", metavar="NAME", help="the table [default: the first that admits the label]")
-    listing.add_argument("--page", metavar="SIZE", type=int, help="at most so many")
-    listing.add_argument("--after", metavar="TEXT", type=text_of_word, help="only those after a text")
+    listing.add_argument("--page", metavar="SIZE", type=taken(page_of), help="at most so many")
+    listing.add_argument("--after", metavar="TEXT", type=taken(checked_after), help="only those after a text")
     add("tables-of", tables_of)
     for name, job in (("load", load), ("audit", audit), ("change", change)):
         long = add(name, job, has_labels=False)
@@ -240,11 +262,23 @@ def add_jobs_on_tables(add: Callable[[str, Job, bool], argparse.ArgumentParser])
         comparing.add_argument(name, metavar="TABLE", help=words)
 
 
+def hold_streams() -> None:
+    """Where a standard stream is closed, no file that is opened takes its number: a table that had it would be read from what a
+    process answers."""
+    for name, flags, mode in STREAMS:
+        if getattr(sys, name) is None:
+            # The least number that is free, which is that of the stream.
+            setattr(sys, name, open(os.open(os.devnull, flags), mode))
+
+
 def main(given: Sequence[str] | None = None) -> int:
     """Does a job, and gives its exit status."""
+    hold_streams()
     first, *rest = [*(sys.argv[1:] if given is None else given), ""]
-    # The converter has its own options.
     if first == "convert":
+        # It has its own options, and no other command waits for it.
+        from .lgr.command import main as convert_file
+
         return guarded(lambda: convert_file(rest[:-1]))
     words = parser().parse_args(given)
     output = Output(words.json)
@@ -263,7 +297,7 @@ def guarded(job: Callable[[], int]) -> int:
     except Unsayable as error:
         complain(str(error))
         return ExitStatus.NO.value
-    except (Unusable, Unknown) as error:
+    except Fault as error:
         complain(str(error))
     except OSError as error:
         complain(f"{error.filename}: {error.strerror}" if error.filename else str(error))

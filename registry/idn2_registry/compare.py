@@ -7,9 +7,11 @@ from enum import Enum
 from typing import Any
 
 from .answers import ExitStatus, Object
-from .beside import package_module
+from .notation import canonical
+from .notation.points import Points, spelled
+from .notation.ruleset import Mapped
 from .output import Output
-from .parsed_table import ParsedTable, Points, spelled
+from .parsed_table import ParsedTable
 from .words import counted
 
 # What is said of a thing, by its kind and its name.
@@ -58,7 +60,8 @@ class Difference:
         if name := self.only_in(names):
             [said] = [each for each in self.said if each is not None]
             return f"{head} only in {name}" + (f": {said}" if said else "")
-        return head + ",".join(f" in {name} {said or 'without a condition'}" for name, said in zip(names, self.said))
+        each = zip(names, self.said, strict=True)
+        return head + ",".join(f" in {name} {said or 'without a condition'}" for name, said in each)
 
 
 @dataclass(frozen=True)
@@ -119,14 +122,14 @@ def facts_of(parsed: ParsedTable, rules: dict[str, str]) -> Facts:
     return facts
 
 
-def with_condition(disposition: str, mapped: Any, rules: dict[str, str]) -> str:
+def with_condition(disposition: str, mapped: Mapped, rules: dict[str, str]) -> str:
     """What stands with a sequence, the tags in their order."""
     tags = f"as {','.join(sorted(mapped.tags))}" if mapped.tags else ""
     condition = f"{mapped.condition.word} {rules[mapped.condition.rule]}" if mapped.condition else ""
     return " ".join(filter(None, (disposition, tags, condition)))
 
 
-def mapped_of(parsed: ParsedTable) -> Iterator[Any]:
+def mapped_of(parsed: ParsedTable) -> Iterator[Mapped]:
     """All sources and variants."""
     for entry in parsed.ruleset.entries.values():
         yield from entry.mapped()
@@ -135,14 +138,13 @@ def mapped_of(parsed: ParsedTable) -> Iterator[Any]:
 def rule_texts(parsed: ParsedTable) -> dict[str, str]:
     """The rules that something names, each with its contexts."""
     named = {each.condition.rule for each in mapped_of(parsed) if each.condition}
-    line = package_module("notation.canonical").rule_line
-    return {name: written_out(line(name, contexts).split(" ", 2)[2], parsed)
+    return {name: written_out(canonical.rule_line(name, contexts).split(" ", 2)[2], parsed)
             for name, contexts in parsed.ruleset.rules.items() if name in named}
 
 
 def demand_texts(parsed: ParsedTable) -> list[str]:
     """The demands."""
-    return [written_out(package_module("notation.canonical").demand_line(demand), parsed) for demand in parsed.ruleset.demands]
+    return [written_out(canonical.demand_line(demand), parsed) for demand in parsed.ruleset.demands]
 
 
 def written_out(pattern: str, parsed: ParsedTable) -> str:

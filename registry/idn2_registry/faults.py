@@ -1,12 +1,25 @@
 """What goes wrong, apart from refusals of labels: nothing can be answered, one request has no answer, or the answer is no."""
 
 
-class Unusable(Exception):
+class Fault(Exception):
+    """The text is for the operator, and may name files, hosts and databases. `told` is what whoever asks over HTTP is
+    told."""
+
+    told: str
+
+
+class Unusable(Fault):
     """The configuration, a table, the register or the program can't be used. The text names which, where, and the remedy."""
 
+    told = "an operator has to mend something"
 
-class Unknown(Exception):
+
+class Unknown(Fault):
     """This request has no answer, which says nothing about its label. The text names the cause."""
+
+    def __init__(self, text: str, told: str | None = None) -> None:
+        super().__init__(text)
+        self.told = told or text
 
 
 class Unsayable(Exception):

@@ -1,12 +1,10 @@
 """What a register has, as long work reads it."""
 
-import json
 from collections.abc import Iterable
 from dataclasses import dataclass
 from functools import cached_property
 
 from .answers import RegisteredLabel
-from .faults import Unknown
 from .program import Program
 from .register import Register
 
@@ -42,9 +40,6 @@ class Holdings:
     def named(self, labels: Iterable[str], program: Program) -> dict[str, RegisteredLabel]:
         """Labels with their A-labels and holders."""
         wanted = sorted(set(labels))
-        output = program.answered(["--register"], "".join(f"{label}\n" for label in wanted).encode())
-        told = [json.loads(line) for line in output.split(b"\n")[:-1]]
-        if len(told) != len(wanted):
-            raise Unknown("the program didn't answer each label")
+        told = program.tested([label.encode() for label in wanted])
         return {label: RegisteredLabel(label, answer.get("alabel", label), self.holders.get(label))
                 for label, answer in zip(wanted, told, strict=True)}

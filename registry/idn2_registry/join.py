@@ -5,10 +5,9 @@ from collections.abc import Iterator, Sequence
 from pathlib import Path
 
 from .faults import Unusable
+from .notation.points import Points, spelled
 from .program import Program
 from .tables import Table, checked
-
-Points = tuple[int, ...]
 
 
 def entries_of(table: Table) -> Iterator[list[Points]]:
@@ -65,8 +64,9 @@ def disposition_of(said: tuple[Table, int, set[bool]]) -> str:
 
 def lacking(zone: Table, tables: Sequence[Table]) -> str | None:
     """What the table of a zone lacks of the other tables, so that labels may collide under these alone; None if nothing."""
-    pairs = {(source, variant) for source, *variants in entries_of(zone) for variant in variants}
-    for table in tables:
+    others = [table for table in tables if table is not zone]
+    pairs = {(source, variant) for source, *variants in entries_of(zone) for variant in variants} if others else set()
+    for table in others:
         for source, *variants in entries_of(table):
             for variant in variants:
                 if source != variant and (source, variant) not in pairs:
@@ -88,11 +88,6 @@ def joined(tables: Sequence[Table]) -> bytes:
         others = ":".join("!" + spelled(other) for other in sorted(variants[sequence] - {sequence}))
         lines.append(spelled(sequence) + ("|" if others else "") + others)
     return "".join(f"{line}\n" for line in lines).encode()
-
-
-def spelled(sequence: Points) -> str:
-    """A sequence as a table has it."""
-    return "-".join(f"{point:04X}" for point in sequence)
 
 
 def join(tables: Sequence[Table], program: Program) -> bytes:

@@ -5,13 +5,12 @@ from collections.abc import Iterator
 from dataclasses import dataclass
 from typing import Any
 
-from .answers import CONTROL_CHARACTER, ExitStatus, Object, Refusal, label_member
+from .answers import ExitStatus, Object, Refusal, label_member
 from .configuration import Configuration
-from .faults import Unknown
 from .holdings import Holdings
 from .output import Output
 from .program import Program
-from .register import open_register
+from .register import NO_HOLDER, open_register
 from .words import counted
 from .work import Means, parts_of, results
 
@@ -29,11 +28,7 @@ class LoadTask:
         """For each line a label with its holder, or a refusal."""
         read: list[tuple[str | None, str | None, Object | None]] = [read_line(line) for line in part.split(b"\n")[:-1]]
         asked = [number for number, (label, _, _) in enumerate(read) if label is not None]
-        output = self.program.answered(["--register"], b"".join(
-            (read[number][0] or "").encode("utf-8", "surrogateescape") + b"\n" for number in asked))
-        told = [json.loads(line) for line in output.split(b"\n")[:-1]]
-        if len(told) != len(asked):
-            raise Unknown("the program didn't answer each label")
+        told = self.program.tested([(read[number][0] or "").encode("utf-8", "surrogateescape") for number in asked])
         for number, answer in zip(asked, told, strict=True):
             read[number] = (answer.get("ulabel"), read[number][1], answer.get("refusal"))
         return json.dumps(read).encode()
@@ -46,14 +41,9 @@ def read_line(line: bytes) -> tuple[str | None, str | None, Object | None]:
         return None, None, refusal.object()
     if not has_holder:
         return label, None, None
-    if not holder or CONTROL_CHARACTER.search(holder) or not is_unicode(holder):
+    if not holder or NO_HOLDER.search(holder):
         return None, None, {"text": "no holder after the tab"}
     return label, holder, None
-
-
-def is_unicode(text: str) -> bool:
-    """Whether a text was UTF-8."""
-    return not any("\ud800" <= each <= "\udfff" for each in text)
 
 
 def lines_of(path: str) -> list[bytes]:
@@ -70,6 +60,8 @@ class Loading:
     there: dict[str, str | None]
     new: dict[str, str | None]
     refused: list[tuple[int, Object]]
+    # How many lines say again what another says, or the register.
+    known: int = 0
 
     def add(self, number: int, label: str | None, holder: str | None, refusal: Object | None) -> None:
         """A line. One that says again what another says, or the register, adds nothing."""
@@ -80,6 +72,8 @@ class Loading:
             if label in known:
                 if known[label] != holder:
                     self.refused.append((number, {"text": "registered for another holder"}))
+                else:
+                    self.known += 1
                 return
         self.new[label] = holder
 
@@ -98,7 +92,8 @@ def load(configuration: Configuration, program: Program, means: Means, path: str
     lines = lines_of(path)
     loading = Loading(registered_before(configuration), {}, [])
     number = 0
-    for result in results(means, "load", LoadTask(program), parts_of(b"".join(line + b"\n" for line in lines)), [program.state]):
+    for result in results(means, "load", LoadTask(program), parts_of(b"".join(line + b"\n" for line in lines)),
+                          [program.state]):
         for read in json.loads(result):
             number += 1
             loading.add(number, *read)
@@ -112,8 +107,10 @@ def load(configuration: Configuration, program: Program, means: Means, path: str
         register = open_register(configuration, must_be=False)
         register.load(loading.new.items())
         register.close()
-    counts = {"lines": len(lines), "loaded": len(loading.new) if is_loaded else 0, "refused": len(loading.refused)}
+    counts = {"lines": len(lines), "loaded": len(loading.new) if is_loaded else 0, "refused": len(loading.refused),
+              "known": loading.known}
     words = f"{counted(counts['lines'], 'line')}, {counts['loaded']} loaded, {counts['refused']} refused"
+    words += f", {loading.known} known already" if loading.known else ""
     output.end(counts, words)
 
 

@@ -2,13 +2,14 @@
 
 from collections.abc import Iterator
 from dataclasses import dataclass, field
-from typing import Any
 
-from .beside import package_module
 from .faults import Unusable
+from .notation.forms import Form, form_of
+from .notation.lines import raw_lines, says_nothing, without_return
+from .notation.points import Points
+from .notation.reading import RulesetReader
+from .notation.ruleset import Entry, Ruleset
 from .tables import VERSION_LINES, Table
-
-Points = tuple[int, ...]
 
 
 @dataclass(frozen=True)
@@ -18,17 +19,17 @@ class ParsedTable:
     of."""
 
     table: Table
-    ruleset: Any = field(repr=False)
+    ruleset: Ruleset = field(repr=False)
     lines: dict[Points | str | int, int] = field(repr=False)
 
     @classmethod
     def read(cls, table: Table) -> "ParsedTable":
         """What a table says that the program has checked."""
-        reader = package_module("notation.reading").RulesetReader(lambda _: True)
+        reader = RulesetReader(lambda _: True)
         lines: dict[Points | str | int, int] = {}
         for number, form in forms_of(table):
             if reader.take(form):
-                raise Unusable(f"{table.path}: line {number}: the program reads it otherwise than tables/notation")
+                raise Unusable(f"{table.path}: line {number}: the program reads it otherwise than idn2_registry.notation")
             if hasattr(form, "entries"):
                 lines.update((entry.source.points, number) for entry in form.entries())
             else:
@@ -36,7 +37,7 @@ class ParsedTable:
         return cls(table, reader.ruleset, lines)
 
     @property
-    def entries(self) -> list[Any]:
+    def entries(self) -> list[Entry]:
         """Its entries in code point order of their sources."""
         return [entry for _, entry in sorted(self.ruleset.entries.items())]
 
@@ -45,15 +46,9 @@ class ParsedTable:
         return f"{self.table.path}: line {self.lines[said]}"
 
 
-def forms_of(table: Table) -> Iterator[tuple[int, Any]]:
+def forms_of(table: Table) -> Iterator[tuple[int, Form]]:
     """The lines that say something, each with its number and what it is."""
-    lines, forms = package_module("notation.lines"), package_module("notation.forms")
-    for number, raw in enumerate(lines.raw_lines(table.data), 1):
-        line = lines.without_return(raw)
-        if not (lines.says_nothing(line) or number == 1 and line in VERSION_LINES):
-            yield number, forms.form_of(line)
-
-
-def spelled(sequence: Points) -> str:
-    """A sequence as a table has it."""
-    return "-".join(f"{point:04X}" for point in sequence)
+    for number, raw in enumerate(raw_lines(table.data), 1):
+        line = without_return(raw)
+        if not (says_nothing(line) or number == 1 and line in VERSION_LINES):
+            yield number, form_of(line)

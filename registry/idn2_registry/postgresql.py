@@ -1,17 +1,18 @@
 """A register in a database of PostgreSQL, by psycopg."""
 
 import contextlib
+import json
 import math
 import random
 import select
 import sys
-import threading
 import time
 from collections.abc import Callable, Iterable, Iterator, Sequence
 from typing import Any
 
-from .faults import Unknown, Unusable
-from .register import Register, Result, Row, Transaction, checked_label, checked_lines
+from .faults import Unusable
+from .idle import Idle
+from .register import MISSING, NO_HOLDERS, Register, Result, Row, Transaction, checked_lines, checked_row
 
 try:
     import psycopg
@@ -26,11 +27,13 @@ TABLE = """create table if not exists registered (
 )"""
 # So many labels are read at once.
 PAGE = 1_000_000
-FIRST = 'select label from registered where label >= $1 collate "C" order by label collate "C" limit 1'
-HOLDER = 'select holder from registered where label = $1 collate "C"'
+FIRST = 'select label, holder from registered where label >= {} collate "C" order by label collate "C" limit 1'
+# For each text of a list its number, from 1, and the first row from it on, where there is one. As one text, since each look
+# at a value is a call of libpq, at which another thread may go on in place of this one.
+FIRST_ROWS = f"""select json_agg(json_build_array(number, label, holder)) from json_array_elements_text($1)
+    with ordinality as asked(text, number) cross join lateral ({FIRST.format("asked.text")}) as found"""
 INSERT = "insert into registered (label, holder) values ($1, $2)"
 DELETE = 'delete from registered where label = $1 collate "C"'
-MISSING = "there is no register: idn2-registry load FILE makes it, and load /dev/null an empty one"
 # What PostgreSQL says to a transaction that another one got in the way of. It says so of a key that both insert, too.
 AGAIN = (psycopg.errors.SerializationFailure, psycopg.errors.DeadlockDetected, psycopg.errors.UniqueViolation)
 # Transactions only read unless they begin with a statement that says otherwise, and see one state.
@@ -137,11 +140,10 @@ class Session:
             if not self._due:
                 return result
 
-    def text(self, statement: str, *given: str) -> str | None:
-        """The first value of its first row, where there is one."""
-        result = self.ask(statement, *given)
-        value = result.get_value(0, 0) if result.ntuples else None
-        return None if value is None else value.decode()
+    def value(self, statement: str, *given: str) -> Any:
+        """The one value of JSON that a statement gives; None if it is NULL."""
+        told = self.ask(statement, *given).get_value(0, 0)
+        return None if told is None else json.loads(told)
 
     def commit(self) -> None:
         """Commits the transaction. Raises psycopg.Error where it is undone."""
@@ -176,22 +178,18 @@ class PostgresqlTransaction(Transaction):
     """A transaction of one session."""
 
     def __init__(self, session: Session) -> None:
-        super().__init__()
         self._session = session
 
-    def look_up(self, text: str) -> str | None:
-        found = self._session.text(FIRST, text)
-        return None if found is None else checked_label(found, text)
-
-    def holder_of(self, label: str) -> str | None:
-        return self._session.text(HOLDER, label)
+    def first_rows(self, texts: Sequence[str]) -> list[Row | None]:
+        rows: list[Row | None] = [None] * len(texts)
+        for number, label, holder in self._session.value(FIRST_ROWS, json.dumps(texts)) or []:
+            rows[number - 1] = checked_row(label, holder, texts[number - 1])
+        return rows
 
     def insert(self, label: str, holder: str | None) -> None:
-        self.forget()
         self._session.ask(INSERT, label, holder)
 
     def delete(self, label: str) -> bool:
-        self.forget()
         return bool(self._session.ask(DELETE, label).command_tuples)
 
 
@@ -202,16 +200,16 @@ class PostgresqlRegister(Register):
 
     def __init__(self, uri: str, seconds: float, must_be: bool) -> None:
         """Raises ValueError for what is no URI."""
-        self.uri = uri
         try:
             told = psycopg.conninfo.conninfo_to_dict(uri)
         except psycopg.Error as error:
             # What is quoted there may have a password in it.
             raise ValueError(first_line(error).partition('"')[0].rstrip(": ")) from error
-        self.name = "postgresql: " + ", ".join(f"{name} {told[name]}" for name in ("host", "port", "dbname") if name in told)
+        place = [f"{name} {told[name]}" for name in ("host", "port", "dbname") if name in told]
+        super().__init__("postgresql: " + ", ".join(place))
+        self._uri = uri
         self._seconds = seconds
-        self._lock = threading.Lock()
-        self._idle: list[Session] = []
+        self._idle: Idle[Session] = Idle()
         if must_be:
             with self._connected() as connection:
                 self._check(connection)
@@ -222,18 +220,18 @@ class PostgresqlRegister(Register):
         options = f"-c statement_timeout={math.ceil(self._seconds * 1000)} {OPTIONS}"
         try:
             # Transactions are begun here.
-            connection = psycopg.connect(self.uri, autocommit=True, client_encoding="UTF8",
+            connection = psycopg.connect(self._uri, autocommit=True, client_encoding="UTF8",
                                          connect_timeout=math.ceil(self._seconds), options=options)
             is_copy = value(connection, "select pg_is_in_recovery()")
             isolation = value(connection, "show transaction_isolation")
         except psycopg.Error as error:
-            raise Unknown(f"{self.name}: {first_line(error)}: start the database, or mend register") from error
+            raise self.unknown(f"{first_line(error)}: start the database, or mend register") from error
         if is_copy:
             connection.close()
-            raise Unusable(f"{self.name}: a copy, which may lag: name the server on which labels are registered")
+            raise self.unusable("a copy, which may lag: name the server on which labels are registered")
         if isolation != "repeatable read":
             connection.close()
-            raise Unusable(f"{self.name}: what stands before the server drops options of connections: name the server itself")
+            raise self.unusable("what stands before the server drops options of connections: name the server itself")
         return connection
 
     @contextlib.contextmanager
@@ -244,9 +242,9 @@ class PostgresqlRegister(Register):
         except AGAIN:
             raise
         except psycopg.errors.UndefinedTable as error:
-            raise Unusable(f"{self.name}: {MISSING}") from error
+            raise self.unusable(MISSING) from error
         except psycopg.Error as error:
-            raise Unknown(f"{self.name}: {first_line(error)}") from error
+            raise self.unknown(first_line(error)) from error
 
     @contextlib.contextmanager
     def _connected(self) -> Iterator[Connection]:
@@ -257,10 +255,8 @@ class PostgresqlRegister(Register):
     @contextlib.contextmanager
     def _session(self, begin: str | None = None) -> Iterator[Session]:
         """A transaction in a session that no other thread uses; one that failed isn't used again."""
-        with self._lock:
-            idle = self._idle.pop() if self._idle else None
         # The server itself ends a statement after the time of a request.
-        session = idle or Session(self._open, self._seconds + 1)
+        session = self._idle.take() or Session(self._open, self._seconds + 1)
         try:
             with self._told():
                 session.begin(begin)
@@ -274,19 +270,18 @@ class PostgresqlRegister(Register):
             # What was asked is known by now, and what was changed is committed.
             session.close()
             return
-        with self._lock:
-            self._idle.append(session)
+        self._idle.keep(session)
 
     def _check(self, connection: Connection) -> None:
         """That it is a register."""
         if value(connection, "show server_encoding") != "UTF8":
-            raise Unusable(f"{self.name}: not in UTF-8: createdb --encoding=UTF8 --template=template0 makes one that is")
+            raise self.unusable("not in UTF-8: createdb --encoding=UTF8 --template=template0 makes one that is")
         if value(connection, "select to_regclass('registered')") is None:
-            raise Unusable(f"{self.name}: {MISSING}")
+            raise self.unusable(MISSING)
         columns = connection.execute("select attname from pg_attribute where attrelid = 'registered'::regclass and attnum > 0"
                                      " and not attisdropped").fetchall()
         if not {"label", "holder"} <= {name for name, in columns}:
-            raise Unusable(f"{self.name}: its table registered has no column holder: alter table registered add column holder text")
+            raise self.unusable(NO_HOLDERS)
 
     @contextlib.contextmanager
     def reading(self) -> Iterator[Transaction]:
@@ -301,7 +296,7 @@ class PostgresqlRegister(Register):
                 return self._changed(job)
             except AGAIN as error:
                 if time.monotonic() + wait > until:
-                    raise Unknown(f"{self.name}: others changed the same labels for {self._seconds:g} seconds") from error
+                    raise self.unknown(f"others changed the same labels for {self._seconds:g} seconds") from error
             time.sleep(random.uniform(0, wait))
             wait = min(2 * wait, 0.1)
 
@@ -314,7 +309,7 @@ class PostgresqlRegister(Register):
             except psycopg.OperationalError as error:
                 if isinstance(error, AGAIN):
                     raise
-                raise Unknown(f"{self.name}: {first_line(error)}: it may be done or not: ask again") from error
+                raise self.unknown(f"{first_line(error)}: it may be done or not: ask again") from error
             return result
 
     @contextlib.contextmanager
@@ -348,7 +343,7 @@ class PostgresqlRegister(Register):
                         copy.write_row(row)
                 connection.commit()
             except psycopg.IntegrityError as error:
-                raise Unusable(f"{self.name}: {first_line(error)}: nothing was loaded") from error
+                raise self.unusable(f"{first_line(error)}: nothing was loaded") from error
 
     def is_made(self) -> bool:
         with self._connected() as connection:
@@ -357,7 +352,7 @@ class PostgresqlRegister(Register):
     def faults(self) -> list[str]:
         with self._connected() as connection:
             connection.execute("set enable_seqscan = off")
-            rows = connection.execute(f"explain {FIRST.replace('$1', chr(39) * 2)}").fetchall()
+            rows = connection.execute("explain " + FIRST.format("''")).fetchall()
         plan = " ".join(line for line, in rows)
         if "Index Cond" in plan and "Sort" not in plan:
             return []
@@ -365,10 +360,7 @@ class PostgresqlRegister(Register):
                 'create index registered_label on registered (label collate "C")']
 
     def close(self) -> None:
-        with self._lock:
-            for session in self._idle:
-                session.close()
-            self._idle.clear()
+        self._idle.close()
 
 
 def pages(connection: Connection, text: str, which: str) -> Iterator[bytes]:

@@ -7,15 +7,20 @@ import select
 import subprocess
 import threading
 import time
-from collections.abc import Iterator
+from collections import deque
+from collections.abc import Iterator, Sequence
 from dataclasses import dataclass
 
 from .answers import Object
 from .faults import Unknown
+from .idle import Idle
 from .program import HeldFile, Program, ended
+from .together import Ask
 
 # A request is no longer than this; the program refuses a longer line (2) whatever follows.
 MOST_BYTES = 1_025
+# So much a pipe takes at once if nothing is in it.
+PIPE_BYTES = 4_096
 # Lines are counted from the start of a process, up to 4,294,967,296.
 MOST_REQUESTS = 1_000_000_000
 
@@ -28,19 +33,41 @@ class Question:
     files: tuple[HeldFile, ...] = ()
 
 
+class Time:
+    """The time that a request has, or so many together."""
+
+    def __init__(self, seconds: float, count: int = 1) -> None:
+        self._seconds, self._count, self._end = seconds, count, time.monotonic() + seconds
+
+    def left(self) -> float:
+        """The seconds that are left. Raises Unknown if it is over."""
+        left = self._end - time.monotonic()
+        if left <= 0:
+            raise Unknown(f"no answer within {round(self._seconds, 2):g} seconds")
+        return left
+
+    def of_a_line(self) -> "Time":
+        """The time that one answer has: of several requests half of what is left, so that where a process hangs the
+        others still have answers."""
+        return self if self._count == 1 else Time(self.left() / 2)
+
+
 class Process:
     """One process. After anything but an answer to a request it isn't asked again, since what it still says would be taken
     for the next answer."""
 
     def __init__(self, program: Program, question: Question) -> None:
         self._asked = 0
+        # What it said: whole lines, and the beginning of the next one.
+        self._lines: deque[bytes] = deque()
         self._rest = b""
         try:
             self._child = subprocess.Popen(
                 [program.path, *program.options, "--json", *question.options], stdin=subprocess.PIPE, stdout=subprocess.PIPE,
                 stderr=subprocess.PIPE, pass_fds=[file.descriptor for file in question.files], bufsize=0)
         except OSError as error:
-            raise Unknown(f"{program.path} can't be started: {error.strerror}") from error
+            told = "the program can't be started"
+            raise Unknown(f"{program.path}: {told}: {error.strerror}", told) from error
         assert self._child.stdin and self._child.stdout
         self._requests, self._answers = self._child.stdin.fileno(), self._child.stdout.fileno()
         self._poll = select.poll()
@@ -48,19 +75,32 @@ class Process:
 
     @property
     def is_fit(self) -> bool:
-        """Whether it can be asked again."""
-        return self._child.poll() is None and self._asked < MOST_REQUESTS and not self._rest
+        """Whether it can be asked again, if it runs."""
+        return self._asked < MOST_REQUESTS and not self._lines and not self._rest
 
-    def ask(self, request: bytes, seconds: float) -> list[Object]:
-        """The objects that answer a line. Raises Unknown where there is no answer, or not in time."""
+    @property
+    def is_running(self) -> bool:
+        """Whether it hasn't ended."""
+        return self._child.poll() is None
+
+    def ask(self, requests: Sequence[bytes], until: Time) -> Iterator[list[Object]]:
+        """The objects that answer each line. Raises Unknown where there is no answer, or not in time."""
+        for some in pipefuls(requests):
+            try:
+                # The process has read all before.
+                os.write(self._requests, b"".join(request + b"\n" for request in some))
+            except OSError as error:
+                raise Unknown(f"the program gave no answer: {error}") from error
+            for request in some:
+                yield self._answer(request, until.of_a_line())
+
+    def _answer(self, request: bytes, until: Time) -> list[Object]:
+        """The objects that answer the next line."""
         self._asked += 1
-        until = time.monotonic() + seconds
         objects: list[Object] = []
         try:
-            # The process has read all before, so a line always fits into the pipe.
-            os.write(self._requests, request + b"\n")
             while not objects or not {"input", "input_hex"} & objects[-1].keys():
-                objects.append(json.loads(self._line(until, seconds)))
+                objects.append(json.loads(self._line(until)))
                 if objects[-1].get("line") != self._asked:
                     raise Unknown(f"the program answered another request: {objects[-1]}")
             if objects[-1].get("input") not in (None, request.decode("utf-8", "replace")):
@@ -69,18 +109,16 @@ class Process:
         except (OSError, ValueError, AttributeError) as error:
             raise Unknown(f"the program gave no answer: {error}") from error
 
-    def _line(self, until: float, seconds: float) -> bytes:
+    def _line(self, until: Time) -> bytes:
         """The next line of the output."""
-        pieces = [self._rest]
-        while b"\n" not in pieces[-1]:
-            left = until - time.monotonic()
-            if left <= 0 or not self._poll.poll(left * 1000):
-                raise Unknown(f"no answer within {seconds:.2g} seconds")
-            pieces.append(os.read(self._answers, 65_536))
-            if not pieces[-1]:
-                raise Unknown(self._end())
-        line, _, self._rest = b"".join(pieces).partition(b"\n")
-        return line
+        while not self._lines:
+            if self._poll.poll(until.left() * 1000):
+                piece = os.read(self._answers, 65_536)
+                if not piece:
+                    raise Unknown(self._end())
+                *lines, self._rest = (self._rest + piece).split(b"\n")
+                self._lines.extend(lines)
+        return self._lines.popleft()
 
     def _end(self) -> str:
         """Why it ended."""
@@ -90,7 +128,7 @@ class Process:
         except subprocess.TimeoutExpired:
             return "the program closed its output"
 
-    def kill(self) -> None:
+    def close(self) -> None:
         """Ends it."""
         self._child.kill()
         self._child.wait()
@@ -99,77 +137,101 @@ class Process:
                 stream.close()
 
 
+def pipefuls(requests: Sequence[bytes]) -> Iterator[list[bytes]]:
+    """Requests in pieces, each of which a pipe takes at once."""
+    some: list[bytes] = []
+    size = 0
+    for request in requests:
+        size += len(request) + 1
+        if some and size > PIPE_BYTES:
+            yield some
+            some, size = [], len(request) + 1
+        some.append(request)
+    yield some
+
+
 class Pool:
-    """Processes for several questions; at most so many requests are answered at once."""
+    """Processes for several questions; at most so many are asked at once."""
 
     def __init__(self, program: Program, most: int, seconds: float) -> None:
         self.program = program
         self.seconds = seconds
         self._places = threading.BoundedSemaphore(most)
-        self._lock = threading.Lock()
-        self._idle: dict[Question, list[Process]] = {}
-        self._is_closed = False
-        self._until = threading.local()
+        self._idle: Idle[Process] = Idle()
+
+    def ask(self, question: Question, requests: Sequence[bytes], until: Time) -> list[list[Object] | Unknown]:
+        """The objects that answer each line. Where a process fails, the line that it was at has no answer; those behind
+        it are asked of another one."""
+        told: list[list[Object] | Unknown] = []
+        lines = [request[:MOST_BYTES] for request in requests]
+        while len(told) < len(lines):
+            try:
+                with self._process(question, until) as process:
+                    for objects in process.ask(lines[len(told):], until):
+                        told.append(objects)
+            except Unknown as fault:
+                told.append(fault)
+        return told
 
     @contextlib.contextmanager
-    def request(self) -> Iterator[None]:
-        """All that this thread asks inside has the time of one request."""
-        self._until.time = time.monotonic() + self.seconds
-        try:
-            yield
-        finally:
-            del self._until.time
-
-    def _left(self) -> float:
-        """The seconds that are left of a request."""
-        left: float = getattr(self._until, "time", time.monotonic() + self.seconds) - time.monotonic()
-        if left <= 0:
-            raise Unknown(f"no answer within {self.seconds:g} seconds")
-        return left
-
-    def ask(self, question: Question, request: bytes) -> list[Object]:
-        """The objects that answer one line. Raises Unknown; then the process was replaced."""
-        if not self._places.acquire(timeout=self._left()):
-            raise Unknown(f"all processes are busy for {self.seconds:g} seconds: raise processes in the configuration")
+    def _process(self, question: Question, until: Time) -> Iterator[Process]:
+        """A process that nobody else asks. One that failed is replaced."""
+        if not self._places.acquire(timeout=until.left()):
+            raise busy(self.seconds)
         try:
             process = self._taken(question)
             try:
-                answer = process.ask(request[:MOST_BYTES], self._left())
+                yield process
             except BaseException:
-                process.kill()
+                process.close()
                 raise
-            self._give_back(question, process)
-            return answer
+            if process.is_fit:
+                self._idle.keep(process, question)
+            else:
+                process.close()
         finally:
             self._places.release()
 
     def _taken(self, question: Question) -> Process:
         """A process that nobody else asks."""
-        while True:
-            with self._lock:
-                idle = self._idle.get(question)
-                process = idle.pop() if idle else None
-            if process is None:
-                return Process(self.program, question)
-            if process.is_fit:
+        while process := self._idle.take(question):
+            if process.is_running:
                 return process
-            process.kill()
-
-    def _give_back(self, question: Question, process: Process) -> None:
-        with self._lock:
-            if not self._is_closed and process.is_fit:
-                self._idle.setdefault(question, []).append(process)
-                return
-        process.kill()
+            process.close()
+        return Process(self.program, question)
 
     def close(self) -> None:
         """Ends the processes; those that are asked now after their answer."""
-        with self._lock:
-            self._is_closed = True
-            idle = [process for each in self._idle.values() for process in each]
-            self._idle.clear()
-        for process in idle:
-            process.kill()
+        self._idle.close()
+
+
+class Questions:
+    """What so many requests, which are answered together, ask of a pool: all in the time of one request, and nothing
+    twice."""
+
+    def __init__(self, pool: Pool, count: int = 1) -> None:
+        self._pool = pool
+        self._until = Time(pool.seconds, count)
+        self._told: dict[tuple[Question, bytes], list[Object] | Unknown] = {}
+
+    async def ask(self, question: Question, request: bytes) -> list[Object]:
+        """The objects that answer one line. Raises Unknown."""
+        return await Ask(self._tell, (question, request))
+
+    def _tell(self, asked: Sequence[tuple[Question, bytes]]) -> list[list[Object] | Unknown]:
+        new: dict[Question, dict[bytes, None]] = {}
+        for question, request in asked:
+            if (question, request) not in self._told:
+                new.setdefault(question, {})[request] = None
+        for question, requests in new.items():
+            for request, told in zip(requests, self._pool.ask(question, [*requests], self._until), strict=True):
+                self._told[question, request] = told
+        return [self._told[each] for each in asked]
+
+
+def busy(seconds: float) -> Unknown:
+    """Why a request had no turn."""
+    return Unknown(f"all processes are busy for {seconds:g} seconds: raise processes in the configuration")
 
 
 def only(objects: list[Object], *members: str) -> Object:
@@ -177,5 +239,3 @@ def only(objects: list[Object], *members: str) -> Object:
     if len(objects) != 1 or not {"refusal", *members} & objects[0].keys():
         raise Unknown(f"the program gave another answer than it should: {objects[-1]}")
     return objects[0]
-
-

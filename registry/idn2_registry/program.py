@@ -1,14 +1,17 @@
 """The program `idn2`, which decides: where it is, and runs of it that end."""
 
+import json
 import os
 import pkgutil
 import re
 import shutil
 import subprocess
 import sys
+import weakref
 from collections.abc import Iterator, Sequence
 from pathlib import Path
 
+from .answers import Object
 from .configuration import LabelRules
 from .faults import Unknown, Unusable
 
@@ -54,8 +57,8 @@ class Program:
             raise Unusable(f"{self.path}: another program of this name: name the right one with --idn2 PROGRAM")
         self.options = OPTIONS[rules]
         if self.run(["--register"]).returncode != 0:
-            raise Unusable(f"{self.path}: {self.version} can't test labels by labels = \"{rules.value}\": name a newer one with "
-                           "--idn2 PROGRAM")
+            raise Unusable(f"{self.path}: {self.version} can't test labels by labels = \"{rules.value}\": name a newer one "
+                           "with --idn2 PROGRAM")
 
     @property
     def state(self) -> bytes:
@@ -81,6 +84,13 @@ class Program:
             raise Unknown(ended(done.returncode, done.stderr))
         return done.stdout
 
+    def tested(self, labels: Sequence[bytes]) -> list[Object]:
+        """What it says of labels that are to be registered."""
+        output = self.answered(["--register"], b"".join(label + b"\n" for label in labels))
+        told = [json.loads(line) for line in output.split(b"\n")[:-1]]
+        if len(told) != len(labels):
+            raise Unknown("the program didn't answer each label")
+        return told
 
     def plain(self, words: Sequence[str], given: bytes, files: Sequence[int] = ()) -> tuple[bytes, list[int]]:
         """The output, without objects, of a run that answered each line, and the numbers of the lines that it refused. Raises
@@ -105,18 +115,15 @@ def ended(status: int, messages: bytes) -> str:
 
 
 class HeldFile:
-    """Bytes that processes read as a file. They stay the same when the file they came from changes."""
+    """Bytes that processes read as a file. They stay the same when the file they came from changes. The descriptor is what
+    a process is handed; it is closed when nothing has the file any more."""
 
     def __init__(self, data: bytes) -> None:
         # In memory, since a service should go on when a disk is full.
-        self._file = open(os.memfd_create("idn2-registry"), "wb")
-        self._file.write(data)
-        self._file.flush()
-
-    @property
-    def descriptor(self) -> int:
-        """What a process is handed."""
-        return self._file.fileno()
+        self.descriptor = os.memfd_create("idn2-registry")
+        weakref.finalize(self, os.close, self.descriptor)
+        with open(self.descriptor, "wb", closefd=False) as file:
+            file.write(data)
 
     @property
     def path(self) -> str:

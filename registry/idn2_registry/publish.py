@@ -3,27 +3,23 @@
 import itertools
 import re
 from collections.abc import Iterator, Sequence
-from enum import Enum
 from pathlib import Path
-from typing import Any
 
-from .beside import package_module
-from .faults import Unknown, Unsayable, Unusable
+from .faults import Unknown, Unsayable
+from .form import Form
 from .metadata import read_metadata
-from .parsed_table import ParsedTable, Points, spelled
+from .notation.points import Points, spelled
+from .notation.ruleset import Entry
+from .parsed_table import ParsedTable
 from .program import Program
 from .publish_xml import Element, ruleset_element
+from .rfc7940 import reader, verified
+from .rfc7940.ruleset import Ruleset
 from .tables import Table
 
+# Whether a source is outside, and its variants, each with whether it is blocked.
+Marks = tuple[bool, list[tuple[Points, bool]]]
 DECLARATION = '<?xml version="1.0" encoding="UTF-8"?>'
-
-
-class Form(Enum):
-    """In which form: RFC 7940, the lines of RFC 4290, or a page for people."""
-
-    XML = "xml"
-    RFC4290 = "rfc4290"
-    HTML = "html"
 
 
 def publish(table: Table, form: Form, meta: Path | None, program: Program) -> bytes:
@@ -57,7 +53,6 @@ class Xml:
         """The text, after it was read by two readers and the answers of the program were compared with it."""
         check_variants(self.parsed)
         text = "".join(f"{line}\n" for line, _ in self.lines).encode()
-        reader = package_module("rfc7940.reader")
         try:
             ruleset = reader.read(text)
         except reader.Refused as refused:
@@ -79,9 +74,8 @@ class Xml:
             raise self.unsayable(int(found[1]) if found else None, f"XML can't say it: {found[2] if found else told}")
         check_same(self.parsed, back, "XML")
 
-    def check_answers(self, ruleset: Any) -> None:
+    def check_answers(self, ruleset: Ruleset) -> None:
         """What the program lists of labels is what RFC 7940 says of them."""
-        verified = package_module("rfc7940.verified")
         words, mode = [self.program.path, *self.program.options], self.parsed.table.kind.value[0]
         labels = verified.labels_for(ruleset, [])
         try:
@@ -128,8 +122,9 @@ class Lines:
     def lacking(self) -> Iterator[tuple[int, str]]:
         """What RFC 4290 lacks, with its lines."""
         ruleset, lines = self.parsed.ruleset, self.parsed.lines
-        for words, names in (("tags", ruleset.tags), ("rules", ruleset.rules), ("demands", range(len(ruleset.demands)))):
+        for words, names in (("tags", ruleset.tags), ("rules", list(ruleset.rules))):
             yield from ((lines[name], words) for name in names)
+        yield from ((lines[number], "demands") for number in range(len(ruleset.demands)))
         for source, entry in ruleset.entries.items():
             if entry.is_outside:
                 yield lines[source], "outside sources"
@@ -153,7 +148,7 @@ def flat(elements: Sequence[Element]) -> Iterator[Element]:
         yield from flat(element.children) if element.children else [element]
 
 
-def line_of(entry: Any) -> str:
+def line_of(entry: Entry) -> str:
     """The line of an entry."""
     variants = ":".join(in_rfc4290(variant.points) for variant in entry.variants)
     return in_rfc4290(entry.source.points) + ("|" if variants else "") + variants
@@ -169,15 +164,17 @@ def in_rfc4290(points: Points) -> str:
 
 def read_back(text: bytes, parsed: ParsedTable, program: Program, *words: str) -> tuple[ParsedTable | None, str]:
     """What the converter makes of a text: a table of the same version; or None, and its reason."""
-    command, ruleset, converting = (package_module(f"lgr.{name}") for name in ("command", "ruleset", "program"))
+    # No other command waits for the converter.
+    from .lgr import command
+    from .lgr.program import Asked
+    from .lgr.ruleset import Fault
+
     options = command.options_of(["--version", str(parsed.table.version), *words, "published"])
     told: list[str] = []
     try:
-        made = command.made(text, converting.Program(program.path, list(program.options)), options, told.append)
-    except ruleset.Fault as fault:
+        made = command.made(text, Asked(program), options, told.append)
+    except Fault as fault:
         made, told = None, [str(fault)]
-    except converting.Unusable as error:
-        raise Unusable(str(error)) from error
     if made is None:
         return None, told[0].split("\n")[0]
     return ParsedTable.read(Table(parsed.table.name, parsed.table.path, made)), ""
@@ -203,10 +200,10 @@ def check_same(parsed: ParsedTable, back: ParsedTable, form: str) -> None:
             raise Unsayable(f"{place}: {form} can't say it: {spelled(source)} reads back otherwise")
 
 
-def marks_of(parsed: ParsedTable) -> dict[Points, tuple[bool, Any]]:
+def marks_of(parsed: ParsedTable) -> dict[Points, Marks]:
     """For each source whether it is outside, and its variants. No label has an outside source, so that its variants are neither
     blocked nor allocatable."""
-    marks: dict[Points, tuple[bool, Any]] = {}
+    marks: dict[Points, Marks] = {}
     for source, entry in parsed.ruleset.entries.items():
         variants = [(variant.points, variant.is_marked or entry.is_outside) for variant in entry.variants]
         marks[source] = entry.is_outside, sorted(variants)

@@ -3,16 +3,19 @@
 from collections.abc import Iterable, Iterator, Sequence
 from dataclasses import dataclass, field
 from html import escape
-from typing import Any
 
-from .beside import package_module
-from .parsed_table import ParsedTable, Points
+from .notation.patterns import Branch, Group, Item, Optional, Pattern, Point, Set, Sign
+from .notation.points import Points
+from .notation.ruleset import Entry, Mapped, Ruleset
+from .parsed_table import ParsedTable
 
 NAMESPACE = "urn:ietf:params:xml:ns:lgr-1.0"
 CONDITIONS = {"when": "when", "unless": "not-when"}
 # 7.3
 INVALID, BLOCKED, ALLOCATABLE = "invalid", "blocked", "allocatable"
 PREDEFINED = (INVALID, BLOCKED, ALLOCATABLE, "activated", "valid")
+# 6.2, 6.4
+SIGNS = {Sign.ANY: "any", Sign.START: "start", Sign.END: "end"}
 
 
 @dataclass
@@ -67,9 +70,9 @@ def entries(parsed: ParsedTable, types: "Types") -> Iterator[Element]:
             yield Element("char", {"cp": cp(first.points), **condition(first)}, list(variants(run[0], types)), line=line)
 
 
-def runs_of(given: Iterable[Any]) -> Iterator[list[Any]]:
+def runs_of(given: Iterable[Entry]) -> Iterator[list[Entry]]:
     """The entries in their order, those together that follow each other and say the same of single code points alone."""
-    run: list[Any] = []
+    run: list[Entry] = []
     for entry in given:
         if run and not (is_plain(run[-1]) and is_plain(entry) and follows(run[-1].source, entry.source)):
             yield run
@@ -78,17 +81,17 @@ def runs_of(given: Iterable[Any]) -> Iterator[list[Any]]:
     yield run
 
 
-def is_plain(entry: Any) -> bool:
+def is_plain(entry: Entry) -> bool:
     """Whether it says no more than that a code point may stand somewhere."""
     return not (entry.variants or entry.source.is_marked or entry.source.tags) and len(entry.source.points) == 1
 
 
-def follows(one: Any, other: Any) -> bool:
+def follows(one: Mapped, other: Mapped) -> bool:
     """Whether the second is the next code point, under the same condition."""
-    return bool(one.points[0] + 1 == other.points[0] and one.condition == other.condition)
+    return one.points[0] + 1 == other.points[0] and one.condition == other.condition
 
 
-def variants(entry: Any, types: "Types") -> Iterator[Element]:
+def variants(entry: Entry, types: "Types") -> Iterator[Element]:
     """The variants, and first the reflexive one, if the source has a type."""
     reflexive = types.of_source(entry.source)
     if reflexive:
@@ -102,7 +105,7 @@ def cp(points: Points) -> str:
     return " ".join(f"{point:04X}" for point in points)
 
 
-def condition(mapped: Any) -> dict[str, str]:
+def condition(mapped: Mapped) -> dict[str, str]:
     """The attribute of a condition, if there is one."""
     return {CONDITIONS[mapped.condition.word]: mapped.condition.rule} if mapped.condition else {}
 
@@ -115,8 +118,8 @@ class Types:
     source, which no label may have, invalid: about these the default actions say the same (7.6). Each group of tags is a type,
     and so is each group of a source that stays as it is."""
 
-    def __init__(self, ruleset: Any) -> None:
-        self.tags: tuple[str, ...] = tuple(ruleset.tags)
+    def __init__(self, ruleset: Ruleset) -> None:
+        self.tags = tuple(ruleset.tags)
         given = [each for entry in ruleset.entries.values() for each in entry.mapped()]
         sources = {entry.source.tags for entry in ruleset.entries.values() if entry.source.tags}
         groups = {each.tags for each in given if each.tags}
@@ -133,13 +136,13 @@ class Types:
         name = ".".join(self.tags[number] for number in self.in_order(tags))
         return f"t-{name}" if name in PREDEFINED else name
 
-    def of_source(self, source: Any) -> str | None:
+    def of_source(self, source: Mapped) -> str | None:
         """The type of a source where it stays as it is."""
         if source.is_marked:
             return INVALID
         return f"r-{self.groups[frozenset(source.tags)]}" if source.tags else None
 
-    def of_variant(self, variant: Any) -> str:
+    def of_variant(self, variant: Mapped) -> str:
         """The type of a variant."""
         if variant.is_marked:
             return BLOCKED
@@ -183,7 +186,7 @@ def demands(parsed: ParsedTable) -> Iterator[Element]:
         yield Element("action", {"disp": INVALID, asks: names[number]}, line=parsed.lines[number])
 
 
-def context_parts(before: Sequence[Any], after: Sequence[Any]) -> Iterator[Element]:
+def context_parts(before: Branch, after: Branch) -> Iterator[Element]:
     """What stands before and after a place."""
     if before:
         yield Element("look-behind", children=branch_parts(before))
@@ -192,7 +195,7 @@ def context_parts(before: Sequence[Any], after: Sequence[Any]) -> Iterator[Eleme
         yield Element("look-ahead", children=branch_parts(after))
 
 
-def whole_parts(branches: Sequence[Any]) -> list[Element]:
+def whole_parts(branches: Pattern) -> list[Element]:
     """The parts of a pattern: those of its branch, or a choice."""
     return one_of([branch_parts(branch) for branch in branches])
 
@@ -204,24 +207,22 @@ def one_of(each: list[list[Element]]) -> list[Element]:
     return [Element("choice", children=[parts[0] if len(parts) == 1 else Element("rule", children=parts) for parts in each])]
 
 
-def branch_parts(items: Sequence[Any]) -> list[Element]:
+def branch_parts(items: Branch) -> list[Element]:
     """The parts of a branch."""
     return [part for item in items for part in item_parts(item)]
 
 
-def item_parts(item: Any) -> list[Element]:
+def item_parts(item: Item) -> list[Element]:
     """The parts of an item, which are several only where it is a group of one branch."""
-    patterns = package_module("notation.patterns")
-    signs = {patterns.Sign.ANY: "any", patterns.Sign.START: "start", patterns.Sign.END: "end"}
-    if item in signs:
-        return [Element(signs[item])]
-    if isinstance(item, patterns.Point):
+    if isinstance(item, Sign):
+        return [Element(SIGNS[item])]
+    if isinstance(item, Point):
         return [Element("char", {"cp": cp((item.point,))})]
-    if isinstance(item, patterns.Set):
+    if isinstance(item, Set):
         return [Element("class", {"by-ref": item.name})]
-    if isinstance(item, patterns.Group):
+    if isinstance(item, Group):
         return whole_parts(item.branches)
     parts = item_parts(item.atom)
     one = parts[0] if len(parts) == 1 and "count" not in parts[0].attributes else Element("rule", children=parts)
-    one.attributes["count"] = "0:1" if isinstance(item, patterns.Optional) else "0+"
+    one.attributes["count"] = "0:1" if isinstance(item, Optional) else "0+"
     return [one]

@@ -3,17 +3,20 @@ PostgreSQL `postgresql.py`."""
 
 import abc
 import re
-from collections.abc import Callable, Iterable, Iterator
+from collections.abc import Callable, Iterable, Iterator, Sequence
 from contextlib import AbstractContextManager
 from typing import TypeVar
 
 from .answers import CONTROL_CHARACTER
 from .configuration import Configuration, Reader
 from .faults import Unknown, Unusable
+from .together import Ask
 
 Result = TypeVar("Result")
 Row = tuple[str, str | None]
 MOST_POINTS = 63
+MISSING = "there is no register: idn2-registry load FILE makes it, and load /dev/null an empty one"
+NO_HOLDERS = "its table registered has no column holder: alter table registered add column holder text"
 # A control character, or a surrogate, which is no character.
 NO_HOLDER = re.compile(rf"{CONTROL_CHARACTER.pattern}|[\ud800-\udfff]")
 
@@ -21,31 +24,13 @@ NO_HOLDER = re.compile(rf"{CONTROL_CHARACTER.pattern}|[\ud800-\udfff]")
 class Transaction(abc.ABC):
     """What can be done in one transaction."""
 
-    def __init__(self) -> None:
-        self.forget()
-
-    def forget(self) -> None:
-        """What was looked up doesn't hold any more. Each change begins with it."""
-        # A text and the first registered label at or after it: none is between them.
-        self._gap: tuple[str, str | None] | None = None
-
-    def first_from(self, text: str) -> str | None:
-        """The first registered label at or after a text, in label order."""
-        if self._gap is not None:
-            start, first = self._gap
-            if start <= text and (first is None or text <= first):
-                return first
-        first = self.look_up(text)
-        self._gap = text, first
-        return first
+    async def first_from(self, text: str) -> Row | None:
+        """The first registered label at or after a text, in label order, with its holder."""
+        return await Ask(self.first_rows, text)
 
     @abc.abstractmethod
-    def look_up(self, text: str) -> str | None:
-        """`first_from` by a question to the database."""
-
-    @abc.abstractmethod
-    def holder_of(self, label: str) -> str | None:
-        """The holder of a registered label, where one was given."""
+    def first_rows(self, texts: Sequence[str]) -> list[Row | None]:
+        """The same for several texts."""
 
     @abc.abstractmethod
     def insert(self, label: str, holder: str | None) -> None:
@@ -55,13 +40,21 @@ class Transaction(abc.ABC):
     def delete(self, label: str) -> bool:
         """Releases a label; False if it wasn't registered."""
 
-    def has(self, label: str) -> bool:
-        """Whether a label is registered."""
-        return self.first_from(label) == label
-
 
 class Register(abc.ABC):
     """A register. Each call raises Unusable where it can't be used at all, and Unknown where it failed this time."""
+
+    def __init__(self, name: str) -> None:
+        # Where it is, as an operator is told.
+        self.name = name
+
+    def unusable(self, words: str) -> Unusable:
+        """Why it can't be used."""
+        return Unusable(f"{self.name}: {words}")
+
+    def unknown(self, words: str) -> Unknown:
+        """Why it failed."""
+        return Unknown(f"{self.name}: {words}", "the register gave no answer")
 
     @abc.abstractmethod
     def reading(self) -> AbstractContextManager[Transaction]:
@@ -79,7 +72,8 @@ class Register(abc.ABC):
     def texts(self) -> tuple[bytes, bytes]:
         """All labels in label order, each on a line; and those that have a holder, each with it after a tab. Of one state."""
         rows = list(self.rows())
-        return text_of(label for label, _ in rows), text_of(f"{label}\t{holder}" for label, holder in rows if holder is not None)
+        holders = (f"{label}\t{holder}" for label, holder in rows if holder is not None)
+        return text_of(label for label, _ in rows), text_of(holders)
 
     @abc.abstractmethod
     def load(self, rows: Iterable[Row]) -> None:
@@ -120,19 +114,20 @@ def text_of(lines: Iterable[str]) -> bytes:
 
 
 def checked_lines(text: bytes, count: int) -> bytes:
-    """The text, which has so many lines. Raises Unusable if it hasn't: something that a label or a holder can't have is in it."""
+    """The text, which has so many lines. Raises Unusable if it hasn't: in it is what a label or a holder can't have."""
     if text.count(b"\n") != count:
         raise Unusable("the register has a label or a holder with a line feed: release it by the means of its database")
     return text
 
 
-def checked_label(found: object, text: str) -> str:
-    """A label that the register gave as the first at or after a text. Raises Unknown if it is none, or out of order."""
-    if not isinstance(found, str) or len(found) > MOST_POINTS or CONTROL_CHARACTER.search(found):
-        raise Unknown(f"the register has what is no label: {found!r}")
-    if found < text:
-        raise Unknown(f"the register is not in the order of UTF-8: {found} comes after {text}")
-    return found
+def checked_row(label: object, holder: str | None, text: str) -> Row:
+    """A row that the register gave as the first at or after a text. Raises Unknown if it has no label, or one that is
+    out of order."""
+    if not isinstance(label, str) or len(label) > MOST_POINTS or CONTROL_CHARACTER.search(label):
+        raise Unknown(f"the register has what is no label: {label!r}")
+    if label < text:
+        raise Unknown(f"the register is not in the order of UTF-8: {label} comes after {text}")
+    return label, holder
 
 
 def checked_holder(holder: str | None) -> str | None:

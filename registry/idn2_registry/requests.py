@@ -1,11 +1,14 @@
 """Requests, as `ask` and `serve` take them: a job, a label, and what the job takes."""
 
-from collections.abc import Callable
+from collections.abc import Awaitable, Callable
 from dataclasses import dataclass, field
-from typing import Any
+from typing import TYPE_CHECKING, Any, overload
 
 from .answers import Answer
 from .zone import Zone
+
+if TYPE_CHECKING:
+    from .async_zone import AsyncZone
 
 JOBS: dict[str, tuple[str, ...]] = {
     "check": ("holder", "variants"),
@@ -41,7 +44,13 @@ class Request:
                 raise ValueError(f"{name} is of another type")
         return cls(job, told["label"], given)
 
-    def answer(self, zone: Zone) -> Answer:
+    @overload
+    def answer(self, zone: Zone) -> Answer: ...
+
+    @overload
+    def answer(self, zone: "AsyncZone") -> Awaitable[Answer]: ...
+
+    def answer(self, zone: "Zone | AsyncZone") -> Answer | Awaitable[Answer]:
         """What the zone says. Raises ValueError for what can't be asked."""
-        call: Callable[..., Answer] = getattr(zone, self.job.replace("-", "_"))
+        call: Callable[..., Answer | Awaitable[Answer]] = getattr(zone, self.job.replace("-", "_"))
         return call(self.label, **self.given)

@@ -3,42 +3,37 @@
 import contextlib
 import os
 import sqlite3
-import threading
-from collections.abc import Callable, Iterable, Iterator
+from collections.abc import Callable, Iterable, Iterator, Sequence
 from pathlib import Path
 
 from .faults import Unknown, Unusable
-from .register import Register, Result, Row, Transaction, checked_label, checked_lines
+from .idle import Idle
+from .register import MISSING, NO_HOLDERS, Register, Result, Row, Transaction, checked_lines, checked_row
 
 TABLE = """create table if not exists registered (
     label text primary key check (typeof(label) = 'text') check (label not like 'xn--%'),
     holder text check (holder is null or typeof(holder) = 'text')
 ) without rowid"""
-FIRST = "select label from registered where label >= ? collate binary order by label collate binary limit 1"
-MISSING = "there is no register: idn2-registry load FILE makes it, and load /dev/null an empty one"
+FIRST = "select label, holder from registered where label >= ? collate binary order by label collate binary limit 1"
 
 
 class SqliteTransaction(Transaction):
     """A transaction of one connection."""
 
     def __init__(self, connection: sqlite3.Connection) -> None:
-        super().__init__()
         self._connection = connection
 
-    def look_up(self, text: str) -> str | None:
-        row = self._connection.execute(FIRST, (text,)).fetchone()
-        return None if row is None else checked_label(row[0], text)
-
-    def holder_of(self, label: str) -> str | None:
-        row = self._connection.execute("select holder from registered where label = ? collate binary", (label,)).fetchone()
-        return None if row is None else row[0]
+    def first_rows(self, texts: Sequence[str]) -> list[Row | None]:
+        rows: list[Row | None] = []
+        for text in texts:
+            row = self._connection.execute(FIRST, (text,)).fetchone()
+            rows.append(row and checked_row(row[0], row[1], text))
+        return rows
 
     def insert(self, label: str, holder: str | None) -> None:
-        self.forget()
         self._connection.execute("insert into registered (label, holder) values (?, ?)", (label, holder))
 
     def delete(self, label: str) -> bool:
-        self.forget()
         done = self._connection.execute("delete from registered where label = ? collate binary", (label,))
         return done.rowcount > 0
 
@@ -49,10 +44,9 @@ class SqliteRegister(Register):
     leaves its journal, by which the next one undoes what was half done."""
 
     def __init__(self, path: str, seconds: float, must_be: bool) -> None:
-        self.path = path
+        super().__init__(path)
         self._seconds = seconds
-        self._lock = threading.Lock()
-        self._idle: list[sqlite3.Connection] = []
+        self._idle: Idle[sqlite3.Connection] = Idle()
         # Device and number of the file that was opened.
         self._file: tuple[int, int] | None = None
         if must_be:
@@ -61,7 +55,7 @@ class SqliteRegister(Register):
 
     def _open(self, mode: str = "rw") -> sqlite3.Connection:
         """A connection; a file is made only for a load, since under an empty register each label would be free."""
-        uri = f"{Path(self.path).absolute().as_uri()}?mode={mode}"
+        uri = f"{Path(self.name).absolute().as_uri()}?mode={mode}"
         opened = sqlite3.connect(uri, uri=True, timeout=self._seconds, isolation_level=None, check_same_thread=False)
         self._file = self._file or self._file_there()
         return opened
@@ -69,22 +63,21 @@ class SqliteRegister(Register):
     def _file_there(self) -> tuple[int, int] | None:
         """The file that stands there now, if one does."""
         try:
-            found = os.stat(self.path)
+            found = os.stat(self.name)
         except OSError:
             return None
         return found.st_dev, found.st_ino
 
     def _check_file(self) -> None:
-        """That it is the file that was opened. What is written to one that was deleted or replaced is lost, and nobody is told."""
+        """That it is the file that was opened. What is written to one that was deleted or replaced is lost without a word."""
         if self._file and self._file_there() != self._file:
-            raise Unusable(f"{self.path}: no longer the file that was opened: put that back, or start again")
+            raise self.unusable("no longer the file that was opened: put that back, or start again")
 
     @contextlib.contextmanager
     def _connection(self, mode: str = "rw") -> Iterator[sqlite3.Connection]:
         """A connection that no other thread uses; one that failed isn't used again."""
         self._check_file()
-        with self._lock:
-            connection = self._idle.pop() if self._idle else None
+        connection = self._idle.take()
         try:
             connection = connection or self._open(mode)
             yield connection
@@ -96,32 +89,31 @@ class SqliteRegister(Register):
             if connection:
                 connection.close()
             raise
-        with self._lock:
-            self._idle.append(connection)
+        self._idle.keep(connection)
 
     def _told(self, error: sqlite3.Error) -> Unknown | Unusable:
         """What a fault of SQLite says of the request."""
         code = getattr(error, "sqlite_errorname", "")
         if code == "SQLITE_CANTOPEN":
-            is_missing = Path(self.path).parent.is_dir() and not Path(self.path).exists()
+            is_missing = Path(self.name).parent.is_dir() and not Path(self.name).exists()
             remedy = MISSING if is_missing else f"{error}: look at it and at its folder, and at their rights"
-            return Unusable(f"{self.path}: {remedy}")
+            return self.unusable(remedy)
         if code in ("SQLITE_NOTADB", "SQLITE_CORRUPT"):
-            return Unusable(f"{self.path}: {error}: put back its backup")
+            return self.unusable(f"{error}: put back its backup")
         # There is no code of its own for it.
         if str(error).startswith("no such table"):
-            return Unusable(f"{self.path}: {MISSING}")
-        return Unknown(f"{self.path}: {error}")
+            return self.unusable(MISSING)
+        return self.unknown(str(error))
 
     def _check(self, connection: sqlite3.Connection) -> None:
         """That it is a register."""
         columns = {row[1] for row in connection.execute("pragma table_info(registered)")}
         if not columns:
-            raise Unusable(f"{self.path}: {MISSING}")
+            raise self.unusable(MISSING)
         if not {"label", "holder"} <= columns:
-            raise Unusable(f"{self.path}: its table registered has no column holder: alter table registered add column holder text")
+            raise self.unusable(NO_HOLDERS)
         if connection.execute("pragma encoding").fetchone()[0] != "UTF-8":
-            raise Unusable(f"{self.path}: not in UTF-8: dump it, and load it into a new one")
+            raise self.unusable("not in UTF-8: dump it, and load it into a new one")
 
     @contextlib.contextmanager
     def reading(self) -> Iterator[Transaction]:
@@ -145,8 +137,8 @@ class SqliteRegister(Register):
         # As rows a million labels take twice the time. The order of a subquery is that of what is put together of it.
         with self._connection() as connection:
             connection.execute("begin")
-            found = [connection.execute(f"select count(*), cast(group_concat(text, char(10)) as blob) from (select {text} as text "
-                                        f"from registered where {which} order by label collate binary)").fetchone()
+            found = [connection.execute(f"select count(*), cast(group_concat(text, char(10)) as blob) from (select {text} as "
+                                        f"text from registered where {which} order by label collate binary)").fetchone()
                      for text, which in (("label", "true"), ("label || char(9) || holder", "holder is not null"))]
             connection.execute("commit")
         labels, holders = (checked_lines((text or b"") + b"\n" * bool(count), count) for count, text in found)
@@ -162,11 +154,11 @@ class SqliteRegister(Register):
             try:
                 connection.executemany("insert into registered (label, holder) values (?, ?)", rows)
             except sqlite3.IntegrityError as error:
-                raise Unusable(f"{self.path}: {error}: nothing was loaded") from error
+                raise self.unusable(f"{error}: nothing was loaded") from error
             connection.execute("commit")
 
     def is_made(self) -> bool:
-        if not Path(self.path).exists():
+        if not Path(self.name).exists():
             return False
         with self._connection() as connection:
             return connection.execute("select 1 from sqlite_master where name = 'registered'").fetchone() is not None
@@ -176,11 +168,8 @@ class SqliteRegister(Register):
             plan = " ".join(str(row[3]) for row in connection.execute(f"explain query plan {FIRST}", ("",)))
         if "SEARCH" in plan and "TEMP B-TREE" not in plan:
             return []
-        return [f"{self.path}: no index in byte order, so each look-up reads all labels: "
+        return [f"{self.name}: no index in byte order, so each look-up reads all labels: "
                 "create index registered_label on registered (label collate binary)"]
 
     def close(self) -> None:
-        with self._lock:
-            for connection in self._idle:
-                connection.close()
-            self._idle.clear()
+        self._idle.close()

@@ -28,8 +28,8 @@ class Kind(Enum):
 
 @dataclass(frozen=True)
 class Table:
-    """A table as it was read, with its gaps as `source|missing`, and as `source|differs` the pairs whose conditions one way aren't
-    those of the other way. It is asked by its bytes, whatever becomes of its file."""
+    """A table as it was read, with its gaps as `source|missing`, and as `source|differs` the pairs whose conditions one way
+    aren't those of the other way. It is asked by its bytes, whatever becomes of its file."""
 
     name: str
     path: Path

@@ -2,101 +2,30 @@
 
 import os
 import threading
-from collections.abc import Callable
-from dataclasses import replace
+from collections.abc import Callable, Iterator, Sequence
+from dataclasses import dataclass, replace
 from types import TracebackType
 
-from .answers import Answer, Object, Refusal, RegisteredLabel, Status, Variant, bytes_of, furthest_first
-from .collisions import Collisions
+from .answers import Answer, Refusal, Status, bytes_of
 from .configuration import DEFAULT_PATH, Configuration, Limits, read_configuration
-from .faults import Unknown, Unusable
-from .join import lacking
-from .processes import Pool, Question, only
+from .decisions import REGISTER, Tables
+from .faults import Fault, Unknown, Unusable
+from .processes import Questions, only
 from .program import Program
 from .register import Register, Transaction, checked_holder, open_register
-from .tables import Table, read_table
-
-REGISTER = Question(("--register",))
+from .together import Request, alone, together
 
 
-class Tables:
-    """The tables as they were read at one time, and the processes that answer under them."""
+@dataclass(frozen=True)
+class Check:
+    """Whether a label is available (to a holder) is asked. Raises ValueError for a holder that can't be stored."""
 
-    def __init__(self, configuration: Configuration, program: Program) -> None:
-        self.limits = configuration.limits
-        self.program = program
-        tables = {name: read_table(name, path, program) for name, path in configuration.tables.items()}
-        self.by_name = tables
-        self.admitting = {name: tables[name] for name in configuration.admitting}
-        self._asked = {name: Collisions(table) for name, table in tables.items()}
-        self.collisions = self._asked[configuration.zone]
-        # Why a label without a found collision may still have one.
-        self.doubt = self.collisions.doubt or lacking(tables[configuration.zone], list(self.admitting.values()))
-        self.pool = Pool(program, configuration.processes, configuration.limits.seconds)
-        self._listing = {name: self.question(table, *self.bounds(self.limits.limit))
-                         for name, table in self.admitting.items()}
+    label: str
+    holder: str | None = None
+    variants: bool = False
 
-    @staticmethod
-    def question(table: Table, *options: str) -> Question:
-        """What lists by a table."""
-        return Question((table.kind.value[0], table.held.path, *options), (table.held,))
-
-    def bounds(self, most: int) -> tuple[str, ...]:
-        """The options that bound a listing."""
-        limits = self.limits
-        return "--limit", str(most), "--tries", str(limits.tries), "--steps", str(limits.steps)
-
-    def tested(self, label: str) -> Answer:
-        """A label as it is registered, with the tables that admit it; or refused."""
-        if refusal := Refusal.of_control_character(label):
-            return Answer(label, Status.REFUSED, refusal=refusal)
-        told = only(self.pool.ask(REGISTER, bytes_of(label)), "alabel")
-        if "refusal" in told:
-            return Answer(label, Status.REFUSED, refusal=Refusal.read(told["refusal"]))
-        answer = Answer(label, Status.ADMITTED, told["ulabel"], told["alabel"])
-        refusals = self.refusals(told["ulabel"])
-        tables = tuple(name for name in self.admitting if name not in refusals)
-        if tables:
-            return replace(answer, tables=tables)
-        return replace(answer, status=Status.REFUSED, tables=(), refusal=next(iter(refusals.values())))
-
-    def refusals(self, ulabel: str) -> dict[str, Refusal]:
-        """Why the tables that don't admit a label refuse it, the furthest first."""
-        told = {name: self.refusal(name, ulabel) for name in self.admitting}
-        return furthest_first({name: refusal for name, refusal in told.items() if refusal is not None})
-
-    def refusal(self, name: str, ulabel: str) -> Refusal | None:
-        """Why a table refuses a label; None if it admits it."""
-        return self._asked[name].refusal(ulabel, self.pool)
-
-    def variants(self, name: str, ulabel: str, page: int | None, after: str | None) -> tuple[tuple[Variant, ...], str | None]:
-        """Variants of a label under a table, and after which text there may be more."""
-        request = ulabel.encode()
-        if page is None and after is None:
-            told = self.pool.ask(self._listing[name], request)
-        else:
-            start = () if after is None else (f"--after={after}",)
-            question = self.question(self.admitting[name], *self.bounds(page or self.limits.limit), *start)
-            alone = Pool(self.program, 1, self.limits.seconds)
-            try:
-                told = alone.ask(question, request)
-            finally:
-                alone.close()
-        *variants, end = told
-        if "count" not in end or end["count"] != len(variants):
-            raise Unknown(f"the program gave another answer than it should: {end}")
-        return tuple(map(variant_of, variants)), None if end["complete"] else end["after"]
-
-    def is_offered(self, label: str, registered: str) -> bool:
-        """Whether the holder of a registered label may have the label, too: under each table that admits both, and one does."""
-        both = [self._asked[name] for name in self.admitting
-                if not any(self.refusal(name, each) for each in (label, registered))]
-        return bool(both) and all(each.is_offered(label, registered, self.program, self.limits.seconds) for each in both)
-
-
-def variant_of(told: Object) -> Variant:
-    """The variant of an object."""
-    return Variant(told["ulabel"], told["alabel"], told.get("disposition"))
+    def __post_init__(self) -> None:
+        checked_holder(self.holder)
 
 
 class Zone:
@@ -163,30 +92,51 @@ class Zone:
 
     def check(self, label: str, holder: str | None = None, variants: bool = False) -> Answer:
         """Whether a label is available (to a holder): refused, taken with all that it collides with, or available."""
-        holder = checked_holder(holder)
+        [(_, answer)] = self.check_together([Check(label, holder, variants)])
+        return answer
 
-        def asked(tables: Tables) -> Answer:
-            tested = tables.tested(label)
-            if tested.status is not Status.ADMITTED:
-                return tested
+    def check_together(self, checks: Sequence[Check]) -> Iterator[tuple[int, Answer]]:
+        """The answers to several checks, each with its number as soon as it is known. They have the time of one
+        request, and all see the same state of the register."""
+        tables = self.tables
+        questions = Questions(tables.pool, len(checks))
+        admitted: dict[int, Answer] = {}
+        for number, told in together([tables.tested(check.label, questions) for check in checks]):
+            if isinstance(told, Answer) and told.status is Status.ADMITTED:
+                admitted[number] = told
+            else:
+                yield number, answer_of(checks[number], told)
+
+        async def checked(check: Check, tested: Answer, transaction: Transaction) -> Answer:
+            answer = await tables.decided(tested, check.holder, transaction, questions)
+            return await tables.with_variants(answer, questions) if check.variants else answer
+
+        left = list(admitted)
+        if not left:
+            return
+        try:
             with self._register.reading() as transaction:
-                answer = decided(tables, tested, holder, transaction)
-            return self._with_variants(tables, answer) if variants else answer
-
-        return self._answered(label, asked)
+                requests = [checked(checks[number], admitted[number], transaction) for number in left]
+                for place, told in together(requests):
+                    number = left[place]
+                    del admitted[number]
+                    yield number, answer_of(checks[number], told)
+        except Fault as fault:
+            for number in admitted:
+                yield number, answer_of(checks[number], fault)
 
     def register(self, label: str, holder: str | None = None) -> Answer:
         """Registers a label if it is available, in one transaction. Its status is registered only after that."""
         holder = checked_holder(holder)
 
-        def asked(tables: Tables) -> Answer:
-            tested = tables.tested(label)
+        async def asked(tables: Tables, questions: Questions) -> Answer:
+            tested = await tables.tested(label, questions)
             if tested.status is not Status.ADMITTED or tested.ulabel is None:
                 return tested
             ulabel = tested.ulabel
 
             def job(transaction: Transaction) -> Answer:
-                answer = decided(tables, tested, holder, transaction)
+                answer = alone(tables.decided(tested, holder, transaction, questions))
                 if answer.status is not Status.AVAILABLE:
                     return answer
                 transaction.insert(ulabel, holder)
@@ -199,10 +149,10 @@ class Zone:
     def release(self, label: str) -> Answer:
         """Releases a label: released, or free if it wasn't registered."""
 
-        def asked(tables: Tables) -> Answer:
+        async def asked(tables: Tables, questions: Questions) -> Answer:
             if refusal := Refusal.of_control_character(label):
                 return Answer(label, Status.REFUSED, refusal=refusal)
-            told = only(tables.pool.ask(REGISTER, bytes_of(label)), "alabel")
+            told = only(await questions.ask(REGISTER, bytes_of(label)), "alabel")
             # A label that may not be registered any more is released by its U-label.
             ulabel = told.get("ulabel", label)
             if is_text(ulabel) and self._register.change(lambda transaction: transaction.delete(ulabel)):
@@ -216,62 +166,75 @@ class Zone:
     def variants(self, label: str, table: str | None = None, page: int | None = None, after: str | None = None) -> Answer:
         """The variants of a label under a table, else under the first that admits it. Without a page an answer with more
         than the limits allow is unknown. Raises ValueError for a page or a text that can't be asked for."""
-        if page is not None and not 1 <= page <= 10**9 or after is not None and not is_text(after):
-            raise ValueError("a page has from 1 to 1000000000 labels, and comes after a text without control characters")
+        checked_page(page)
+        checked_after(after)
 
-        def asked(tables: Tables) -> Answer:
-            tested = tables.tested(label)
+        async def asked(tables: Tables, questions: Questions) -> Answer:
+            tested = await tables.tested(label, questions)
             if tested.ulabel is None or not tested.tables:
                 return tested
             name = table or tested.tables[0]
             if name not in tested.tables:
                 if name not in tables.admitting:
                     raise ValueError(f"no table admits labels by the name {name}")
-                return replace(tested, status=Status.REFUSED, refusal=tables.refusal(name, tested.ulabel))
-            found, rest = tables.variants(name, tested.ulabel, page, after)
+                refusal = await tables.refusal(name, tested.ulabel, questions)
+                return replace(tested, status=Status.REFUSED, refusal=refusal)
+            found, rest = await tables.variants(name, tested.ulabel, page, after, questions)
             answer = replace(tested, status=Status.LISTED, table=name, variants=found, after=rest)
             if rest is None or page is not None:
                 return answer
-            return replace(answer, status=Status.UNKNOWN, reason="more variants than the limits allow: ask for pages", lasts=True)
+            return replace(answer, status=Status.UNKNOWN, reason="more variants than the limits allow: ask for pages",
+                           lasts=True)
 
         return self._answered(label, asked)
 
     def tables_of(self, label: str) -> Answer:
         """Which tables admit a label."""
-        return self._answered(label, lambda tables: tables.tested(label))
+        return self._answered(label, lambda tables, questions: tables.tested(label, questions))
 
     def doubt(self) -> Answer | None:
         """Why no label would be known to be available; None if labels are answered. All is asked that answers a label."""
 
-        def asked(tables: Tables) -> Answer:
-            tested = tables.tested("a")
+        async def asked(tables: Tables, questions: Questions) -> Answer:
+            tested = await tables.tested("a", questions)
             with self._register.reading() as transaction:
-                transaction.first_from("a")
+                transaction.first_rows(["a"])
             return replace(tested, status=Status.UNKNOWN, reason=tables.doubt, lasts=True) if tables.doubt else tested
 
         answer = self._answered("a", asked)
         return answer if answer.status is Status.UNKNOWN else None
 
-    def _with_variants(self, tables: Tables, answer: Answer) -> Answer:
-        """An answer with the variants under the first table that admits the label."""
-        if not answer.tables or answer.ulabel is None:
-            return answer
-        found, after = tables.variants(answer.tables[0], answer.ulabel, None, None)
-        return replace(answer, table=answer.tables[0], variants=found, after=after)
-
-    def _answered(self, label: str, asked: Callable[[Tables], Answer]) -> Answer:
+    def _answered(self, label: str, asked: Callable[[Tables, Questions], Request[Answer]]) -> Answer:
         """What is asked under the tables of now; unknown where there is no answer."""
         tables = self.tables
         try:
-            with tables.pool.request():
-                return asked(tables)
-        except (Unknown, Unusable) as error:
-            return Answer(label, Status.UNKNOWN, reason=str(error), lasts=isinstance(error, Unusable))
+            return alone(asked(tables, Questions(tables.pool)))
+        except Fault as fault:
+            return Answer.unknown(label, fault)
+
+
+def answer_of(check: Check, told: Answer | Fault) -> Answer:
+    """The answer to a check, also where something went wrong."""
+    return Answer.unknown(check.label, told) if isinstance(told, Fault) else told
 
 
 def fixed(configuration: Configuration) -> tuple[object, ...]:
     """What a zone that was opened keeps."""
     return configuration.register, configuration.labels, configuration.processes, configuration.service
+
+
+def checked_page(page: int | None) -> int | None:
+    """A size that a page may have. Raises ValueError for another."""
+    if page is not None and not 1 <= page <= 10**9:
+        raise ValueError("a page has from 1 to 1000000000 labels")
+    return page
+
+
+def checked_after(text: str | None) -> str | None:
+    """A text after which a listing may go on. Raises ValueError for one that can't be asked for."""
+    if text is not None and not is_text(text):
+        raise ValueError("a listing goes on after a text of at most 1024 bytes without control characters")
+    return text
 
 
 def is_text(text: str) -> bool:
@@ -280,25 +243,3 @@ def is_text(text: str) -> bool:
         return len(text.encode()) <= 1024 and not Refusal.of_control_character(text)
     except UnicodeEncodeError:
         return False
-
-
-def decided(tables: Tables, tested: Answer, holder: str | None, transaction: Transaction) -> Answer:
-    """Whether an admitted label is available to a holder, as the register stands in a transaction."""
-    assert tested.ulabel is not None
-    label = tested.ulabel
-    colliding = tables.collisions.of(label, tables.pool, transaction.first_from)
-    if label not in colliding and transaction.has(label):
-        colliding = sorted([*colliding, label])
-    taken_by = tuple(RegisteredLabel(each, alabel_of(tables, each), transaction.holder_of(each)) for each in colliding)
-    may_have = holder is not None and all(each.ulabel != label and each.holder == holder for each in taken_by)
-    if taken_by and not (may_have and all(tables.is_offered(label, each.ulabel) for each in taken_by)):
-        return replace(tested, status=Status.TAKEN, taken_by=taken_by)
-    if tables.doubt:
-        return replace(tested, status=Status.UNKNOWN, reason=tables.doubt, lasts=True)
-    return replace(tested, status=Status.AVAILABLE)
-
-
-def alabel_of(tables: Tables, ulabel: str) -> str:
-    """The A-label of a registered label; the label itself if it may not be registered any more."""
-    alabel: str = only(tables.pool.ask(REGISTER, ulabel.encode()), "alabel").get("alabel", ulabel)
-    return alabel

@@ -36,7 +36,8 @@ class Browser:
                  f"--user-data-dir={self.folder}", "about:blank"]
         # Chromium reads from 3 and writes to 4.
         script = 'exec 3<&"$0" 4>&"$1"; shift; exec "$@"'
-        self._process = subprocess.Popen(["bash", "-c", script, str(to_read), str(to_write), *words], pass_fds=[to_read, to_write],
+        self._process = subprocess.Popen(["bash", "-c", script, str(to_read), str(to_write), *words],
+                                         pass_fds=[to_read, to_write],
                                          stdin=subprocess.DEVNULL, stdout=subprocess.DEVNULL, stderr=subprocess.DEVNULL)
         os.close(to_read)
         os.close(to_write)
@@ -124,7 +125,7 @@ class Browser:
     def tab(self) -> str:
         """Goes to the next element, and tells which it is."""
         self.press("Tab", 9)
-        told: str = self.value("document.activeElement.id || document.activeElement.textContent || document.activeElement.tagName")
+        told: str = self.value("((found) => found.id || found.textContent || found.tagName)(document.activeElement)")
         return told
 
     def scheme(self, name: str) -> None:

@@ -1,5 +1,6 @@
 """A running service, and requests to it."""
 
+import contextlib
 import http.client
 import importlib.util
 import json
@@ -8,6 +9,7 @@ import re
 import signal
 import socket
 import subprocess
+from pathlib import Path
 from types import TracebackType
 from typing import Any
 
@@ -32,7 +34,8 @@ class Served:
 
     def __init__(self, place: Place, *words: str, changed: str = "", **more: Any) -> None:
         self.place = place
-        options = {"stdin": subprocess.DEVNULL, "stdout": subprocess.DEVNULL, **more}
+        # Without a buffer, in which lines after the first could be lost.
+        options = {"stdin": subprocess.DEVNULL, "stdout": subprocess.DEVNULL, "bufsize": 0, **more}
         if changed:
             command = place.words("serve", *words)
             command[1:3] = ["-c", CHANGED.format(changed)]
@@ -82,16 +85,14 @@ class Served:
 
     @property
     def children(self) -> list[int]:
-        """The processes of the program that it has started."""
-        with open(f"/proc/{self.process.pid}/task/{self.process.pid}/children", encoding="ascii") as file:
-            found = file.read().split()
-        for task in os.listdir(f"/proc/{self.process.pid}/task"):
-            try:
-                with open(f"/proc/{self.process.pid}/task/{task}/children", encoding="ascii") as file:
-                    found += file.read().split()
-            except FileNotFoundError:
-                continue
-        return sorted({int(word) for word in found})
+        """The processes of the program that it has started. One that isn't the program yet would hold it up if it were
+        stopped."""
+        own = os.readlink(f"/proc/{self.process.pid}/exe")
+        found = set()
+        for file in Path(f"/proc/{self.process.pid}/task").glob("*/children"):
+            with contextlib.suppress(FileNotFoundError):
+                found |= {child for child in file.read_text().split() if os.readlink(f"/proc/{child}/exe") != own}
+        return sorted(map(int, found))
 
 
 class Told:

@@ -47,8 +47,9 @@ def browser() -> Iterator[Browser]:
 def served(tmp_path_factory: pytest.TempPathFactory) -> Iterator[Served]:
     place = Place(tmp_path_factory.mktemp("zone"))
     rulesets = TABLES / "rulesets"
-    place.configure('zone = "zone"\n[service]\nlisten = "127.0.0.1:0"', german=TABLES / "german.txt", latin=rulesets / "latin.txt",
-                    devanagari=rulesets / "devanagari.txt", arabic=TABLES / "arabic-digits.txt", zone=place.write("zone.txt", zone_table(place)))
+    place.configure('zone = "zone"\n[service]\nlisten = "127.0.0.1:0"', german=TABLES / "german.txt",
+                    latin=rulesets / "latin.txt", devanagari=rulesets / "devanagari.txt", arabic=TABLES / "arabic-digits.txt",
+                    zone=place.write("zone.txt", zone_table(place)))
     place.load("haus\tH1", "strasse\tH2")
     with Served(place) as started:
         yield started
@@ -82,16 +83,18 @@ def test_a_label_is_typed_and_the_answer_is_told(browser: Browser, served: Serve
     assert ("heading", "Check a label") in names and ("textbox", "Label") in names and ("button", "Check") in names
     assert ("region", "straße is taken: it collides with strasse, held by H2.") in names, names
     assert ("columnheader", "Class (RFC 5892)") in names and ("rowheader", "strasse") in names
-    assert browser.value("document.title") == "straße: taken" and browser.value("document.getElementById('label').value") == "straße"
+    assert browser.value("document.title") == "straße: taken"
+    assert browser.value("document.getElementById('label').value") == "straße"
     expect_no_complaint(browser)
 
 
 def test_the_keyboard_goes_through_the_page_in_order(browser: Browser, served: Served) -> None:
     browser.go(address(served, query("/", label="sss")))
     order = [browser.tab() for _ in range(13)]
-    assert order == ["Skip to the content", "Check a label", "Table german", "Table latin", "Table devanagari", "Table arabic", "Table zone",
+    assert order == ["Skip to the content", "Check a label", "Table german", "Table latin", "Table devanagari",
+                     "Table arabic", "Table zone",
                      "label", "Check", "german", "latin", "latin", "find"], order
-    shown = browser.value("getComputedStyle(document.activeElement).outlineStyle + getComputedStyle(document.activeElement).outlineWidth")
+    shown = browser.value("((style) => style.outlineStyle + style.outlineWidth)(getComputedStyle(document.activeElement))")
     assert shown == "solid3px"
     browser.go(address(served, "/tables/latin"))
     browser.value("document.querySelector('summary').focus()")
@@ -130,7 +133,8 @@ def test_a_label_from_right_to_left_is_shown_so(browser: Browser, served: Served
     browser.go(address(served, query("/", label="سلام")))
     assert browser.value("getComputedStyle(document.getElementById('label')).direction") == "rtl"
     assert browser.value("document.getElementById('verdict').textContent") == "✓سلام is available."
-    assert browser.value("Array.from(document.querySelectorAll('.points .glyph')).map((each) => each.textContent).join('')") == "سلام"
+    glyphs = "Array.from(document.querySelectorAll('.points .glyph'))"
+    assert browser.value(glyphs + ".map((each) => each.textContent).join('')") == "سلام"
     # The sentence around it goes on from left to right.
     assert browser.value("getComputedStyle(document.querySelector('#verdict .label')).unicodeBidi") == "isolate"
     expect_no_complaint(browser)
@@ -165,18 +169,22 @@ def test_nothing_is_cut_off_on_a_narrow_screen(browser: Browser, served: Served)
 def test_each_control_and_picture_has_a_name(browser: Browser, served: Served) -> None:
     for path in PATHS:
         browser.go(address(served, path))
-        unnamed = [role for role, name in browser.names() if role in ("link", "button", "textbox", "heading", "columnheader", "rowheader")
+        unnamed = [role for role, name in browser.names()
+                   if role in ("link", "button", "textbox", "heading", "columnheader", "rowheader")
                    and not name.strip()]
         assert unnamed == [], (path, unnamed)
         levels = browser.value("Array.from(document.querySelectorAll('h1, h2, h3')).map((each) => Number(each.tagName[1]))")
-        assert levels[0] == 1 and levels.count(1) == 1 and all(after <= before + 1 for before, after in zip(levels, levels[1:])), levels
+        assert levels[0] == 1 and levels.count(1) == 1, levels
+        assert all(after <= before + 1 for before, after in zip(levels, levels[1:])), levels
 
 
-PICTURES = (("label", query("/", label="straße"), "light"), ("refused", query("/", label="Faß"), "dark"), ("table", "/tables/latin#variants", "light"))
+PICTURES = (("label", query("/", label="straße"), "light"), ("refused", query("/", label="Faß"), "dark"),
+            ("table", "/tables/latin#variants", "light"))
 
 
 @pytest.mark.parametrize("name, path, scheme", PICTURES)
-def test_takes_the_pictures_of_the_guide(browser: Browser, served: Served, tmp_path: Path, name: str, path: str, scheme: str) -> None:
+def test_takes_the_pictures_of_the_guide(browser: Browser, served: Served, tmp_path: Path, name: str, path: str,
+                                         scheme: str) -> None:
     browser.size(1000, 760)
     browser.scheme(scheme)
     browser.go(address(served, path))

@@ -30,12 +30,26 @@ def test_tells_available_taken_and_refused_labels(place: Place) -> None:
         (["--", "-maß"], "-maß: refused: 13 hyphen out of place: U+002D at place 1\n", 1),
         (["maß\r"], "maß\\r: refused: control character: U+000D at place 4\n", 1),
         (["Faß"], "Faß: refused: 10 disallowed code point: U+0046 at place 1 (RFC 5892 2.2)\n", 1),
+        (["xn--zzzz"], "xn--zzzz: refused: 19 not an A-label (RFC 3492 6.2)\n", 1),
         (["--holder", "H2", "straße"], "straße: available (xn--strae-oqa)\n", 0),
         (["--holder", "H1", "straße"], "straße: taken by strasse, held by H2\n", 1),
         (["--holder", "H2", "strasse"], "strasse: taken by strasse, held by H2\n", 1),
     )
     for words, output, status in rows:
         place.expect(["check", *words], output, status)
+
+
+def test_words_that_cannot_be_used_have_a_status_of_their_own(place: Place) -> None:
+    """2, and nothing is answered: neither no nor not known."""
+    for words, told in ((["variants", "--page", "0", "a"], "--page: a page has from 1 to 1000000000 labels"),
+                        (["variants", "--page", "x", "a"], "--page: a page has from 1 to 1000000000 labels"),
+                        (["variants", "--after", "a\nb", "a"], "--after: a listing goes on after a text of at most 1024 bytes"),
+                        (["check", "--holder", "", "a"], "--holder: a holder is a text of Unicode without control characters"),
+                        (["register", "--holder", "a\tb", "a"], "--holder: a holder is a text of Unicode"),
+                        (["check", "--page", "1", "a"], "unrecognized arguments: --page"),
+                        (["burn", "a"], "invalid choice: 'burn'")):
+        done = place.run(*words)
+        assert (done.stdout, done.returncode) == (b"", 2) and told in done.stderr.decode(), (words, done)
 
 
 def test_answers_the_lines_of_its_input_in_their_order(place: Place) -> None:
@@ -47,7 +61,8 @@ def test_answers_the_lines_of_its_input_in_their_order(place: Place) -> None:
 
 
 def test_refuses_each_control_character(place: Place) -> None:
-    labels = [label for byte in (*range(0x20), *range(0x7F, 0xA0)) for label in (f"ma{chr(byte)}s", f"m{chr(byte)}", f"{chr(byte)}m")]
+    labels = [label for byte in (*range(0x20), *range(0x7F, 0xA0))
+              for label in (f"ma{chr(byte)}s", f"m{chr(byte)}", f"{chr(byte)}m")]
     with place.zone() as zone:
         for label in labels:
             for answer in (zone.check(label), zone.register(label), zone.release(label), zone.tables_of(label)):

@@ -1,4 +1,5 @@
-"""Collisions beside whole sets of what labels spell, and tables that are joined. Disks that are full."""
+"""Collisions beside whole sets of what labels spell, and tables that are joined. Disks that are full, and streams that are
+closed."""
 
 import json
 import os
@@ -10,6 +11,7 @@ import subprocess
 from collections.abc import Iterable
 from pathlib import Path
 
+import pytest
 from conftest import LIMIT, PROGRAM, TABLES, Place
 from program import is_registrable, spelled
 
@@ -198,3 +200,24 @@ def test_takes_a_full_disk_for_unknown(place: Place, tmp_path: Path) -> None:
             _, messages = process.communicate(timeout=LIMIT)
         assert process.returncode == 75 and b"No space left" in messages and b"Traceback" not in messages, (words, messages)
     assert os.listdir(tmp_path)
+
+
+CLOSED = "[Errno 9] Bad file descriptor\n"
+
+
+@pytest.mark.parametrize(("words", "closed", "output", "message", "status"), [
+    (["check", "maus"], ">&-", "", CLOSED, 75),
+    (["register", "maus"], "<&- >&-", "", CLOSED, 75),
+    (["check", "haus"], "<&- >&- 2>&-", "", "", 75),
+    (["check"], "<&-", "", CLOSED, 75),
+    (["check", "laus"], "<&-", "laus: available (laus)\n", "", 0),
+    (["check", "haus"], "2>&-", "haus: taken by haus\n", "", 1),
+    (["check", "--config", "none.toml", "laus"], "2>&-", "", "", 75)])
+def test_takes_a_closed_stream_for_unknown(place: Place, words: list[str], closed: str, output: str, message: str,
+                                           status: int) -> None:
+    """No file has the number of the stream: a table that had it would be read from what a process answers, or seem empty. Where
+    messages can't be told, answers and statuses stay."""
+    place.load("haus")
+    command = ["sh", "-c", f'"$@" {closed}', "sh", *place.words(*words)]
+    done = subprocess.run(command, cwd=place.folder, env=place.environment, capture_output=True, text=True, timeout=LIMIT)
+    assert (done.stdout, done.returncode) == (output, status) and done.stderr.removeprefix("idn2-registry: ") == message, done

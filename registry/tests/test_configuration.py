@@ -46,7 +46,8 @@ def test_names_file_line_and_remedy(bare: Place, text: str, told: str) -> None:
 
 def test_names_the_line_of_what_is_no_uri(bare: Place) -> None:
     pytest.importorskip("psycopg", reason="python3-psycopg")
-    for uri, told in (("postgresql://a:secret@[::1", 'end of string'), ("postgresql://a:se%zzcret@b/c", "invalid percent-encoded token"),
+    for uri, told in (("postgresql://a:secret@[::1", 'end of string'),
+                      ("postgresql://a:se%zzcret@b/c", "invalid percent-encoded token"),
                       ("postgresql:///x?secret=1", "invalid URI query parameter")):
         bare.write("registry.toml", f'\nregister = "{uri}"\n[tables]\nde = "{GERMAN}"\n')
         for job in (["check", "haus"], ["check-config"], ["dump"], ["load", "/dev/null"]):
@@ -70,7 +71,8 @@ def test_takes_no_fault_of_its_own_for_no(bare: Place, monkeypatch: pytest.Monke
 
 
 def test_reads_all_of_it(bare: Place) -> None:
-    path = bare.write("registry.toml", f'zone = "de"\nlabels = "standard"\nprocesses = 3\n{HEAD}en = "en.txt"\n[limits]\ntries = 7\nsteps = 8\n'
+    path = bare.write("registry.toml", f'zone = "de"\nlabels = "standard"\nprocesses = 3\n{HEAD}en = "en.txt"\n'
+                      '[limits]\ntries = 7\nsteps = 8\n'
                       "limit = 9\nseconds = 0.5\n")
     found = read_configuration(path)
     assert found.register == f"sqlite:{bare.folder}/register.db" and found.zone == "de" and found.processes == 3
@@ -149,7 +151,8 @@ def test_tests_labels_by_the_rules_in_each_run(bare: Place, monkeypatch: pytest.
     os.chmod(program, 0o755)
     monkeypatch.setattr("conftest.PROGRAM", program)
     bare.write("labels.txt", "strasse\tH1\n")
-    jobs = (["load", "labels.txt"], ["check", "--holder", "H1", "straße"], ["register", "maus"], ["variants", "--page", "1", "maus"],
+    jobs = (["load", "labels.txt"], ["check", "--holder", "H1", "straße"], ["register", "maus"],
+            ["variants", "--page", "1", "maus"],
             ["audit"], ["change", f"de={GERMAN}"], ["dump", "--json"], ["check-config"], ["release", "maus"], ["join", "de"])
     for words in jobs:
         assert bare.run(*words).returncode == 0, words

@@ -50,7 +50,8 @@ def test_audit_tells_invalid_labels_and_groups(place: Place, monkeypatch: pytest
     assert objects(done) == [
         {"ulabel": "中国", "alabel": "xn--fiqs8s", "holder": "H3",
          "refusal": {"number": 40, "text": "not made of table entries", "code_point": "U+4E2D", "place": 1}},
-        {"collide": [{"ulabel": "sss", "alabel": "sss", "holder": "H1"}, {"ulabel": "sß", "alabel": "xn--s-qfa", "holder": "H2"},
+        {"collide": [{"ulabel": "sss", "alabel": "sss", "holder": "H1"},
+                     {"ulabel": "sß", "alabel": "xn--s-qfa", "holder": "H2"},
                      {"ulabel": "ßs", "alabel": "xn--s-pfa", "holder": None}]},
         {"labels": 6, "invalid": 1, "groups": 1}]
     place.expect(["audit"], "中国 (xn--fiqs8s, held by H3): no longer valid: 40 not made of table entries: U+4E2D at place 1\n"
@@ -73,7 +74,8 @@ def test_audit_takes_no_other_answer(place: Place, monkeypatch: pytest.MonkeyPat
     """Of a program that answers too few or too many lines, or lists otherwise than it says, nothing is known."""
     place.load("haus", "strasse", "straße")
     plain = Program.plain
-    for change in (lambda text: text[:-8], lambda text: text + b"#end 1\n", lambda text: text.replace(b"#end 2\n", b"#end 3\n", 1),
+    for change in (lambda text: text[:-8], lambda text: text + b"#end 1\n",
+                   lambda text: text.replace(b"#end 2\n", b"#end 3\n", 1),
                    lambda text: b"#end 0\n" * 4):
         monkeypatch.setattr(Program, "plain", lambda self, *words, change=change: (
             change(plain(self, *words)[0]), plain(self, *words)[1]))
@@ -118,7 +120,8 @@ def test_audit_since_tells_what_is_new(place: Place) -> None:
     assert found[3] == {"labels": 7, "invalid": 2, "groups": 2, "new": 3}
     assert place.run("audit", "--since", "before.json").stdout.endswith(b"\n7 labels, 2 invalid, 2 groups, 3 new\n")
     # What isn't whole is refused: what it lacks would seem new.
-    for text in (before[:before.rindex(b"\n", 0, -1) + 1], before.replace("中国".encode(), "日本".encode(), 1)[before.index(b"\n") + 1:], b"",
+    for text in (before[:before.rindex(b"\n", 0, -1) + 1],
+                 before.replace("中国".encode(), "日本".encode(), 1)[before.index(b"\n") + 1:], b"",
                  b"[]\n", b"{}\n", b"\xff\n", (place.folder / "after.json").read_bytes()):
         place.write("part.json", text)
         done = place.run("audit", "--since", "part.json")
@@ -155,7 +158,8 @@ def test_change_tells_what_a_new_table_does(place: Place, monkeypatch: pytest.Mo
     told = objects(done)
     baer = {"ulabel": "baer", "alabel": "baer", "holder": "H1"}
     other = {"ulabel": "bär", "alabel": "xn--br-via", "holder": "H2"}
-    assert {**baer, "change": "gained", "variant": {"ulabel": "bär", "alabel": "xn--br-via", "disposition": "allocatable"}} in told
+    assert {**baer, "change": "gained", "variant": {"ulabel": "bär", "alabel": "xn--br-via",
+                                                    "disposition": "allocatable"}} in told
     assert {**other, "change": "gained", "variant": {"ulabel": "baer", "alabel": "baer", "disposition": "allocatable"}} in told
     assert {"change": "collide", "collide": [baer, other]} in told
     assert told[-1] == {"labels": 5, "changes": len(told) - 2, "groups": 1}
@@ -271,7 +275,8 @@ def cluster(place: Place) -> Iterator[tuple[str, list["subprocess.Popen[bytes]"]
     pytest.importorskip("distributed", reason="python3-distributed")
     file = place.folder / "scheduler.json"
     common = [sys.executable, "-m", "distributed.cli.dask_scheduler"]
-    scheduler = start([*common, "--port", "0", "--no-dashboard", "--scheduler-file", str(file)], place.folder, place.environment)
+    scheduler = start([*common, "--port", "0", "--no-dashboard", "--scheduler-file", str(file)], place.folder,
+                      place.environment)
     workers: list[subprocess.Popen[bytes]] = []
     try:
         until = time.monotonic() + LIMIT

@@ -6,6 +6,8 @@ import re
 import shutil
 import subprocess
 import sys
+import tomllib
+from collections import defaultdict
 from collections.abc import Iterator
 from pathlib import Path
 
@@ -16,8 +18,8 @@ from idn2_registry.command import parser
 
 SHELLS = ("bash", "zsh", "fish")
 # A table of version 2 that is made of it says something else (RFC 7940, section 8.1), so that nothing is printed.
-OVERLAP = ('<lgr xmlns="urn:ietf:params:xml:ns:lgr-1.0"><data><char cp="0061"/><char cp="0061 0062"/><char cp="0062 0063"/></data>'
-           "</lgr>")
+OVERLAP = ('<lgr xmlns="urn:ietf:params:xml:ns:lgr-1.0"><data><char cp="0061"/><char cp="0061 0062"/><char cp="0062 0063"/>'
+           "</data></lgr>")
 
 
 def jobs() -> Iterator[tuple[str, set[str]]]:
@@ -30,9 +32,15 @@ def jobs() -> Iterator[tuple[str, set[str]]]:
 
 def options_of_convert() -> set[str]:
     """As its help tells them."""
-    done = subprocess.run([sys.executable, str(ROOT / "tables" / "from_lgr.py"), "--help"], capture_output=True, text=True,
-                          timeout=LIMIT, check=True)
+    done = bare_run("convert", "--help")
+    assert done.returncode == 0 and done.stdout.startswith("usage: idn2-registry convert "), done
     return set(re.findall(r"^  (?:-h, )?(--[a-z0-9-]+)", done.stdout, re.MULTILINE))
+
+
+def bare_run(*words: str) -> "subprocess.CompletedProcess[str]":
+    """A run of the command as a process of its own."""
+    return subprocess.run([sys.executable, "-m", "idn2_registry", *words], cwd=PACKAGE, capture_output=True, text=True,
+                          timeout=LIMIT, check=False)
 
 
 def test_the_packed_file_does_the_same(place: Place) -> None:
@@ -58,7 +66,8 @@ def test_the_packed_file_does_the_same(place: Place) -> None:
     assert done.returncode == 0 and done.stdout.endswith(b"\n0073\n0073-0073|!00DF\n"), done
     place.write("published.xml", OVERLAP)
     done = run("convert", "--version", "2", "published.xml")
-    assert (done.stdout, done.returncode) == (b"", 1) and b"label 0061-0062-0063: accepted, and by RFC 7940 refused" in done.stderr, done
+    assert (done.stdout, done.returncode) == (b"", 1), done
+    assert b"label 0061-0062-0063: accepted, and by RFC 7940 refused" in done.stderr, done
     place.write("table.toml", 'version = "1"\ndate = 2026-11-28\nlanguage = "de"\nscope = "example"\n')
     place.write("table.txt", "0061|0062\n0062|0061\n")
     place.write("back.xml", run("publish", "table.txt", "--as", "xml").stdout)
@@ -67,12 +76,26 @@ def test_the_packed_file_does_the_same(place: Place) -> None:
     assert run("publish", "table.txt", "--as", "html").stdout.startswith(b"<!DOCTYPE html>")
     assert os.access(folder / "idn2-registry", os.X_OK)
     old = "import runpy, sys; sys.version_info = (3, 10, 2); runpy.run_path(sys.argv[1], run_name='__main__')"
-    done = subprocess.run([sys.executable, "-c", old, str(folder / "idn2-registry")], capture_output=True, timeout=LIMIT, check=False)
+    done = subprocess.run([sys.executable, "-c", old, str(folder / "idn2-registry")], capture_output=True, timeout=LIMIT,
+                          check=False)
     told = b"idn2-registry: Python 3.11 or later is needed, and this is 3.10\n"
     assert (done.stdout, done.stderr, done.returncode) == (b"", told, 75), done
     os.remove(folder / "idn2-proved")
     done = run("check", "maus")
     assert done.returncode == 75 and b"no such program" in done.stderr, done
+
+
+def test_pip_installs_each_file_of_the_package() -> None:
+    """The packages and their files that pyproject.toml names are those that are there."""
+    settings = tomllib.loads((PACKAGE / "pyproject.toml").read_text("utf-8"))["tool"]["setuptools"]
+    files = [path.relative_to(PACKAGE) for path in (PACKAGE / "idn2_registry").rglob("*")
+             if path.is_file() and path.suffix != ".pyc"]
+    assert sorted(settings["packages"]) == sorted({".".join(path.parts[:-1]) for path in files})
+    others = defaultdict(set)
+    for path in files:
+        if path.suffix != ".py":
+            others[".".join(path.parts[:-1])].add(path.name)
+    assert {name: set(names) for name, names in settings["package-data"].items()} == others
 
 
 def test_the_page_has_each_job_and_option() -> None:

@@ -49,10 +49,12 @@ def test_says_of_a_label_what_the_program_says(place: Place) -> None:
     place.load("haus\tH1", "strasse\tH2")
     configure(place)
     rows = (
-        ("maß", 200, ["maß is available.", "xn--ma-hia", "U+00DF", "LATIN SMALL LETTER SHARP S", "PVALID allowed", "2 of 2 shown"]),
+        ("maß", 200, ["maß is available.", "xn--ma-hia", "U+00DF", "LATIN SMALL LETTER SHARP S", "PVALID allowed",
+                      "2 of 2 shown"]),
         ("xn--strae-oqa", 200, ["straße is taken: it collides with strasse, held by H2.", "1 s U+0073", "yes, held by H2"]),
         ("haus", 200, ["haus is taken: it is registered, held by H1."]),
-        ("Faß", 200, ["Faß can’t be registered. U+0046 LATIN CAPITAL LETTER F at place 1 isn’t allowed in a label (RFC 5892 2.2).",
+        ("Faß", 200, ["Faß can’t be registered. U+0046 LATIN CAPITAL LETTER F at place 1 isn’t allowed in a label (RFC 5892 "
+                      "2.2).",
                       "The fault is here", "DISALLOWED not allowed, RFC 5892 2.2"]),
         ("mañana", 200, ["U+00F1 LATIN SMALL LETTER N WITH TILDE at place 3 isn’t in the table de."]),
         ("maß\r", 200, ["U+000D control character at place 4 is a control character, and no label has one."]),
@@ -149,7 +151,8 @@ def test_nothing_of_a_request_is_a_part_of_a_page(place: Place) -> None:
 def test_each_table_has_its_way(bare: Place) -> None:
     """Whatever its name is."""
     lines = "".join(f'"{name}" = "{TABLES}/german.txt"\n' for name in ("a b", "ü?#", "50%25"))
-    bare.write("registry.toml", f'register = "sqlite:register.db"\nzone = "a b"\n[tables]\n{lines}[service]\nlisten = "127.0.0.1:0"\n')
+    bare.write("registry.toml", f'register = "sqlite:register.db"\nzone = "a b"\n[tables]\n{lines}[service]\n'
+               'listen = "127.0.0.1:0"\n')
     bare.load()
     with Served(bare) as served:
         ways = re.findall(r'href="(/tables/[^"]*)"', served.ask("GET", "/").text)
@@ -170,8 +173,10 @@ def test_searches_and_pages_in_the_variants_without_a_script(place: Place) -> No
 
 
 def test_classes_are_those_of_the_program(place: Place) -> None:
-    rows = {"a": "PVALID", "ß": "PVALID", "-": "PVALID", "\u0301": "PVALID", "A": "DISALLOWED", "\r": "DISALLOWED", "\u200d": "CONTEXTJ",
-            "·": "CONTEXTO", "\u0660": "CONTEXTO", "\u06f5": "CONTEXTO", "\u30fb": "CONTEXTO", "\u05d0": "PVALID", "\u0378": "UNASSIGNED",
+    rows = {"a": "PVALID", "ß": "PVALID", "-": "PVALID", "\u0301": "PVALID", "A": "DISALLOWED", "\r": "DISALLOWED",
+            "\u200d": "CONTEXTJ",
+            "·": "CONTEXTO", "\u0660": "CONTEXTO", "\u06f5": "CONTEXTO", "\u30fb": "CONTEXTO", "\u05d0": "PVALID",
+            "\u0378": "UNASSIGNED",
             "\ud7ff": "UNASSIGNED"}
     with place.zone() as zone:
         classes = Classes(zone.tables.pool)
@@ -191,14 +196,16 @@ def view_of(place: Place, text: str) -> View:
 
 def test_shows_a_ruleset_as_people_read_it(place: Place) -> None:
     words = words_of(table_page(Frame(), view_of(place, KINDS), Shown()))
-    for said in ("15 entries of a ruleset.", "Digits (10)", "Latin (1)", "Ideographs (2)", "Outside: only variants have them, no label (1)",
+    for said in ("15 entries of a ruleset.", "Digits (10)", "Latin (1)", "Ideographs (2)",
+                 "Outside: only variants have them, no label (1)",
                  "а U+0430 CYRILLIC SMALL LETTER A outside", "2 sets of sequences", "国 U+56FD simp", "國 U+570B trad",
                  "⊘ blocked а U+0430 CYRILLIC SMALL LETTER A outside",
                  "Holds at the start of the label; or at the end of the label; or directly after the start of the label, "
                  "then any code point, then any code point, then - U+002D.",
                  "There may not stand: - U+002D.",
                  "No part of a label is a code point of digit, then any number of code points, then a code point of digit.",
-                 "A variant whose letters all are simp or trad, or have no tag, throughout, and none of them blocked, is allocatable."):
+                 "A variant whose letters all are simp or trad, or have no tag, throughout, and none of them blocked, is "
+                 "allocatable."):
         assert said in words, (said, words)
 
 
@@ -219,12 +226,15 @@ def test_examples_are_admitted_and_refused_by_the_program(place: Place) -> None:
                        for member, value in cause.items()), (cause, done)
 
 
-# What each label has to have, a rule that asks for two letters before, and one that no label breaks, since its hyphen is refused first.
-WANTING = ("%version 3\n%set kana 3041..3043\n%rule start ^ _ / ^ . _\n%rule edge ^ _ / _ $\n%rule after_kana @kana _\n%rule kana_after "
-           "@kana . _ / ^ _ 0061 0061 $\n%always (@kana/4E00)\n%never 30FB 30FB\n0030 unless start\n0061\n002D unless edge\n3041..3043\n"
+# What each label has to have, a rule that asks for two letters before, and one that no label breaks, since its hyphen is
+# refused first.
+WANTING = ("%version 3\n%set kana 3041..3043\n%rule start ^ _ / ^ . _\n%rule edge ^ _ / _ $\n%rule after_kana @kana _\n"
+           "%rule kana_after @kana . _ / ^ _ 0061 0061 $\n%always (@kana/4E00)\n%never 30FB 30FB\n0030 unless start\n0061\n"
+           "002D unless edge\n3041..3043\n"
            "30FB when kana_after\n30FC when after_kana\n4E00\n")
 # No letter may stand everywhere.
-FIXED = "%version 3\n%set two 0061..0062\n%rule first ^ _\n%rule after ^ @two _ / 0063 _\n0061..0062 when first\n0063 when after\n0064 unless first\n"
+FIXED = ("%version 3\n%set two 0061..0062\n%rule first ^ _\n%rule after ^ @two _ / 0063 _\n0061..0062 when first\n"
+         "0063 when after\n0064 unless first\n")
 
 
 @pytest.mark.parametrize("text", [WANTING, FIXED])
@@ -235,16 +245,19 @@ def test_examples_are_found_where_a_short_label_is_one(place: Place, text: str) 
     labels = ["".join(map(chr, each)) for count in range(1, 4) for each in itertools.product(points, repeat=count)]
     told = told_of(view.parsed.table, program, labels)
     assert told is not None and len(told) == len(labels)
-    refused = [{name: value} for refusal in filter(None, told.values()) for name, value in refusal.items() if name in ("rule", "demand")]
+    refused = [{name: value} for refusal in filter(None, told.values()) for name, value in refusal.items()
+               if name in ("rule", "demand")]
     admitted = [label for label, refusal in told.items() if refusal is None]
     for rule in view.examples.rules:
         found = view.examples.of(rule)
-        sources = [chr(entry.source.points[0]) for entry in view.parsed.entries if entry.source.condition and entry.source.condition.rule == rule]
+        sources = [chr(entry.source.points[0]) for entry in view.parsed.entries
+                   if entry.source.condition and entry.source.condition.rule == rule]
         assert bool(found.refused) == ({"rule": rule} in refused), (rule, found)
         assert bool(found.admitted) == any(source in label for label in admitted for source in sources), (rule, found)
     for number in range(1, len(view.examples.demands) + 1):
         found = view.examples.of_number(number)
-        assert bool(found.refused) == ({"demand": number} in refused) and bool(found.admitted) == bool(admitted), (number, found)
+        assert bool(found.refused) == ({"demand": number} in refused), (number, found)
+        assert bool(found.admitted) == bool(admitted), (number, found)
 
 
 def test_examples_of_variants_are_listed_by_the_program(place: Place) -> None:
@@ -264,8 +277,9 @@ def test_examples_are_none_where_there_is_no_answer(place: Place) -> None:
 
 
 def test_a_linguist_finds_a_planted_mistake(place: Place) -> None:
-    """A Cyrillic letter among the Latin ones stands alone in a group of its own; and a variant that nobody expects in its set."""
-    text = (TABLES / "german.txt").read_text("utf-8").replace("\n0061..007A\n", "\n0062..007A\n0430\n").replace("00DF|0073-0073", "00DF|0073-007A")
+    """A Cyrillic letter among the Latin ones stands alone in a group of its own; a variant that nobody expects, in its set."""
+    text = (TABLES / "german.txt").read_text("utf-8")
+    text = text.replace("\n0061..007A\n", "\n0062..007A\n0430\n").replace("00DF|0073-0073", "00DF|0073-007A")
     words = words_of(table_page(Frame(), view_of(place, text.replace("0073-0073|00DF", "0073-007A|00DF")), Shown()))
     assert "Cyrillic (1) а U+0430 CYRILLIC SMALL LETTER A" in words and "sz U+0073 U+007A" in words, words
 
@@ -303,8 +317,10 @@ def test_what_a_page_says_of_several_ways_is_all_of_them(place: Place) -> None:
     text += "0061|!0062 unless edge:0062 when edge\n0062|!0061 unless edge\n"
     page = table_page(Frame(), view_of(place, text), Shown())
     assert ("for a U+0061 the variant b U+0062 is blocked not where edge, and allocatable only where edge; "
-            "but for b U+0062 the variant a U+0061 is blocked not where edge") in words_of(page).replace(" ;", ";"), words_of(page)
-    assert "No part of a label is one of these: a U+0061, then b U+0062 b U+0062, then a U+0061 a U+0061, then c" in words_of(page)
+            "but for b U+0062 the variant a U+0061 is blocked not where edge") in words_of(page).replace(
+        " ;", ";"), words_of(page)
+    told = "No part of a label is one of these: a U+0061, then b U+0062 b U+0062, then a U+0061 a U+0061, then c"
+    assert told in words_of(page)
     assert page.decode().count("<li><bdi") == 3
 
 

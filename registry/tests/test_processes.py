@@ -12,8 +12,9 @@ from pathlib import Path
 import pytest
 from conftest import PROGRAM, TABLES, Place
 
-from idn2_registry import Status, Unusable, Zone
-from idn2_registry.async_zone import AsyncZone
+from idn2_registry import Check, Status, Unusable, Zone
+from idn2_registry.async_zone import AsyncZone, Calls
+from idn2_registry.idle import Idle
 
 # A program that does with the label 'odd' what stands in its place, once, and else what the program does.
 FAULTY = """#!/usr/bin/env python3
@@ -33,7 +34,7 @@ for line in sys.stdin.buffer:
 ACTIONS = {
     "dies": "os._exit(3)",
     "hangs": "time.sleep(100)",
-    "is late": "time.sleep(3)",
+    "is late": "time.sleep(6)",
     "answers another request": 'answer = answer.replace(b\'"line":\', b\'"line":9\')',
     "answers for another label": 'answer = answer.replace(b\'"input":"odd"\', b\'"input":"old"\')',
     "says nothing of a line": "answer = b'{}\\n'",
@@ -47,7 +48,7 @@ ACTIONS = {
 
 @pytest.mark.parametrize("kind", ACTIONS)
 def test_replaces_a_process(place: Place, kind: str) -> None:
-    place.configure("[limits]\nseconds = 2")
+    place.configure("[limits]\nseconds = 4")
     text = FAULTY.format(program=str(PROGRAM), mark=str(place.folder / "mark"), action=ACTIONS[kind])
     os.chmod(place.write("faulty", text), 0o755)
     with Zone.open(place.folder / "registry.toml", place.folder / "faulty") as zone:
@@ -56,6 +57,32 @@ def test_replaces_a_process(place: Place, kind: str) -> None:
         for label in ("odd", "maus", "odd"):
             answers = [zone.check(label) for _ in range(3)]
             assert Status.AVAILABLE in [answer.status for answer in answers] and answers[-1].alabel == label, answers
+
+
+@pytest.mark.parametrize("kind", [kind for kind in ACTIONS if kind != "is late"])
+def test_of_checks_together_only_one_is_unknown(place: Place, kind: str) -> None:
+    """The one at which the process failed, also if it hangs."""
+    place.configure("[limits]\nseconds = 10")
+    place.load("laus1")
+    text = FAULTY.format(program=str(PROGRAM), mark=str(place.folder / "mark"), action=ACTIONS[kind])
+    os.chmod(place.write("faulty", text), 0o755)
+    checks = [Check(label) for label in ("maus", "laus1", "odd", "haus", "Haus", "laus2")]
+    wanted = [Status.AVAILABLE, Status.TAKEN, Status.UNKNOWN, Status.AVAILABLE, Status.REFUSED, Status.AVAILABLE]
+    with Zone.open(place.folder / "registry.toml", place.folder / "faulty") as zone:
+        answers = dict(zone.check_together(checks))
+        assert [answers[number].label for number in range(6)] == [check.label for check in checks]
+        found = [answers[number].status for number in range(6)]
+        assert found == wanted, (kind, answers)
+        again = dict(zone.check_together(checks))
+        assert [again[number].status for number in range(6)] == [*wanted[:2], Status.AVAILABLE, *wanted[3:]]
+
+
+def test_checks_together_are_more_than_a_pipe_takes(place: Place) -> None:
+    labels = [f"{number}" + "x" * (number * 100) for number in range(100)] + ["a"] * 100
+    with place.zone() as zone:
+        told = dict(zone.check_together([Check(label) for label in labels]))
+        for number, label in enumerate(labels):
+            assert told[number] == zone.check(label), label
 
 
 def children_of(process: int) -> list[int]:
@@ -150,7 +177,8 @@ def test_co_process_keeps_no_long_request(place: Place) -> None:
         assert len(long) == length
         done = place.run("ask", given=long + b'{"id":1,"job":"check","label":"b"}\n')
         first, second = (json.loads(line) for line in done.stdout.splitlines())
-        assert ("fault" in first) == (length > 65_536) and second["id"] == 1 and second["alabel"] == "b", (length, first, second)
+        assert ("fault" in first) == (length > 65_536), (length, first)
+        assert second["id"] == 1 and second["alabel"] == "b", (length, second)
     done = place.run("ask", given=b"x" * 100_000)
     assert [json.loads(line) for line in done.stdout.splitlines()] == [{"fault": "more than 65536 bytes"}]
 
@@ -187,7 +215,55 @@ def test_async_zone_does_the_same(place: Place) -> None:
             others = await asyncio.gather(*(zone.check(label) for label in ("mass", "Maß", "maus", "maß")))
             await zone.reload()
             rest = [await zone.variants("maß"), await zone.tables_of("maß"), await zone.release("maß")]
+            # So many are answered together.
+            labels = [f"maus{number}" for number in range(200)]
+            assert [answer.ulabel for answer in await asyncio.gather(*map(zone.check, labels))] == labels
+            with pytest.raises(ValueError, match="holder"):
+                await zone.check("maus", "")
             return [answer.status for answer in (first, *others, *rest)]
 
     assert asyncio.run(asked()) == [Status.REGISTERED, Status.TAKEN, Status.REFUSED, Status.AVAILABLE, Status.TAKEN,
                                     Status.LISTED, Status.ADMITTED, Status.RELEASED]
+
+
+def test_async_zone_answers_in_one_event_loop_after_another(place: Place) -> None:
+    async def asked(zone: AsyncZone) -> list[Status]:
+        return [answer.status for answer in await asyncio.gather(*(zone.check(f"maus{number}") for number in range(50)))]
+
+    zone = AsyncZone(place.zone())
+    for _ in range(2):
+        assert asyncio.run(asked(zone)) == [Status.AVAILABLE] * 50
+    asyncio.run(zone.close())
+
+
+def test_a_call_that_fails_keeps_no_other_from_being_made() -> None:
+    async def made() -> list[int]:
+        loop = asyncio.get_running_loop()
+        loop.set_exception_handler(lambda *_: None)
+        calls, found = Calls(loop), asyncio.Event()
+        numbers: list[int] = []
+        await asyncio.to_thread(lambda: [calls.add(call) for call in (lambda: numbers.append(1), lambda: numbers.pop(9),
+                                                                      lambda: numbers.append(2), found.set)])
+        async with asyncio.timeout(10):
+            await found.wait()
+        return numbers
+
+    assert asyncio.run(made()) == [1, 2]
+
+
+def test_what_is_used_beyond_the_end_ends() -> None:
+    """A process or a connection that is given back after the end, as by a request that took until then."""
+    class Held:
+        is_open = True
+
+        def close(self) -> None:
+            self.is_open = False
+
+    idle: Idle[Held] = Idle()
+    used, kept = Held(), Held()
+    idle.keep(kept, "kind")
+    assert (idle.take(), idle.take("kind"), idle.take("kind")) == (None, kept, None)
+    idle.keep(kept)
+    idle.close()
+    idle.keep(used)
+    assert not kept.is_open and not used.is_open and idle.take() is None

@@ -136,8 +136,8 @@ def test_publishes_tables_of_versions_1_and_2(with_meta: Place) -> None:
 def test_says_no_table_that_cuts_labels_otherwise(with_meta: Place) -> None:
     """By RFC 7940 a label has the longest entry at each place, as under version 3; before it any way to cut a label will do."""
     lines = "0061\n0061-0062\n0062-0063\n"
-    message = ("XML can't say it: label 0061-0062-0063: accepted, and by RFC 7940 refused: it can be cut into entries, but not by "
-               "the longest at each place (8.1)")
+    message = ("XML can't say it: label 0061-0062-0063: accepted, and by RFC 7940 refused: it can be cut into entries, but not "
+               "by the longest at each place (8.1)")
     for version in ("", "%version 2\n"):
         assert published(with_meta, version + lines) == ("", f"idn2-registry: table.txt: {message}\n", 1)
     assert published(with_meta, "%version 3\n" + lines)[1:] == ("", 0)
@@ -163,8 +163,8 @@ def test_refuses_what_xml_cannot_say(with_meta: Place, lines: str, message: str)
 def test_prints_nothing_that_says_something_else(with_meta: Place, monkeypatch: pytest.MonkeyPatch, owner: object, name: str,
                                                  wrong: object) -> None:
     """Of a writer that is wrong in one thing. This table has all that it writes."""
-    lines = ("%version 3\n%tag s\n%tag t\n%rule end _ 0063? $\n%never 0061 0062\n0061..0062\n0063 unless end|!0061\n!0065|!0061\n"
-             "0066 as s|0067 as t:!0061\n0067 as t|0066 as s\n")
+    lines = ("%version 3\n%tag s\n%tag t\n%rule end _ 0063? $\n%never 0061 0062\n0061..0062\n0063 unless end|!0061\n"
+             "!0065|!0061\n0066 as s|0067 as t:!0061\n0067 as t|0066 as s\n")
     assert published(with_meta, lines)[2] == 0
     monkeypatch.setattr(owner, name, wrong)
     text, told, status = published(with_meta, lines)
@@ -263,7 +263,8 @@ def test_takes_files_whose_names_are_not_utf8(bare: Place) -> None:
     name = os.fsdecode(b"\xff.txt")
     bare.write(name, "0061|0062\n0062|0061\n")
     bare.write(os.fsdecode(b"\xff.toml"), META)
-    for words in (["publish", name, "--as", "xml"], ["publish", name, "--as", "rfc4290"], ["compare", name, name], ["join", name]):
+    for words in (["publish", name, "--as", "xml"], ["publish", name, "--as", "rfc4290"], ["compare", name, name],
+                  ["join", name]):
         done = bare.run(*words)
         assert (done.stderr, done.returncode) == (b"", 0) and done.stdout, done
     done = bare.run("compare", name, os.fsdecode(b"\xfe.txt"))

@@ -16,7 +16,7 @@ from conftest import PROGRAM, Place
 from postgresql import restart
 
 from idn2_registry import Status, Unknown, Unusable
-from idn2_registry.register import Transaction
+from idn2_registry.register import Row, Transaction
 
 RACERS = 16
 ROUNDS = 12
@@ -133,16 +133,18 @@ def test_loads_whole_or_not_at_all(kind: Place) -> None:
             "labels.txt: line 5: registered for another holder"]
     done = kind.run("load", "labels.txt")
     lines = done.stdout.decode().splitlines()
-    assert sorted(lines[:-1]) == sorted(told) and lines[-1] == "9 lines, 0 loaded, 5 refused" and done.returncode == 1, done
+    assert sorted(lines[:-1]) == sorted(told), done
+    assert (lines[-1], done.returncode) == ("9 lines, 0 loaded, 5 refused, 2 known already", 1), done
     kind.expect(["dump"], "haus\tH1\n", 0)
     done = kind.run("load", "--rest", "labels.txt")
-    assert done.stdout.decode().splitlines()[-1] == "9 lines, 2 loaded, 5 refused" and done.returncode == 1, done
+    last = done.stdout.decode().splitlines()[-1]
+    assert (last, done.returncode) == ("9 lines, 2 loaded, 5 refused, 2 known already", 1), done
     kind.expect(["dump"], "haus\tH1\nmaus\tH2\nstraße\n", 0)
     rows = [json.loads(line) for line in kind.run("dump", "--json").stdout.splitlines()]
     assert rows[2] == {"ulabel": "straße", "alabel": "xn--strae-oqa", "holder": None}
     # What is dumped can be loaded again.
     kind.write("again.txt", kind.run("dump").stdout)
-    kind.expect(["load", "again.txt"], "3 lines, 0 loaded, 0 refused\n", 0)
+    kind.expect(["load", "again.txt"], "3 lines, 0 loaded, 0 refused, 3 known already\n", 0)
 
 
 def test_reads_all_labels_as_one_text(kind: Place, monkeypatch: pytest.MonkeyPatch) -> None:
@@ -166,29 +168,28 @@ def test_has_label_order(kind: Place) -> None:
     expected = sorted(labels, key=lambda label: label.encode())
     assert kind.run("dump").stdout.decode().split() == expected
     with kind.zone() as zone, zone.registered.reading() as transaction:
-        for first, second in zip(expected, expected[1:], strict=False):
-            assert transaction.first_from(first) == first and transaction.first_from(first + "\u0001") == second
-        assert transaction.first_from("𠀀a") is None
+        rows = transaction.first_rows([*expected, *(label + "\u0001" for label in expected)])
+    assert rows == [(label, None) for label in (*expected, *expected[1:])] + [None]
 
 
 def test_a_transaction_sees_one_state_and_its_own_changes(kind: Place) -> None:
     kind.load("haus\tH1")
     with kind.zone() as zone:
         with zone.registered.reading() as transaction:
-            assert transaction.first_from("a") == "haus"
+            assert transaction.first_rows(["a"]) == [("haus", "H1")]
             assert zone.register("igel").status is Status.REGISTERED and zone.release("haus").status is Status.RELEASED
-            assert transaction.first_from("i") is None and transaction.holder_of("haus") == "H1" and transaction.has("haus")
+            assert transaction.first_rows(["i", "haus"]) == [None, ("haus", "H1")]
         with zone.registered.reading() as transaction:
-            assert transaction.first_from("a") == "igel" and not transaction.has("haus")
+            assert transaction.first_rows(["a", "haus"]) == [("igel", None)] * 2
 
-        def changed(transaction: Transaction) -> list[str | None]:
-            found = [transaction.first_from("a")]
-            transaction.insert("dachs", None)
-            found.append(transaction.first_from("a"))
+        def changed(transaction: Transaction) -> list[Row | None]:
+            found = transaction.first_rows(["a"])
+            transaction.insert("dachs", "H2")
+            found += transaction.first_rows(["a"])
             transaction.delete("dachs")
-            return [*found, transaction.first_from("a")]
+            return found + transaction.first_rows(["a"])
 
-        assert zone.registered.change(changed) == ["igel", "dachs", "igel"]
+        assert zone.registered.change(changed) == [("igel", None), ("dachs", "H2"), ("igel", None)]
 
 
 def test_tells_what_a_register_lacks(bare: Place) -> None:
@@ -269,7 +270,8 @@ def test_asks_no_copy_after_a_failure(server: Callable[[str], str], bare: Place)
         try:
             restart(str(folder))
             answer = zone.check("maus")
-            assert (answer.status, answer.lasts) == (Status.UNKNOWN, True) and "a copy, which may lag" in str(answer.reason), answer
+            assert (answer.status, answer.lasts) == (Status.UNKNOWN, True), answer
+            assert "a copy, which may lag" in str(answer.reason), answer
             done = bare.run("check", "maus")
             assert done.returncode == 75 and b"a copy, which may lag" in done.stderr, done
         finally:
@@ -286,7 +288,8 @@ def test_writes_nothing_into_a_file_that_is_not_there_any_more(place: Place) -> 
         assert zone.register("maus").status is Status.REGISTERED
         file.rename(backup)
         answer = zone.register("laus")
-        assert (answer.status, answer.lasts) == (Status.UNKNOWN, True) and "no longer the file that was opened" in str(answer.reason)
+        assert (answer.status, answer.lasts) == (Status.UNKNOWN, True), answer
+        assert "no longer the file that was opened" in str(answer.reason), answer
         file.write_bytes(backup.read_bytes())
         assert zone.check("haus").status is Status.UNKNOWN
         backup.rename(file)
@@ -298,7 +301,8 @@ def test_says_that_there_is_no_register_any_more(kind: Place) -> None:
         assert zone.register("maus").status is Status.REGISTERED
         drop(kind)
         for answer in (zone.check("maus"), zone.register("laus"), zone.release("maus")):
-            assert (answer.status, answer.lasts) == (Status.UNKNOWN, True) and "there is no register" in str(answer.reason), answer
+            assert (answer.status, answer.lasts) == (Status.UNKNOWN, True), answer
+            assert "there is no register" in str(answer.reason), answer
 
 
 def drop(place: Place) -> None:
@@ -320,10 +324,11 @@ def test_texts_that_postgresql_cannot_have_are_no_others(server: Callable[[str],
     bare.load("maus\tÄ 'x' \\ %s $1")
     with bare.zone() as zone:
         with zone.registered.reading() as transaction:
-            assert transaction.holder_of("maus") == "Ä 'x' \\ %s $1" and transaction.holder_of("haus") is None
-            assert transaction.first_from("") == "maus" and transaction.first_from("maut") is None
-        with pytest.raises(Unknown, match="no NUL"), zone.registered.reading() as transaction:
-            transaction.first_from("maus\0x")
+            maus = ("maus", "Ä 'x' \\ %s $1")
+            texts = ["", 'm"', "m\\", "maut", "\U0001f600", "m"]
+            assert transaction.first_rows(texts) == [maus, maus, maus, None, None, maus]
+        with pytest.raises(Unknown, match="Unicode"), zone.registered.reading() as transaction:
+            transaction.first_rows(["maus\0x"])
 
 
 def test_knows_nothing_while_the_register_is_locked(place: Place) -> None:

@@ -57,11 +57,28 @@ def test_answers_with_the_objects_of_the_commands(place: Place) -> None:
             assert told.status == 200 and told.bytes == done.stdout.rstrip(b"\n"), (path, told.bytes, done)
 
 
+def test_head_is_a_get_without_a_body(place: Place) -> None:
+    """Also of what is refused, is no path, or isn't known."""
+    configure(place, service="[limits]\nseconds = 1")
+    with Served(place) as served:
+        for path in ("/v1/check?label=maus", query("/v1/check", label="Faß"), "/v1/variants?label=sss", "/v1/check",
+                     "/v1/tables-of?label=a", "/v1/health", "/v1/openapi.json", "/?label=maus", "/tables/de",
+                     "/page.css", "/none", "/v1/register"):
+            got, head = (served.ask(method, path) for method in ("GET", "HEAD"))
+            for name in ("Content-Type", "Content-Length", "Cache-Control", "Allow"):
+                assert head.headers[name] == got.headers[name], (path, name)
+            assert (head.status, head.bytes) == (got.status, b"") and got.bytes, path
+        (place.folder / "register.db").rename(place.folder / "away.db")
+        told = served.ask("HEAD", "/v1/check?label=maus")
+        assert (told.status, told.headers["Retry-After"], told.bytes) == (503, "60", b"")
+
+
 def test_registers_and_releases_with_the_token_alone(place: Place) -> None:
     configure(place)
     with Served(place) as served:
         for path in ("/v1/register", "/v1/release"):
-            for headers in ({}, {"Authorization": "Bearer x"}, {"Authorization": f"Basic {TOKEN}"}, {"Authorization": "Bearer "},
+            for headers in ({}, {"Authorization": "Bearer x"}, {"Authorization": f"Basic {TOKEN}"},
+                            {"Authorization": "Bearer "},
                             {"Authorization": f"Bearer {TOKEN}x"}, {"Authorization": TOKEN}, {"Authorization": "Bearer \xe9"}):
                 told = served.ask("POST", path, {"label": "maus"}, **headers)
                 assert (told.status, told.headers["WWW-Authenticate"]) == (401, "Bearer"), (path, headers, told.bytes)
@@ -91,7 +108,14 @@ def test_what_is_not_known_is_never_a_200(bare: Place) -> None:
         assert told.status == 503 and [each["status"] for each in told.object["answers"]] == ["taken", "unknown", "refused"]
         told = served.ask("GET", "/v1/health")
         assert (told.status, told.headers["Retry-After"], told.object["reason"]) == (503, "60", "the table gap has 1 gap")
-        assert served.end() == "idn2-registry: 1 answer not known, the last one because: the table gap has 1 gap\n"
+        bare.write("gap.txt", "0061|0062\n0062\n0063|0061\n")
+        served.process.send_signal(signal.SIGHUP)
+        until = time.monotonic() + LIMIT
+        while 'idn2_registry_reloads_total{result="done"} 1\n' not in served.ask("GET", "/metrics").text:
+            assert time.monotonic() < until
+        assert served.end() == ("idn2-registry: the table gap has 1 gap: no label is told to be available\n"
+                                "idn2-registry: 1 answer not known, the last one because: the table gap has 1 gap\n"
+                                "idn2-registry: the table gap has 3 gaps: no label is told to be available\n")
 
 
 def test_tells_what_lasts_until_an_operator_mends_it(bare: Place) -> None:
@@ -105,29 +129,49 @@ def test_tells_what_lasts_until_an_operator_mends_it(bare: Place) -> None:
         bare.write("own.txt", "0062|\n")
         served.process.send_signal(signal.SIGHUP)
         until = time.monotonic() + LIMIT
-        while "stale" not in (told := served.ask("GET", "/v1/health")).object:
+        while not (told := served.ask("GET", "/v1/health")).object["stale"]:
             assert time.monotonic() < until
-        stale = "own.txt: line 1: 30 table syntax at byte 6: mend it (docs/NOTATION.md); the old tables stay"
-        assert (told.status, told.object["stale"]) == (200, stale)
+        assert told.status == 200
         assert "\nidn2_registry_tables_are_stale 1\n" in served.ask("GET", "/metrics").text
         register.rename(bare.folder / "away.db")
         for path in ("/v1/health", "/v1/check?label=b", "/?label=b"):
             told = served.ask("GET", path)
-            assert (told.status, told.headers["Retry-After"]) == (503, "60") and "no longer the file that was opened" in told.text, path
+            assert (told.status, told.headers["Retry-After"]) == (503, "60"), path
+            assert "an operator has to mend something" in told.text and "register.db" not in told.text, path
         told = served.ask("POST", "/v1/register", {"label": "b"}, **BEARER)
         assert told.status == 503 and told.object["status"] == "unknown", told.bytes
         (bare.folder / "away.db").rename(register)
         bare.write("own.txt", "0062\n")
         served.process.send_signal(signal.SIGHUP)
-        while "stale" in (told := served.ask("GET", "/v1/health")).object:
+        while (told := served.ask("GET", "/v1/health")).object["stale"]:
             assert time.monotonic() < until
         assert (told.status, told.object["status"]) == (200, "ready")
         assert "\nidn2_registry_tables_are_stale 0\n" in served.ask("GET", "/metrics").text
         assert served.ask("GET", "/v1/check?label=b").object["status"] == "available"
         messages = served.end().splitlines()
     # One for all answers of a minute.
-    assert messages == [f"idn2-registry: {stale}", "idn2-registry: 1 answer not known, the last one because: register.db: no longer "
+    stale = "own.txt: line 1: 30 table syntax at byte 6: mend it (docs/NOTATION.md); the old tables stay"
+    assert messages == [f"idn2-registry: {stale}",
+                        "idn2-registry: 1 answer not known, the last one because: register.db: no longer "
                         "the file that was opened: put that back, or start again"], messages
+
+
+def test_only_the_log_says_where_the_register_is(bare: Place, server: Callable[[str], str]) -> None:
+    bare.register = server("secluded")
+    configure(bare)
+    bare.load()
+    folder = bare.register.partition("host=")[2]
+    with Served(bare) as served:
+        subprocess.run(["dropdb", "--force", "-h", folder, "-U", "postgres", "secluded"], check=True, timeout=LIMIT)
+        requests: list[tuple[str, str, Any]] = [
+            ("GET", "/v1/check?label=maus", None), ("POST", "/v1/check", {"labels": ["maus"]}),
+            ("GET", "/v1/health", None), ("POST", "/v1/register", {"label": "maus"}), ("GET", "/?label=maus", None)]
+        for method, path, body in requests:
+            told = served.ask(method, path, body, **BEARER)
+            assert told.status == 503 and "the register gave no answer" in told.text, (path, told.text)
+            assert folder not in told.text and "secluded" not in told.text, (path, told.text)
+        messages = served.end()
+    assert folder in messages and 'database "secluded" does not exist' in messages, messages
 
 
 FAULTS: list[tuple[str, str, Any, int]] = [
@@ -148,7 +192,6 @@ FAULTS: list[tuple[str, str, Any, int]] = [
     ("GET", "/v1/variants?label=a&table=../../etc/passwd", None, 400),
     ("GET", "/v1/register?label=a", None, 405),
     ("PUT", "/v1/check", None, 405),
-    ("HEAD", "/v1/check?label=a", None, 405),
     ("GET", "/v1", None, 404),
     ("GET", "/v1/../registry.toml", None, 404),
     ("GET", "/%2e%2e/registry.toml", None, 404),
@@ -177,7 +220,7 @@ def test_tells_faulty_requests(place: Place) -> None:
         for method, path, body, status in FAULTS:
             told = served.ask(method, path, body, **BEARER)
             assert told.status == status, (method, path, told.status, told.bytes)
-            assert method == "HEAD" or list(told.object) == ["fault"], (method, path, told.bytes)
+            assert list(told.object) == ["fault"], (method, path, told.bytes)
         packed = {"Content_Encoding": "gzip"}
         expecting = {"Expect": "200-ok"}
         assert served.ask("GET", "/v1/check?label=a", **expecting).object == {"fault": "Expectation Failed"}
@@ -196,7 +239,8 @@ def test_nothing_of_a_request_reaches_the_log(place: Place) -> None:
     """Nor does what is no HTTP end the service."""
     configure(place)
     with Served(place) as served:
-        for text in (b"\x1b[2J\r\n\r\n", b"GET /\x1b[2J HTTP/1.1\r\nHost: a\r\n\r\n", b"GET /v1/check?label=\x1b[2J HTTP/1.1\r\n\r\n",
+        for text in (b"\x1b[2J\r\n\r\n", b"GET /\x1b[2J HTTP/1.1\r\nHost: a\r\n\r\n",
+                     b"GET /v1/check?label=\x1b[2J HTTP/1.1\r\n\r\n",
                      b"GET / HTTP/9.9\r\n\r\n", b"POST /v1/check HTTP/1.1\r\nContent-Length: -1\r\n\r\n", b"\0" * 100,
                      b"GET / HTTP/1.1\r\nA: " + b"b" * 100_000 + b"\r\n\r\n", b"GET /" + b"a" * 100_000 + b" HTTP/1.1\r\n\r\n",
                      b"POST /v1/check HTTP/1.1\r\nTransfer-Encoding: chunked\r\nContent-Type: application/json\r\n\r\nzz\r\n"):
@@ -228,12 +272,21 @@ def test_tells_what_is_no_http_as_other_faults(place: Place) -> None:
         assert served.end() == ""
 
 
+def test_does_not_tell_on_what_it_stands(place: Place) -> None:
+    configure(place)
+    with Served(place) as served:
+        for path in ("/v1/check?label=maus", "/", "/none", "/v1/check?label=a&label=b", "/?label=" + "a" * 9_000):
+            told = served.ask("GET", path)
+            assert told.headers["Server"] == "idn2-registry", (path, told.status)
+            assert "aiohttp" not in str(told.headers) + told.text, (path, told.status)
+
+
 def test_who_goes_away_is_no_fault(place: Place) -> None:
     configure(place)
     with Served(place) as served:
         with served.socket() as connection:
-            connection.sendall(b"POST /v1/check HTTP/1.1\r\nHost: a\r\nExpect: 100-continue\r\nContent-Type: application/json\r\n"
-                               b"Content-Length: 100\r\n\r\n")
+            connection.sendall(b"POST /v1/check HTTP/1.1\r\nHost: a\r\nExpect: 100-continue\r\n"
+                               b"Content-Type: application/json\r\nContent-Length: 100\r\n\r\n")
             # It is being answered.
             assert connection.recv(100).startswith(b"HTTP/1.1 100 ")
         until = time.monotonic() + LIMIT
@@ -269,7 +322,7 @@ SLOW = (b"", b"GET /v1/health HTTP/1.1\r\nHost: a\r\n", b"GET /v1/health HTTP/1.
 def test_cuts_off_who_is_too_slow(place: Place, text: bytes) -> None:
     """Also one that goes on to send a little at a time."""
     configure(place)
-    patch = ("import idn2_registry.service.connections as c, idn2_registry.service.bodies as b; "
+    patch = ("import idn2_registry.service.protocol as c, idn2_registry.service.bodies as b; "
              "c.IDLE_SECONDS = 0.3; b.BODY_SECONDS = 0.3")
     with Served(place, changed=patch) as served, served.socket() as connection:
         connection.sendall(text)
@@ -289,7 +342,7 @@ def test_cuts_off_who_is_too_slow(place: Place, text: bytes) -> None:
 def test_cuts_off_who_reads_nothing(place: Place) -> None:
     """Who asks and reads no answer finds its connection closed: it can't send any more."""
     place.configure('[service]\nlisten = "unix:socket"')
-    with Served(place, changed="import idn2_registry.service.connections as c; c.IDLE_SECONDS = 0.5") as served:
+    with Served(place, changed="import idn2_registry.service.protocol as c; c.IDLE_SECONDS = 0.5") as served:
         with served.socket() as connection:
             # Far more answers than the buffers of the socket take.
             connection.sendall(b"GET /v1/openapi.json HTTP/1.1\r\nHost: a\r\n\r\n" * 500)
@@ -361,8 +414,10 @@ def routes(place: Place, token: bytes | None) -> set[tuple[str, str]]:
 
     with place.zone() as zone:
         metrics = Metrics("")
-        service = Service(Answering(zone, metrics), metrics, lambda: pytest.fail("no connection"), token)
-        return {(route.method, route.resource.canonical) for route in service.application().router.routes() if route.resource}
+        service = Service(Answering(zone, metrics), metrics, token)
+        # HEAD is answered as GET.
+        return {(route.method, route.resource.canonical) for route in service.application().router.routes()
+                if route.resource and route.method != "HEAD"}
 
 
 def test_the_calls_of_the_guide_are_answered(place: Place) -> None:
@@ -509,7 +564,8 @@ def test_takes_a_socket_of_systemd_and_tells_when_it_is_ready(place: Place) -> N
     notify.settimeout(LIMIT)
     place.environment |= {"NOTIFY_SOCKET": str(place.folder / "notify"), "LISTEN_FDS": "1"}
     words = ["bash", "-c", 'exec 3<&"$0"; LISTEN_PID=$$ exec "$@"', str(listening.fileno()), *place.words("serve")]
-    process = subprocess.Popen(words, cwd=place.folder, env=place.environment, pass_fds=[listening.fileno()], stderr=subprocess.PIPE)
+    process = subprocess.Popen(words, cwd=place.folder, env=place.environment, pass_fds=[listening.fileno()],
+                               stderr=subprocess.PIPE)
     try:
         assert notify.recv(100) == b"READY=1"
         with socket.create_connection(listening.getsockname(), timeout=LIMIT) as connection:
@@ -534,9 +590,12 @@ def test_says_why_it_does_not_start(place: Place) -> None:
     done = subprocess.run(command, cwd=place.folder, env=place.environment, capture_output=True, timeout=LIMIT, check=False)
     expect_unusable(done, f"{sys.executable} has no aiohttp, which serve needs: apt-get install")
     rows = (('listen = "0.0.0.0:80"', "registry.toml: line 6: listen: no address of this machine alone"),
-            ('listen = "example.org:80"', "line 6: listen"), ("listen = 80", "line 6: listen"), ('listen = "unix:"', "line 6: listen"),
-            ('listen = "127.0.0.1:99999"', "line 6: listen"), ("connections = 0", "line 6: connections: write a number from 1 to"),
-            ("token = 1", "line 6: token: not a path"), ("tokens = 1", "line 6: tokens: nothing has this name: write one of listen"),
+            ('listen = "example.org:80"', "line 6: listen"), ("listen = 80", "line 6: listen"),
+            ('listen = "unix:"', "line 6: listen"),
+            ('listen = "127.0.0.1:99999"', "line 6: listen"),
+            ("connections = 0", "line 6: connections: write a number from 1 to"),
+            ("token = 1", "line 6: token: not a path"),
+            ("tokens = 1", "line 6: tokens: nothing has this name: write one of listen"),
             ('token = "none.txt"', "none.txt: No such file or directory: mend the path of token"),
             ('token = "short.txt"', "short.txt: a token is a word of 32 letters or more: openssl rand -hex 32"),
             ('listen = "unix:none/socket"', "none/socket: No such file or directory: "))
@@ -561,5 +620,6 @@ def test_metrics_are_in_the_text_form(place: Place) -> None:
         samples[found[3]] = found[4]
     assert samples['idn2_registry_answers_total{job="check",status="available"}'] == "2"
     assert samples['idn2_registry_answers_total{job="check",status="refused"}'] == "1"
-    assert samples['idn2_registry_answer_seconds_count{job="check"}'] == samples['idn2_registry_answer_seconds_bucket{job="check",le="+Inf"}'] == "3"
+    for each in ('count{job="check"}', 'bucket{job="check",le="+Inf"}'):
+        assert samples[f"idn2_registry_answer_seconds_{each}"] == "3"
     assert samples['idn2_registry_responses_total{status="404"}'] == "1" and samples["idn2_registry_connections"] == "1"

@@ -7,7 +7,6 @@ mod pipes;
 mod run;
 mod streams;
 mod system;
-mod taken;
 mod words;
 
 ghost use Rattle.std.specs.Prelude.{option_map};

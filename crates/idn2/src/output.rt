@@ -5,9 +5,11 @@ ghost use Rattle.std.specs.Io.{ReadsAtMost, WritesAtMost};
 ghost use Rattle.std.specs.Io.Buffered.{writer_buffer, writer_contents};
 ghost use Rattle.std.specs.Io.KnownBytes.{Keeps, ReadConsumes, WriteAppends};
 
-use crate::taken::Taken;
+pub mod taken;
+
 use std::io::{BufWriter, Error, ErrorKind, Read, Result, Write};
 use std::marker::Model;
+use taken::Taken;
 
 /// An output. Once a call of it has failed, each one does: a write after that would leave a gap.
 #[derive(Drop)]

@@ -5,7 +5,7 @@
 ghost use Rattle.std.specs.Prelude.{◌≡◌, [], Some};
 
 use crate::output::Output;
-use crate::taken::Taken;
+use crate::output::taken::Taken;
 use std::cell::{RefCell, RefMut};
 use std::io::{Error, ErrorKind, Read, Result, Write};
 

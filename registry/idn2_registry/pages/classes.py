@@ -4,8 +4,9 @@ import functools
 from dataclasses import dataclass
 
 from ..answers import Refusal, bytes_of
-from ..processes import Pool, only
-from ..zone import REGISTER
+from ..decisions import REGISTER
+from ..processes import Pool, Questions, only
+from ..together import alone
 
 DISALLOWED, UNASSIGNED, JOINER, CONTEXT = 10, 11, 15, 16
 # Two kinds of digits, which no label mixes: a code point that is one of them is refused before them.
@@ -29,7 +30,7 @@ class Classes:
         self.of = functools.cache(self._of)
 
     def _refusal(self, label: str) -> Refusal | None:
-        told = only(self._pool.ask(REGISTER, bytes_of(label)), "alabel")
+        told = only(alone(Questions(self._pool).ask(REGISTER, bytes_of(label))), "alabel")
         return Refusal.read(told["refusal"]) if "refusal" in told else None
 
     def _of(self, point: int) -> Class:

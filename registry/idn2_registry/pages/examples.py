@@ -6,15 +6,18 @@ import json
 import unicodedata
 from collections.abc import Iterable, Iterator
 from dataclasses import dataclass
-from typing import Any, TypeVar
+from typing import TypeVar
 
 from ..answers import Object
 from ..collisions import refusals_in
 from ..faults import Unknown
-from ..parsed_table import ParsedTable, Points
+from ..notation.patterns import Contexts, Sign
+from ..notation.points import Points
+from ..notation.ruleset import Demand, Mapped
+from ..parsed_table import ParsedTable
 from ..program import Program
 from ..tables import Table
-from .patterns import ANY, Sample, has_edge, samples
+from .patterns import ANY, Sample, samples
 
 # So many labels are asked of a table in all, and of each rule; so many sources with a condition are tried of each rule, each in
 # so many ways to satisfy it.
@@ -109,14 +112,14 @@ class Examples:
     def of_variants(self, name: str) -> Iterator[tuple[str, str, str]]:
         """Labels with a source of which a variant has a condition with this rule, each with what it is with that variant, and
         with the disposition of this."""
-        pairs = [(entry.source.points, variant) for entry in self._ruleset.entries.values() for variant in entry.variants
-                 if variant.condition and variant.condition.rule == name]
+        given = [(variant.condition.word, (entry.source.points, variant)) for entry in self._ruleset.entries.values()
+                 for variant in entry.variants if variant.condition and variant.condition.rule == name]
         # Those of one word, so that the examples say one thing.
-        words = [variant.condition.word for _, variant in pairs]
-        told = [each for each, word in zip(pairs, words, strict=True) if word == max(words)][:SOURCES]
+        chosen = max((word for word, _ in given), default=None)
+        told = [pair for word, pair in given if word == chosen][:SOURCES]
         return in_turn(self.of_variant_of(source, variant, self._ruleset.rules[name]) for source, variant in told)
 
-    def of_variant_of(self, source: Points, variant: Any, contexts: Any) -> Iterator[tuple[str, str, str]]:
+    def of_variant_of(self, source: Points, variant: Mapped, contexts: Contexts) -> Iterator[tuple[str, str, str]]:
         """Those of one source and its variant."""
         old, new = spelled(source), spelled(variant.points)
         disposition = "blocked" if variant.is_marked else "allocatable"
@@ -124,7 +127,7 @@ class Examples:
             if label.count(old) == 1:
                 yield label, label.replace(old, new), disposition
 
-    def around(self, source: Points, contexts: Any) -> Iterator[str]:
+    def around(self, source: Points, contexts: Contexts) -> Iterator[str]:
         """Labels with a source in the contexts of a rule, and out of them, with ever more beside."""
         ways = list(self.ways(contexts))
         for first, last in self._beside:
@@ -134,10 +137,10 @@ class Examples:
                 if not (first and at_start or last and at_end):
                     yield spelled(self.filled((*first, *left, *source, *right, *last)))
 
-    def ways(self, contexts: Any) -> Iterator[tuple[Sample, Sample, tuple[bool, bool]]]:
+    def ways(self, contexts: Contexts) -> Iterator[tuple[Sample, Sample, tuple[bool, bool]]]:
         """Some of what is before and after a place where the rule holds, and whether it is at the start and at the end."""
         for before, after in contexts:
-            edges = has_edge(before, "START"), has_edge(after, "END")
+            edges = Sign.START in before, Sign.END in after
             lefts, rights = (samples(side, self._ruleset.sets) for side in (before, after))
             # The first ones of both come first.
             places = sorted(itertools.product(range(len(lefts)), range(len(rights))), key=sum)
@@ -155,7 +158,7 @@ class Examples:
         """A sample with a letter where any code point may be."""
         return tuple(point for each in sample for point in (self._fillers[:1] if each is ANY else [each]) if point is not None)
 
-    def of_demand(self, demand: Any) -> Drawn:
+    def of_demand(self, demand: Demand) -> Drawn:
         """Labels that match its pattern, and others."""
         matched = [self.filled(sample) for branch in demand.pattern for sample in samples(branch, self._ruleset.sets)]
         labels = [spelled((*first, *points, *last)) for first, last in self._beside for points in matched]
@@ -192,7 +195,7 @@ def is_letter(point: int) -> bool:
 
 
 def told_of(table: Table, program: Program, labels: Iterable[str]) -> dict[str, Object | None] | None:
-    """What the program says of labels under a table: None of one that it admits, else its refusal. None if it doesn't answer."""
+    """What the program says of labels under a table: None of one that it admits, else its refusal. None without an answer."""
     asked = [label for label in dict.fromkeys(labels) if label and len(label) <= LONGEST][:MOST]
     option, _ = table.kind.value
     words = [option, table.held.path, "--limit", "1", "--tries", "1"]

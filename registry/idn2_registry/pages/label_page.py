@@ -6,9 +6,12 @@ from dataclasses import dataclass, field, replace
 from urllib.parse import urlencode
 
 from ..answers import Answer, Refusal, RegisteredLabel, Status, Variant
-from ..faults import Unknown, Unusable
+from ..decisions import Tables
+from ..faults import Fault, Unknown, Unusable
+from ..processes import Questions
 from ..tables import Table
-from ..zone import Tables, Zone
+from ..together import alone
+from ..zone import Zone
 from .classes import Class, Classes
 from .frame import Frame, way_to
 from .html import Child, Markup, element, joined
@@ -78,8 +81,8 @@ def found(zone: Zone, classes: Classes, asked: Asked) -> Found:
     tables = zone.tables
     try:
         refusals = refusals_of(tables, answer)
-    except (Unknown, Unusable) as error:
-        return Found(replace(answer, status=Status.UNKNOWN, refusal=None, reason=str(error)), None, {})
+    except Fault as fault:
+        return Found(Answer.unknown(asked.label, fault), None, {})
     rule = None
     for table, refusal in itertools.islice(refusals.items(), 1):
         answer, rule = replace(answer, refusal=refusal), rule_of(tables.by_name[table], refusal)
@@ -95,8 +98,7 @@ def refusals_of(tables: Tables, answer: Answer) -> dict[str, Refusal]:
     """What each table says of a label that none of them admits, the furthest first."""
     if answer.status is not Status.REFUSED or answer.ulabel is None:
         return {}
-    with tables.pool.request():
-        return tables.refusals(answer.ulabel)
+    return alone(tables.refusals(answer.ulabel, Questions(tables.pool)))
 
 
 def label_page(frame: Frame, asked: Asked | None, told: Found | None) -> bytes:
@@ -131,7 +133,8 @@ def verdict_part(told: Found) -> Markup:
         facts += [element("dt", "Tables that admit it"), element("dd", *ways)]
     facts.append(told.rule)
     head = element("h2", mark, element("span", verdict(answer, told.refusals)), id="verdict")
-    return element("section", head, element("dl", *facts) if any(facts) else None, class_=f"verdict {answer.status.value}", aria_labelledby="verdict")
+    return element("section", head, element("dl", *facts) if any(facts) else None, class_=f"verdict {answer.status.value}",
+                   aria_labelledby="verdict")
 
 
 def rule_of(table: Table, refusal: Refusal) -> Markup | None:
@@ -211,7 +214,8 @@ def variants_part(asked: Asked, told: Found) -> Markup | None:
         return None
     head = element("h2", "Variants", f" under {listing.table}" if listing.table else None)
     if listing.variants is None:
-        return element("section", head, element("p", "They aren’t known: ", element("bdi", listing.reason or ""), "."))
+        reason = element("bdi", listing.public.reason or "")
+        return element("section", head, element("p", "They aren’t known: ", reason, "."))
     shown = [each for each in listing.variants if has_text(each, asked.find)]
     counted = element("p", f"{len(shown):,} of {len(listing.variants):,} shown", id="count", role="status",
                       data_total=str(len(listing.variants)))

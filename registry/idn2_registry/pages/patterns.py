@@ -1,10 +1,11 @@
 """Rules and demands in words, and sequences that they match."""
 
 import itertools
-from collections.abc import Iterator, Sequence
-from typing import Any
+from collections.abc import Iterable, Iterator, Mapping, Sequence
 
-from ..parsed_table import Points
+from ..notation.patterns import Branch, Contexts, Group, Item, Many, Optional, Pattern, Point, Set, Sign
+from ..notation.points import Points
+from ..notation.ruleset import Demand
 from .html import Child, element
 from .points import glyph_of, number_of
 
@@ -13,6 +14,7 @@ MOST, MEMBERS = 24, 3
 # A code point stands for "any code point" in these.
 ANY = None
 Sample = tuple[int | None, ...]
+Spans = Sequence[tuple[int, int]]
 
 
 def point_words(point: int) -> Child:
@@ -20,28 +22,24 @@ def point_words(point: int) -> Child:
     return [glyph_of(point), " ", element("code", number_of(point))]
 
 
-def kind_of(item: Any) -> str:
-    """The name of its class in `notation.patterns`; of a sign its own name."""
-    return str(getattr(item, "name", "")) if type(item).__name__ == "Sign" else type(item).__name__
-
-
-def item_words(item: Any) -> Child:
+def item_words(item: Item) -> Child:
     """An item of a pattern."""
-    match kind_of(item):
-        case "Point":
-            return point_words(item.point)
-        case "Set":
-            return ["a code point of ", element("a", item.name, href=f"#set-{item.name}")]
-        case "Group":
-            return ["one of (", pattern_words(item.branches), ")"]
-        case "Optional":
-            return ["perhaps ", item_words(item.atom)]
-        case "Many":
-            is_any = kind_of(item.atom) == "ANY"
-            return "any number of code points" if is_any else ["any number of times ", item_words(item.atom)]
-        case "START":
+    match item:
+        case Point(point):
+            return point_words(point)
+        case Set(name):
+            return ["a code point of ", element("a", name, href=f"#set-{name}")]
+        case Group(branches):
+            return ["one of (", pattern_words(branches), ")"]
+        case Optional(atom):
+            return ["perhaps ", item_words(atom)]
+        case Many(Sign.ANY):
+            return "any number of code points"
+        case Many(atom):
+            return ["any number of times ", item_words(atom)]
+        case Sign.START:
             return "the start of the label"
-        case "END":
+        case Sign.END:
             return "the end of the label"
         case _:
             return "any code point"
@@ -52,42 +50,42 @@ def joined_words(parts: Sequence[Child], between: str) -> Child:
     return [[between if place else "", each] for place, each in enumerate(parts)]
 
 
-def branch_words(branch: Any) -> Child:
+def branch_words(branch: Branch) -> Child:
     """A branch: one item after the other."""
     return joined_words([item_words(item) for item in branch], ", then ")
 
 
-def pattern_words(branches: Any) -> Child:
+def pattern_words(branches: Pattern) -> Child:
     """A pattern: any of its branches."""
     return joined_words([branch_words(branch) for branch in branches], "; or ")
 
 
-def is_edge(branch: Any, edge: str) -> bool:
+def is_edge(branch: Branch, edge: Sign) -> bool:
     """Whether a branch is nothing but the start or the end of the label."""
-    return len(branch) == 1 and has_edge(branch, edge)
+    return branch == (edge,)
 
 
-def context_words(before: Any, after: Any) -> Child:
+def context_words(before: Branch, after: Branch) -> Child:
     """A context: what stands before and after a place."""
     told: list[Child] = []
     if before:
-        told.append("at the start of the label" if is_edge(before, "START") else ["directly after ", branch_words(before)])
+        told.append("at the start of the label" if is_edge(before, Sign.START) else ["directly after ", branch_words(before)])
     if after:
-        told.append("at the end of the label" if is_edge(after, "END") else ["directly before ", branch_words(after)])
+        told.append("at the end of the label" if is_edge(after, Sign.END) else ["directly before ", branch_words(after)])
     return joined_words(told, ", and ") if told else "everywhere"
 
 
-def rule_words(contexts: Any) -> Child:
+def rule_words(contexts: Contexts) -> Child:
     """A rule: any of its contexts."""
     return joined_words([context_words(before, after) for before, after in contexts], "; or ")
 
 
-def rule_sentence(contexts: Any) -> Child:
+def rule_sentence(contexts: Contexts) -> Child:
     """A rule in a sentence."""
     return ["Holds ", rule_words(contexts), "."]
 
 
-def demand_sentence(demand: Any) -> Child:
+def demand_sentence(demand: Demand) -> Child:
     """A demand in a sentence."""
     first = "No part of a label is" if demand.word == "%never" else "Some part of each label is"
     if len(demand.pattern) <= 2:
@@ -95,49 +93,44 @@ def demand_sentence(demand: Any) -> Child:
     return [f"{first} one of these:", element("ul", *(element("li", branch_words(branch)) for branch in demand.pattern))]
 
 
-def sets_named(branches: Any) -> Iterator[str]:
+def sets_named(branches: Iterable[Branch]) -> Iterator[str]:
     """The names of the sets in a pattern."""
     for item in itertools.chain(*branches):
-        match kind_of(item):
-            case "Set":
-                yield item.name
-            case "Group":
-                yield from sets_named(item.branches)
-            case "Optional" | "Many":
-                yield from sets_named([[item.atom]])
+        match item:
+            case Set(name):
+                yield name
+            case Group(inner):
+                yield from sets_named(inner)
+            case Optional(atom) | Many(atom):
+                yield from sets_named(((atom,),))
 
 
-def samples(branch: Any, sets: dict[str, Any]) -> list[Sample]:
+def samples(branch: Branch, sets: Mapping[str, Spans]) -> list[Sample]:
     """Some sequences that a branch matches."""
     choices = [list(itertools.islice(item_samples(item, sets), MOST)) for item in branch]
     products = itertools.islice(itertools.product(*choices), MOST)
     return [tuple(itertools.chain(*pieces)) for pieces in products]
 
 
-def item_samples(item: Any, sets: dict[str, Any]) -> Iterator[Sample]:
+def item_samples(item: Item, sets: Mapping[str, Spans]) -> Iterator[Sample]:
     """Some sequences that an item matches."""
-    match kind_of(item):
-        case "Point":
-            yield (item.point,)
-        case "Set":
-            yield from ((point,) for point in members(sets[item.name]))
-        case "Group":
-            for branch in item.branches:
+    match item:
+        case Point(point):
+            yield (point,)
+        case Set(name):
+            yield from ((member,) for member in members(sets[name]))
+        case Group(branches):
+            for branch in branches:
                 yield from samples(branch, sets)
-        case "Optional" | "Many":
-            yield from ((), *item_samples(item.atom, sets))
-        case "START" | "END":
+        case Optional(atom) | Many(atom):
+            yield from ((), *item_samples(atom, sets))
+        case Sign.START | Sign.END:
             yield ()
         case _:
             yield (ANY,)
 
 
-def members(spans: Sequence[tuple[int, int]]) -> Points:
+def members(spans: Spans) -> Points:
     """The first members of a set, and the last one."""
     first = list(itertools.islice(itertools.chain(*(range(start, end + 1) for start, end in spans)), MEMBERS))
     return tuple(dict.fromkeys([*first, spans[-1][1]]))
-
-
-def has_edge(branch: Any, edge: str) -> bool:
-    """Whether a branch asks for the start or the end of the label."""
-    return any(kind_of(item) == edge for item in branch)

@@ -90,5 +90,6 @@ def verdict(answer: Answer, refusals: Mapping[str, Refusal]) -> Markup:
         case Status.REFUSED if answer.refusal is not None:
             said = ["can’t be registered. ", refusal_sentence(answer.refusal)]
         case _:
-            return joined("It isn’t known whether ", name, " is available: ", element("bdi", answer.reason or ""), ".")
+            reason = element("bdi", answer.public.reason or "")
+            return joined("It isn’t known whether ", name, " is available: ", reason, ".")
     return joined(name, " ", said)

@@ -4,9 +4,11 @@ import functools
 import itertools
 from collections.abc import Iterator, Sequence
 from dataclasses import dataclass
-from typing import Any
 
-from ..parsed_table import ParsedTable, Points
+from ..notation.patterns import Contexts
+from ..notation.points import Points
+from ..notation.ruleset import Entry, Mapped
+from ..parsed_table import ParsedTable
 from ..program import Program
 from ..tables import Table
 from ..words import counted
@@ -84,8 +86,8 @@ def gaps_part(table: Table) -> Markup | None:
         source, variant = (tuple(int(point, 16) for point in side.split("-")) for side in gap.split("|"))
         rows.append(element("li", sequence(source), " has no variant ", sequence(variant), ": add ", element("code", gap)))
     left = len(table.gaps) - len(rows)
-    words = (f"Missing: {counted(len(table.gaps), 'pair')} of variants. Each goes both ways, and two with a common variant have "
-             "each other.")
+    words = (f"Missing: {counted(len(table.gaps), 'pair')} of variants. Each goes both ways, and two with a common variant "
+             "have each other.")
     return element("section", element("h2", "Gaps"), element("p", words), element("ul", *rows),
                    element("p", f"And {left} more.") if left else None)
 
@@ -106,7 +108,8 @@ def way_words(pairs: Sequence[Pair]) -> Child:
     """What a variant of a source is, where it is that."""
     told = [[disposition_of(pair.variant), [[" ", note] for note in notes_of(pair.variant)]] for pair in pairs]
     first = pairs[0]
-    return ["for ", sequence(first.source), " the variant ", sequence(first.variant.points), " is ", joined_words(told, ", and ")]
+    return ["for ", sequence(first.source), " the variant ", sequence(first.variant.points), " is ",
+            joined_words(told, ", and ")]
 
 
 def sequence(points: Points) -> Markup:
@@ -132,7 +135,7 @@ def repertoire_part(frame: Frame, view: View, shown: Shown) -> Markup:
     return element("section", element("h2", "Repertoire", id="repertoire"), *parts, more)
 
 
-def group_of(entry: Any) -> str:
+def group_of(entry: Entry) -> str:
     """How the name of its first code point begins: that of a letter names its script."""
     if entry.is_outside:
         return "Outside: only variants have them, no label"
@@ -142,7 +145,7 @@ def group_of(entry: Any) -> str:
     return "Ideographs" if first == "CJK" else "Digits" if first == "DIGIT" else first.capitalize()
 
 
-def tile(entry: Any) -> Markup:
+def tile(entry: Entry) -> Markup:
     """A letter, or a sequence."""
     source = entry.source
     notes = [element("span", note, class_="note") for note in (*notes_of(source), *(["outside"] if entry.is_outside else []))]
@@ -151,7 +154,7 @@ def tile(entry: Any) -> Markup:
                    class_="tile outside" if entry.is_outside else "tile")
 
 
-def notes_of(mapped: Any) -> Iterator[Child]:
+def notes_of(mapped: Mapped) -> Iterator[Child]:
     """The tags of a sequence, and where it may stand."""
     if mapped.tags:
         yield f"as {', '.join(mapped.tags)}"
@@ -203,7 +206,7 @@ def together(points: Sequence[Points], parsed: ParsedTable, says_which: bool) ->
     return element("figure", *chips, caption, class_="together several" if several else "together")
 
 
-def chip(points: Points, entry: Any) -> Markup:
+def chip(points: Points, entry: Entry | None) -> Markup:
     """A sequence in a set."""
     kind = "outside" if entry and entry.is_outside else "" if entry else "only a variant"
     tags = ", ".join(entry.source.tags) if entry else ""
@@ -215,7 +218,7 @@ def chip(points: Points, entry: Any) -> Markup:
                    class_="chip outside" if kind else "chip")
 
 
-def disposition_of(variant: Any) -> str:
+def disposition_of(variant: Mapped) -> str:
     """What a variant of an entry is by itself."""
     return "blocked" if variant.is_marked else "allocatable"
 
@@ -237,7 +240,7 @@ def rules_part(view: View) -> Markup | None:
     return element("section", element("h2", "Rules", id="rules"), *rules) if rules else None
 
 
-def rule(view: View, name: str, contexts: Any) -> Markup:
+def rule(view: View, name: str, contexts: Contexts) -> Markup:
     """A rule."""
     entries = view.parsed.entries
     sources = [(entry.source, sequence(entry.source.points)) for entry in entries]
@@ -247,7 +250,8 @@ def rule(view: View, name: str, contexts: Any) -> Markup:
     if any(told):
         told.append(examples(view.examples.of(name)))
     if any(asks(variant, name) for variant, _ in pairs):
-        told += [users(pairs, name, "when", "Variants only there: "), users(pairs, name, "unless", "Variants everywhere but there: "),
+        told += [users(pairs, name, "when", "Variants only there: "),
+                 users(pairs, name, "unless", "Variants everywhere but there: "),
                  variant_examples(view.examples.of_variant(name))]
     if not any(told):
         told.append(element("p", element("strong", "Nothing asks this rule.")))
@@ -255,17 +259,17 @@ def rule(view: View, name: str, contexts: Any) -> Markup:
                    class_="rule")
 
 
-def variant_words(source: Any, variant: Any) -> Markup:
+def variant_words(source: Mapped, variant: Mapped) -> Markup:
     """A variant of a source."""
     return element("span", sequence(variant.points), " of ", sequence(source.points), f" ({disposition_of(variant)})")
 
 
-def asks(mapped: Any, name: str, word: str | None = None) -> bool:
+def asks(mapped: Mapped, name: str, word: str | None = None) -> bool:
     """Whether a sequence has a condition with a rule."""
     return mapped.condition is not None and mapped.condition.rule == name and word in (None, mapped.condition.word)
 
 
-def users(shown: Sequence[tuple[Any, Markup]], name: str, word: str, words: str) -> Markup | None:
+def users(shown: Sequence[tuple[Mapped, Markup]], name: str, word: str, words: str) -> Markup | None:
     """What has a condition with a rule: the first ones."""
     found = [markup for mapped, markup in shown if asks(mapped, name, word)]
     more = f" and {len(found) - MOST_USERS} more" if len(found) > MOST_USERS else ""
@@ -355,7 +359,8 @@ def actions_part(parsed: ParsedTable) -> Markup:
         steps.append("Every other one is a variant. The table doesn’t say which are blocked.")
     elif ruleset.tags:
         tags = joined_words([element("b", tag) for tag in ruleset.tags], " or ")
-        steps += [["A variant whose letters all are ", tags, ", or have no tag, throughout, and none of them blocked, is allocatable."],
+        steps += [["A variant whose letters all are ", tags,
+                   ", or have no tag, throughout, and none of them blocked, is allocatable."],
                   "Every other variant is blocked."]
     else:
         steps += ["A variant that arises without a blocked one is allocatable.", "Every other variant is blocked."]

@@ -1,10 +1,11 @@
 """Which sequences are variants of each other, and which of them go together."""
 
 from dataclasses import dataclass
-from typing import Any
 
 from ..audit import groups_of
-from ..parsed_table import ParsedTable, Points
+from ..notation.points import Points
+from ..notation.ruleset import Mapped
+from ..parsed_table import ParsedTable
 
 
 @dataclass(frozen=True)
@@ -12,7 +13,7 @@ class Pair:
     """A source and one of its variants. What isn't blocked is allocatable, but before version 2 nothing says which is."""
 
     source: Points
-    variant: Any
+    variant: Mapped
 
     @property
     def is_allocatable(self) -> bool:

@@ -1,10 +1,9 @@
 """`serve`: answers over HTTP, with pages for people. It stands on aiohttp, which is read only when it is asked for.
 
 start        sockets, signals, the start and the end
-connections  how long a connection may take, and how many there may be
-protocol     what is no request of HTTP, and how many wait
-answering    what is asked of the zone, so many at once
-workers      threads that ask it
+connections  how many there may be
+protocol     how long one may take, how many requests of it wait, and what is no request of HTTP
+answering    what is asked of the zone, with what an operator is told of it
 application  which path answers what
 people       the pages over HTTP
 bodies       requests and answers as HTTP has them

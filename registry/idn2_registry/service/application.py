@@ -8,13 +8,21 @@ from pathlib import Path
 from aiohttp import web
 
 from ..answers import Object
-from ..faults import Unknown, Unusable
+from ..faults import Fault, Unusable
 from ..output import complain
-from ..requests import Request
 from .answering import Answering
-from .bodies import (FAILED, MOST_BYTES, Faulty, again, body_of, json_response, request_of_object, request_of_query,
-                     requests_of_labels, response_of)
-from .connections import Connections
+from .bodies import (
+    FAILED,
+    MOST_BYTES,
+    Faulty,
+    again,
+    body_of,
+    json_response,
+    request_of_object,
+    request_of_query,
+    requests_of_labels,
+    response_of,
+)
 from .metrics import Metrics
 from .openapi import described
 from .people import Pages
@@ -32,54 +40,46 @@ class Service:
 
     answering: Answering
     metrics: Metrics
-    connections: Callable[[], Connections]
     token: bytes | None
 
     def application(self) -> web.Application:
-        """The application with its paths."""
-        @web.middleware
-        async def guarded(request: web.Request, handler: Handler) -> web.StreamResponse:
-            return await self.guarded(request, handler)
-
-        made = web.Application(middlewares=[guarded], client_max_size=MOST_BYTES)
+        """The application with its paths. It has no middleware, which would take a tenth of the time of a check."""
+        made = web.Application(client_max_size=MOST_BYTES)
         for job in READING:
-            made.router.add_get(f"/v1/{job}", self.reading(job), allow_head=False)
-        made.router.add_post("/v1/check", self.check_all)
+            made.router.add_get(f"/v1/{job}", self.guarded(self.reading(job)))
+        made.router.add_post("/v1/check", self.guarded(self.check_all))
         for job in CHANGING if self.token is not None else ():
-            made.router.add_post(f"/v1/{job}", self.changing(job))
-        for path, handler in (("/v1/health", self.health), ("/v1/openapi.json", self.openapi), ("/metrics", self.metrics_text)):
-            made.router.add_get(path, handler, allow_head=False)
-        Pages(self.answering).add_to(made)
+            made.router.add_post(f"/v1/{job}", self.guarded(self.changing(job)))
+        others = {"/v1/health": self.health, "/v1/openapi.json": self.openapi, "/metrics": self.metrics_text}
+        for path, handler in (*others.items(), *Pages(self.answering).paths()):
+            made.router.add_get(path, self.guarded(handler))
         return made
 
-    async def guarded(self, request: web.Request, handler: Handler) -> web.StreamResponse:
+    def guarded(self, handler: Handler) -> Handler:
         """What a path answers; or an object with `fault`. While it is answered the connection isn't cut off."""
-        self.connections().begins(request.protocol)
-        if isinstance(request.protocol, Protocol):
-            request.protocol.pace()
-        try:
-            response = await self.answered(request, handler)
-        finally:
-            self.connections().ends(request.protocol)
-        self.metrics.responses[response.status] += 1
-        if self.connections().are_ending:
-            response.force_close()
-        return response
+        async def answered(request: web.Request) -> web.StreamResponse:
+            assert isinstance(request.protocol, Protocol)
+            request.protocol.begin_answer()
+            try:
+                return await self.answered(request, handler)
+            finally:
+                request.protocol.end_answer()
 
-    @staticmethod
-    async def answered(request: web.Request, handler: Handler) -> web.StreamResponse:
-        """What a path answers, whatever goes wrong."""
+        return answered
+
+    async def answered(self, request: web.Request, handler: Handler) -> web.StreamResponse:
+        """What a path answers, whatever goes wrong; but what aiohttp refuses is told by its protocol."""
         try:
             return await handler(request)
         except Faulty as error:
             return json_response({"fault": str(error)}, error.status, error.headers)
         except ValueError as error:
             return json_response({"fault": str(error)}, 400)
-        except (Unknown, Unusable) as error:
-            return json_response({"fault": str(error)}, 503, again(isinstance(error, Unusable)))
-        except web.HTTPException as error:
-            kept = {name: value for name, value in error.headers.items() if name == "Allow"}
-            return json_response({"fault": error.reason}, error.status, kept)
+        except Fault as error:
+            self.answering.unknowns.add(str(error))
+            return json_response({"fault": error.told}, 503, again(isinstance(error, Unusable)))
+        except web.HTTPException:
+            raise
         except Exception as error:
             complain(f"{FAILED}: {type(error).__name__}: {error}")
             return json_response({"fault": FAILED}, 500)
@@ -114,14 +114,15 @@ class Service:
             raise Faulty(401, "show the token: Authorization: Bearer ..", WWW_Authenticate="Bearer")
 
     async def health(self, request: web.Request) -> web.StreamResponse:
-        """Whether labels can be answered; and why the tables aren't those of the files, if they couldn't be read again."""
-        zone, stale = self.answering.zone, self.answering.stale
-        told: Object = {"status": "ready", "program": zone.program.version, "tables": list(zone.configuration.tables)}
-        told |= {} if stale is None else {"stale": stale}
+        """Whether labels can be answered, and whether the tables are those of the files."""
+        zone = self.answering.zone
+        told: Object = {"status": "ready", "program": zone.program.version, "tables": list(zone.configuration.tables),
+                        "stale": self.metrics.is_stale}
         doubt = await self.answering.call(zone.doubt)
         if doubt is None:
             return json_response(told)
-        return json_response({**told, "status": "unknown", "reason": doubt.reason}, 503, again(doubt.lasts))
+        self.answering.unknowns.add(doubt.reason)
+        return json_response({**told, "status": "unknown", "reason": doubt.public.reason}, 503, again(doubt.lasts))
 
     async def openapi(self, request: web.Request) -> web.StreamResponse:
         """The description."""

@@ -63,15 +63,16 @@ SCHEMAS: Object = {
                       after=meant(TEXT, "Where variants that aren't complete go on: ask with it as `after`."),
                       reason=meant(TEXT, "Why it isn't known.")),
     "Answers": members("answers", answers=kind("array", items=named("Answer"), maxItems=MOST_LABELS)),
-    "Health": members("status program tables", status=kind("string", enum=["ready", "unknown"]), program=TEXT,
+    "Health": members("status program tables stale", status=kind("string", enum=["ready", "unknown"]), program=TEXT,
                       tables=kind("array", items=TEXT), reason=TEXT,
-                      stale=meant(TEXT, "Why the tables couldn't be read the last time, so that the old ones stay.")),
+                      stale=meant(kind("boolean"), "The tables couldn't be read the last time, so that the old ones "
+                                  "stay: the log says why.")),
     "Fault": members("fault", fault=TEXT),
 }
 
 
-UNKNOWN = ("Not known, which says nothing about a label: what was to be done was done or not. Ask again, a few times: if it stays "
-           "unknown, `reason` or `fault` tells the operator why.")
+UNKNOWN = ("Not known, which says nothing about a label: what was to be done was done or not. Ask again, a few times: if it "
+           "stays unknown, the log tells the operator why.")
 
 
 def response(meaning: str, schema: Object) -> Object:

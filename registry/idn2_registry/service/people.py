@@ -1,14 +1,14 @@
 """The pages over HTTP."""
 
 import re
-from collections.abc import Awaitable, Callable, Mapping
+from collections.abc import Awaitable, Callable, Iterator, Mapping
 from dataclasses import dataclass, field
 from types import MappingProxyType
 
 from aiohttp import web
 
 from ..answers import Status
-from ..faults import Unknown, Unusable
+from ..faults import Fault, Unusable
 from ..pages.classes import Classes
 from ..pages.frame import ICON, SCRIPT, STYLE, Frame, file_of
 from ..pages.label_page import Asked, found, label_page
@@ -42,12 +42,12 @@ class Pages:
         """What all pages have in common."""
         return Frame(list(self.answering.zone.configuration.tables))
 
-    def add_to(self, application: web.Application) -> None:
-        """Adds the paths of the pages."""
+    def paths(self) -> Iterator[tuple[str, Handler]]:
+        """The paths of the pages, and what they answer."""
         for path, handler in (("/", self.label), ("/tables/{name}", self.table)):
-            application.router.add_get(path, self.shown(handler), allow_head=False)
+            yield path, self.shown(handler)
         for name, kind in ((STYLE, "text/css"), (SCRIPT, "text/javascript"), (ICON, "image/svg+xml")):
-            application.router.add_get(f"/{name}", self.file(name, kind), allow_head=False)
+            yield f"/{name}", self.file(name, kind)
 
     def shown(self, handler: Handler) -> Handler:
         """What answers with a page, also where there is none."""
@@ -58,8 +58,9 @@ class Pages:
                 return html(self.frame.fault(str(error)), error.status)
             except ValueError as error:
                 return html(self.frame.fault(str(error)), 400)
-            except (Unknown, Unusable) as error:
-                return html(self.frame.fault(f"{error}: ask again"), 503, again(isinstance(error, Unusable)))
+            except Fault as error:
+                self.answering.unknowns.add(str(error))
+                return html(self.frame.fault(f"{error.told}: ask again"), 503, again(isinstance(error, Unusable)))
 
         return answered
 
@@ -83,7 +84,7 @@ class Pages:
         page = label_page(self.frame, asked, told)
         if told.answer.status is not Status.UNKNOWN:
             return html(page)
-        self.answering.unknowns.add(told.answer)
+        self.answering.unknowns.add(told.answer.reason)
         return html(page, 503, again(told.answer.lasts))
 
     async def table(self, request: web.Request) -> web.Response:

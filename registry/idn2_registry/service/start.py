@@ -7,7 +7,6 @@ import os
 import signal
 import socket
 import sys
-from functools import partial
 from pathlib import Path
 
 from aiohttp import web
@@ -20,7 +19,6 @@ from .answering import Answering
 from .application import Service, read_token
 from .connections import Connections
 from .metrics import Metrics
-from .protocol import Protocol
 
 BACKLOG = 1024
 # So long requests have that are being answered at the end.
@@ -79,27 +77,25 @@ async def served(zone: Zone, token: bytes | None, listening: list[socket.socket]
     """Serves until a signal ends it."""
     metrics = Metrics(zone.program.version)
     answering = Answering(zone, metrics)
-    made: list[Connections] = []
-    service = Service(answering, metrics, lambda: made[0], token)
-    runner = web.AppRunner(service.application(), handle_signals=False)
+    is_ending = asyncio.Event()
+    runner = web.AppRunner(Service(answering, metrics, token).application(), handle_signals=False)
     await runner.setup()
     server = runner.server
     assert server is not None
-    made.append(Connections(partial(Protocol, server, metrics), zone.configuration.service.connections, metrics))
+    connections = Connections(server, zone.configuration.service.connections, metrics, is_ending)
     loop = asyncio.get_running_loop()
-    is_over = asyncio.Event()
     for number in (signal.SIGTERM, signal.SIGINT):
-        loop.add_signal_handler(number, is_over.set)
+        loop.add_signal_handler(number, is_ending.set)
     loop.add_signal_handler(signal.SIGHUP, Reloads(answering).begin)
-    servers = [await loop.create_server(made[0], sock=each, backlog=BACKLOG) for each in listening]
+    servers = [await loop.create_server(connections, sock=each, backlog=BACKLOG) for each in listening]
     tell_ready(listening)
-    await is_over.wait()
-    made[0].are_ending = True
+    answering.tell_doubt()
+    await is_ending.wait()
     for each in servers:
         each.close()
     await server.shutdown(END_SECONDS)
     await runner.cleanup()
-    await asyncio.to_thread(answering.close)
+    await answering.close()
 
 
 class Reloads:

@@ -1,0 +1,122 @@
+"""What is said of a label under the tables, as they were read at one time. All of it is asked of the program."""
+
+import contextlib
+from dataclasses import replace
+
+from .answers import Answer, Object, Refusal, RegisteredLabel, Status, Variant, bytes_of, furthest_first
+from .collisions import Collisions
+from .configuration import Configuration
+from .faults import Unknown
+from .join import lacking
+from .processes import Pool, Question, Questions, only
+from .program import Program
+from .register import Transaction
+from .tables import Table, read_table
+
+REGISTER = Question(("--register",))
+
+
+class Tables:
+    """The tables as they were read at one time, and the processes that answer under them."""
+
+    def __init__(self, configuration: Configuration, program: Program) -> None:
+        self.limits = configuration.limits
+        self.program = program
+        tables = {name: read_table(name, path, program) for name, path in configuration.tables.items()}
+        self.by_name = tables
+        self.admitting = {name: tables[name] for name in configuration.admitting}
+        self._asked = {name: Collisions(table) for name, table in tables.items()}
+        self.collisions = self._asked[configuration.zone]
+        # Why a label without a found collision may still have one.
+        self.doubt = self.collisions.doubt or lacking(tables[configuration.zone], list(self.admitting.values()))
+        self.pool = Pool(program, configuration.processes, configuration.limits.seconds)
+        self._listing = {name: self.question(table, *self.bounds(self.limits.limit))
+                         for name, table in self.admitting.items()}
+
+    @staticmethod
+    def question(table: Table, *options: str) -> Question:
+        """What lists by a table."""
+        return Question((table.kind.value[0], table.held.path, *options), (table.held,))
+
+    def bounds(self, most: int) -> tuple[str, ...]:
+        """The options that bound a listing."""
+        limits = self.limits
+        return "--limit", str(most), "--tries", str(limits.tries), "--steps", str(limits.steps)
+
+    async def tested(self, label: str, questions: Questions) -> Answer:
+        """A label as it is registered, with the tables that admit it; or refused."""
+        if refusal := Refusal.of_control_character(label):
+            return Answer(label, Status.REFUSED, refusal=refusal)
+        told = only(await questions.ask(REGISTER, bytes_of(label)), "alabel")
+        if "refusal" in told:
+            return Answer(label, Status.REFUSED, refusal=Refusal.read(told["refusal"]))
+        refusals = await self.refusals(told["ulabel"], questions)
+        tables = tuple(name for name in self.admitting if name not in refusals)
+        refusal = None if tables else next(iter(refusals.values()))
+        status = Status.REFUSED if refusal else Status.ADMITTED
+        return Answer(label, status, told["ulabel"], told["alabel"], tables, refusal)
+
+    async def refusals(self, ulabel: str, questions: Questions) -> dict[str, Refusal]:
+        """Why the tables that don't admit a label refuse it, the furthest first."""
+        told = {name: await self.refusal(name, ulabel, questions) for name in self.admitting}
+        return furthest_first({name: refusal for name, refusal in told.items() if refusal is not None})
+
+    async def refusal(self, name: str, ulabel: str, questions: Questions) -> Refusal | None:
+        """Why a table refuses a label; None if it admits it."""
+        return await self._asked[name].refusal(ulabel, questions)
+
+    async def variants(self, name: str, ulabel: str, page: int | None, after: str | None,
+                       questions: Questions) -> tuple[tuple[Variant, ...], str | None]:
+        """Variants of a label under a table, and after which text there may be more."""
+        request = ulabel.encode()
+        if page is None and after is None:
+            told = await questions.ask(self._listing[name], request)
+        else:
+            start = () if after is None else (f"--after={after}",)
+            question = self.question(self.admitting[name], *self.bounds(page or self.limits.limit), *start)
+            with contextlib.closing(Pool(self.program, 1, self.limits.seconds)) as pool:
+                told = await Questions(pool).ask(question, request)
+        *variants, end = told
+        if "count" not in end or end["count"] != len(variants):
+            raise Unknown(f"the program gave another answer than it should: {end}")
+        return tuple(map(variant_of, variants)), None if end["complete"] else end["after"]
+
+    async def with_variants(self, answer: Answer, questions: Questions) -> Answer:
+        """An answer with the variants under the first table that admits the label."""
+        if not answer.tables or answer.ulabel is None:
+            return answer
+        found, after = await self.variants(answer.tables[0], answer.ulabel, None, None, questions)
+        return replace(answer, table=answer.tables[0], variants=found, after=after)
+
+    async def decided(self, tested: Answer, holder: str | None, transaction: Transaction,
+                      questions: Questions) -> Answer:
+        """Whether an admitted label is available to a holder, as the register stands in a transaction."""
+        assert tested.ulabel is not None
+        label = tested.ulabel
+        taken_by = tuple([RegisteredLabel(each, await self.alabel_of(each, questions), held)
+                          for each, held in await self.collisions.of(label, transaction, questions)])
+        is_own = holder is not None and all(each.ulabel != label and each.holder == holder for each in taken_by)
+        is_offered = is_own and all([await self.is_offered(label, each.ulabel, questions) for each in taken_by])
+        if taken_by and not is_offered:
+            return replace(tested, status=Status.TAKEN, taken_by=taken_by)
+        if self.doubt:
+            return replace(tested, status=Status.UNKNOWN, reason=self.doubt, lasts=True)
+        return replace(tested, status=Status.AVAILABLE)
+
+    async def alabel_of(self, ulabel: str, questions: Questions) -> str:
+        """The A-label of a registered label; the label itself if it may not be registered any more."""
+        alabel: str = only(await questions.ask(REGISTER, ulabel.encode()), "alabel").get("alabel", ulabel)
+        return alabel
+
+    async def is_offered(self, label: str, registered: str, questions: Questions) -> bool:
+        """Whether the holder of a registered label may have the label, too: under each table that admits both, and one
+        does."""
+        both = [self._asked[name] for name in self.admitting
+                if not any([await self.refusal(name, each, questions) for each in (label, registered)])]
+        seconds = self.limits.seconds
+        return bool(both) and all(each.is_offered(label, registered, self.program, seconds) for each in both)
+
+
+def variant_of(told: Object) -> Variant:
+    """The variant of an object."""
+    return Variant(told["ulabel"], told["alabel"], told.get("disposition"))

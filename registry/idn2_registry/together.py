@@ -1,0 +1,54 @@
+"""Requests that are answered together. Each is a coroutine that awaits what it asks. They take turns: in each turn all
+that several of them ask of one process, or of the register, goes there at once. asyncio has no part in it."""
+
+from collections.abc import Callable, Coroutine, Generator, Iterable, Iterator, Sequence
+from dataclasses import dataclass
+from typing import Any, Generic, TypeVar
+
+from .faults import Fault
+
+Given = TypeVar("Given")
+Told = TypeVar("Told")
+Result = TypeVar("Result")
+
+
+@dataclass(frozen=True)
+class Ask(Generic[Given, Told]):
+    """What is asked of a teller. It is asked several at once, and gives for each, in their order, what it tells or what
+    went wrong."""
+
+    teller: Callable[[Sequence[Given]], Sequence[Told | Fault]]
+    given: Given
+
+    def __await__(self) -> Generator["Ask[Given, Told]", Any, Told]:
+        told: Told = yield self
+        return told
+
+
+Request = Coroutine[Ask[Any, Any], Any, Result]
+
+
+def together(requests: Iterable[Request[Result]]) -> Iterator[tuple[int, Result | Fault]]:
+    """What requests give, or what went wrong, each with its number as soon as it is there. What a teller raises ends
+    all of them."""
+    due: list[tuple[int, Request[Result], Any]] = [(number, request, None) for number, request in enumerate(requests)]
+    while due:
+        asked: dict[Callable[..., Any], list[tuple[int, Request[Result], Any]]] = {}
+        for number, request, told in due:
+            try:
+                ask = request.throw(told) if isinstance(told, Fault) else request.send(told)
+                asked.setdefault(ask.teller, []).append((number, request, ask.given))
+            except StopIteration as end:
+                yield number, end.value
+            except Fault as fault:
+                yield number, fault
+        due = [(number, request, told) for teller, each in asked.items()
+               for (number, request, _), told in zip(each, teller([given for *_, given in each]), strict=True)]
+
+
+def alone(request: Request[Result]) -> Result:
+    """What one request gives. Raises what went wrong with it."""
+    [(_, result)] = together([request])
+    if isinstance(result, Fault):
+        raise result
+    return result
