@@ -32,7 +32,7 @@ from drawn_rulesets import DrawnRuleset, spelled
 from idn2_registry.unicode_data import Classes, version
 from libidn2 import LibIdn2
 from objects import Wrong, as_explained, without_what_objects_leave_out
-from reference_run import LINE_LIMIT, TEXTS, Bad, Options, Reference, Show, Unknown, bodies
+from reference_run import LINE_LIMIT, TEXTS, Bad, Options, Reference, Show, Unknown, bodies, explains
 from registration import EMPTY, LABEL_TOO_LONG, a_label
 from rules import UnicodeProperties
 
@@ -117,7 +117,7 @@ class Fuzz:
             return Unknown
         found = self.run(words, given)
         if is_as_wanted(found, wanted):
-            if "--explain" not in words:
+            if not explains(words):
                 return None
             wanted = wanted[0], wanted[1] and without_what_objects_leave_out(wanted[1]), wanted[2]
             words = ["--json", *words]

@@ -360,9 +360,14 @@ def message(number):
     return f"idn2: {number} {TEXTS[number]}\n".encode()
 
 
+def explains(words):
+    """Whether causes are asked for: what comes after `--` is no option."""
+    return "--explain" in itertools.takewhile(lambda word: word != "--", words)
+
+
 def ending(words, number, cause):
     """The message of what ends a run, with its cause if that is asked for among the words."""
-    if "--explain" not in itertools.takewhile(lambda word: word != "--", words):
+    if not explains(words):
         return message(number)
     return f"idn2: {number} {TEXTS[number]}: {cause}\n".encode()
 

@@ -21,7 +21,7 @@ pub(crate) type ExplainedMessage = ArrayVec<u8, 1280>;
 /// Appends a cause.
 #[tactic(auto, unfolding(crate::specs::CauseWords::cause_words))]
 pub(crate) fn push_cause(text: &mut ExplainedMessage, told: &ToldCause<'_>)
-    requires room { array_vec_len text.old ≤ 100 }
+    requires room { array_vec_len text.old + 1120 ≤ 1280 }
     requires short { IsShort (told_parts told.now) }
     ensures items { text.new.items ≡ text.old.items ++ cause_words (told_parts told.now) }
     ensures end { array_vec_len text.new ≤ array_vec_len text.old + 1120 }
@@ -36,7 +36,7 @@ pub(crate) fn push_cause(text: &mut ExplainedMessage, told: &ToldCause<'_>)
 /// Appends which label of a name it is, and whether what is refused is what it stands for.
 #[tactic(auto, unfolding(crate::specs::CauseWords::label_words))]
 fn push_label(text: &mut ExplainedMessage, members: &RefusalMembers<'_>)
-    requires { array_vec_len text.old ≤ 100 }
+    requires { array_vec_len text.old + 60 ≤ 1280 }
     ensures items { text.new.items ≡ text.old.items ++ label_words (details_of members.now) }
     ensures end { array_vec_len text.new ≤ array_vec_len text.old + 60 }
 {
@@ -54,7 +54,7 @@ fn after_label(decoded: bool) -> &'static [u8]
 
 /// Appends that what is refused is what an A-label stands for, where it is.
 fn push_decoded(text: &mut ExplainedMessage, decoded: bool)
-    requires { array_vec_len text.old ≤ 200 }
+    requires { array_vec_len text.old + 9 ≤ 1280 }
     ensures items { text.new.items ≡ text.old.items ++ (if decoded then codes "decoded: " else []) }
     ensures end { array_vec_len text.new ≤ array_vec_len text.old + 9 }
 {
@@ -65,7 +65,7 @@ fn push_decoded(text: &mut ExplainedMessage, decoded: bool)
 
 /// Appends what stands at the place: the code point, if nothing is told in place of it.
 fn push_subject(text: &mut ExplainedMessage, lead: &Option<Lead>, point: Option<u32>)
-    requires { array_vec_len text.old ≤ 160 }
+    requires { array_vec_len text.old + 34 ≤ 1280 }
     ensures items { text.new.items ≡ text.old.items ++ subject_words (option_map (λ lead. lead.items) lead.now) point }
     ensures end { array_vec_len text.new ≤ array_vec_len text.old + 34 }
 {
@@ -78,7 +78,7 @@ fn push_subject(text: &mut ExplainedMessage, lead: &Option<Lead>, point: Option<
 /// Appends the place in code points, or in bytes.
 #[tactic(auto, unfolding(crate::specs::CauseWords::place_words))]
 fn push_place(text: &mut ExplainedMessage, told: &ToldCause<'_>)
-    requires { array_vec_len text.old ≤ 194 }
+    requires { array_vec_len text.old + 100 ≤ 1280 }
     ensures items { text.new.items ≡ text.old.items ++ place_words (told_parts told.now) }
     ensures end { array_vec_len text.new ≤ array_vec_len text.old + 100 }
 {
@@ -103,7 +103,7 @@ fn before_place(lead: &Option<Lead>) -> &'static [u8]
 /// Appends the Bidi_Class, and the rule that is broken.
 #[tactic(auto, unfolding(crate::specs::CauseWords::rule_words))]
 fn push_rule(text: &mut ExplainedMessage, told: &ToldCause<'_>)
-    requires room { array_vec_len text.old ≤ 294 }
+    requires room { array_vec_len text.old + 220 ≤ 1280 }
     requires short { IsShort (told_parts told.now) }
     ensures items { text.new.items ≡ text.old.items ++ rule_words (told_parts told.now) }
     ensures end { array_vec_len text.new ≤ array_vec_len text.old + 220 }
@@ -119,7 +119,7 @@ fn push_rule(text: &mut ExplainedMessage, told: &ToldCause<'_>)
 /// Appends the demand, the lengths, the other A-label and the U-label.
 #[tactic(auto, unfolding(crate::specs::CauseWords::length_words))]
 fn push_lengths(text: &mut ExplainedMessage, members: &RefusalMembers<'_>)
-    requires room { array_vec_len text.old ≤ 514 }
+    requires room { array_vec_len text.old + 700 ≤ 1280 }
     requires short { HasShortTexts (details_of members.now) }
     ensures items { text.new.items ≡ text.old.items ++ length_words (details_of members.now) }
     ensures end { array_vec_len text.new ≤ array_vec_len text.old + 700 }
@@ -134,7 +134,7 @@ fn push_lengths(text: &mut ExplainedMessage, members: &RefusalMembers<'_>)
 
 /// Appends a number between words, if it is there.
 fn push_number(text: &mut ExplainedMessage, before: &[u8], number: Option<u128>, after: &[u8])
-    requires { array_vec_len text.old + length before.now + length after.now ≤ 1200 }
+    requires { array_vec_len text.old + (length before.now + length after.now + 40) ≤ 1280 }
     ensures items { text.new.items ≡ text.old.items ++ number_between before.now number after.now }
     ensures end { array_vec_len text.new ≤ array_vec_len text.old + (length before.now + length after.now + 40) }
 {
@@ -148,7 +148,7 @@ fn push_number(text: &mut ExplainedMessage, before: &[u8], number: Option<u128>,
 
 /// Appends a code point after words, if it is there.
 fn push_point(text: &mut ExplainedMessage, before: &[u8], point: Option<u32>)
-    requires { array_vec_len text.old + length before.now ≤ 1200 }
+    requires { array_vec_len text.old + (length before.now + 8) ≤ 1280 }
     ensures items { text.new.items ≡ text.old.items ++ point_after before.now point }
     ensures end { array_vec_len text.new ≤ array_vec_len text.old + (length before.now + 8) }
 {
@@ -160,7 +160,8 @@ fn push_point(text: &mut ExplainedMessage, before: &[u8], point: Option<u32>)
 
 /// Appends a text between words, if it is there.
 fn push_text(text: &mut ExplainedMessage, before: &[u8], told: Option<&[u8]>, after: &[u8])
-    requires { array_vec_len text.old + length before.now + given_len (option_copied told) + length after.now ≤ 1280 }
+    requires { array_vec_len text.old + (length before.now + given_len (option_copied told) + length after.now) ≤
+        1280 }
     ensures items { text.new.items ≡ text.old.items ++ text_between before.now (option_copied told.entry) after.now }
     ensures end { array_vec_len text.new ≤ array_vec_len text.old +
         (length before.now + given_len (option_copied told.entry) + length after.now) }

@@ -1,27 +1,31 @@
 -- What reading a definition tells is what makes reading refuse it.
 use Rattle.std.proofs.Common.{◌≡◌, ℕ, ◌+◌, ◌-◌, ◌≤◌, nat_le, nat_lt, Bool, true, false, cond, not, ◌||◌, List, [], ◌∷◌, length, Some, Result, Ok, Err, refl, sym, ap, subst, ◌∙◌, arith}
-use Rattle.std.specs.Prelude.{is_some}
+use Rattle.std.specs.Prelude.{Option, is_some}
 use Rattle.std.specs.Result.{IsErr, IsErrAnd, result_ok}
 use Rattle.std.proofs.lemmas.Bool.Decides.{nat_tests}
 use Rattle.label_patterns.specs.Patterns.{Pattern}
 use Rattle.ruleset_text.specs.declared.definition.DemandKind.{DemandKind}
 use Rattle.ruleset_text.specs.declared.definition.DemandKind.TheVariants as demand
+use Rattle.ruleset_text.specs.declared.definition_line.DefinitionLine.{DefinitionLine}
 use Rattle.ruleset_text.specs.declared.definition_reading.ReadDefinition.{ReadDefinition}
 use Rattle.ruleset_text.specs.declared.fault.DefinitionFault.{DefinitionFault}
 use Rattle.ruleset_text.specs.declared.fault.DefinitionFault.TheVariants as fault
 use Rattle.ruleset_text.specs.declared.fault.DefinitionRefusal.{DefinitionRefusal}
 use Rattle.ruleset_text.specs.declared.fault.FaultPlace.{FaultPlace}
 use Rattle.ruleset_text.specs.declared.fault.FaultPlace.TheVariants.{End}
+use Rattle.ruleset_text.specs.declared.fault.LineFaults.{LineFaults}
 use Rattle.ruleset_text.specs.declared.fault.ReadError.{ReadError}
 use Rattle.ruleset_text.specs.declared.fault.ReadError.TheVariants as unread
 use Rattle.ruleset_text.specs.declared.keyword.Keyword.{Keyword}
 use Rattle.ruleset_text.specs.declared.keyword.Keyword.TheVariants as keyword
 use Rattle.ruleset_text.specs.declared.reading.Earlier.{Earlier}
+use Rattle.ruleset_text.specs.Canonical.{definition_text}
 use Rattle.ruleset_text.specs.Definition as definition
 use Rattle.ruleset_text.specs.Definition.{Definition, definition_of}
 use Rattle.ruleset_text.specs.DefinitionPlaces.{AreFaultsOf, definition_faults, faults_after, without_first}
 use Rattle.ruleset_text.specs.DefinitionReading.{after_name, definition_read, named, pattern_read, rule_read, set_read, spans_read, tag_read}
-use Rattle.ruleset_text.specs.Definitions.{Definitions, all_atoms, defined, definition_atoms, is_pattern_over_limit}
+use Rattle.ruleset_text.specs.Definitions.{Definitions, all_atoms, defined, definition_atoms, has_most, has_same_name}
+use Rattle.ruleset_text.specs.Definitions.{is_line_over_limit, is_pattern_over_limit, with_definition}
 use Rattle.ruleset_text.specs.DefinitionTrees as trees
 use Rattle.ruleset_text.specs.inner.DefinitionSteps.{HasForm, IsEarlier, IsReadDefinition, Leaves, Refuses}
 use Rattle.ruleset_text.specs.Limits.{atoms, groups, has_its_sets, stars}
@@ -32,7 +36,7 @@ use Rattle.ruleset_text.specs.PatternLimits.{limit_place}
 use Rattle.ruleset_text.specs.PlacedLexemes.{Placed, unplaced}
 use Rattle.ruleset_text.specs.WellFormed.{AreDefinitions}
 use Rattle.ruleset_text.proofs.DefinedLemmas.{form as form_of}
-use Rattle.ruleset_text.proofs.DefineLemmas.{formless}
+use Rattle.ruleset_text.proofs.DefineLemmas.{by_tests, formless, told_by}
 use Rattle.ruleset_text.proofs.DefinitionStopLemmas.{definition_as_read}
 use Rattle.ruleset_text.proofs.LineFaultLemmas.{bad_refused, span_refused, unknown_refused}
 use Rattle.ruleset_text.proofs.PatternLimitLemmas.{limit_refused}
@@ -143,9 +147,10 @@ pub record IsReadAfter (d : Definitions) (k : Keyword) (end : ℕ) (ws : List Pl
   pub told : AreFaultsOf d (trees.definition r.definition) r.faults
   pub form : HasForm (trees.definition r.definition)
 
-pub read_after : (e : Earlier) (d : Definitions) (k : Keyword) (end : ℕ) (ws : List Placed) (r : ReadDefinition) → IsEarlier e d
-    → IsReadDefinition e ws r (definition_read e.sets.now k end ws) → IsReadAfter d k end ws r
-read_after e d k end ws r is given = record {
+pub read_after : {e : Earlier} {d : Definitions} (line : DefinitionLine) {r : ReadDefinition} → IsEarlier e d
+    → IsReadDefinition e line.after r (definition_read e.sets.now line.keyword line.end line.after)
+    → IsReadAfter d line.keyword line.end line.after r
+read_after {e} {d} line {r} is given = record {
   read = read;
   spelled = spelled;
   atoms = given.atoms ∙ ap (λ n. n - definition_atoms x) is.atoms;
@@ -154,6 +159,15 @@ read_after e d k end ws r is given = record {
   form = form_of d.set_names k (unplaced ws) x spelled;
 }
   where
+    k : Keyword
+    k = line.keyword
+
+    end : ℕ
+    end = line.end
+
+    ws : List Placed
+    ws = line.after
+
     x : Definition
     x = trees.definition r.definition
 
@@ -167,6 +181,20 @@ read_after e d k end ws r is given = record {
     faults =
         given.faults ∙ ap (λ names. definition_faults names e.atoms_left e.properties x ws) is.sets ∙ ap (λ n. definition_faults d.set_names n e.properties x ws) is.atoms
         ∙ ap (λ p. definition_faults d.set_names (4096 - all_atoms d) p x ws) is.properties
+
+-- a definition is refused, or added, by what reading told of it
+module _ (limit : ℕ) {d : Definitions} {x : Definition} {faults : LineFaults} {len : ℕ} (told : AreFaultsOf d x faults)
+    (size : len ≡ length (definition_text d.set_names x)) where
+  pub checked : {most long same : Bool} {past unknown bad : Option FaultPlace} → has_most d x ≡ most
+      → faults.limit ≡ past
+      → faults.name ≡ unknown → is_line_over_limit limit d len ≡ long → faults.class ≡ bad → has_same_name d x ≡ same
+      → with_definition limit d (Some x) ≡ told_by d x (most || is_some past) (not (is_some unknown)) long
+      (is_some bad) same
+  checked {most} im ip iu il ib is =
+      by_tests limit d (Some x) x _ _ _ _ _ refl
+      (told.limit ∙ ap (λ b. b || is_some faults.limit) im ∙ ap (λ o. most || is_some o) ip)
+      (told.name ∙ ap (λ o. not (is_some o)) iu) (ap (is_line_over_limit limit d) (sym size) ∙ il)
+      (told.class ∙ ap is_some ib) is
 
 -- a line without the form
 fault_told : (limit : ℕ) (d : Definitions) (k : Keyword) (end : ℕ) (ws : List Placed) (error : ReadError) → StopsAt error (definition_read d.set_names k end ws) → Refuses (refusal_of error).fault (defined limit d k (unplaced ws))

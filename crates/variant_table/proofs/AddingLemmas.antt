@@ -1,29 +1,38 @@
 -- What the entries of a line add.
-use Rattle.std.proofs.Common.{◌≡◌, ℕ, ◌+◌, ◌-◌, ◌<◌, ◌≤◌, Bool, true, false, ◌||◌, cond, List, [], ◌∷◌, ◌++◌, length, map, Some, None, Ok, Err, refl, sym, ap, subst, ◌∙◌, arith, length-append}
-use Rattle.std.specs.Prelude.{nat_lt, slice_index}
+use Rattle.std.proofs.Common.{◌≡◌, ℕ, ◌+◌, ◌-◌, ◌<◌, ◌≤◌, Bool, true, false, ◌||◌, cond, List, [], ◌∷◌, ◌++◌, length}
+use Rattle.std.proofs.Common.{map, Option, Some, None, Result, Ok, Err, refl, sym, ap, subst, ◌∙◌, arith, length-append}
+use Rattle.std.specs.Prelude.{find, is_some, nat_lt, slice_index_or}
 use Rattle.std.specs.List.{AllByRecursion, list_any, range_with_len}
-use Rattle.std.proofs.lemmas.Bool.{le-ltb, lt-ltb, or_from}
+use Rattle.std.proofs.lemmas.Bool.{le-ltb, lt-ltb, not-false, not-true, or_from}
 use Rattle.std.proofs.lemmas.List.FromFn.{length-map-range_with_len}
 use Rattle.std.proofs.Math.Bool.{or-false}
+use Rattle.idn_class.specs.declared.properties.Properties.{Properties}
+use Rattle.ruleset_text.specs.Classes.{is_bad_point}
 use Rattle.ruleset_text.specs.Definitions.{Definitions}
+use Rattle.ruleset_text.specs.declared.entry_form.Mapped as held
+use Rattle.ruleset_text.specs.declared.fault.FaultPlace.{FaultPlace}
 use Rattle.ruleset_text.specs.Entries.{Mapped, EntryForm}
-use Rattle.ruleset_text.specs.EntryText.{IsForm}
+use Rattle.ruleset_text.specs.EntryForms.{mapped}
+use Rattle.variant_table.specs.declared.fault.LineRefusal.{LineRefusal}
 use Rattle.variant_table.specs.declared.version.Version.{Version}
 use Rattle.variant_table.specs.declared.version.Version.TheVariants.{One, Two, Three}
-use Rattle.variant_table.specs.Faults.{Limit, NoSuchName, BadClass, SameVariant, SameSource}
+use Rattle.variant_table.specs.Faults.{LineFault, Limit, Syntax, NoSuchName, BadClass, SameVariant, SameSource}
+use Rattle.variant_table.specs.Faults.{SameName, table_fault}
 use Rattle.variant_table.specs.Canonical.{table_text, written_text}
 use Rattle.variant_table.specs.Conditions.{is_too_large, is_text_too_long, is_over_limit, has_bad_class, has_repeat, has_source_in}
-use Rattle.variant_table.specs.Entries.{Entry}
+use Rattle.variant_table.specs.Entries.{Variant, Entry, entry_from, source_of}
 use Rattle.variant_table.specs.Forms.{with_point, written_out, knows_all, variant_of, entry_of, entries_of}
 use Rattle.variant_table.specs.Limits.{text_limit, entry_limit}
 use Rattle.variant_table.specs.Ranges.{range_size}
-use Rattle.variant_table.specs.Reading.{with_entries, with_form}
+use Rattle.variant_table.specs.Reading.{◌>>=◌, with_entries, with_form, with_form_of}
 use Rattle.variant_table.specs.WellFormed.{IsNamed}
 use Rattle.variant_table.specs.inner.Held.{counted, IsCounted}
-use Rattle.variant_table.specs.inner.ReadingSteps.{with_new_source, with_new_sources}
+use Rattle.variant_table.specs.inner.Readers.{IsNotedAs, ReadSoFar, form_with}
+use Rattle.variant_table.specs.inner.ReadingSteps.{Fails, with_new_source, with_new_sources}
+use Rattle.variant_table.proofs.FormSteps.{IsRange, range_of}
 use Rattle.variant_table.proofs.ConditionLemmas.{IsKnown, known_form, named_form, points_are, text_with}
 use Rattle.variant_table.proofs.LengthLemmas.{range_lines}
-use Rattle.variant_table.proofs.RangeLemmas.{points_from, range_small, range_single, with_range}
+use Rattle.variant_table.proofs.RangeLemmas.{points_bad, points_from, range_small, range_single, some_found, with_range}
 use Rattle.variant_table.proofs.TestLemmas.{with_form-over, with_form-unnamed, with_form-entries, entries-bad, entries-again, entries-new}
 use Rattle.ruleset_text.proofs.LineBytes.{all_joined}
 
@@ -86,94 +95,261 @@ new_table : (b : Bool) (t es t' : List Entry) → cond b (Err SameSource) (Ok (t
 new_table true t es t' h = absurd cc
 new_table false t es t' h = cc
 
--- ---- an entry
+-- ---- what a reader adds
 
-module _ (v : Version) (d : Definitions) (t : List Entry) (ms : List Mapped) (left : ℕ) (so_far : IsCounted v d left t) where
-  abbrev pub entry_form : EntryForm
-  entry_form = record { mapped = ms; last = None }
+-- a call fails with this fault
+pub fails_with : {Y : Type 0} (number : ℕ)
+    (kind : LineFault) {read : Result Y LineFault} {r : LineRefusal} {place : Option FaultPlace}
+    → r ≡ record { fault = table_fault number kind; place = place } → read ≡ Err kind → Fails number r.fault read
+fails_with number kind {read} is e = subst (λ x. Fails number x.fault read) (sym is) (by kind e)
+  where
+    by : (kind : LineFault) → read ≡ Err kind → Fails number (table_fault number kind) read
+    by Limit h = (refl, h)
+    by Syntax h = (refl, h)
+    by BadClass h = (refl, h)
+    by SameVariant h = (refl, h)
+    by SameSource h = (refl, h)
+    by NoSuchName h = (refl, h)
+    by SameName h = (refl, h)
 
-  pub entry_too_many : entry_limit v ≤ length t → with_form v d t entry_form ≡ Err Limit
-  entry_too_many l = too_many v d t entry_form left so_far (omega (arith, l))
+-- r is what a reader has in its fields before a line, which is what was read so far
+module _ {r now : ReadSoFar} (is : r ≡ now) where
+  abbrev v : Version
+  v = r.table.version
 
-  pub entry_too_large : is_too_large ms ≡ true → with_form v d t entry_form ≡ Err Limit
-  entry_too_large h = too_large v d t entry_form left so_far (ap (λ b. b || false) h)
+  abbrev d : Definitions
+  d = r.table.definitions
 
-  pub entry_too_long : left < counted v (written_text (ms ∷ [])) → with_form v d t entry_form ≡ Err Limit
-  entry_too_long l = too_long v d t entry_form left so_far l
+  abbrev t : List Entry
+  t = r.table.entries
 
-  module _ (is : IsForm ms None) (few : length t < entry_limit v) (small : is_too_large ms ≡ false) (rest : ℕ) (rest-is : counted v (written_text (ms ∷ [])) + rest ≡ left) where
-    fits : is_over_limit v d t (ms ∷ []) ≡ false
-    fits = not_over v d t entry_form left so_far (omega (arith, few)) (ap (λ b. b || false) small) rest rest-is
+  -- what the entries are makes the table
+  told : (form : EntryForm) (fault : LineFault) → with_form v d t form ≡ Err fault
+      → with_form_of now.table form ≡ Err fault
+  told form fault e = subst (λ x. with_form_of x.table form ≡ Err fault) is
+      (ap (λ x. x >>= λ all. Ok (record r.table { entries = all })) e)
 
-    pub entry_unnamed : knows_all d ms ≡ false → with_form v d t entry_form ≡ Err NoSuchName
-    entry_unnamed k = with_form-unnamed v d t entry_form fits k
+  added : (form : EntryForm) (all : List Entry) → with_form v d t form ≡ Ok all
+      → with_form_of now.table form ≡ Ok (record r.table { entries = all })
+  added form all e =
+      subst (λ x. with_form_of x.table form ≡ Ok (record r.table { entries = all })) is
+      (ap (λ x. x >>= λ es. Ok (record r.table { entries = es })) e)
 
-    module _ (known : knows_all d ms ≡ true) where
-      pub entry_bad : has_bad_class d.properties (entry_of d ms) ≡ true → with_form v d t entry_form ≡ Err BadClass
-      entry_bad b = with_form-entries v d t entry_form fits known ∙ entries-bad d.properties t (entry_of d ms ∷ []) (ap (λ x. x || false) b)
+  -- ---- an entry
 
-      pub entry_again : has_bad_class d.properties (entry_of d ms) ≡ false → has_repeat (entry_of d ms) ≡ true → with_form v d t entry_form ≡ Err SameVariant
-      entry_again b r = with_form-entries v d t entry_form fits known ∙ entries-again d.properties t (entry_of d ms ∷ []) (ap (λ x. x || false) b) (ap (λ x. x || false) r)
+  module _ (items : List held.Mapped) (noted-now : IsNotedAs (form_with items None) now) where
+    abbrev ms : List Mapped
+    ms = map mapped items
 
-      pub entry_new : has_bad_class d.properties (entry_of d ms) ≡ false → has_repeat (entry_of d ms) ≡ false → with_form v d t entry_form ≡ with_new_source t (entry_of d ms)
-      entry_new b r =
-          with_form-entries v d t entry_form fits known ∙ entries-new d.properties t (entry_of d ms ∷ []) (ap (λ x. x || false) b) (ap (λ x. x || false) r)
-          ∙ ap (λ x. cond x (Err SameSource) (Ok (t ++ entry_of d ms ∷ []))) (or-false (has_source_in t (entry_of d ms)))
+    abbrev entry_form : EntryForm
+    entry_form = form_with items None
 
-      pub entry_counted : (t' : List Entry) → with_new_source t (entry_of d ms) ≡ Ok t' → IsCounted v d rest t'
-      entry_counted t' e =
-          subst (IsCounted v d rest) (sym (new_table (has_source_in t (entry_of d ms)) t (entry_of d ms ∷ []) t' e))
-          (counted_with v d t entry_form left so_far (known_form d None ms is known) (entry_of d ms ∷ []) refl (named_form d None ms is known) rest rest-is)
+    noted : IsNotedAs entry_form r
+    noted = subst (IsNotedAs entry_form) (sym is) noted-now
 
--- ---- a range
+    pub entry_too_many : entry_limit v ≤ length t → with_form_of now.table entry_form ≡ Err Limit
+    entry_too_many l = told entry_form Limit (too_many v d t entry_form r.left noted.counted (omega (arith, l)))
 
-module _ (v : Version) (d : Definitions) (t : List Entry) (m : Mapped) (first last count left : ℕ) (so_far : IsCounted v d left t) (at : slice_index m.points 0 ≡ first) (size : count ≡ last - first + 1) (rises : first ≤ last) where
-  abbrev pub range_form : EntryForm
-  range_form = record { mapped = m ∷ []; last = Some last }
+    pub entry_too_long : r.left < counted v (written_text (ms ∷ [])) → with_form_of now.table entry_form ≡ Err Limit
+    entry_too_long l = told entry_form Limit (too_long v d t entry_form r.left noted.counted l)
 
-  lines : written_out range_form ≡ range_lines m first count
-  lines = ap (λ f. range_lines m f (range_size f last)) at ∙ ap (range_lines m first) (let same : last + 1 - first ≡ count = omega (arith, size, rises) in same)
+    pub entry_too_large : is_some r.notes.faults.limit ≡ true → with_form_of now.table entry_form ≡ Err Limit
+    entry_too_large h = told entry_form Limit
+        (too_large v d t entry_form r.left noted.counted (sym noted.faults.limit ∙ h))
 
-  length-lines : length (written_out range_form) ≡ count
-  length-lines = ap length lines ∙ length-map-range_with_len (λ c. with_point m c ∷ []) first count
+    module _ (few : length t < entry_limit v) (small : is_some r.notes.faults.limit ≡ false) (rest : ℕ)
+        (rest-is : counted v (written_text (ms ∷ [])) + rest ≡ r.left) where
+      fits : is_over_limit v d t (ms ∷ []) ≡ false
+      fits = not_over v d t entry_form r.left noted.counted (omega (arith, few))
+          (sym noted.faults.limit ∙ small) rest rest-is
 
-  pub range_too_many : entry_limit v < length t + count → with_form v d t range_form ≡ Err Limit
-  range_too_many l = too_many v d t range_form left so_far (omega (arith, l, length-lines))
+      pub entry_unnamed : is_some r.notes.faults.name ≡ true → with_form_of now.table entry_form ≡ Err NoSuchName
+      entry_unnamed h = told entry_form NoSuchName
+          (with_form-unnamed v d t entry_form fits (not-true (knows_all d ms) (sym noted.faults.name ∙ h)))
 
-  pub range_too_long : left < counted v (written_text (range_lines m first count)) → with_form v d t range_form ≡ Err Limit
-  range_too_long l = too_long v d t range_form left so_far (subst (λ es. left < counted v (written_text es)) (sym lines) l)
+      module _ (named : is_some r.notes.faults.name ≡ false) where
+        pub entry_known : knows_all d ms ≡ true
+        entry_known = not-false (knows_all d ms) (sym noted.faults.name ∙ named)
 
-  module _ (is : IsForm (m ∷ []) (Some last)) (few : length t + count ≤ entry_limit v) (rest : ℕ) (rest-is : counted v (written_text (range_lines m first count)) + rest ≡ left) where
-    text_left : counted v (written_text (written_out range_form)) + rest ≡ left
-    text_left = ap (λ es. counted v (written_text es) + rest) lines ∙ rest-is
+        read : with_form v d t entry_form ≡ with_entries d.properties t (entry_of d ms ∷ [])
+        read = with_form-entries v d t entry_form fits entry_known
 
-    range_fits : is_over_limit v d t (written_out range_form) ≡ false
-    range_fits = not_over v d t range_form left so_far (omega (arith, few, length-lines)) (ap (list_any is_too_large) lines ∙ range_small m (range_with_len first count)) rest text_left
+        pub entry_bad : is_some r.notes.faults.class ≡ true → with_form_of now.table entry_form ≡ Err BadClass
+        entry_bad h = told entry_form BadClass (read
+            ∙ entries-bad d.properties t (entry_of d ms ∷ []) (sym (noted.faults.class refl) ∙ h))
 
-    pub range_unnamed : knows_all d (m ∷ []) ≡ false → with_form v d t range_form ≡ Err NoSuchName
-    range_unnamed k = with_form-unnamed v d t range_form range_fits k
+        module _ (good : is_some r.notes.faults.class ≡ false) (ss : List Variant)
+            (are : ss ≡ map (variant_of d) ms) where
+          abbrev e : Entry
+          e = entry_from ss
 
-    module _ (known : knows_all d (m ∷ []) ≡ true) where
-      es : List Entry
-      es = points_from (variant_of d m) first count
+          taken : e ≡ entry_of d ms
+          taken = ap entry_from are
 
-      es-are : entries_of d range_form ≡ es
-      unfolding es
-      es-are = ap (map (entry_of d)) lines ∙ points_are d m (range_with_len first count)
+          repeats : {b : Bool} → has_repeat e ≡ b → (has_repeat (entry_of d ms) || false) ≡ (b || false)
+          repeats h = ap (λ x. x || false) (ap has_repeat (sym taken) ∙ h)
 
-      pub range_bad : list_any (has_bad_class d.properties) (points_from (variant_of d m) first count) ≡ true → with_form v d t range_form ≡ Err BadClass
-      unfolding es
-      range_bad b = with_form-entries v d t range_form range_fits known ∙ ap (with_entries d.properties t) es-are ∙ entries-bad d.properties t es b
+          class : list_any (has_bad_class d.properties) (entry_of d ms ∷ []) ≡ false
+          class = sym (noted.faults.class refl) ∙ good
 
-      pub range_good : list_any (has_bad_class d.properties) (points_from (variant_of d m) first count) ≡ false → with_form v d t range_form ≡ with_new_sources t (points_from (variant_of d m) first count)
-      unfolding es
-      range_good b =
-          with_form-entries v d t range_form range_fits known ∙ ap (with_entries d.properties t) es-are ∙ entries-new d.properties t es b (range_single (variant_of d m) first count)
-          ∙ sym (with_range (variant_of d m) t first count)
+          pub entry_again : has_repeat e ≡ true → with_form_of now.table entry_form ≡ Err SameVariant
+          entry_again h = told entry_form SameVariant
+              (read ∙ entries-again d.properties t (entry_of d ms ∷ []) class (repeats h))
 
-      pub range_counted : (t' : List Entry) → with_new_sources t (points_from (variant_of d m) first count) ≡ Ok t' → IsCounted v d rest t'
-      unfolding es
-      range_counted t' e =
-          subst (IsCounted v d rest) (sym (new_table (list_any (has_source_in t) es) t es t' (sym (with_range (variant_of d m) t first count) ∙ e)))
-          (counted_with v d t range_form left so_far (known_form d (Some last) (m ∷ []) is known) es (sym es-are)
-          (subst (AllByRecursion (IsNamed d)) es-are (named_form d (Some last) (m ∷ []) is known)) rest text_left)
+          module _ (once : has_repeat e ≡ false) where
+            new : with_form v d t entry_form ≡ with_new_source t e
+            new =
+                read ∙ entries-new d.properties t (entry_of d ms ∷ []) class (repeats once)
+                ∙ ap (λ x. cond x (Err SameSource) (Ok (t ++ entry_of d ms ∷ [])))
+                (or-false (has_source_in t (entry_of d ms))) ∙ ap (with_new_source t) (sym taken)
+
+            pub entry_there : with_new_source t e ≡ Err SameSource
+                → with_form_of now.table entry_form ≡ Err SameSource
+            entry_there h = told entry_form SameSource (new ∙ h)
+
+            module _ (t' : List Entry) (h : with_new_source t e ≡ Ok t') where
+              pub entry_added : with_form_of now.table entry_form ≡ Ok (record r.table { entries = t' })
+              entry_added = added entry_form t' (new ∙ h)
+
+              pub entry_counted : IsCounted v d rest t'
+              entry_counted =
+                  subst (IsCounted v d rest) (sym (new_table (has_source_in t (entry_of d ms)) t
+                  (entry_of d ms ∷ []) t' (ap (with_new_source t) (sym taken) ∙ h)))
+                  (counted_with v d t entry_form r.left noted.counted (known_form d None ms noted.form entry_known)
+                  (entry_of d ms ∷ []) refl (named_form d None ms noted.form entry_known) rest rest-is)
+
+  -- ---- a range
+
+  module _ (items : List held.Mapped) (x : held.Mapped) (first last : ℕ)
+      (noted-now : IsNotedAs (form_with items (Some last)) now) (at : x ≡ slice_index_or items 0 x)
+      (begins : first ≡ slice_index_or x.points.items 0 first) where
+    range : IsRange items x first last
+    range = range_of items x first last noted-now.form at begins
+
+    abbrev count : ℕ
+    count = last - first + 1
+
+    abbrev m : Mapped
+    m = mapped x
+
+    abbrev given : EntryForm
+    given = form_with items (Some last)
+
+    abbrev range_form : EntryForm
+    range_form = record { mapped = m ∷ []; last = Some last }
+
+    range_noted : IsNotedAs range_form r
+    range_noted =
+        subst (λ xs. IsNotedAs (form_with xs (Some last)) r) range.one (subst (IsNotedAs given) (sym is) noted-now)
+
+    lines : written_out range_form ≡ range_lines m first count
+    lines =
+        ap (λ f. range_lines m f (range_size f last)) range.first_is
+        ∙ ap (range_lines m first) (let same : last + 1 - first ≡ count = omega (arith, range.rises) in same)
+
+    length-lines : length (written_out range_form) ≡ count
+    length-lines = ap length lines ∙ length-map-range_with_len (λ c. with_point m c ∷ []) first count
+
+    one : with_form v d t given ≡ with_form v d t range_form
+    one = ap (λ xs. with_form v d t (form_with xs (Some last))) range.one
+
+    range_told : (fault : LineFault) → with_form v d t range_form ≡ Err fault → with_form_of now.table given ≡ Err fault
+    range_told fault e = told given fault (one ∙ e)
+
+    pub range_too_many : entry_limit v < length t + count → with_form_of now.table given ≡ Err Limit
+    range_too_many l = range_told Limit (too_many v d t range_form r.left range_noted.counted
+        (omega (arith, l, length-lines)))
+
+    pub range_too_long : r.left < counted v (written_text (range_lines m first count))
+        → with_form_of now.table given ≡ Err Limit
+    range_too_long l =
+        range_told Limit
+        (too_long v d t range_form r.left range_noted.counted
+        (subst (λ es. r.left < counted v (written_text es)) (sym lines) l))
+
+    module _ (few : length t + count ≤ entry_limit v) (rest : ℕ)
+        (rest-is : counted v (written_text (range_lines m first count)) + rest ≡ r.left) where
+      text_left : counted v (written_text (written_out range_form)) + rest ≡ r.left
+      text_left = ap (λ es. counted v (written_text es) + rest) lines ∙ rest-is
+
+      range_fits : is_over_limit v d t (written_out range_form) ≡ false
+      range_fits =
+          not_over v d t range_form r.left range_noted.counted (omega (arith, few, length-lines))
+          (ap (list_any is_too_large) lines ∙ range_small m (range_with_len first count)) rest text_left
+
+      pub range_unnamed : is_some r.notes.faults.name ≡ true → with_form_of now.table given ≡ Err NoSuchName
+      range_unnamed h =
+          range_told NoSuchName
+          (with_form-unnamed v d t range_form range_fits
+          (not-true (knows_all d (m ∷ [])) (sym range_noted.faults.name ∙ h)))
+
+      module _ (named : is_some r.notes.faults.name ≡ false) where
+        known : knows_all d (m ∷ []) ≡ true
+        known = not-false (knows_all d (m ∷ [])) (sym range_noted.faults.name ∙ named)
+
+        pub range_known : knows_all d (map mapped items) ≡ true
+        range_known = ap (λ xs. knows_all d (map mapped xs)) range.one ∙ known
+
+        es : List Entry
+        es = points_from (variant_of d m) first count
+
+        es-are : entries_of d range_form ≡ es
+        unfolding es
+        es-are = ap (map (entry_of d)) lines ∙ points_are d m (range_with_len first count)
+
+        range_read : with_form v d t range_form ≡ with_entries d.properties t es
+        range_read =
+            with_form-entries v d t range_form range_fits known ∙ ap (with_entries d.properties t) es-are
+
+        -- the first code point that no table may hold, by the properties that the definitions have
+        module _ {p : Properties} (p-is : p ≡ d.properties) (bad : Option ℕ)
+            (found : bad ≡ find (is_bad_point p) (range_with_len first count)) where
+          class_in : list_any (has_bad_class d.properties) es ≡ is_some bad
+          unfolding es
+          class_in =
+              sym (points_bad d.properties (variant_of d m) (range_with_len first count))
+              ∙ sym (some_found (is_bad_point d.properties) (range_with_len first count))
+              ∙ ap (λ q. is_some (find (is_bad_point q) (range_with_len first count))) (sym p-is)
+              ∙ ap is_some (sym found)
+
+          pub range_bad : is_some bad ≡ true → with_form_of now.table given ≡ Err BadClass
+          range_bad h = range_told BadClass (range_read ∙ entries-bad d.properties t es (class_in ∙ h))
+
+          module _ (good : is_some bad ≡ false) (ss : List Variant)
+              (taken : ss ≡ map (variant_of d) (map mapped items)) where
+            abbrev w : Variant
+            w = source_of (entry_from ss)
+
+            w-is : w ≡ variant_of d m
+            w-is =
+                ap (λ vs. source_of (entry_from vs)) (taken ∙ ap (λ xs. map (variant_of d) (map mapped xs)) range.one)
+
+            here : with_new_sources t (points_from (variant_of d m) first count)
+                ≡ with_new_sources t (points_from w first count)
+            here = ap (λ u. with_new_sources t (points_from u first count)) (sym w-is)
+
+            range_new : with_form v d t range_form ≡ with_new_sources t (points_from w first count)
+            unfolding es
+            range_new =
+                range_read
+                ∙ entries-new d.properties t es (class_in ∙ good) (range_single (variant_of d m) first count)
+                ∙ sym (with_range (variant_of d m) t first count) ∙ here
+
+            pub range_there : with_new_sources t (points_from w first count) ≡ Err SameSource
+                → with_form_of now.table given ≡ Err SameSource
+            range_there h = range_told SameSource (range_new ∙ h)
+
+            module _ (t' : List Entry) (h : with_new_sources t (points_from w first count) ≡ Ok t') where
+              pub range_added : with_form_of now.table given ≡ Ok (record r.table { entries = t' })
+              range_added = added given t' (one ∙ range_new ∙ h)
+
+              pub range_counted : IsCounted v d rest t'
+              unfolding es
+              range_counted =
+                  subst (IsCounted v d rest)
+                  (sym (new_table (list_any (has_source_in t) es) t es t'
+                  (sym (with_range (variant_of d m) t first count) ∙ here ∙ h)))
+                  (counted_with v d t range_form r.left range_noted.counted
+                  (known_form d (Some last) (m ∷ []) range_noted.form known) es (sym es-are)
+                  (subst (AllByRecursion (IsNamed d)) es-are (named_form d (Some last) (m ∷ []) range_noted.form known))
+                  rest text_left)

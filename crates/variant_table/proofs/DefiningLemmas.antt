@@ -15,6 +15,7 @@ use Rattle.variant_table.specs.Entries.{Entry, table_of}
 use Rattle.variant_table.specs.Limits.{text_limit}
 use Rattle.variant_table.specs.Reading.{defining, with_definition}
 use Rattle.variant_table.specs.inner.Held.{counted, IsCounted}
+use Rattle.variant_table.specs.inner.Readers.{IsCountedIn, ReadSoFar}
 use Rattle.variant_table.specs.inner.ReadingSteps.{Fails, told_in}
 use Rattle.variant_table.proofs.FaultlessLemmas.{length-text}
 use Rattle.variant_table.proofs.GrownLemmas.{named_on, text_stays}
@@ -25,7 +26,27 @@ counted_of One d t is = absurd cc
 counted_of Two d t is = absurd cc
 counted_of Three d t is = omega (arith, length-text Three d t, length-append (head_text Three) (canonical_text d t))
 
-module _ (v : Version) (d : Definitions) (t : List Entry) (left len : ℕ) (is : v ≡ Three) (so_far : IsCounted v d left t) (size : len ≡ canonical_size d) where
+-- r is what a reader has in its fields before a line, which is what was read so far
+module _ {r now : ReadSoFar} (same : r ≡ now) (len : ℕ) (three : now.table.version ≡ Three)
+    (counted-now : IsCountedIn now) (size : len ≡ canonical_size r.table.definitions) where
+  abbrev v : Version
+  v = r.table.version
+
+  abbrev d : Definitions
+  d = r.table.definitions
+
+  abbrev t : List Entry
+  t = r.table.entries
+
+  abbrev left : ℕ
+  left = r.left
+
+  is : v ≡ Three
+  is = ap (λ x. x.table.version) same ∙ three
+
+  so_far : IsCountedIn r
+  so_far = subst IsCountedIn (sym same) counted-now
+
   sum : length (head_text v ++ canonical_text d t) + canonical_size d + left ≡ text_limit v
   sum = omega (arith, so_far.count, counted_of v d t is)
 
@@ -40,8 +61,11 @@ module _ (v : Version) (d : Definitions) (t : List Entry) (left len : ℕ) (is :
     unfolding with_definition
     with_definition-is = ap (λ n. defining (table_of v d t) (defined n d k words)) (sym room)
 
-    pub definition_read : (e : Definitions) → defined (left + len) d k words ≡ Ok e → with_definition (table_of v d t) k words ≡ Ok (table_of v e t)
-    definition_read e h = with_definition-is ∙ ap (defining (table_of v d t)) h
+    pub definition_read : (e : Definitions) → defined (left + len) d k words ≡ Ok e
+        → with_definition now.table k words ≡ Ok (table_of v e t)
+    definition_read e h =
+        subst (λ x. with_definition x.table k words ≡ Ok (table_of v e t)) same
+        (with_definition-is ∙ ap (defining (table_of v d t)) h)
 
     fault_told : (number : ℕ) (fault : DefinitionFault) (read : Result Definitions DefinitionFault) → steps.Refuses fault read
         → Fails number (told_in number fault) (defining (table_of v d t) read)
@@ -53,9 +77,11 @@ module _ (v : Version) (d : Definitions) (t : List Entry) (left len : ℕ) (is :
     fault_told number definitions.SameName read h = (refl, ap (defining (table_of v d t)) h)
 
     pub definition_fails : (number : ℕ) (fault : DefinitionFault) → steps.Refuses fault (defined (left + len) d k words)
-        → Fails number (told_in number fault) (with_definition (table_of v d t) k words)
+        → Fails number (told_in number fault) (with_definition now.table k words)
     definition_fails number fault h =
-        subst (Fails number (told_in number fault)) (sym with_definition-is) (fault_told number fault (defined (left + len) d k words) h)
+        subst (λ x. Fails number (told_in number fault) (with_definition x.table k words)) same
+        (subst (Fails number (told_in number fault)) (sym with_definition-is)
+        (fault_told number fault (defined (left + len) d k words) h))
 
     module _ (e : Definitions) (more : ℕ) (are : AreDefinitions d) (read : defined (left + len) d k words ≡ Ok e) (its : more ≡ canonical_size e) where
       grown : Grown (left + len) d e

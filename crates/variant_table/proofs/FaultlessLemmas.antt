@@ -223,11 +223,14 @@ definition_is : (t : TableValue) (k : Keyword) (after : List (List ℕ)) → wit
 unfolding with_definition
 definition_is t k after = refl
 
-ok_defined : (t u : TableValue) (r : Result Definitions DefinitionFault) → defining t r ≡ Ok u → (d : Definitions) × (r ≡ Ok d) × (u ≡ record t { definitions = d })
+pub ok_defined : (t u : TableValue) (r : Result Definitions DefinitionFault) → defining t r ≡ Ok u
+    → (d : Definitions) × (r ≡ Ok d) × (u ≡ record t { definitions = d })
 ok_defined t u (Ok d) e = (d, refl, cc)
 ok_defined t u (Err f) e = absurd cc
 
-ok_entries : (t u : TableValue) (r : Result (List Entry) LineFault) → (r >>= λ all. Ok (record t { entries = all })) ≡ Ok u → (all : List Entry) × (r ≡ Ok all) × (u ≡ record t { entries = all })
+pub ok_entries : (t u : TableValue) (r : Result (List Entry) LineFault)
+    → (r >>= λ all. Ok (record t { entries = all })) ≡ Ok u
+    → (all : List Entry) × (r ≡ Ok all) × (u ≡ record t { entries = all })
 ok_entries t u (Ok all) e = (all, refl, cc)
 ok_entries t u (Err f) e = absurd cc
 

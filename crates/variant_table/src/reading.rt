@@ -1,21 +1,19 @@
 //! Reading the definitions and entries of a text, line by line.
-ghost use Rattle.std.specs.Prelude.{◌≡◌, ◌+◌, ◌<◌, ◌≤◌, ◌^◌, [], Some, None, length, map, IfErr, IfOk, OnErr, OnOk};
-ghost use Rattle.variant_table.specs.inner.Held.{IsCounted};
-ghost use Rattle.ruleset_text.specs.EntryForms.{entry_form, mapped as form_of, notes};
-ghost use Rattle.ruleset_text.specs.EntryText.{IsForm};
-ghost use Rattle.variant_table.specs.Limits.{text_limit};
-ghost use Rattle.ruleset_text.specs.Definitions.{nothing_defined};
+ghost use Rattle.std.specs.Prelude.{◌≡◌, ◌+◌, ◌<◌, ◌≤◌, ◌^◌, [], Some, None, length, IfErr, IfOk, OnOk};
 ghost use Rattle.idn_class.specs.declared.properties.Properties.{Properties};
+ghost use Rattle.ruleset_text.specs.Definitions.{nothing_defined};
+ghost use Rattle.ruleset_text.specs.EntryForms.{entry_form};
 ghost use Rattle.ruleset_text.specs.Lexemes.{lexemes};
-ghost use Rattle.variant_table.specs.declared.version.Version.TheVariants.{Three};
-ghost use Rattle.variant_table.specs.Entries.{entry_from, source_of};
-ghost use Rattle.variant_table.specs.Reading.{with_definition, with_line, with_raw_line, table_of_text};
-ghost use Rattle.variant_table.specs.Reading.{is_skipped as is_skipped_line};
-ghost use Rattle.variant_table.specs.FaultyLines.{IsRefusalOf};
-ghost use Rattle.variant_table.specs.inner.ReadingSteps.{Leaves, Reads, if_new, with_points_of, without_place};
-ghost use Rattle.variant_table.specs.LinePlaces.{AreFaultsOf, body_place, definition_place, entry_place, form_place};
-ghost use Rattle.variant_table.specs.LinePlaces.{read_place};
 ghost use Rattle.ruleset_text.specs.PlacedLexemes.{unplaced};
+ghost use Rattle.variant_table.specs.declared.version.Version.TheVariants.{Three};
+ghost use Rattle.variant_table.specs.Entries.{empty_table, entry_from, source_of};
+ghost use Rattle.variant_table.specs.FaultyLines.{IsRefusalOf};
+ghost use Rattle.variant_table.specs.inner.Held.{IsCounted};
+ghost use Rattle.variant_table.specs.inner.ReadingSteps.{Leaves, Reads, if_new, with_points_of};
+ghost use Rattle.variant_table.specs.Limits.{text_limit};
+ghost use Rattle.variant_table.specs.LinePlaces.{body_place, definition_place, entry_place, read_place};
+ghost use Rattle.variant_table.specs.Reading.{is_skipped as is_skipped_line, table_of_text};
+ghost use Rattle.variant_table.specs.Reading.{with_definition, with_form_of, with_line, with_raw_line, with_words};
 
 use crate::checks::{first_bad, given_again};
 use crate::definition_lines::{definition_line, fault_in};
@@ -32,6 +30,7 @@ use ruleset_text::{
     without_blanks,
 };
 use std::alloc::{AllocError, Global};
+use std::marker::Model;
 
 /// What a text spells.
 #[derive(Drop)]
@@ -80,7 +79,7 @@ pub fn read_text<'a>(
     })
 }
 
-/// What has been read of a text so far.
+/// What has been read of a text so far. A reader that refused a line has no further use.
 #[derive(Drop)]
 struct Reader {
     alloc: Global,
@@ -95,14 +94,30 @@ struct Reader {
     left: usize,
 }
 
+impl Model for Reader {
+    ghost use Rattle.std.specs.Coded.{codes};
+    ghost use Rattle.ruleset_text.specs.EntryForms.{notes as noted};
+    ghost use Rattle.variant_table.specs.Entries.{table_of};
+    ghost use Rattle.variant_table.specs.TableCodes.{table_code};
+    ghost use Rattle.variant_table.specs.inner.Readers.{ReadSoFar};
+
+    ghost Value = { ReadSoFar };
+
+    ghost coded = { Prim.hlevel (codes, table_code) };
+
+    ghost view = { λ r. record {
+      table = table_of r.version r.definitions r.entries;
+      left = r.left;
+      notes = noted r.notes;
+    } };
+}
+
 impl Reader {
-    ghost use Rattle.variant_table.specs.inner.Readers.{so_far, with_form_of, with_words_of, IsCountedIn};
+    ghost use Rattle.variant_table.specs.inner.Readers.{IsCountedIn, IsNotedAs, form_with, noted_place};
 
     /// A reader that has read nothing yet, of a text of this version.
     fn new(alloc: Global, version: Version, properties: Properties) -> Self
-        ensures version { result.version ≡ version }
-        ensures definitions { result.definitions ≡ nothing_defined properties }
-        ensures entries { result.entries ≡ [] }
+        ensures table { result.table ≡ empty_table properties version }
         ensures counted { IsCountedIn result }
     {
         Reader {
@@ -119,16 +134,13 @@ impl Reader {
     /// Adds what the line of this number says, as it stands in a text after `bytes` bytes.
     #[tactic(auto, unfolding(crate::specs::Reading::with_raw_line))]
     fn add_raw_line(&mut self, number: u64, bytes: usize, line: &[u8]) -> Result<(), LineRefusal>
-        requires bytes { bytes ≤ text_limit self.old.version }
+        requires bytes { bytes ≤ text_limit self.old.table.version }
         requires counted { IsCountedIn self.old }
-        ensures read { Leaves number (without_place result) (so_far self.new)
-            (with_raw_line bytes (so_far self.old) line.now) }
-        ensures place { IfErr result (λ r. r.place ≡
-            read_place self.old.definitions r.fault self.old.version bytes line.now) }
-        ensures within { OnOk result (bytes + length line.now + 1 ≤ text_limit self.old.version) }
+        ensures read { Leaves number result self.new.table (with_raw_line bytes self.old.table line.now) }
+        ensures place { let t = self.old.table in
+            IfErr result (λ r. r.place ≡ read_place t.definitions r.fault t.version bytes line.now) }
         ensures counted { OnOk result (IsCountedIn self.new) }
-        ensures version { self.new.version ≡ self.old.version }
-        ensures definitions { OnErr result (self.new.definitions ≡ self.old.definitions) }
+        ensures within { OnOk result (bytes + length line.now + 1 ≤ text_limit self.old.table.version) }
     {
         let version = self.version;
         if line.len() > version.line_limit() {
@@ -144,13 +156,11 @@ impl Reader {
     /// Adds what the line of this number says.
     #[tactic(auto, unfolding(crate::specs::Reading::with_line))]
     fn add_line(&mut self, number: u64, line: &[u8]) -> Result<(), LineRefusal>
-        requires { IsCountedIn self.old }
-        ensures read { Leaves number (without_place result) (so_far self.new) (with_line (so_far self.old) line.now) }
-        ensures place { IfErr result (λ r. r.place ≡
-            body_place self.old.definitions r.fault self.old.version line.now) }
+        requires counted { IsCountedIn self.old }
+        ensures read { Leaves number result self.new.table (with_line self.old.table line.now) }
+        ensures place { let t = self.old.table in
+            IfErr result (λ r. r.place ≡ body_place t.definitions r.fault t.version line.now) }
         ensures counted { OnOk result (IsCountedIn self.new) }
-        ensures version { self.new.version ≡ self.old.version }
-        ensures definitions { OnErr result (self.new.definitions ≡ self.old.definitions) }
     {
         if is_skipped(line) {
             return Ok(());
@@ -164,15 +174,13 @@ impl Reader {
     /// Adds what a line defines, unless it has a fault.
     #[tactic(auto, unfolding(crate::specs::Reading::with_definition))]
     fn add_definition(&mut self, number: u64, line: DefinitionLine<'_>) -> Result<(), LineRefusal>
-        requires ruleset { self.old.version ≡ Three }
+        requires ruleset { self.old.table.version ≡ Three }
         requires few { length line.after < 2 ^ 63 }
         requires counted { IsCountedIn self.old }
-        ensures read { Leaves number (without_place result) (so_far self.new)
-            (with_definition (so_far self.old) line.entry.keyword (unplaced line.entry.after)) }
-        ensures place { IfErr result (λ r. r.place ≡ definition_place self.old.definitions r.fault line.entry) }
+        ensures read { Leaves number result self.new.table
+            (with_definition self.old.table line.entry.keyword (unplaced line.entry.after)) }
+        ensures place { IfErr result (λ r. r.place ≡ definition_place self.old.table.definitions r.fault line.entry) }
         ensures counted { OnOk result (IsCountedIn self.new) }
-        ensures version { self.new.version ≡ self.old.version }
-        ensures definitions { OnErr result (self.new.definitions ≡ self.old.definitions) }
     {
         // The canonical text has a limit: what is left of it, and what the definitions already take.
         let room = self.left + self.definitions.canonical_len();
@@ -187,14 +195,11 @@ impl Reader {
 
     /// Adds the entries that the line of this number spells, if they are without a fault.
     fn add_entries(&mut self, number: u64, line: &[u8]) -> Result<(), LineRefusal>
-        requires { IsCountedIn self.old }
-        ensures read { Leaves number (without_place result) self.new.entries
-            (with_words_of self.old (lexemes line.now)) }
-        ensures place { IfErr result (λ r. r.place ≡
-            entry_place self.old.definitions r.fault self.old.version line.now) }
+        requires counted { IsCountedIn self.old }
+        ensures read { Leaves number result self.new.table (with_words self.old.table None (lexemes line.now)) }
+        ensures place { let t = self.old.table in
+            IfErr result (λ r. r.place ≡ entry_place t.definitions r.fault t.version line.now) }
         ensures counted { OnOk result (IsCountedIn self.new) }
-        ensures version { self.new.version ≡ self.old.version }
-        ensures definitions { self.new.definitions ≡ self.old.definitions }
     {
         let parts = self.version.entry_parts();
         match read_entry(self.alloc, parts, &self.definitions, line, &mut self.notes) {
@@ -206,16 +211,10 @@ impl Reader {
 
     /// Adds the entries of a form, by what was noted of its line, if they are without a fault.
     fn add_form(&mut self, number: u64, form: &EntryForm) -> Result<(), LineRefusal>
-        requires form { IsForm (entry_form form.now).mapped (entry_form form.now).last }
-        requires faults { AreFaultsOf self.old.definitions (entry_form form.now) self.old.notes.faults }
-        requires counted { IsCountedIn self.old }
-        ensures read { Leaves number (without_place result) self.new.entries
-            (with_form_of self.old (entry_form form.now).mapped (entry_form form.now).last) }
-        ensures place { IfErr result (λ r. r.place ≡
-            form_place self.old.definitions r.fault (entry_form form.now) (notes self.old.notes)) }
+        requires noted { IsNotedAs (entry_form form.now) self.old }
+        ensures read { Leaves number result self.new.table (with_form_of self.old.table (entry_form form.now)) }
+        ensures place { IfErr result (λ r. r.place ≡ noted_place self.old (entry_form form.now) r.fault) }
         ensures counted { OnOk result (IsCountedIn self.new) }
-        ensures version { self.new.version ≡ self.old.version }
-        ensures definitions { self.new.definitions ≡ self.old.definitions }
     {
         match form.last {
             None => self.add_entry(number, &form.mapped),
@@ -225,17 +224,10 @@ impl Reader {
 
     /// Adds the entry of a source and its variants, unless it has a fault.
     fn add_entry(&mut self, number: u64, mapped: &[Mapped]) -> Result<(), LineRefusal>
-        requires form { IsForm (map form_of mapped.now) None }
-        requires faults { AreFaultsOf self.old.definitions (record { mapped = map form_of mapped.now; last = None })
-            self.old.notes.faults }
-        requires counted { IsCountedIn self.old }
-        ensures read { Leaves number (without_place result) self.new.entries
-            (with_form_of self.old (map form_of mapped.now) None) }
-        ensures place { IfErr result (λ r. r.place ≡ form_place self.old.definitions r.fault
-            (record { mapped = map form_of mapped.now; last = None }) (notes self.old.notes)) }
+        requires noted { IsNotedAs (form_with mapped.now None) self.old }
+        ensures read { Leaves number result self.new.table (with_form_of self.old.table (form_with mapped.now None)) }
+        ensures place { IfErr result (λ r. r.place ≡ noted_place self.old (form_with mapped.now None) r.fault) }
         ensures counted { OnOk result (IsCountedIn self.new) }
-        ensures version { self.new.version ≡ self.old.version }
-        ensures definitions { self.new.definitions ≡ self.old.definitions }
     {
         let faults = &self.notes.faults;
         if self.entries.len() >= self.version.entry_limit() || faults.limit.is_some() {
@@ -264,17 +256,11 @@ impl Reader {
 
     /// Adds the entries of a range from its source, one code point, to the last code point, unless one has a fault.
     fn add_range(&mut self, number: u64, mapped: &[Mapped], last: u32) -> Result<(), LineRefusal>
-        requires form { IsForm (map form_of mapped.now) (Some last) }
-        requires faults { AreFaultsOf self.old.definitions
-            (record { mapped = map form_of mapped.now; last = Some last }) self.old.notes.faults }
-        requires counted { IsCountedIn self.old }
-        ensures read { Leaves number (without_place result) self.new.entries
-            (with_form_of self.old (map form_of mapped.now) (Some last)) }
-        ensures place { IfErr result (λ r. r.place ≡ form_place self.old.definitions r.fault
-            (record { mapped = map form_of mapped.now; last = Some last }) (notes self.old.notes)) }
+        requires noted { IsNotedAs (form_with mapped.now (Some last)) self.old }
+        ensures read { Leaves number result self.new.table
+            (with_form_of self.old.table (form_with mapped.now (Some last))) }
+        ensures place { IfErr result (λ r. r.place ≡ noted_place self.old (form_with mapped.now (Some last)) r.fault) }
         ensures counted { OnOk result (IsCountedIn self.new) }
-        ensures version { self.new.version ≡ self.old.version }
-        ensures definitions { self.new.definitions ≡ self.old.definitions }
     {
         let source = &mapped[0];
         let first = source.points[0];

@@ -26,14 +26,9 @@ Fails number (tables.NoSuchName line) read = (line ≡ number) × (read ≡ Err 
 Fails number (tables.SameName line) read = (line ≡ number) × (read ≡ Err SameName)
 
 -- if a call succeeds, y is what reading the line of this number gives; if it fails, it is with the fault of that line
-abbrev pub Leaves : {X Y : Type 0} → ℕ → Result X TableFault → Y → Result Y LineFault → Type 0
+abbrev pub Leaves : {X Y : Type 0} → ℕ → Result X LineRefusal → Y → Result Y LineFault → Type 0
 Leaves number (Ok x) y read = read ≡ Ok y
-Leaves number (Err fault) y read = Fails number fault read
-
--- what a call gives, without the place of its fault
-abbrev pub without_place : {X : Type 0} → Result X LineRefusal → Result X TableFault
-without_place (Ok x) = Ok x
-without_place (Err refusal) = Err refusal.fault
+Leaves number (Err refusal) y read = Fails number refusal.fault read
 
 -- the table with an entry, whose source is to be new
 abbrev pub with_new_source : List Entry → Entry → Result (List Entry) LineFault

@@ -14,21 +14,21 @@ returns-in_err-read-clause-read c =
 
 pub check-requires-clause-faults : goal.check-requires-clause-faults
 check-requires-clause-faults c =
-    let read = read_after c.earlier.result c.args.self.now c.args.line.keyword c.args.line.end c.args.line.after c.in_ok-read.read c.earlier.ensures (c.in_ok-read.ensures {u = tt}) in read.told
+    let read = read_after c.args.line c.earlier.ensures (c.in_ok-read.ensures {u = tt}) in read.told
 
 pub returns-in_err-check-clause-read : goal.returns-in_err-check-clause-read
 returns-in_err-check-clause-read c =
-    let read = read_after c.earlier.result c.args.self.now c.args.line.keyword c.args.line.end c.args.line.after c.in_ok-read.read c.earlier.ensures (c.in_ok-read.ensures {u = tt}) in
+    let read = read_after c.args.line c.earlier.ensures (c.in_ok-read.ensures {u = tt}) in
     check_told c.args.limit c.args.self.now c.args.line.keyword c.args.line.after c.in_err-check.field-0.0 c.from_residual-in_err-check.result c.from_residual-in_err-check.ensures.0 c.from_residual-in_err-check.ensures.1
     (ap (with_definition c.args.limit c.args.self.now) read.spelled ∙ (c.in_err-check.ensures {u = tt}).fault)
 
 pub add-requires-clause-without_fault : goal.add-requires-clause-without_fault
 add-requires-clause-without_fault c =
-    let read = read_after c.earlier.result c.args.self.now c.args.line.keyword c.args.line.end c.args.line.after c.in_ok-read.read c.earlier.ensures (c.in_ok-read.ensures {u = tt}) in
+    let read = read_after c.args.line c.earlier.ensures (c.in_ok-read.ensures {u = tt}) in
     let may = may_be_added c.args.limit c.args.self.now (trees.definition c.in_ok-read.read.definition) c.earlier.ensures.without_fault read.form (c.in_ok-check.ensures {u = tt}).fault in may.without_fault
 
 pub returns-clause-read : goal.returns-clause-read
 returns-clause-read c =
-    let read = read_after c.earlier.result c.args.self.now c.args.line.keyword c.args.line.end c.args.line.after c.in_ok-read.read c.earlier.ensures (c.in_ok-read.ensures {u = tt}) in
+    let read = read_after c.args.line c.earlier.ensures (c.in_ok-read.ensures {u = tt}) in
     no_fault c.args.limit c.args.self.now (definition_of c.args.self.now.set_names c.args.line.keyword (unplaced c.args.line.after)) (trees.definition c.in_ok-read.read.definition) read.spelled (c.in_ok-check.ensures {u = tt}).fault
     ∙ ap (λ e. Ok e) (sym (c.in_ok-add.ensures {u = tt}).ok)
