@@ -1,5 +1,5 @@
 -- What a run says is the same in both forms.
-use Rattle.std.proofs.Common.{◌≡◌, ◌∙◌, ℕ, List, [], ◌∷◌, ◌++◌, Bool, true, Ok, Err, map, refl, sym, ap}
+use Rattle.std.proofs.Common.{◌≡◌, ◌∙◌, ℕ, List, [], ◌∷◌, ◌++◌, Bool, true, Option, Some, None, Ok, Err, map, refl, sym, ap}
 use Rattle.std.proofs.lemmas.List.{map-append}
 use Rattle.std.proofs.Math.Bool.{or-true}
 use Rattle.idn_text.specs.Lines.{Numbered}
@@ -55,13 +55,24 @@ transcript_written o (Ok table) lines = mode_written o.mode o table lines
 
 -- ---- what is said is the same
 
+-- a listing is whole, or of what is found among registered labels
+same_by_listing : (registered : Option (List (List ℕ))) (o : Settings) (table : TableValue) (lines : List Numbered)
+    → mode_statements Variants (record o { form = Json; registered = registered }) table lines
+    ≡ mode_statements Variants (record o { form = Plain; explain = true; registered = registered }) table lines
+same_by_listing None o table lines =
+    let listed = mode_answer Variants (record o { registered = None }) table in
+    ap (λ b. lines_statements (if_wanted b (explained_by_mode Variants o table)) listed lines) (or-true o.explain)
+same_by_listing (Some registered) o table lines =
+    let found = mode_answer Variants (record o { registered = Some registered }) table in
+    ap (λ b. lines_statements (if_wanted b (explained_by_mode Variants o table)) found lines) (or-true o.explain)
+
 same_by_mode : (mode : Mode) (o : Settings) (table : TableValue) (lines : List Numbered)
     → mode_statements mode (record o { form = Json }) table lines ≡ mode_statements mode (record o { form = Plain; explain = true }) table lines
 same_by_mode CheckTable o table lines = refl
 same_by_mode Lookup o table lines = ap (λ b. lines_statements (if_wanted b (explained_by_mode Lookup o table)) (mode_answer Lookup o table) lines) (or-true o.explain)
 same_by_mode Register o table lines = ap (λ b. lines_statements (if_wanted b (explained_by_mode Register o table)) (mode_answer Register o table) lines) (or-true o.explain)
 same_by_mode Decode o table lines = ap (λ b. lines_statements (if_wanted b (explained_by_mode Decode o table)) (mode_answer Decode o table) lines) (or-true o.explain)
-same_by_mode Variants o table lines = ap (λ b. lines_statements (if_wanted b (explained_by_mode Variants o table)) (mode_answer Variants o table) lines) (or-true o.explain)
+same_by_mode Variants o table lines = same_by_listing o.registered o table lines
 same_by_mode Jump o table lines = ap (λ b. lines_statements (if_wanted b (explained_by_mode Jump o table)) (mode_answer Jump o table) lines) (or-true o.explain)
 
 pub same_statements : (o : Settings) (given : TableGiven) (lines : List Numbered)
@@ -69,13 +80,19 @@ pub same_statements : (o : Settings) (given : TableGiven) (lines : List Numbered
 same_statements o (Err fault) lines = ap (λ b. check_statements b (Err fault)) (or-true o.explain)
 same_statements o (Ok table) lines = same_by_mode o.mode o table lines
 
+status_by_listing : (registered : Option (List (List ℕ))) (o : Settings) (table : TableValue) (lines : List Numbered)
+    → mode_status Variants (record o { form = Json; registered = registered }) table lines
+    ≡ mode_status Variants (record o { form = Plain; registered = registered }) table lines
+status_by_listing None o table lines = refl
+status_by_listing (Some registered) o table lines = refl
+
 status_by_mode : (mode : Mode) (o : Settings) (table : TableValue) (lines : List Numbered)
     → mode_status mode (record o { form = Json }) table lines ≡ mode_status mode (record o { form = Plain }) table lines
 status_by_mode CheckTable o table lines = refl
 status_by_mode Lookup o table lines = refl
 status_by_mode Register o table lines = refl
 status_by_mode Decode o table lines = refl
-status_by_mode Variants o table lines = refl
+status_by_mode Variants o table lines = status_by_listing o.registered o table lines
 status_by_mode Jump o table lines = refl
 
 pub same_status : (o : Settings) (given : TableGiven) (lines : List Numbered) → status_of (record o { form = Json }) given lines ≡ status_of (record o { form = Plain }) given lines

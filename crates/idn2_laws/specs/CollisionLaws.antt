@@ -1,12 +1,14 @@
 -- Laws of the labels that collide.
-use Rattle.std.specs.Prelude.{◌≡◌, ◌↔◌, ℕ, IsTrue, List}
+use Rattle.std.specs.Prelude.{◌≡◌, ◌↔◌, ◌⊎◌, ◌++◌, ℕ, IsTrue, List, Contains}
 use Rattle.variant_table.specs.Entries.{TableValue}
 use Rattle.valid_labels.specs.Validity.{IsSound}
+use Rattle.variant_list.specs.Arising.{Arises}
 use Rattle.variant_list.specs.Closure.{AreNear}
+use Rattle.variant_list.specs.Labels.{IsBelow}
 use Rattle.answer_json.specs.declared.collision.Regard.{Regard}
 use Rattle.idn2_options.specs.Settings.{Settings}
-use Rattle.idn2_answers.specs.Answers.{is_registrable}
-use Rattle.idn2_answers.specs.Collisions.{Collides, IsGood, IsRegard, collide, regard_of}
+use Rattle.idn2_answers.specs.Listings.{is_registrable}
+use Rattle.idn2_answers.specs.Collisions.{Collides, IsGood, IsRegard, IsVariantOf, collide, collisions_after, regard_of}
 
 -- two labels collide whichever is asked about; a good label collides with itself; and what collides is near, so that a
 -- label with a code point that no entry has collides with nothing
@@ -26,3 +28,19 @@ pub record RegardsAreTold : Type 0 where
       IsRegard o table v w r → r ≡ regard o table v w
   pub collide : (o : Settings) (table : TableValue) (v w : List ℕ) → IsSound table →
       IsTrue (collide (is_registrable o.properties) table v w) ↔ Collides o table v w
+
+-- of registered labels above the text each is found that the whole listing of the label has, or whose whole listing has it; where
+-- both labels are good no other is, and else only one that arises from the label, or it from that; and labels that are kept in two
+-- parts give what the first part gives, and then what the second does
+pub record CollisionsAreFound : Type 0 where
+  pub none_missed : (o : Settings) (table : TableValue) (labels : List (List ℕ)) (label v : List ℕ) → IsSound table →
+      Contains labels v → IsBelow o.after v → IsVariantOf o table label v ⊎ IsVariantOf o table v label →
+      Contains (collisions_after o table labels label) v
+  pub good_alone : (o : Settings) (table : TableValue) (labels : List (List ℕ)) (label v : List ℕ) → IsSound table →
+      Contains (collisions_after o table labels label) v → IsGood o table label → IsGood o table v →
+      IsVariantOf o table label v ⊎ IsVariantOf o table v label
+  pub arising_alone : (o : Settings) (table : TableValue) (labels : List (List ℕ)) (label v : List ℕ) → IsSound table →
+      Contains (collisions_after o table labels label) v → Arises table label v ⊎ Arises table v label
+  pub of_parts : (o : Settings) (table : TableValue) (first second : List (List ℕ)) (label : List ℕ) →
+      collisions_after o table (first ++ second) label
+      ≡ collisions_after o table first label ++ collisions_after o table second label

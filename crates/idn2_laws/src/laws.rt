@@ -9,7 +9,7 @@ ghost use Rattle.idn2_laws.specs.LineCauses.{RefusalsAreExplained};
 ghost use Rattle.idn2_laws.specs.ReadBack.{FindingsAreReadBack, RefusalsAreReadBack, RegisteredFaultsAreReadBack};
 ghost use Rattle.idn2_laws.specs.ReadBack.{SaidIsReadBack, TableFaultsAreReadBack};
 ghost use Rattle.idn2_laws.specs.ListingExamples.{ListingsOfExamples};
-ghost use Rattle.idn2_laws.specs.CollisionLaws.{CollisionsGoBothWays, RegardsAreTold};
+ghost use Rattle.idn2_laws.specs.CollisionLaws.{CollisionsAreFound, CollisionsGoBothWays, RegardsAreTold};
 ghost use Rattle.idn2_laws.specs.CollisionExamples.{HoldersMayHave, ListingsDecide, RelationDecides};
 ghost use Rattle.idn2_laws.specs.CauseExamples.{ExamplesOfCauses};
 ghost use Rattle.idn2_laws.specs.Examples.{ExamplesOfAllocations, ExamplesOfARun, ExamplesOfBlocks, ExamplesOfLines};
@@ -49,6 +49,11 @@ pub fn spelled_labels_are_valid()
 /// Two labels collide whichever is asked about, and what collides is near.
 pub fn collisions_go_both_ways()
     ensures { CollisionsGoBothWays }
+{}
+
+/// Each registered label that is a variant, whichever way, is found, and no other where both labels are good.
+pub fn collisions_are_found()
+    ensures { CollisionsAreFound }
 {}
 
 /// What a label is to another one is told.

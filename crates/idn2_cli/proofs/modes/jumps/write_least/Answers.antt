@@ -1,16 +1,17 @@
-use Rattle.std.proofs.Common.{[], ◌∷◌, ◌≡◌, ℕ, List, Option, ap, subst}
+use Rattle.std.proofs.Common.{[], ◌∷◌, ◌≡◌, ◌∙◌, ℕ, List, Option, Some, ap, subst}
 use Rattle.std.specs.Prelude.{Contains}
 use Rattle.std.proofs.lemmas.Result.{err_from_is_err_and}
+use Rattle.variant_table.specs.Entries.{TableValue}
 use Rattle.variant_list.specs.Positions.{Built, Position}
 use Rattle.variant_list.specs.Jumps.{HasNoneFrom, IsCandidate, IsLeastFrom}
-use Rattle.variant_list.proofs.FromLemmas.{among_from-first, among_from-none}
-use Rattle.idn2_answers.specs.Said.{Least, said_text}
-use Rattle.idn2_output.specs.OutputLines.{Output}
-use Rattle.idn2_cli.specs.inner.Asked.{asked_line}
+use Rattle.answer_json.specs.declared.collision.Regards.{Regards}
+use Rattle.idn2_options.specs.Settings.{Settings}
+use Rattle.idn2_answers.specs.Collisions.{IsGood}
+use Rattle.idn2_answers.specs.Said.{Least}
+use Rattle.idn2_cli.specs.inner.Asked.{said_to}
 use Rattle.idn2_output.specs.Writing.{Emits}
 use Rattle.idn2_output.proofs.WrittenOutputLines.{stops_first}
-use Rattle.idn2_cli.proofs.JumpAnswers.{jumped_to}
-use Rattle.idn2_cli.proofs.ListingLemmas.{candidate-writable}
+use Rattle.idn2_cli.proofs.JumpAnswers.{jumped_to, least_near-found, least_near-none, settings_by}
 use Rattle.idn2_cli.proofs.modes.jumps.write_least.Goals as goal
 
 pub returns-in_err-cursor-clause-written : goal.returns-in_err-cursor-clause-written
@@ -18,23 +19,38 @@ returns-in_err-cursor-clause-written g c =
     let p = err_from_is_err_and c.from_residual.result c.from_residual.ensures.1 in
     rw (p.1, p.2) (stops_first _ _)
 
+pub returns-in_err-may_be_registered-clause-written : goal.returns-in_err-may_be_registered-clause-written
+returns-in_err-may_be_registered-clause-written g c =
+    let p = err_from_is_err_and c.from_residual-in_err-may_be_registered.result c.from_residual-in_err-may_be_registered.ensures.1 in
+    rw (p.1, p.2) (stops_first _ _)
+
+pub returns-in_err-regards-clause-written : goal.returns-in_err-regards-clause-written
+returns-in_err-regards-clause-written g c =
+    let p = err_from_is_err_and c.from_residual-in_err-regards.result c.from_residual-in_err-regards.ensures.1 in
+    rw (p.1, p.2) (stops_first _ _)
+
 pub returns-in_default-clause-written : goal.returns-in_default-clause-written
 returns-in_default-clause-written g c =
-    let net : Built = c.args.net.now in
+    let net : Built = c.args.near.net in
+    let table : TableValue = c.args.near.decisions.table.now in
+    let label : List ℕ = c.args.near.decisions.label.now in
     let same : c.in_ok-cursor.cursor.net ≡ net = ap (λ (p : Position). p.net) c.in_ok-cursor.ensures in
     let none : HasNoneFrom (IsCandidate (Contains net.spelled)) c.args.text.now = subst (λ (n : Built). HasNoneFrom (IsCandidate (Contains n.spelled)) c.args.text.now) same c.in_default.ensures.jumps.none in
-    subst (λ (o : Option (List ℕ)). Emits c.args.console.now c.write_none.new.console (Output (said_text c.args.asked.now.form (asked_line c.args.asked.now) (Least o)) ∷ []) c.write_none.result)
-    (among_from-none net.spelled c.args.text.now none) c.write_none.ensures.written
-
-pub write_label-requires-clause-scalar_values : goal.write_label-requires-clause-scalar_values
-write_label-requires-clause-scalar_values g c =
-    let least : IsLeastFrom (IsCandidate (Contains c.args.net.now.spelled)) c.args.text.now c.last.result.now =
-    jumped_to c.args.net.now _ c.in_ok-cursor.cursor c.jump.new.self c.args.text.now c.last.result.now c.in_ok-cursor.ensures c.in-Some.ensures.jumps.found c.last.ensures.value in
-    (candidate-writable c.args.net.now.spelled c.requires.spelled c.last.result.now least.holds).scalar_values
+    subst (λ (o : Option (List ℕ × Regards)). Emits c.args.console.now c.write_none.new.console (said_to c.args.asked.now (Least o) ∷ []) c.write_none.result)
+    (least_near-none c.args.mode.now.properties table label net.spelled c.requires.sound.entries c.requires.near.spelled c.args.text.now none) c.write_none.ensures.written
 
 pub returns-clause-written : goal.returns-clause-written
 returns-clause-written g c =
-    subst (λ (o : Option (List ℕ)). Emits c.args.console.now c.write_label.new.console (Output (said_text c.args.asked.now.form (asked_line c.args.asked.now) (Least o)) ∷ []) c.write_label.result)
-    (among_from-first c.args.net.now.spelled c.args.text.now c.last.result.now
-    (jumped_to c.args.net.now _ c.in_ok-cursor.cursor c.jump.new.self c.args.text.now c.last.result.now c.in_ok-cursor.ensures c.in-Some.ensures.jumps.found c.last.ensures.value))
+    let net : Built = c.args.near.net in
+    let table : TableValue = c.args.near.decisions.table.now in
+    let label : List ℕ = c.args.near.decisions.label.now in
+    let found : List ℕ = c.last-label.result.now in
+    let o : Settings = settings_by c.args.mode.now.properties in
+    let good : IsGood o table label = record { registrable = c.requires.registrable; admitted = c.requires.admitted } in
+    let least : IsLeastFrom (IsCandidate (Contains net.spelled)) c.args.text.now found =
+    jumped_to net _ c.in_ok-cursor.cursor c.jump.new.self c.args.text.now found c.in_ok-cursor.ensures c.in-Some.ensures.jumps.found c.last-label.ensures.value in
+    let told = c.in_ok-regards.ensures.regards o good c.in_ok-may_be_registered.ensures in
+    subst (λ (r : Option (List ℕ × Regards)). Emits c.args.console.now c.write_label.new.console (said_to c.args.asked.now (Least r) ∷ []) c.write_label.result)
+    (ap (λ (r : Regards). let s : Option (List ℕ × Regards) = Some (found, r) in s) told
+    ∙ least_near-found c.args.mode.now.properties table label net.spelled c.requires.sound.entries c.requires.near.spelled c.args.text.now found least)
     c.write_label.ensures.written
