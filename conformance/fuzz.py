@@ -342,7 +342,8 @@ class Fuzz:
         return self.registration.knows(label) and self.registration.first_fault(label) is None
 
     def among(self):
-        """Variants of labels, among registered labels: mostly such as these labels spell, and their neighbours."""
+        """Labels among registered labels: mostly such as collide with these, whichever has the other as a variant, and
+        their neighbours."""
         letters = self.chance.choice(ALPHABETS)
         table, entries = self.table(letters)
         labels = [self.requested(entries) for _ in range(self.chance.randint(1, 4))]
@@ -353,7 +354,7 @@ class Fuzz:
         return self.compare(words, given, table=table, registered=self.registered(near))
 
     def jump(self):
-        """Jumps to what a label spells, to its neighbours, to texts that are longer than labels, and to anything else."""
+        """Jumps to what is near a label, to its neighbours, to texts longer than labels, and to anything else."""
         letters = self.chance.choice(ALPHABETS)
         table, entries = self.table(letters)
 
@@ -367,8 +368,8 @@ class Fuzz:
         return self.compare([listing_of(table), "table", "--jump"], self.lines(request), table=table)
 
     def near(self, entries, letters, sources):
-        """A label that the sources spell, or a neighbour of it."""
-        label = "".join(self.chance.choice((source, *entries[source])) for source in sources)
+        """A label that may collide with that of the sources, or a neighbour of it."""
+        label = "".join(self.chance.choice(partners_of(source, entries)) for source in sources)
         if self.chance.random() < 0.6:
             return label
         start = self.chance.randrange(len(label) + 1)
@@ -403,6 +404,11 @@ class Fuzz:
         registered = self.registered([self.sequence("ab") for _ in range(4)])
         given = self.lines(lambda: self.chance.choice(("ab", "ab\tb")))
         return self.compare(words, given, table=table, registered=registered)
+
+
+def partners_of(source, entries):
+    """What may stand for a source in a label that collides: itself, its variants, and the sources that have it."""
+    return [source, *entries[source], *(other for other, variants in entries.items() if source in variants)]
 
 
 def is_as_wanted(found, wanted):

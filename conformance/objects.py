@@ -105,13 +105,16 @@ def answer_of(each):
         return f"{word} {each['source']}|{each[word]}"
     if "gaps" in each:
         return f"#table {each['entries']} {each['gaps']}"
+    regards = [each[name] for name in ("there", "back") if name in each]
     if "alabel" in each:
         if a_label(each["ulabel"]) != each["alabel"]:
             raise Wrong(each)
         if "input" in each:
             return each["alabel"]
-        return "\t".join([each["ulabel"], each["alabel"], *([each["disposition"]] if "disposition" in each else [])])
-    return next("#end" if each[name] is None else each[name] for name in ("unicode", "ulabel", "ascii") if name in each)
+        dispositions = [each["disposition"]] if "disposition" in each else regards
+        return "\t".join([each["ulabel"], each["alabel"], *dispositions])
+    said = next(each[name] for name in ("unicode", "ulabel", "ascii") if name in each)
+    return "#end" if said is None else "\t".join([said, *regards])
 
 
 def input_of(each):

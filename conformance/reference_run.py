@@ -5,6 +5,7 @@ Where it does not know, since a code point is newer than the data here, or since
 `Unknown`. It holds all labels that a label spells in a set, so it is for small tables and short labels.
 """
 
+import bisect
 import functools
 import itertools
 import re
@@ -13,8 +14,9 @@ import unicodedata
 import check
 import table_places
 from causes import Causes
+from collisions import MOST_SOURCES, Collisions, sources_of
 from idn2_registry.notation import reading
-from idn2_registry.notation.faults import TableFault
+from idn2_registry.notation.faults import LIMIT, TableFault
 from idn2_registry.notation.ruleset import Entry, Mapped, Ruleset
 from registration import Registration, a_label
 from rules import ProfileProperties, UnicodeProperties
@@ -236,15 +238,30 @@ class Run:
         if "--among" in options.given:
             registered = self.registered_labels(files[options.given["--among"]])
         if options.mode in LISTINGS:
-            table = self.table(options.mode, files[options.given[options.mode]])
+            text = files[options.given[options.mode]]
+            table = self.table(options.mode, text)
+            if {"--among", "jump"} & options.given.keys():
+                self.check_sources(options.mode, text)
         return registered, table
 
     def table(self, mode, text):
-        """What the table or ruleset says of labels, and whether a listing has the third field."""
+        """What the table or ruleset says of labels, and whether it has dispositions."""
         if mode == "--ruleset":
             return RulesetLabels(reading.read(text, self.classes.may_stand)), True
         table = check.read(text, self.classes)
         return RulesetLabels(as_ruleset(table), cuts_anyway=True), table.version == 2
+
+    def check_sources(self, mode, text):
+        """Refuses a text without any other fault at the first line by which a sequence has too many sources."""
+        lines = text.splitlines(keepends=True)
+
+        def is_past(count):
+            (labels, _) = self.table(mode, b"".join(lines[:count]))
+            return any(len(sources) > MOST_SOURCES for sources in sources_of(labels.entries).values())
+
+        line = bisect.bisect_left(range(len(lines) + 1), True, key=is_past)
+        if line <= len(lines):
+            raise TableFault(line, LIMIT)
 
     def registered_labels(self, text):
         """The labels of a file of less than 4 GiB: one on each line, each greater than the one before."""
@@ -258,7 +275,7 @@ class Run:
             if refusal is not None:
                 raise RegisteredFault(number, refusal)
             labels.append(label)
-        return set(labels)
+        return labels
 
     def check(self, options, text):
         lines, is_clean = (check.check if options.mode == "--check-table" else check.check_ruleset)(text, self.classes)
@@ -278,8 +295,10 @@ class Run:
             raise Unknown
         if "jump" in options.given:
             return self.jump(table, *parts_of(text))
+        if registered is not None:
+            return self.collisions(options, table, registered, text)
         if options.mode in LISTINGS:
-            return self.block(options, table, registered, text)
+            return self.block(options, table, text)
         answer, refusal = getattr(self.registration, options.mode)(self.known(text))
         return ([], refusal) if answer is None else ([answer], None)
 
@@ -295,23 +314,42 @@ class Run:
                 raise Unknown
         return text
 
-    def jump(self, table, label, text):
-        candidates, refusal = self.candidates(table, label)
-        if refusal is not None:
-            return [], refusal
-        return [next((each for each in candidates if each >= text), "#end")], None
+    def refusal(self, table, label):
+        """Why a label isn't answered, or None."""
+        labels, _ = table
+        return self.registration.first_fault(self.known(label)) or labels.refusal(label)
 
-    def block(self, options, table, registered, label):
-        candidates, refusal = self.candidates(table, label)
-        if refusal is not None:
+    def collisions_under(self, table):
+        labels, has_dispositions = table
+        may_be_registered = lambda label: self.registration.first_fault(self.known(label)) is None
+        return Collisions(labels, may_be_registered, has_dispositions)
+
+    def jump(self, table, label, text):
+        if refusal := self.refusal(table, label):
             return [], refusal
-        labels, has_third_field = table
-        after = [each for each in candidates if each > options.after]
+        under = self.collisions_under(table)
+        least = min((each for each in under.near(label) if each >= text), default=None)
+        return ["#end" if least is None else "\t".join((least, *under.regards(label, least)))], None
+
+    def collisions(self, options, table, registered, label):
+        """The block of the registered labels that collide with a label."""
+        if refusal := self.refusal(table, label):
+            return [], refusal
+        under = self.collisions_under(table)
+        found = [each for each in registered if each > options.after and under.collide(label, each)]
+        stops = [] if options.limit is None else found[options.limit - 1:options.limit]
+        lines = ["\t".join((each, a_label(each), *under.regards(label, each))) for each in found]
+        return ended(lines[:options.limit], stops), None
+
+    def block(self, options, table, label):
+        """The block of the variants of a label."""
+        if refusal := self.refusal(table, label):
+            return [], refusal
+        labels, has_dispositions = table
+        after = sorted(each for each in labels.spelled(label) if options.after < each and len(each) <= LABEL_LIMIT)
         variants = [each for each in after if self.is_variant(labels, each)]
         tested = [each for each in after if self.dead_prefix(labels, each) is None]
         visited = [each for last, each in zip([None, *after], after) if self.is_visited(labels, last, each)]
-        if registered is not None:
-            variants, tested, visited = [each for each in variants if each in registered], [], []
         stops = tested[options.tries - 1:options.tries]
         if options.steps is not None:
             stops += visited[options.steps - 1:options.steps]
@@ -319,10 +357,9 @@ class Run:
             stops += variants[options.limit - 1:options.limit]
         if stops:
             variants = [each for each in variants if each <= min(stops)]
-        trailer = f"#stop {len(variants)} {min(stops)}" if stops else f"#end {len(variants)}"
-        allocatable = labels.allocatable(label) if has_third_field else set()
-        field = lambda each: "" if not has_third_field else "\tallocatable" if each in allocatable else "\tblocked"
-        return [f"{each}\t{a_label(each)}{field(each)}" for each in variants] + [trailer], None
+        allocatable = labels.allocatable(label) if has_dispositions else set()
+        field = lambda each: "" if not has_dispositions else "\tallocatable" if each in allocatable else "\tblocked"
+        return ended([f"{each}\t{a_label(each)}{field(each)}" for each in variants], stops), None
 
     def dead_prefix(self, labels, label):
         """How many letters the shortest beginning of the label has that no variant begins with, or None."""
@@ -338,13 +375,10 @@ class Run:
     def is_variant(self, labels, label):
         return self.registration.first_fault(self.known(label)) is None and labels.is_valid(label)
 
-    def candidates(self, table, label):
-        """The labels of at most 63 code points that a label spells, in order, and no refusal, or none and a number."""
-        labels, _ = table
-        fault = self.registration.first_fault(self.known(label)) or labels.refusal(label)
-        if fault:
-            return [], fault
-        return sorted(each for each in labels.spelled(label) if len(each) <= LABEL_LIMIT), None
+
+def ended(lines, stops):
+    """The lines of a block with its trailer, where it ends or at the first of its stops."""
+    return [*lines, f"#stop {len(lines)} {min(stops)}" if stops else f"#end {len(lines)}"]
 
 
 def as_ruleset(table):

@@ -126,19 +126,18 @@ class RulesetLabels:
     def spelled(self, label, is_in=lambda replacement: True):
         """All labels that arise by cutting the label into sources, as far as their conditions hold in it, and putting one
         replacement in place of each, of those that are `is_in` and whose conditions hold there."""
-        return self.spelled_from(label, 0, is_in, {len(label): {""}})
+        return self.joinings(label, lambda start, end: self.replacements(label, start, end, is_in))
 
-    def spelled_from(self, label, start, is_in, known):
-        if start not in known:
-            found = set()
-            for end in ends_from(start, label):
-                firsts = self.replacements(label, start, end, is_in)
-                lasts = self.spelled_from(label, end, is_in, known) if firsts else ()
-                found |= {first + last for first in firsts for last in lasts}
-            if len(found) > self.most_spelled:
+    def joinings(self, label, parts):
+        """All labels that arise by cutting the label and putting one of `parts(start, end)` in place of each part,
+        which begins and ends at these places."""
+        known = {len(label): {""}}
+        for start in reversed(range(len(label))):
+            known[start] = {first + last for end in ends_from(start, label)
+                            for first in parts(start, end) for last in known[end]}
+            if len(known[start]) > self.most_spelled:
                 raise Unknown
-            known[start] = found
-        return known[start]
+        return known[0]
 
     def replacements(self, label, start, end, is_in):
         """What may stand in place of the part of the label between two places."""

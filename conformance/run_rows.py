@@ -332,7 +332,7 @@ OF_RULESETS = [
     (RULESET, ENDS, "ab\nba\nаb\n",
      "ab\tab\tallocatable\nac\tac\tallocatable\nаb\txn--b-7sb\tblocked\nаc\txn--c-7sb\tblocked\n#end 4\n"
      "ba\tba\tallocatable\nbа\txn--b-8sb\tblocked\n#end 2\n", refused((3, "40 not made of table entries")), 1),
-    ([*RULESET, "--jump"], ENDS, "ab\tb\n", "аb\n", "", 0),
+    ([*RULESET, "--jump"], ENDS, "ab\tb\n", "аb\tblocked\tblocked\n", "", 0),
     (["--check-ruleset", "t", "--json"], ENDS, "", '{"source":"0062","differs":"0063"}\n{"entries":4,"gaps":0}\n', "", 1),
     # A byte order mark before the version line.
     ([*RULESET, "--explain"], "\ufeff" + ENDS, "aa\n", "", "idn2: table line 1: 30 table syntax: a byte order mark at byte 1\n", 2),
@@ -356,7 +356,7 @@ BY_EITHER = [
     (["--check-table", "t", "--standard"], ADLAM, "",
      "#table 3 0\n", "", 0),
     (["--standard", *LIST, "--jump"], ADLAM, "\U0001E922\U0001E928\t\U0001E923\n",
-     "\U0001E923\U0001E928\n", "", 0),
+     "\U0001E923\U0001E928\tvariant\tvariant\n", "", 0),
     (RULESET, ADLAM_RULESET, "\U0001E922\n",
      "", "idn2: table line 2: 33 code point not allowed in a table\n", 2),
     (["--check-ruleset", "t", "--standard"], ADLAM_RULESET, "",
@@ -407,20 +407,20 @@ BY_EITHER = [
      '"place":2,"rule":"RFC 5893 2 condition 6","bidi_class":"ES"}}\n', "", 1),
 ]
 
-# Listings that are kept to one registered label, by the profile and by the standards alone.
+# Collisions with one registered label, by the profile and by the standards alone.
 AMONG = [
     # A script that the profile leaves out is refused in the file, too.
     ([], "0061\n", "\U0001E923\U0001E928", "a\n",
      "", "idn2: registered line 1: 10 disallowed code point\n", 2),
     (["--standard"], ADLAM, "\U0001E923\U0001E928", "\U0001E922\U0001E928\n",
-     "\U0001E923\U0001E928\txn--be6hka\n#end 1\n", "", 0),
+     "\U0001E923\U0001E928\txn--be6hka\tvariant\tvariant\n#end 1\n", "", 0),
     # A sign may stand within a label by Unicode, and a mark that is L there by the profile.
     ([], SIGN, "\u05D1\u02C6\u05D1", "\u05D1\u05D0\u05D1\n",
      "", "idn2: registered line 1: 17 Bidi rule broken\n", 2),
     (["--standard"], SIGN, "\u05D1\u02C6\u05D1", "\u05D1\u05D0\u05D1\n",
-     SIGN_WITHIN + "#end 1\n", "", 0),
+     SIGN_WITHIN[:-1] + "\tvariant\tnone\n#end 1\n", "", 0),
     ([], MARK, "\u05D0\u0CBF", "\u05D0\u05D1\n",
-     "\u05D0\u0CBF\txn--4db466a\n#end 1\n", "", 0),
+     "\u05D0\u0CBF\txn--4db466a\tvariant\tnone\n#end 1\n", "", 0),
     (["--standard", "--explain"], MARK, "\u05D0\u0CBF", "\u05D0\u05D1\n",
      "", "idn2: registered line 1: 17 Bidi rule broken: U+0CBF at place 2 is L: RFC 5893 2, condition 2\n", 2),
 ]

@@ -15,6 +15,7 @@ import tempfile
 from compare import HERE, PROGRAM
 
 import check
+import collision_rows
 import label_rows
 import ruleset_rows
 import run_rows
@@ -62,34 +63,36 @@ def refused_at(line, fault):
 # The table, the registered labels, which are None where there is no such file, more words, the input, and what must be
 # answered: output, messages, status.
 COLLISIONS = [
-    (GERMAN, "haus\nstrasse\n", [], "straße\n", ("strasse\tstrasse\tallocatable\n#end 1\n", "", 0)),
+    (GERMAN, "haus\nstrasse\n", [], "straße\n", ("strasse\tstrasse\tallocatable\tallocatable\n#end 1\n", "", 0)),
     (GERMAN, "strasse\nstraße\n", [], "strasse\n",
-     ("strasse\tstrasse\tallocatable\nstraße\txn--strae-oqa\tallocatable\n#end 2\n", "", 0)),
+     ("strasse\tstrasse\tallocatable\tallocatable\nstraße\txn--strae-oqa\tallocatable\tallocatable\n#end 2\n", "", 0)),
     # A label spells itself.
-    (GERMAN, "haus\n", [], "haus\n", ("haus\thaus\tallocatable\n#end 1\n", "", 0)),
+    (GERMAN, "haus\n", [], "haus\n", ("haus\thaus\tallocatable\tallocatable\n#end 1\n", "", 0)),
     (GERMAN, "haus\nstrasse\n", [], "maus\n", ("#end 0\n", "", 0)),
     # Both are variants of a third, and neither is one of the other.
     (GERMAN, "ßs\n", [], "sß\n", ("#end 0\n", "", 0)),
     (GERMAN, THREE_SPELLINGS, ["--limit", "2"], "sss\n",
-     ("sss\tsss\tallocatable\nsß\txn--s-qfa\tallocatable\n#stop 2 sß\n", "", 0)),
-    (GERMAN, THREE_SPELLINGS, ["--after", "sß"], "sss\n", ("ßs\txn--s-pfa\tallocatable\n#end 1\n", "", 0)),
+     ("sss\tsss\tallocatable\tallocatable\nsß\txn--s-qfa\tallocatable\tallocatable\n#stop 2 sß\n", "", 0)),
+    (GERMAN, THREE_SPELLINGS, ["--after", "sß"], "sss\n", ("ßs\txn--s-pfa\tallocatable\tallocatable\n#end 1\n", "", 0)),
     (GERMAN, THREE_SPELLINGS, ["--after", "sz"], "sss\n",
-     ("sß\txn--s-qfa\tallocatable\nßs\txn--s-pfa\tallocatable\n#end 2\n", "", 0)),
+     ("sß\txn--s-qfa\tallocatable\tallocatable\nßs\txn--s-pfa\tallocatable\tallocatable\n#end 2\n", "", 0)),
     (GERMAN, "sss\nsß\n", ["--limit", "2"], "sss\n",
-     ("sss\tsss\tallocatable\nsß\txn--s-qfa\tallocatable\n#stop 2 sß\n", "", 0)),
+     ("sss\tsss\tallocatable\tallocatable\nsß\txn--s-qfa\tallocatable\tallocatable\n#stop 2 sß\n", "", 0)),
     (GERMAN, "haus\nstrasse\n", [], "Haus\nhaus\nстол\nstraße\n",
-     ("haus\thaus\tallocatable\n#end 1\nstrasse\tstrasse\tallocatable\n#end 1\n",
+     ("haus\thaus\tallocatable\tallocatable\n#end 1\nstrasse\tstrasse\tallocatable\tallocatable\n#end 1\n",
       "idn2: line 1: 10 disallowed code point\nidn2: line 3: 40 not made of table entries\n", 1)),
-    (ALIKE, "t0ss\ntoß\n", [], "toss\n", ("t0ss\tt0ss\tblocked\ntoß\txn--to-hia\tallocatable\n#end 2\n", "", 0)),
-    (HAN, "中国\n中國\n", [], "中國\n", ("中国\txn--fiqs8s\n中國\txn--fiqz9s\n#end 2\n", "", 0)),
+    (ALIKE, "t0ss\ntoß\n", [], "toss\n",
+     ("t0ss\tt0ss\tblocked\tnone\ntoß\txn--to-hia\tallocatable\tnone\n#end 2\n", "", 0)),
+    (HAN, "中国\n中國\n", [], "中國\n",
+     ("中国\txn--fiqs8s\tvariant\tvariant\n中國\txn--fiqz9s\tvariant\tvariant\n#end 2\n", "", 0)),
     (GERMAN, "", [], "haus\n", ("#end 0\n", "", 0)),
     # Registered labels are tested as the options say.
     (ADLAM, "\U0001E923\U0001E928\n", ["--standard"], "\U0001E922\U0001E928\n",
-     ("\U0001E923\U0001E928\txn--be6hka\n#end 1\n", "", 0)),
+     ("\U0001E923\U0001E928\txn--be6hka\tvariant\tvariant\n#end 1\n", "", 0)),
     (GERMAN, "\u05D0\u02C6\u05D1\n", [], "haus\n", refused_at(1, "17 Bidi rule broken")),
     (GERMAN, "\u05D0\u02C6\u05D1\n", ["--standard"], "haus\n", ("#end 0\n", "", 0)),
     (GERMAN, "\u05D0\u0CBF\n", ["--standard"], "haus\n", refused_at(1, "17 Bidi rule broken")),
-    (GERMAN, "haus\r\nstrasse", [], "straße\n", ("strasse\tstrasse\tallocatable\n#end 1\n", "", 0)),
+    (GERMAN, "haus\r\nstrasse", [], "straße\n", ("strasse\tstrasse\tallocatable\tallocatable\n#end 1\n", "", 0)),
     (GERMAN, "strasse\nhaus\n", [], "haus\n", refused_at(2, "4 out of order")),
     (GERMAN, "haus\nhaus\n", [], "haus\n", refused_at(2, "4 out of order")),
     (GERMAN, "haus\n\nstrasse\n", [], "haus\n", refused_at(2, "3 empty")),
@@ -98,19 +101,19 @@ COLLISIONS = [
     (GERMAN, "haus\nxn--strae-oqa\n", [], "haus\n", refused_at(2, "13 hyphen out of place")),
     (GERMAN, "haus\n" + "i" * 1025 + "\n", [], "haus\n", refused_at(2, "2 line too long")),
     (GERMAN, "haus\n" + "i" * 64 + "\n", [], "haus\n", refused_at(2, "18 label too long")),
-    # What a table with a gap tells depends on which of the two labels is asked for.
-    (GAP, "b\n", [], "a\n", ("b\tb\n#end 1\n", "", 0)),
-    (GAP, "a\n", [], "b\n", ("#end 0\n", "", 0)),
+    # A gap is in the way from one side alone.
+    (GAP, "b\n", [], "a\n", ("b\tb\tvariant\tnone\n#end 1\n", "", 0)),
+    (GAP, "a\n", [], "b\n", ("a\ta\tnone\tvariant\n#end 1\n", "", 0)),
     # 2^62 variants, none of them registered.
     (TWO_TO_THE_62, "abba\nabc\nbac\nc\nzoo\n", [], "a" * 62 + "\n", ("#end 0\n", "", 0)),
     # A registered label that the table doesn't cover is no fault of the file.
-    (GERMAN, "haus\nстол\n", [], "haus\n", ("haus\thaus\tallocatable\n#end 1\n", "", 0)),
+    (GERMAN, "haus\nстол\n", [], "haus\n", ("haus\thaus\tallocatable\tallocatable\n#end 1\n", "", 0)),
     # The text may be longer than any label.
     (GERMAN, "haus\nstrasse\n", ["--after", "haus" + "a" * 1000], "haus\nstraße\n",
-     ("#end 0\nstrasse\tstrasse\tallocatable\n#end 1\n", "", 0)),
+     ("#end 0\nstrasse\tstrasse\tallocatable\tallocatable\n#end 1\n", "", 0)),
     (GERMAN, "a" * 63 + "\n", ["--after", "a" * 64], "a" * 63 + "\n", ("#end 0\n", "", 0)),
     (GERMAN, "a" * 63 + "\n", ["--after", "a" * 62], "a" * 63 + "\n",
-     ("a" * 63 + "\t" + "a" * 63 + "\tallocatable\n#end 1\n", "", 0)),
+     ("a" * 63 + "\t" + "a" * 63 + "\tallocatable\tallocatable\n#end 1\n", "", 0)),
     (GERMAN, "haus\n", ["--tries", "5"], "haus\n", ("", "idn2: 50 usage\n", 2)),
     (GERMAN, None, [], "haus\n", ("", "idn2: 60 read fault\n", 3)),
     # A faulty table is told of after the registered labels, and a file that isn't there before both.
@@ -120,38 +123,39 @@ COLLISIONS = [
     (GERMAN, "haus\nHaus\n", [], "haus\n", refused_at(2, "10 disallowed code point")),
     # The order is that of code points, not of UTF-16.
     ("FA0E\n20000\n", "\uFA0E\n\U00020000\n", [], "\uFA0E\n\U00020000\n",
-     ("\uFA0E\txn--lf6c\n#end 1\n\U00020000\txn--j50i\n#end 1\n", "", 0)),
+     ("\uFA0E\txn--lf6c\tvariant\tvariant\n#end 1\n\U00020000\txn--j50i\tvariant\tvariant\n#end 1\n", "", 0)),
 ]
 
-# A table, a line of input, and the answer: the least label that is spelled and that is no less than the text.
+# A table, a line of input, and the answer: the least near label that is no less than the text, with what it is to the
+# label, and the label to it.
 JUMPS = [
-    (GERMAN, "sss", "sss"),
-    (GERMAN, "sss\t", "sss"),
-    (GERMAN, "sss\tsss", "sss"),
-    (GERMAN, "sss\tssss", "sß"),
-    (GERMAN, "sss\tsz", "sß"),
-    (GERMAN, "sss\tsß", "sß"),
-    (GERMAN, "sss\tsßa", "ßs"),
-    (GERMAN, "sss\tt", "ßs"),
-    (GERMAN, "sss\tßs", "ßs"),
+    (GERMAN, "sss", "sss\tallocatable\tallocatable"),
+    (GERMAN, "sss\t", "sss\tallocatable\tallocatable"),
+    (GERMAN, "sss\tsss", "sss\tallocatable\tallocatable"),
+    (GERMAN, "sss\tssss", "sß\tallocatable\tallocatable"),
+    (GERMAN, "sss\tsz", "sß\tallocatable\tallocatable"),
+    (GERMAN, "sss\tsß", "sß\tallocatable\tallocatable"),
+    (GERMAN, "sss\tsßa", "ßs\tallocatable\tallocatable"),
+    (GERMAN, "sss\tt", "ßs\tallocatable\tallocatable"),
+    (GERMAN, "sss\tßs", "ßs\tallocatable\tallocatable"),
     (GERMAN, "sss\tßt", "#end"),
     # The text begins after the first tab, and another one is less than any letter.
-    (GERMAN, "sss\t\tz", "sss"),
-    (GERMAN, "sss\tsss\t", "sß"),
-    # What is spelled needn't be registrable: two hyphens stand third and fourth.
-    ("0061|002D\n", "aaaa\taa", "aa--"),
-    ("0061|002D\n", "aaaa\ta-", "a---"),
-    ("0061|002D\n", "aaaa", "----"),
-    # Two segmentations begin alike, and one of them has no end.
-    ("0061-0062|0063\n0061|0062\n", "ab\tac", "c"),
-    (GAP, "a\tb", "b"),
-    (GAP, "b", "b"),
+    (GERMAN, "sss\t\tz", "sss\tallocatable\tallocatable"),
+    (GERMAN, "sss\tsss\t", "sß\tallocatable\tallocatable"),
+    # What is near needn't be registrable: two hyphens stand third and fourth.
+    ("0061|002D\n", "aaaa\taa", "aa--\tvariant\tnone"),
+    ("0061|002D\n", "aaaa\ta-", "a---\tvariant\tnone"),
+    ("0061|002D\n", "aaaa", "----\tvariant\tnone"),
+    # Two cuts begin alike, and what is only a variant is cut into the sources that have it.
+    ("0061-0062|0063\n0061|0062\n", "ab\tac", "ba\tnone\tnone"),
+    (GAP, "a\tb", "b\tvariant\tnone"),
+    (GAP, "b", "a\tnone\tvariant"),
     # A text that is longer than any label is greater than its first 63 code points.
-    (TWO_TO_THE_62, "a" * 63 + "\t" + "a" * 63, "a" * 63),
-    (TWO_TO_THE_62, "a" * 63 + "\t" + "a" * 64, "a" * 62 + "b"),
-    (TWO_TO_THE_62, "a" * 63 + "\t" + "a" * 62 + "b" + "\0", "a" * 61 + "ba"),
+    (TWO_TO_THE_62, "a" * 63 + "\t" + "a" * 63, "a" * 63 + "\tvariant\tvariant"),
+    (TWO_TO_THE_62, "a" * 63 + "\t" + "a" * 64, "a" * 62 + "b" + "\tvariant\tvariant"),
+    (TWO_TO_THE_62, "a" * 63 + "\t" + "a" * 62 + "b" + "\0", "a" * 61 + "ba" + "\tvariant\tvariant"),
     (TWO_TO_THE_62, "a" * 63 + "\t" + "b" * 63 + "a", "#end"),
-    (TWO_TO_THE_62, "a" * 63 + "\t" + "ab" * 480, "ab" * 31 + "b"),
+    (TWO_TO_THE_62, "a" * 63 + "\t" + "ab" * 480, "ab" * 31 + "b" + "\tvariant\tvariant"),
 ]
 
 # A line that a jump refuses, and its number.
@@ -244,9 +248,10 @@ def rows_of_tables():
 
 
 def rows():
-    """These, and the rows of rulesets, of whole runs, and of labels and names."""
+    """These, and the rows of rulesets, of collisions, of whole runs, and of labels and names."""
     yield from rows_of_tables()
     yield from ruleset_rows.rows()
+    yield from collision_rows.rows()
     yield from run_rows.rows()
     yield from label_rows.rows()
 
