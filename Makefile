@@ -145,6 +145,7 @@ conformance: all
 	python3 conformance/worked_rows.py
 	python3 conformance/check_tables.py
 	python3 conformance/idna_test.py
+	python3 conformance/both_ways.py
 	python3 conformance/published.py --jobs $(LANES)
 
 # Converts the rulesets of a folder, and compares what the program lists under them with the answers of another evaluator of
