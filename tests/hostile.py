@@ -120,9 +120,10 @@ CASES = [
     Case(["--ruleset", "table", "--tries", "3", "--after", "aae"], CONDITIONS,
          [("aae\n", "abe\tabe\tblocked\nbae\tbae\tblocked\nbbe\tbbe\tallocatable\n#stop 3 bbe\n", "")], 0),
     Case(["--ruleset", "table", "--among", "registered"], CONDITIONS,
-         [("aae\n", "abe\tabe\tblocked\nbbe\tbbe\tallocatable\n#end 2\n", "")], 0, b"abe\nace\nbbe\n"),
+         [("aae\n", "abe\tabe\tblocked\tallocatable\nace\tace\tblocked\tnone\nbbe\tbbe\tallocatable\tallocatable\n"
+           "#end 3\n", "")], 0, b"abe\nace\nbbe\n"),
     # What a jump answers need not be valid.
-    Case(["--ruleset", "table", "--jump"], CONDITIONS, [("aae\tabf\n", "ace\n", "")], 0),
+    Case(["--ruleset", "table", "--jump"], CONDITIONS, [("aae\tabf\n", "ace\tblocked\tnone\n", "")], 0),
     Case(["--ruleset", "table", "--json"], CONDITIONS,
          [("ad\n", '{"line":1,"ulabel":"ad","alabel":"ad","disposition":"allocatable"}\n'
            '{"line":1,"ulabel":"bd","alabel":"bd","disposition":"allocatable"}\n'
@@ -146,13 +147,19 @@ CASES = [
     Case(["--check-table", "table"], DOUBLED, [("", "missing 0061-0061|0061\n#table 1 1\n", "")], 1),
     Case(["--check-table", "table"], b"0061|0062\n0062|0061:0063\n0063|0062\n",
          [("", "missing 0061|0063\nmissing 0063|0061\n#table 3 2\n", "")], 1),
-    Case(AMONG, SHARP_S, [("sss\n", "sss\tsss\nßs\txn--s-pfa\n#end 2\n", ""),
+    Case(AMONG, SHARP_S, [("sss\n", "sss\tsss\tvariant\tvariant\nßs\txn--s-pfa\tvariant\tvariant\n#end 2\n", ""),
                           ("Sss\n", "", "idn2: line 2: 10 disallowed code point\n"), ("aaa\n", "#end 0\n", "")], 1,
          "rest\nsss\nß\nßs".encode()),
-    Case([*AMONG, "--limit", "1", "--after", "a"], BLOCKING, [("ass\n", "aß\txn--a-qfa\tblocked\n#stop 1 aß\n", "")], 0,
+    Case([*AMONG, "--limit", "1", "--after", "a"], BLOCKING,
+         [("ass\n", "aß\txn--a-qfa\tblocked\tallocatable\n#stop 1 aß\n", "")], 0,
          "a\r\naß\r\nb\r\n".encode()),
     # Reading a label takes memory: the test of a mark that may compose.
-    Case(AMONG, b"0071|0061\n0301\n", [("q\u0301\n", "q\u0301\txn--q-xbb\n#end 1\n", "")], 0, "q\u0301\n".encode()),
+    Case(AMONG, b"0071|0061\n0301\n", [("q\u0301\n", "q\u0301\txn--q-xbb\tvariant\tvariant\n#end 1\n", "")], 0,
+         "q\u0301\n".encode()),
+    # Registered labels of which one has the label as a variant, one is a variant of it, and one is neither.
+    Case(AMONG, b"0061|0062\n0062\n0063|0064\n",
+         [("bc\n", "ac\tac\tnone\tvariant\nbd\tbd\tvariant\tnone\n#end 2\n", "")], 0,
+         b"ac\nad\nbd\n"),
     Case(AMONG, SHARP_S, [("", "", "idn2: registered line 2: 4 out of order\n")], 2, b"b\na\nc\n"),
     Case(AMONG, b"0061|", [("", "", "idn2: registered line 1: 1 not UTF-8\n")], 2, b"\xff\n"),
     Case(AMONG, b"0061|", [("", "", "idn2: table line 1: 30 table syntax\n")], 2, b"a\n"),
@@ -196,7 +203,8 @@ CASES = [
            '"place":2}}\n', "")], 1),
     Case([*AMONG, "--json"], SHARP_S, [("", '{"registered_line":2,"refusal":{"number":4,"text":"out of order",'
                                         '"code_point":"U+0061","place":1}}\n', "")], 2, b"b\na\nc\n"),
-    Case([*JUMP, "--json"], SHARP_S, [("sss\tsssa\n", '{"line":1,"input":"sss\\tsssa","ulabel":"sß"}\n', ""),
+    Case([*JUMP, "--json"], SHARP_S, [("sss\tsssa\n", '{"line":1,"input":"sss\\tsssa","ulabel":"sß","there":"variant",'
+                                       '"back":"variant"}\n', ""),
                                       ("sss\tßt\n", '{"line":2,"input":"sss\\tßt","ulabel":null}\n', "")], 0),
     Case(["--check-ruleset", "table", "--json"], DIFFERING,
          [("", '{"source":"0062","missing":"0063"}\n{"source":"0063","missing":"0061"}\n{"source":"0061","differs":"0062"}\n'
@@ -232,15 +240,18 @@ CASES = [
          [("", '{"table_line":2,"refusal":{"number":33,"text":"code point not allowed in a table","code_point":"U+0024",'
            '"byte":8}}\n', "")], 2),
     Case([*AMONG, "--json"], SHARP_S,
-         [("sss\n", '{"line":1,"ulabel":"sss","alabel":"sss"}\n{"line":1,"ulabel":"ßs","alabel":"xn--s-pfa"}\n'
+         [("sss\n", '{"line":1,"ulabel":"sss","alabel":"sss","there":"variant","back":"variant"}\n'
+           '{"line":1,"ulabel":"ßs","alabel":"xn--s-pfa","there":"variant","back":"variant"}\n'
            '{"line":1,"input":"sss","count":2,"complete":true}\n', ""),
           ("Sss\n", '{"line":2,"input":"Sss","refusal":{"number":10,"text":"disallowed code point","code_point":"U+0053","place":1,'
            '"rule":"RFC 5892 2.2"}}\n', "")], 1, "rest\nsss\nß\nßs".encode()),
     Case([*AMONG, "--json"], SHARP_S, [("", '{"registered_line":1,"refusal":{"number":10,"text":"disallowed code point",'
                                         '"code_point":"U+0046","place":1,"rule":"RFC 5892 2.2"}}\n', "")], 2, "Faß\n".encode()),
-    Case([*JUMP, "--explain"], SHARP_S, [("sss\tt\n", "ßs\n", ""), ("sx\ta\n", "", "idn2: line 2: 40 not made of table entries: "
+    Case([*JUMP, "--explain"], SHARP_S, [("sss\tt\n", "ßs\tvariant\tvariant\n", ""),
+                                         ("sx\ta\n", "", "idn2: line 2: 40 not made of table entries: "
                                                                   "U+0078 at place 2\n")], 1),
-    Case(JUMP, SHARP_S, [("sss\tsssa\n", "sß\n", ""), ("\tsss\n", "", "idn2: line 2: 3 empty\n"), ("sss\tt\n", "ßs\n", ""),
+    Case(JUMP, SHARP_S, [("sss\tsssa\n", "sß\tvariant\tvariant\n", ""), ("\tsss\n", "", "idn2: line 2: 3 empty\n"),
+                         ("sss\tt\n", "ßs\tvariant\tvariant\n", ""),
                          ("sss\tßt\n", "#end\n", ""), ("x\ta\n", "", "idn2: line 5: 40 not made of table entries\n")], 1),
 ]
 
@@ -552,33 +563,38 @@ def collides_and_jumps_in_the_largest_nets(folder):
     largest, halves = table_of_the_largest_nets(folder), table_file(folder, b"0061|0062\n0062|0061\n", "halves.txt")
     found, found_of_halves = b"bbbbbbb8" * 7 + b"a" * 7, b"ab" * 31
     rows = [
-        (largest, b"a" * 63, block_of_labels(3).replace(b"bbb\n", b"bbb\n" + found + b"\n"), found),
-        (halves, b"a" * 62, block_of_labels(4).replace(b"abab\n", b"abab\n" + found_of_halves + b"\n"), found_of_halves),
+        (largest, b"a" * 63, block_of_labels(3).replace(b"bbb\n", b"bbb\n" + found + b"\n"), found, b"none"),
+        (halves, b"a" * 62, block_of_labels(4).replace(b"abab\n", b"abab\n" + found_of_halves + b"\n"), found_of_halves,
+         b"variant"),
     ]
-    for table, label, text, collision in rows:
+    for table, label, text, collision, back in rows:
         registered = table_file(folder, text, "registered.txt")
         done = within_a_second(["--variants", table, "--among", registered], label)
-        assert done.stdout == b"\t".join([collision] * 2) + b"\n#end 1\n", done
-    for table, request, answer in ((largest, b"a" * 63 + b"\t" + b"bbbbbbb8" * 7, found),
-                                   (halves, b"a" * 62 + b"\t" + b"ab" * 30 + b"c", b"ab" * 29 + b"baaa")):
+        assert done.stdout == b"\t".join([collision, collision, b"variant", back]) + b"\n#end 1\n", done
+    for table, request, answer, back in (
+        (largest, b"a" * 63 + b"\t" + b"bbbbbbb8" * 7, found, b"none"),
+        (halves, b"a" * 62 + b"\t" + b"ab" * 30 + b"c", b"ab" * 29 + b"baaa", b"variant"),
+    ):
         done = within_a_second(["--variants", table, "--jump"], request)
-        assert done.stdout == answer + b"\n", done
+        assert done.stdout == b"\t".join([answer, b"variant", back]) + b"\n", done
 
 
 def jumps_to_texts_that_fill_their_lines(folder):
-    """Of 1,024 bytes with the label. Of aa, aaa and aaaa the last is the least that is greater than aaa and a NUL."""
+    """Of 1,024 bytes with the label. Of a, which has aa as a variant, aa, aaa and aaaa the last is the least that is
+    greater than aaa and a NUL."""
     words = ["--variants", table_file(folder, DOUBLED), "--jump"]
-    for text, answer in ((b"aaa" + b"\0" * 1018, b"aaaa"), (b"a" * 1021, b"#end"), (b"\t" * 1021, b"aa"),
+    least = b"a\tnone\tvariant"
+    for text, answer in ((b"aaa" + b"\0" * 1018, b"aaaa\tvariant\tnone"), (b"a" * 1021, b"#end"), (b"\t" * 1021, least),
                          (("\U00010000" * 255 + "b").encode(), b"#end")):
         expect(words, b"aa\t" + text, answer + b"\n", b"", 0)
-        expect(words, b"aa\t" + text + b"a\naa\t\n", b"aa\n", b"idn2: line 1: 2 line too long\n", 1)
+        expect(words, b"aa\t" + text + b"a\naa\t\n", least + b"\n", b"idn2: line 1: 2 line too long\n", 1)
 
 
 def reads_registered_labels_from_anywhere(folder):
     """From a file, from the standard input and from a FIFO, each with every ending of its lines; an empty one, too."""
     table, fifo = table_file(folder, SHARP_S), os.path.join(folder, "fifo")
     os.mkfifo(fifo)
-    strasse = b"strasse\tstrasse\n#end 1\n"
+    strasse = b"strasse\tstrasse\tvariant\tvariant\n#end 1\n"
     none, words = b"#end 0\n", lambda name: ["--variants", table, "--among", name, "straße"]
     for text, answer in ((b"", none), (b"ast\nstrasse\n", strasse), (b"ast\nstrasse", strasse), (b"strasse\r", strasse),
                          (b"ast\r\nstrasse\r\n", strasse), (b"ast\nstrasse\r\nt", strasse), (b"t", none)):
@@ -728,9 +744,11 @@ def collides_in_pages_as_at_once(folder):
         registered = table_file(folder, b"\n".join(sorted(labels + near)), "registered.txt")
         words += ["--among", registered]
         *lines, end = run(words, label.encode()).stdout.splitlines()
-        assert (lines, end) == (wanted, b"#end %d" % len(wanted)), (label, lines, end, wanted)
+        # A table of version 1 has no dispositions, and says of a variant that it is one.
+        there = [line.rsplit(b"\t", 1)[0].removesuffix(b"\tvariant") for line in lines]
+        assert (there, end) == (wanted, b"#end %d" % len(wanted)), (label, lines, end, wanted)
         for limit in ("1", "2"):
-            assert pages([*words, "--limit", limit], label)[0] == wanted, (label, limit, wanted)
+            assert pages([*words, "--limit", limit], label)[0] == lines, (label, limit, wanted)
 
 
 def listing_of(table, text):

@@ -48,6 +48,8 @@ def point(code_point, place, rule=None):
 
 
 BARRED, CONTEXT = "disallowed code point", "code point out of context"
+# What two labels are to each other that are allocatable variants of each other.
+BOTH = {"there": "allocatable", "back": "allocatable"}
 
 # Lines; the words beside --json; the objects; the status.
 ROWS = [
@@ -143,7 +145,7 @@ ROWS = [
      [refused("xn--4db\tx", 13, "hyphen out of place", **point("U+002D", 3), ulabel="\u05D0")], 1),
     ("mañana", GERMAN, [refused("mañana", 40, "not made of table entries", **point("U+00F1", 3))], 1),
     ("maus", GERMAN + ["--after", "z"], [{"line": 1, "input": "maus", "count": 0, "complete": True}], 0),
-    ("strasse\tstrasz", GERMAN + ["--jump"], [{"line": 1, "input": "strasse\tstrasz", "ulabel": "straße"}], 0),
+    ("strasse\tstrasz", GERMAN + ["--jump"], [{"line": 1, "input": "strasse\tstrasz", "ulabel": "straße", **BOTH}], 0),
     ("strasse\tu", GERMAN + ["--jump"], [{"line": 1, "input": "strasse\tu", "ulabel": None}], 0),
     ("oa\tx", SOURCES + ["--jump"], [refused("oa\tx", 40, "not made of table entries", **point("U+0061", 2))], 1),
 ]
@@ -277,7 +279,7 @@ def tells_the_fault_of_the_registered_labels(folder):
 def lists_registered_labels(folder):
     registered = table_file(folder, "haus\nstrasse\n".encode(), "registered.txt")
     objects = [
-        {"line": 1, "ulabel": "strasse", "alabel": "strasse", "disposition": "allocatable"},
+        {"line": 1, "ulabel": "strasse", "alabel": "strasse", **BOTH},
         {"line": 1, "input": "straße", "count": 1, "complete": True}, {"line": 2, "input": "maus", "count": 0, "complete": True},
     ]
     expect(GERMAN + ["--among", registered, "--json"], "straße\nmaus\n".encode(), text_of(objects), b"", 0)
@@ -467,6 +469,8 @@ def written_objects(folder):
             words = ["--check-ruleset"] if text.startswith(VERSION_3.encode()) else before
             yield from objects_of(run([*words, table_file(folder, text), "--json"]).stdout)
     yield from objects_of(run(["--check-table", table_file(folder, b"0073-0073|00DF\n00DF\n"), "--json"]).stdout)
+    registered = table_file(folder, b"haus\n", "registered.txt")
+    yield from objects_of(run([*GERMAN, "--among", registered, "--json", "haus"]).stdout)
 
 
 def refusal_with(number, members):
@@ -514,7 +518,8 @@ def describes_refusals_by_their_members(folder):
 # What no schema of a member should let through.
 WRONG = (("line", 0), ("line", 2 ** 32 + 1), ("table_line", 0), ("count", -1), ("input_hex", "ff"), ("input_hex", "F"), ("place", 0),
          ("byte", 0), ("label", 0), ("octets", -1), ("code_point", "U+00FG"), ("code_point", "u+0041"), ("code_point", "U+110000"),
-         ("alabel", "É"), ("rule", "RFC 5892 2.5"), ("nfc", ""), ("after", ""), ("disposition", "valid"), ("source", "61"),
+         ("alabel", "É"), ("rule", "RFC 5892 2.5"), ("nfc", ""), ("after", ""),
+         ("disposition", "valid"), ("there", "valid"), ("back", ""), ("source", "61"),
          ("condition", "if"), ("demand", 0), ("demand", 257), ("kind", "sometimes"))
 
 
@@ -542,11 +547,10 @@ def describes_no_other_objects(folder):
     for each in objects:
         for how, name, other in changed(each):
             tried.append(other)
-            # Without its disposition a variant is one of a table of version 1. Without its A-label the answer of a registration is that
-            # of a jump, which may have null, and without its line that of a listing.
-            may_be = optional | {"disposition", *(("input", "alabel") if {"input", "alabel"} <= each.keys() else ())}
-            allowed = name in may_be if how == "lacks" else (name, other.get("ulabel")) == ("ulabel", None) and "alabel" not in each
-            assert allowed or not is_described(other), (how, name, each, other)
+            # Without its disposition a variant is one of a table of version 1. Without its line the answer of a
+            # registration is that of a listing.
+            may_be = optional | {"disposition", *(("input",) if {"input", "alabel"} <= each.keys() else ())}
+            assert how == "lacks" and name in may_be or not is_described(other), (how, name, each, other)
     agree(random.Random(8259).sample(tried, 200))
 
 
