@@ -1,5 +1,5 @@
 #!/usr/bin/env python3
-"""Times the look for registered labels among variants: python3 bench/collisions.py
+"""Times the look for registered labels that collide: python3 bench/collisions.py
 
 All times are of the processor, in the program and for it in the kernel, in seconds, and the least of some rounds, as in
 bench.py. What the lines of the tables say:
@@ -14,6 +14,7 @@ bench.py. What the lines of the tables say:
                 one label among labels that each lie between two of its 2^30 variants, so with a jump for each; in
                 microseconds a jump
                 each of these words, or of these Han labels, asked for among all of them
+                labels of each of tables/rulesets that it admits, among labels of its letters; in microseconds a label
     jump        `idn2 --variants TABLE --jump`, in microseconds a jump: requests from a file, by the processor; and one at a
                 time from a co-process, by the clock, with what Python takes for it
 
@@ -38,8 +39,8 @@ from runs import ENVIRONMENT, Failed, Run, found, in_turn, measured, version, wo
 
 # How often the load may take what sort takes, and how many bytes it may hold of a label beside the file.
 LOAD_WANTED, BYTES_WANTED = 2, 8
-# Microseconds of a jump, and seconds of a million labels among a million.
-JUMP_WANTED, ALL_WANTED = 1, 10
+# Microseconds of a jump and of a label under a ruleset, and seconds of a million labels among a million.
+JUMP_WANTED, LABEL_WANTED, ALL_WANTED = 1, 100, 10
 # The most labels that are asked for, those whose answers are compared, and those of the jumps.
 ASKED, COMPARED, JUMPS = 1_000_000, 1_000, 20_000
 # The labels that callgrind is given.
@@ -47,15 +48,16 @@ COUNTED = 20_000
 
 
 class Registered:
-    """Registered labels in a file, the table under which they are asked for, and some inputs."""
+    """Registered labels in a file, the table or ruleset under which they are asked for, and some inputs."""
 
-    def __init__(self, options, folder, name, table, labels):
+    def __init__(self, options, folder, name, table, labels, listing="--variants"):
         self.options, self.folder, self.name, self.table, self.labels = options, folder, name, table, labels
+        self.listing = listing
         self.file = write(folder, name, labels)
         self.nothing = write(folder, "nothing", [])
 
     def run(self, source, file=None):
-        words = ["--variants", str(self.table), "--among", str(file or self.file)]
+        words = [self.listing, str(self.table), "--among", str(file or self.file)]
         return Run(self.options.ours, words, source)
 
     def load(self):
@@ -90,13 +92,18 @@ def listed(ours, table, labels):
     """For each label the variants that the program lists."""
     given = "".join(label + "\n" for label in labels).encode()
     words = [ours, "--variants", table, "--tries", "1000000000"]
-    blocks, variants = [], []
-    for line in subprocess.run(words, input=given, capture_output=True, env=ENVIRONMENT).stdout.decode().splitlines():
+    return blocks_of(subprocess.run(words, input=given, capture_output=True, env=ENVIRONMENT).stdout.decode())
+
+
+def blocks_of(output):
+    """For each label the labels of its block."""
+    blocks, labels = [], []
+    for line in output.splitlines():
         if line.startswith("#"):
-            blocks.append(variants)
-            variants = []
+            blocks.append(labels)
+            labels = []
         else:
-            variants.append(line.split("\t")[0])
+            labels.append(line.split("\t")[0])
     return blocks
 
 
@@ -110,7 +117,7 @@ class CoProcess:
     def jump(self, label, text):
         self.process.stdin.write(f"{label}\t{text}\n".encode())
         self.process.stdin.flush()
-        return self.process.stdout.readline().decode().rstrip("\n")
+        return self.process.stdout.readline().decode().rstrip("\n").split("\t")
 
     def end(self):
         self.process.stdin.close()
@@ -120,31 +127,27 @@ class CoProcess:
 
 
 def collisions_by_jumps(jump, labels, label):
-    """The registered labels that a label spells, where the labels are a list in order."""
+    """The registered labels that collide with a label, where the labels are a list in order."""
     place = 0
     while place < len(labels):
-        candidate = jump(label, labels[place])
-        if candidate == "#end":
+        near, *regards = jump(label, labels[place])
+        if near == "#end":
             return
-        if candidate == labels[place]:
-            yield candidate
+        if near == labels[place]:
+            if regards != ["none", "none"]:
+                yield near
             place += 1
         else:
-            place = bisect.bisect_left(labels, candidate)
+            place = bisect.bisect_left(labels, near)
 
 
 def compare_answers(kept):
-    """Of some labels: what the whole listings have of the file, what --among lists, and what jumps find."""
+    """Of some labels: what the whole listings have of the file, which under these tables are the same from either side,
+    what --among lists, and what jumps find."""
     asked = random.Random(SEED).sample(kept.labels, min(COMPARED, len(kept.labels)))
     known = set(kept.labels)
     wanted = [[each for each in variants if each in known] for variants in listed(kept.options.ours, kept.table, asked)]
-    blocks, lines = [], []
-    for line in kept.asking(asked).output().splitlines():
-        if line.startswith("#"):
-            blocks.append(lines)
-            lines = []
-        else:
-            lines.append(line.split("\t")[0])
+    blocks = blocks_of(kept.asking(asked).output())
     process = CoProcess(kept.options.ours, kept.table)
     jumps = [list(collisions_by_jumps(process.jump, kept.labels, label)) for label in asked]
     process.end()
@@ -202,6 +205,17 @@ def show_searches(options, all_letters, between, asked_of_themselves):
     _, search = beyond_load(options, between, ["a" * registered.FEW_PLACES])
     count = len(between.labels)
     cells("a label between each two variants", f"{count:,}", "", "", f"{1e6 * search / count:.2f}", JUMP_WANTED)
+
+
+def show_rulesets(options, folder):
+    print("\nrulesets: microseconds beyond the load")
+    cells("", "labels", "asked", "", "a label", "wanted")
+    for path in sorted((TABLE.parent / "rulesets").glob("*.txt")):
+        labels = registered.ruleset_labels(options.ours, path, options.labels)
+        kept = Registered(options, folder, path.stem, path, labels, "--ruleset")
+        asked = registered.accepted(options.ours, ["--ruleset", path, "--tries", "1"], labels)[:COMPARED]
+        _, search = beyond_load(options, kept, asked)
+        cells(path.stem, f"{len(labels):,}", f"{len(asked):,}", "", f"{1e6 * search / len(asked):.1f}", LABEL_WANTED)
 
 
 def requests_of(kept):
@@ -266,6 +280,7 @@ def measure(options, folder):
         print(f"{kept.name}: {found_alike:,} collisions of some labels, by listings, --among and --jump alike", flush=True)
     show_loads(options, (all_letters, words, han), least_load(folder))
     show_searches(options, all_letters, between, (words, han))
+    show_rulesets(options, folder)
     show_jumps(options, (words, han))
     if options.instructions:
         show_instructions(options, (all_letters, words, han), between)

@@ -1,8 +1,15 @@
 """Files of registered labels for the measurements, made from a seed, and the tables that go with them."""
 
 import random
+import re
+import subprocess
+import sys
 
 from inputs import SEED, TABLE, choices_of_table, write
+
+sys.path.append(str(TABLE.parent.parent / "registry"))
+
+from idn2_registry.notation import reading
 
 GERMAN = TABLE.parent / "german.txt"
 SYLLABLES = ("an ber ei der ge ha in ka lo me nu os pa ra ss ste tra un vo wa zu ß ü ö ä ue oe ae sch ch").split()
@@ -29,6 +36,25 @@ def han_labels(count):
     chance, choices = random.Random(f"{SEED} Han"), choices_of_table()
     characters = [character for character in choices if choices[character] > 1]
     return distinct(count, lambda: "".join(chance.choices(characters, k=chance.randint(2, 10))))
+
+
+def accepted(ours, words, labels):
+    """Those of some labels that the program doesn't refuse."""
+    given = "".join(label + "\n" for label in labels).encode()
+    done = subprocess.run([ours, *map(str, words)], input=given, capture_output=True)
+    refused = {int(number) for number in re.findall(rb"line (\d+):", done.stderr)}
+    return [label for number, label in enumerate(labels, 1) if number not in refused]
+
+
+def ruleset_labels(ours, path, count):
+    """Labels of the letters of a ruleset, which the ruleset may refuse."""
+    chance, sources = random.Random(f"{SEED} {path.stem}"), reading.read(path.read_bytes(), lambda point: True).entries
+    single = [chr(source[0]) for source, entry in sources.items() if len(source) == 1 and not entry.is_outside]
+    labels = set()
+    while len(labels) < count:
+        drawn = ["".join(chance.choices(single, k=chance.randint(2, 12))) for _ in range(count)]
+        labels.update(accepted(ours, ["--register"], drawn))
+    return sorted(chance.sample(sorted(labels), count))
 
 
 def letters(count):
