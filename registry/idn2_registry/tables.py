@@ -6,7 +6,7 @@ from dataclasses import dataclass, field
 from enum import Enum
 from pathlib import Path
 
-from .answers import Refusal
+from .answers import Object, Refusal
 from .faults import Unknown, Unusable
 from .program import HeldFile, Program, ended
 
@@ -74,21 +74,31 @@ def read_tables(paths: Mapping[str, Path], names: Iterable[str], program: Progra
     return [read_table(name, paths.get(name, Path(name)), program) for name in names]
 
 
-def checked(table: Table, program: Program) -> Table:
-    """The table with what the program finds in it. Raises Unusable for a faulty table."""
-    _, check = table.kind.value
+def answers_about(table: Table, program: Program, option: str, *more: str) -> list[Object]:
+    """What a run under a table tells that is given no line. Raises Unusable for a faulty table."""
     held = table.held
     try:
-        done = program.run(["--json", check, held.path], files=[held.descriptor])
+        done = program.run(["--json", option, held.path, *more], files=[held.descriptor])
     except Unknown as error:
-        raise Unusable(f"{table.path}: {error}: try it with {check}") from error
+        raise Unusable(f"{table.path}: {error}: try it with {option}") from error
     told = [json.loads(line) for line in done.stdout.splitlines()]
     if told and "refusal" in told[-1]:
         line, refusal = told[-1].get("table_line"), Refusal.read(told[-1]["refusal"])
         at = f" at byte {refusal.details['byte']}" if "byte" in refusal.details else ""
         raise Unusable(f"{table.path}: line {line}: {refusal}{at}: mend it (docs/NOTATION.md)")
-    if done.returncode not in (0, 1) or not told or "entries" not in told[-1]:
-        raise Unusable(f"{table.path}: {ended(done.returncode, done.stderr)}: try it with {check}")
+    if done.returncode not in (0, 1):
+        raise Unusable(f"{table.path}: {ended(done.returncode, done.stderr)}: try it with {option}")
+    return told
+
+
+def checked(table: Table, program: Program) -> Table:
+    """The table with what the program finds in it. Raises Unusable for a faulty table."""
+    listing, check = table.kind.value
+    told = answers_about(table, program, check)
+    if not told or "entries" not in told[-1]:
+        raise Unusable(f"{table.path}: the program gave no answer: try it with {check}")
+    # Only where collisions are asked for, there is a limit of sources.
+    answers_about(table, program, listing, "--jump")
     if not told[-1]["entries"]:
         raise Unusable(f"{table.path}: line 1: no entry in it: each label would be refused: was it cut short?")
     gaps, differences = (

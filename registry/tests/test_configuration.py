@@ -119,6 +119,14 @@ def test_takes_no_other_program(bare: Place) -> None:
             Zone.open(bare.folder / "registry.toml", path)
 
 
+def test_takes_no_table_that_has_too_many_sources(bare: Place) -> None:
+    """It could be checked and listed by, and no collision could be found."""
+    crowd = "".join(f"{point:04X}|0061\n" for point in range(0x4E00, 0x4E41))
+    bare.configure(crowd=bare.write("crowd.txt", "0061\n" + crowd))
+    with pytest.raises(Unusable, match="crowd.txt: line 66: 34 table limit: mend it"):
+        bare.zone()
+
+
 def test_check_config_tells_all(bare: Place) -> None:
     bare.write("gap.txt", "0061|0062\n0062\n")
     bare.write("faulty.txt", "0061|\n")
