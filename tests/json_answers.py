@@ -338,10 +338,8 @@ def plain_of(each):
         return None
     if "count" in each:
         return f"#end {each['count']}" if each["complete"] else f"#stop {each['count']} {each['after']}"
-    if "disposition" in each:
-        return f"{each['ulabel']}\t{each['alabel']}\t{each['disposition']}"
-    if "input" not in each:
-        return f"{each['ulabel']}\t{each['alabel']}"
+    if "input" not in each or "there" in each:
+        return "\t".join(each[name] for name in ("ulabel", "alabel", "disposition", "there", "back") if name in each)
     for name in ("alabel", "ascii", "unicode", "ulabel"):
         if name in each:
             return "#end" if each[name] is None else each[name]
