@@ -93,7 +93,8 @@ fn find_collisions(
     Ok(found)
 }
 
-/// Writes the lines of a block, and its end.
+/// Writes the lines of a block, and its end. Not inlined, so that what finds them needs no stack space for it.
+#[inline(never)]
 fn write_found<W: Sink, E: Sink>(
     asked: &Asked<'_>,
     limit: Option<u64>,

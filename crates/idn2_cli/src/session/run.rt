@@ -232,7 +232,8 @@ fn serve_by_table<R: Source, W: Sink, E: Sink>(
     }
 }
 
-/// Lists the variants of each line by a table.
+/// Lists the variants of each line by a table. Not inlined, so that a search needs no stack space for it.
+#[inline(never)]
 fn serve_variants<R: Source, W: Sink, E: Sink>(
     alloc: Global,
     settings: &RunSettings<'_, '_>,
