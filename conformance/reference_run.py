@@ -5,7 +5,6 @@ Where it does not know, since a code point is newer than the data here, or since
 `Unknown`. It holds all labels that a label spells in a set, so it is for small tables and short labels.
 """
 
-import bisect
 import functools
 import itertools
 import re
@@ -252,16 +251,13 @@ class Run:
         return RulesetLabels(as_ruleset(table), cuts_anyway=True), table.version == 2
 
     def check_sources(self, mode, text):
-        """Refuses a text without any other fault at the first line by which a sequence has too many sources."""
-        lines = text.splitlines(keepends=True)
-
-        def is_past(count):
-            (labels, _) = self.table(mode, b"".join(lines[:count]))
-            return any(len(sources) > MOST_SOURCES for sources in sources_of(labels.entries).values())
-
-        line = bisect.bisect_left(range(len(lines) + 1), True, key=is_past)
-        if line <= len(lines):
-            raise TableFault(line, LIMIT)
+        """Refuses, at its last line, a text without any other fault by which too many sources have one of their variants
+        one way alone."""
+        labels, _ = self.table(mode, text)
+        for variant, sources in sources_of(labels.entries).items():
+            back = {each.points for each in labels.entries[variant].variants} if variant in labels.entries else set()
+            if len(sources - back) > MOST_SOURCES:
+                raise TableFault(text[:-1].count(b"\n") + 1, LIMIT)
 
     def registered_labels(self, text):
         """The labels of a file of less than 4 GiB: one on each line, each greater than the one before."""
