@@ -255,7 +255,8 @@ class Run:
         one way alone."""
         labels, _ = self.table(mode, text)
         for variant, sources in sources_of(labels.entries).items():
-            back = {each.points for each in labels.entries[variant].variants} if variant in labels.entries else set()
+            entry = labels.entries.get("".join(map(chr, variant)))
+            back = {"".join(map(chr, each.points)) for each in entry.variants} if entry else set()
             if len(sources - back) > MOST_SOURCES:
                 raise TableFault(text[:-1].count(b"\n") + 1, LIMIT)
 
