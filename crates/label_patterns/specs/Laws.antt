@@ -1,9 +1,10 @@
 -- Laws of patterns.
 use Rattle.std.specs.Prelude.{ℕ, ◌≤◌, ◌↔◌, ◌⊎◌, IsTrue, List, ◌++◌, length}
+use Rattle.std.specs.List.{AllByRecursion}
 use Rattle.label_patterns.specs.declared.span.Span.{Span}
 use Rattle.label_patterns.specs.Patterns.{Pattern, Point, Set, Any, Start, End, Anchor, Group, Optional, Many, Then, Either}
 use Rattle.label_patterns.specs.Matches.{Seen, Matches}
-use Rattle.label_patterns.specs.Rules.{is_anchor, EndsBefore}
+use Rattle.label_patterns.specs.Rules.{branches, is_anchor, is_context_rule, EndsBefore}
 
 -- the pattern doesn't ask for the end of the label
 abbrev pub IgnoresEnd : Pattern → Type 0
@@ -33,6 +34,10 @@ MatchesStay = (p : Pattern) (sets : List (List Span)) (label more : List ℕ) (i
 abbrev pub IgnoresEndBefore : Pattern → Type 0
 IgnoresEndBefore (Then p q) = IsTrue (is_anchor p) ⊎ (IgnoresEnd p × IgnoresEndBefore q)
 IgnoresEndBefore p = Unit {0}
+
+-- no context of the rule does
+abbrev pub ContextsIgnoreEnd : Pattern → Type 0
+ContextsIgnoreEnd rule = IsTrue (is_context_rule rule) → AllByRecursion IgnoresEndBefore (branches rule)
 
 -- what stands before a place of a label depends on the code points before it alone
 abbrev pub BeforeStays : Type 0

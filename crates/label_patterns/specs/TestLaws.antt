@@ -5,9 +5,9 @@ use Rattle.label_patterns.specs.declared.condition.Condition.{Condition}
 use Rattle.label_patterns.specs.declared.span.Span.{Span}
 use Rattle.label_patterns.specs.Patterns.{Pattern}
 use Rattle.label_patterns.specs.Matches.{Seen}
-use Rattle.label_patterns.specs.Rules.{branches, Holds, Occurs}
+use Rattle.label_patterns.specs.Rules.{Holds, Occurs}
 use Rattle.label_patterns.specs.Conditions.{ConditionHolds}
-use Rattle.label_patterns.specs.Laws.{IgnoresEnd, IgnoresEndBefore, seen}
+use Rattle.label_patterns.specs.Laws.{ContextsIgnoreEnd, IgnoresEnd, seen}
 use Rattle.label_patterns.specs.Barring.{IsBarred}
 use Rattle.label_patterns.specs.Tests.{occurs_in, rule_holds, condition_holds, condition_barred, ignores_end}
 
@@ -24,11 +24,11 @@ pub record TestsAgree : Type 0 where
 -- asks for the end before '_'
 abbrev pub BarredForGood : Type 0
 BarredForGood = (rules : List Pattern) (sets : List (List Span)) (label more : List ℕ) (c : Option Condition) (i j : ℕ) →
-    AllByRecursion (λ rule. AllByRecursion IgnoresEndBefore (branches rule)) rules → i ≤ length label →
+    AllByRecursion ContextsIgnoreEnd rules → i ≤ length label →
     IsBarred rules (seen sets label) c i → ¬ ConditionHolds rules (seen sets (label ++ more)) c i j
 
 -- whether a condition is barred depends on what stands before the place alone
 abbrev pub BarringStays : Type 0
 BarringStays = (rules : List Pattern) (sets : List (List Span)) (label more : List ℕ) (c : Option Condition) (i : ℕ) →
-    AllByRecursion (λ rule. AllByRecursion IgnoresEndBefore (branches rule)) rules → i ≤ length label →
+    AllByRecursion ContextsIgnoreEnd rules → i ≤ length label →
     IsBarred rules (seen sets label) c i ↔ IsBarred rules (seen sets (label ++ more)) c i

@@ -8,7 +8,7 @@ use Rattle.label_patterns.specs.declared.condition.ConditionKind.{ConditionKind}
 use Rattle.label_patterns.specs.declared.condition.ConditionKind.TheVariants.{When, Unless}
 use Rattle.label_patterns.specs.Patterns.{Pattern, Point, Set, Any, Start, End, Anchor, Group, Optional, Many, Then, Either}
 use Rattle.label_patterns.specs.Matches.{Seen}
-use Rattle.label_patterns.specs.Rules.{branches, is_anchor}
+use Rattle.label_patterns.specs.Rules.{branches, is_anchor, is_context_rule}
 use Rattle.label_patterns.specs.Sets.{is_in}
 use Rattle.label_patterns.specs.Conditions.{rule_at}
 use Rattle.label_patterns.specs.Barring.{ends_in_anchor}
@@ -67,7 +67,10 @@ begins_after seen p j = false
 
 -- the rule holds for the part from i to j
 abbrev pub rule_holds : Seen → Pattern → ℕ → ℕ → Bool
-rule_holds seen rule i j = list_any (λ context. ends_before seen context i && begins_after seen context j) (branches rule)
+rule_holds seen rule i j =
+    if is_context_rule rule
+    then list_any (λ context. ends_before seen context i && begins_after seen context j) (branches rule)
+    else occurs_in seen rule
 
 abbrev pub is_asked : ConditionKind → Bool → Bool
 is_asked When holds = holds
@@ -85,7 +88,8 @@ is_barred_by Unless seen rule i = list_any (λ context. ends_in_anchor context &
 -- the condition fails for each part that begins at i, by what stands before i alone
 abbrev pub condition_barred : List Pattern → Seen → Option Condition → ℕ → Bool
 condition_barred rules seen None i = false
-condition_barred rules seen (Some c) i = is_barred_by c.kind seen (rule_at rules c.rule) i
+condition_barred rules seen (Some c) i =
+    is_context_rule (rule_at rules c.rule) && is_barred_by c.kind seen (rule_at rules c.rule) i
 
 -- the pattern doesn't ask for the end of the label
 abbrev pub ignores_end : Pattern → Bool

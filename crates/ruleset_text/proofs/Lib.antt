@@ -13,6 +13,8 @@ pub mod SpanExactLemmas
 pub mod LexemeLemmas
 pub mod PlacedLemmas
 mod NameLemmas
+mod PredefinedLemmas
+mod WholeRuleLemmas
 mod SpanLemmas
 pub mod HexLemmas
 mod PointLemmas
@@ -21,6 +23,11 @@ mod TextLemmas
 mod BackLemmas
 mod SpanTextLemmas
 mod KnownSetLemmas
+mod ActionLemmas
+mod ActionNameLemmas
+mod ActionReadLemmas
+mod FreshNameLemmas
+mod NameWordLemmas
 pub mod AddedLemmas
 mod FormLemmas
 mod DefineLemmas
