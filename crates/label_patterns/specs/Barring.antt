@@ -29,9 +29,7 @@ abbrev pub IsBarredBy : ConditionKind → Seen → Pattern → ℕ → Type 0
 IsBarredBy When seen rule i = ¬ OneEndsBefore seen (branches rule) i
 IsBarredBy Unless seen rule i = OneIsDone seen (branches rule) i
 
--- the condition fails for each part that begins at i, by what stands before i alone; of a whole-label rule that is
--- never told
+-- the condition fails for each part that begins at i, by what stands before i alone; of a whole-label rule that is never told
 abbrev pub IsBarred : List Pattern → Seen → Option Condition → ℕ → Type 0
 IsBarred rules seen None i = ⊥
-IsBarred rules seen (Some c) i =
-    IsTrue (is_context_rule (rule_at rules c.rule)) × IsBarredBy c.kind seen (rule_at rules c.rule) i
+IsBarred rules seen (Some c) i = IsTrue (is_context_rule (rule_at rules c.rule)) × IsBarredBy c.kind seen (rule_at rules c.rule) i

@@ -19,8 +19,8 @@ is_context Anchor = true
 is_context (Then p q) = is_anchor p || is_context q
 is_context p = false
 
--- the pattern is that of a context rule, since '_' stands in its first branch (RFC 7940, section 6.4); any other is that
--- of a whole-label rule
+-- the pattern is that of a context rule, since '_' stands in its first branch (RFC 7940, section 6.4); any other is that of a
+-- whole-label rule
 abbrev pub is_context_rule : Pattern → Bool
 is_context_rule (Either p q) = is_context p
 is_context_rule p = is_context p
@@ -54,8 +54,7 @@ HoldsInOne seen (context ∷ others) i j = (EndsBefore seen context i × BeginsA
 abbrev pub Occurs : Seen → Pattern → Type 0
 Occurs seen p = (i : ℕ) × (j : ℕ) × (i ≤ length seen.label) × Matches seen p i j
 
--- a context rule holds in one of its contexts; a whole-label rule for each part of a label of which it matches some
--- part
+-- a context rule holds in one of its contexts; a whole-label rule for each part of a label of which it matches some part
 abbrev pub HoldsAs : Bool → Seen → Pattern → ℕ → ℕ → Type 0
 HoldsAs true seen rule i j = HoldsInOne seen (branches rule) i j
 HoldsAs false seen rule i j = Occurs seen rule

@@ -68,9 +68,7 @@ begins_after seen p j = false
 -- the rule holds for the part from i to j
 abbrev pub rule_holds : Seen → Pattern → ℕ → ℕ → Bool
 rule_holds seen rule i j =
-    if is_context_rule rule
-    then list_any (λ context. ends_before seen context i && begins_after seen context j) (branches rule)
-    else occurs_in seen rule
+    if is_context_rule rule then list_any (λ context. ends_before seen context i && begins_after seen context j) (branches rule) else occurs_in seen rule
 
 abbrev pub is_asked : ConditionKind → Bool → Bool
 is_asked When holds = holds
@@ -88,8 +86,7 @@ is_barred_by Unless seen rule i = list_any (λ context. ends_in_anchor context &
 -- the condition fails for each part that begins at i, by what stands before i alone
 abbrev pub condition_barred : List Pattern → Seen → Option Condition → ℕ → Bool
 condition_barred rules seen None i = false
-condition_barred rules seen (Some c) i =
-    is_context_rule (rule_at rules c.rule) && is_barred_by c.kind seen (rule_at rules c.rule) i
+condition_barred rules seen (Some c) i = is_context_rule (rule_at rules c.rule) && is_barred_by c.kind seen (rule_at rules c.rule) i
 
 -- the pattern doesn't ask for the end of the label
 abbrev pub ignores_end : Pattern → Bool

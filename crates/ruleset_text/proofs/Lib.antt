@@ -29,7 +29,7 @@ mod ActionReadLemmas
 mod FreshNameLemmas
 mod NameWordLemmas
 pub mod AddedLemmas
-mod FormLemmas
+pub mod FormLemmas
 mod DefineLemmas
 mod SpanBackLemmas
 mod LineBackLemmas

@@ -14,8 +14,7 @@ use Rattle.ruleset_text.specs.declared.named_condition.NamedCondition.{NamedCond
 use Rattle.ruleset_text.specs.Actions.{NamedAction, NamedTrigger}
 use Rattle.ruleset_text.specs.Definitions.{Demand, Definitions}
 use Rattle.variant_dispositions.specs.declared.disposition.Disposition.{Disposition}
-use Rattle.variant_dispositions.specs.declared.disposition.Disposition.TheVariants.{Invalid, Blocked, Allocatable}
-use Rattle.variant_dispositions.specs.declared.disposition.Disposition.TheVariants.{Activated, Valid}
+use Rattle.variant_dispositions.specs.declared.disposition.Disposition.TheVariants.{Invalid, Blocked, Allocatable, Activated, Valid}
 use Rattle.idn_class.specs.declared.properties.Properties.{Properties}
 use Rattle.idn_class.specs.declared.properties.Properties.TheVariants.{Profile, Unicode}
 
@@ -146,9 +145,7 @@ condition_kind_back When = refl
 condition_kind_back Unless = refl
 
 abbrev pub condition_code : Coded NamedCondition
-condition_code =
-    code_by (Bool × List ℕ) (coded× coded_bool (coded_list coded_ℕ)) (λ c. (is_when c.kind, c.rule))
-    (λ p. record { kind = condition_kind_from p.0; rule = p.1 })
+condition_code = code_by (Bool × List ℕ) (coded× coded_bool (coded_list coded_ℕ)) (λ c. (is_when c.kind, c.rule)) (λ p. record { kind = condition_kind_from p.0; rule = p.1 })
     (λ c. ap (λ k. record { kind = k; rule = c.rule }) (condition_kind_back c.kind))
 
 abbrev pub trigger_number : TriggerKind → ℕ
@@ -165,9 +162,7 @@ trigger_back trigger.All = refl
 trigger_back trigger.Only = refl
 
 abbrev pub trigger_code : Coded NamedTrigger
-trigger_code =
-    code_by (ℕ × List (List ℕ)) (coded× coded_ℕ (coded_list (coded_list coded_ℕ))) (λ t. (trigger_number t.kind, t.types))
-    (λ p. record { kind = trigger_from p.0; types = p.1 })
+trigger_code = code_by (ℕ × List (List ℕ)) (coded× coded_ℕ (coded_list (coded_list coded_ℕ))) (λ t. (trigger_number t.kind, t.types)) (λ p. record { kind = trigger_from p.0; types = p.1 })
     (λ t. ap (λ k. record { kind = k; types = t.types }) (trigger_back t.kind))
 
 abbrev pub disposition_number : Disposition → ℕ
@@ -178,11 +173,7 @@ disposition_number Activated = 3
 disposition_number Valid = 4
 
 abbrev pub disposition_from : ℕ → Disposition
-disposition_from n =
-    if n == 0 then Invalid else
-    if n == 1 then Blocked else
-    if n == 2 then Allocatable else
-    if n == 3 then Activated else Valid
+disposition_from n = if n == 0 then Invalid else if n == 1 then Blocked else if n == 2 then Allocatable else if n == 3 then Activated else Valid
 
 pub disposition_back : (d : Disposition) → disposition_from (disposition_number d) ≡ d
 disposition_back Invalid = refl
@@ -192,13 +183,9 @@ disposition_back Activated = refl
 disposition_back Valid = refl
 
 abbrev pub action_code : Coded NamedAction
-action_code =
-    code_by (ℕ × (Option NamedCondition × Option NamedTrigger))
-    (coded× coded_ℕ (coded× (coded_option condition_code) (coded_option trigger_code)))
-    (λ a. (disposition_number a.disposition, (a.condition, a.trigger)))
-    (λ p. record { disposition = disposition_from p.0; condition = p.1.0; trigger = p.1.1 })
-    (λ a. ap (λ d. record { disposition = d; condition = a.condition; trigger = a.trigger })
-    (disposition_back a.disposition))
+action_code = code_by (ℕ × (Option NamedCondition × Option NamedTrigger)) (coded× coded_ℕ (coded× (coded_option condition_code) (coded_option trigger_code)))
+    (λ a. (disposition_number a.disposition, (a.condition, a.trigger))) (λ p. record { disposition = disposition_from p.0; condition = p.1.0; trigger = p.1.1 })
+    (λ a. ap (λ d. record { disposition = d; condition = a.condition; trigger = a.trigger }) (disposition_back a.disposition))
 
 -- ---- all definitions
 

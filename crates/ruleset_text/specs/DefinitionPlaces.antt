@@ -27,8 +27,7 @@ without_first (w ∷ ws) = ws
 
 -- ---- what is known before a line
 
--- the names of the types, of the sets and of the whole-label rules; how many atoms patterns may still have; whose classes
--- are asked
+-- the names of the types, of the sets and of the whole-label rules; how many atoms patterns may still have; whose classes are asked
 pub record Known : Type 0 where
   pub types : List (List ℕ)
   pub sets : List (List ℕ)
@@ -38,13 +37,7 @@ pub record Known : Type 0 where
 
 -- after these definitions, of which all patterns together may have 4,096 atoms
 abbrev pub known_after : Definitions → Known
-known_after d = record {
-  types = type_names d;
-  sets = d.set_names;
-  whole_rules = whole_rules d;
-  left = 4096 - all_atoms d;
-  properties = d.properties;
-}
+known_after d = record { types = type_names d; sets = d.set_names; whole_rules = whole_rules d; left = 4096 - all_atoms d; properties = d.properties }
 
 -- ---- what the form doesn't show
 
@@ -60,10 +53,9 @@ span_faults properties ws = record { limit = None; name = None; class = first_ba
 abbrev pub definition_faults : Known → Definition → List Placed → LineFaults
 definition_faults k (definition.VariantType name) ws = record { limit = None; name = None; class = None }
 definition_faults k (definition.Set name spans) ws = span_faults k.properties (without_first ws)
-definition_faults k (definition.Rule name p) ws = pattern_faults k.sets k.left k.properties p (without_first ws)
+definition_faults k (definition.Rule name contexts) ws = pattern_faults k.sets k.left k.properties contexts (without_first ws)
 definition_faults k (definition.Demand kind p) ws = pattern_faults k.sets k.left k.properties p ws
-definition_faults k (definition.Action a) ws =
-    record { limit = None; name = first_marked (action_marks k.types k.whole_rules a) ws; class = None }
+definition_faults k (definition.Action a) ws = record { limit = None; name = first_marked (action_marks k.types k.whole_rules a) ws; class = None }
 
 abbrev pub faults_after : Definitions → Definition → List Placed → LineFaults
 faults_after d x ws = definition_faults (known_after d) x ws

@@ -21,8 +21,7 @@ use Rattle.ruleset_text.specs.Spans as spans
 use Rattle.ruleset_text.specs.Spans.{part_of}
 use Rattle.ruleset_text.specs.Tokens.{token_of}
 
--- the contexts of a context rule, or the pattern of a whole-label rule or of a demand; its sets go by their numbers among
--- these names
+-- the contexts of a context rule, or the pattern of a whole-label rule or of a demand; its sets go by their numbers among these names
 abbrev pub pattern_step : Bool → List (List ℕ) → State → List ℕ → Option State
 pattern_step is_rule names s w = step_in is_rule s (token_of names w)
 

@@ -23,9 +23,8 @@ pub record Demand : Type 0 where
   pub kind : DemandKind
   pub pattern : Pattern
 
--- whose classes are asked; the names of the variant types that are not predefined; the sets and their names, by number;
--- the rules of both kinds and their names, by number; the demands; the actions. Each in the order of the lines that
--- define them
+-- whose classes are asked; the names of the variant types that are not predefined; the sets and their names, by number; the rules of both
+-- kinds and their names, by number; the demands; the actions. Each in the order of the lines that define them
 pub record Definitions : Type 0 where
   pub properties : Properties
   pub types : List (List ℕ)
@@ -37,16 +36,7 @@ pub record Definitions : Type 0 where
   pub actions : List NamedAction
 
 abbrev pub nothing_defined : Properties → Definitions
-nothing_defined properties = record {
-  properties = properties;
-  types = [];
-  set_names = [];
-  sets = [];
-  rule_names = [];
-  rules = [];
-  demands = [];
-  actions = [];
-}
+nothing_defined properties = record { properties = properties; types = []; set_names = []; sets = []; rule_names = []; rules = []; demands = []; actions = [] }
 
 -- ---- all of them, in the order of canonical text
 
@@ -59,8 +49,7 @@ named f (name ∷ names) (x ∷ xs) = f name x ∷ named f names xs
 -- types, sets, rules, demands, actions
 abbrev pub all_definitions : Definitions → List Definition
 all_definitions d =
-    map definition.VariantType d.types ++ (named definition.Set d.set_names d.sets
-    ++ (named definition.Rule d.rule_names d.rules
+    map definition.VariantType d.types ++ (named definition.Set d.set_names d.sets ++ (named definition.Rule d.rule_names d.rules
     ++ (map (λ e. definition.Demand e.kind e.pattern) d.demands ++ map definition.Action d.actions)))
 
 -- a line for each, without its line feed
@@ -103,8 +92,7 @@ type_number d name = number_of (type_names d) name
 abbrev pub whole_names : List (List ℕ) → List Pattern → List (List ℕ)
 whole_names [] rules = []
 whole_names (name ∷ names) [] = []
-whole_names (name ∷ names) (p ∷ rules) =
-    if is_context_rule p then whole_names names rules else name ∷ whole_names names rules
+whole_names (name ∷ names) (p ∷ rules) = if is_context_rule p then whole_names names rules else name ∷ whole_names names rules
 
 abbrev pub whole_rules : Definitions → List (List ℕ)
 whole_rules d = whole_names d.rule_names d.rules
@@ -134,14 +122,12 @@ all_atoms d = atoms_in (all_definitions d)
 abbrev pub rule_lines : Definitions → ℕ
 rule_lines d = length d.rules + (length d.demands + length d.actions)
 
--- a pattern more goes past a limit: 256 rules, demands and actions together, 8 groups within each other, 2 '*' within
--- each other, 4,096 atoms in all patterns together
+-- a pattern more goes past a limit: 256 rules, demands and actions together, 8 groups within each other, 2 '*' within each other, 4,096
+-- atoms in all patterns together
 abbrev pub is_pattern_over_limit : Definitions → Pattern → Bool
-is_pattern_over_limit d p =
-    nat_le 256 (rule_lines d) || nat_lt 8 (groups p) || nat_lt 2 (stars p) || nat_lt 4096 (all_atoms d + atoms p)
+is_pattern_over_limit d p = nat_le 256 (rule_lines d) || nat_lt 8 (groups p) || nat_lt 2 (stars p) || nat_lt 4096 (all_atoms d + atoms p)
 
--- as many as may be are defined of its kind: 57 types beside the five that are predefined, 256 sets, 256 rules, demands
--- and actions together
+-- as many as may be are defined of its kind: 57 types beside the five that are predefined, 256 sets, 256 rules, demands and actions together
 abbrev pub has_most : Definitions → Definition → Bool
 has_most d (definition.VariantType name) = nat_le 57 (length d.types)
 has_most d (definition.Set name spans) = nat_le 256 (length d.sets)

@@ -110,9 +110,7 @@ after_point s e = after_points s e
 
 -- the name of a type
 abbrev pub at_type : State → List ℕ → Option State
-at_type s w =
-    if is_name w then Some (record s { current = record s.current { type_name = Some w }; phase = phase.VariantType })
-    else None
+at_type s w = if is_name w then Some (record s { current = record s.current { type_name = Some w }; phase = phase.VariantType }) else None
 
 -- the rule of a condition
 abbrev pub at_rule : State → ConditionKind → List ℕ → Option State
@@ -145,8 +143,8 @@ is_begin e = false
 abbrev pub is_new : State → Bool
 is_new s = is_first s.done && is_begin s.phase
 
--- the word is of none of the parts: '!' before the source, with which a line begins, or before a variant; '..'; a word of
--- types or conditions
+-- the word is of none of the parts: '!' before the source, with which a line begins, or before a variant; '..'; a word of types or
+-- conditions
 abbrev pub is_lacking : EntryParts → Bool → EntryWord → Bool
 is_lacking parts true word.Mark = not parts.invalid
 is_lacking parts false word.Mark = not parts.blocked

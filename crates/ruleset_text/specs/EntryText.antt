@@ -30,9 +30,7 @@ type_text (Some name) = codes " as " ++ name
 
 -- a source or a variant; one with a last code point is that of a range
 abbrev pub mapped_text : Mapped → Option ℕ → List ℕ
-mapped_text m last =
-    mark_text m.marked ++ (sequence_text m.points
-    ++ (last_text last ++ (type_text m.type_name ++ condition_text m.condition)))
+mapped_text m last = mark_text m.marked ++ (sequence_text m.points ++ (last_text last ++ (type_text m.type_name ++ condition_text m.condition)))
 
 -- ':' between variants
 abbrev pub variants_text : List Mapped → List ℕ

@@ -36,7 +36,7 @@ pub record IsPattern (properties : Properties) (sets : ℕ) (p : Pattern) : Type
 abbrev pub HasParts : Properties → ℕ → Definition → Type 0
 HasParts properties sets (definition.VariantType name) = Unit {0}
 HasParts properties sets (definition.Set name spans) = IsSet properties spans
-HasParts properties sets (definition.Rule name p) = IsPattern properties sets p × (is_rule_or_whole p ≡ true)
+HasParts properties sets (definition.Rule name contexts) = IsPattern properties sets contexts × (is_rule_or_whole contexts ≡ true)
 HasParts properties sets (definition.Demand kind p) = IsPattern properties sets p × (has sign.Anchor p ≡ false)
 HasParts properties sets (definition.Action a) = IsAction a
 
@@ -45,8 +45,8 @@ pub record IsDefinition (properties : Properties) (names : List (List ℕ)) (x :
   pub parts : HasParts properties (length names) x
   pub short : length (definition_text names x) ≤ 8192
 
--- at most 57 types beside those that are predefined, 256 sets, 256 rules, demands and actions, 4,096 atoms; no name is
--- given twice; actions name types and whole-label rules
+-- at most 57 types beside those that are predefined, 256 sets, 256 rules, demands and actions, 4,096 atoms; no name is given twice;
+-- actions name types and whole-label rules
 pub record AreDefinitions (d : Definitions) : Type 0 where
   pub few_types : length d.types ≤ 57
   pub few_sets : length d.sets ≤ 256

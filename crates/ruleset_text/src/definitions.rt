@@ -225,8 +225,8 @@ impl Definitions {
     /// The actions.
     pub fn actions(&self) -> &[NamedAction]
         ensures is { map action result.now ≡ self.now.actions }
-        ensures known { AllByRecursion
-            (λ a. knows_action (words.type_names self.now) (words.whole_rules self.now) a ≡ true) self.now.actions }
+        ensures known { AllByRecursion (λ a. knows_action (words.type_names self.now) (words.whole_rules self.now) a ≡ true)
+            self.now.actions }
     {
         &self.actions
     }

@@ -54,5 +54,5 @@ pub use laws::{
 };
 pub use lexemes::{next_lexeme, without_blanks};
 pub use named_condition::NamedCondition;
-pub use names::{Name, is_name, number_of};
+pub use names::{Name, is_name, number_of, predefined_type};
 pub use placed::PlacedLexemes;

@@ -90,7 +90,7 @@ pub fn is_one_of(names: &[Name], bytes: &[u8]) -> bool
 }
 
 /// The name of the predefined type of this number (RFC 7940, section 7.3): there are five.
-pub(crate) fn predefined_type(number: usize) -> &'static [u8]
+pub fn predefined_type(number: usize) -> &'static [u8]
     ensures { result.now ≡ slice_index_or words.predefined_types number [] }
 {
     match number {

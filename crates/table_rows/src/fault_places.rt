@@ -43,8 +43,8 @@ const PLACES: [(Notation, &str, Option<FaultPlace>); 11] = [
     ),
     (
         Notation::Ruleset,
-        "%version 3\n%tag t\n0061 as t,u",
-        Some(FaultPlace::Lexeme(10, 1)),
+        "%version 3\n%type t\n0061 as t|0062 as u",
+        Some(FaultPlace::Lexeme(18, 1)),
     ),
     (
         Notation::Ruleset,

@@ -20,14 +20,13 @@ use Rattle.variant_table.proofs.NumberLemmas.{pairs_tail}
 use Rattle.variant_table.specs.Segmentations.{seen_under}
 use Rattle.valid_labels.specs.declared.cause.ValidityCause.{ValidityCause}
 use Rattle.valid_labels.specs.declared.cause.ValidityCause.TheVariants.{NotEligible, Broken}
-use Rattle.valid_labels.specs.declared.longest.Sources.TheVariants.{Inside}
-use Rattle.valid_labels.specs.Eligible.{IsCutEnd}
+use Rattle.valid_labels.specs.Eligible.{Stands, IsCutEnd}
 use Rattle.valid_labels.specs.Demands.{IsMet}
 use Rattle.valid_labels.specs.Validity.{IsAdmitted}
 use Rattle.valid_labels.specs.Tests.{holds_in, is_wanted, cut_end}
-use Rattle.valid_labels.specs.Causes.{IsAt, IsStoppedBy, IsFirstBroken, IsCause, last_failing, stopped_by, broken_from, cause_of}
+use Rattle.valid_labels.specs.Causes.{IsAt, IsStoppedBy, IsFirstBroken, IsCause, last_condition, stopped_by, broken_from, cause_of}
 use Rattle.valid_labels.specs.CauseLaws.{CauseIsExact}
-use Rattle.valid_labels.proofs.EligibleLemmas.{opposite, pairs-head, Shorter, to-stands, from-stands, ends-one, cut-end-is, cut-within, whole-end}
+use Rattle.valid_labels.proofs.EligibleLemmas.{opposite, pairs-head, Shorter, to-stands, longest-is, ends-one, cut-end-is, cut-within, whole-end}
 use Rattle.valid_labels.proofs.PartLemmas.{first-part}
 use Rattle.valid_labels.proofs.TestLemmas.{wanted-agrees}
 
@@ -37,55 +36,29 @@ none-some a e = absurd (let f : None ≡ Some a = e in cc)
 -- ---- the condition that stops the cut
 
 module _ (table : TableValue) (label : List ℕ) (place : ℕ) where
-  abbrev Test : Entry → Bool
-  Test e = holds_in table label e.condition place (place + length e.source)
+  -- the last of these has this condition; or there is none, and it is the one that was found before
+  abbrev LastIs : Option Condition → Option Condition → List Entry → Type 0
+  LastIs found told es = ((told ≡ found) × ((f : Entry) → Contains es f → ⊥)) ⊎ ((e : Entry) × Contains es e × ((f : Entry) → Contains es f → length f.source ≤ length e.source) × (told ≡ e.condition))
 
-  -- an entry whose condition fails has one
-  has-condition : (e : Entry) → Test e ≡ false → (c : Condition) × (e.condition ≡ Some c)
-  has-condition e fails = by_condition e.condition refl
-    where
-      by_condition : (o : Option Condition) → e.condition ≡ o → (c : Condition) × (e.condition ≡ Some c)
-      by_condition None is = opposite true refl (sym (ap (λ o. holds_in table label o place (place + length e.source)) is) ∙ fails)
-      by_condition (Some c) is = (c, is)
-
-  -- all of these fail, and the last of them has this condition; or none of them is there, and it is the one that was found before
-  record AllFail (found told : Option Condition) (es : List Entry) : Type 0 where
-    fail : (f : Entry) → Contains es f → Test f ≡ false
-    last : ((told ≡ found) × ((f : Entry) → Contains es f → ⊥)) ⊎ ((e : Entry) × Contains es e × ((f : Entry) → Contains es f → length f.source ≤ length e.source) × (told ≡ e.condition))
-
-  abbrev OneHolds : Option Condition → List Entry → Type 0
-  OneHolds told es = (told ≡ None) × ((e : Entry) × Contains es e × (Test e ≡ true))
-
-  last-is : (es : List Entry) (found : Option Condition) → AllPairs Shorter es → AllFail found (last_failing table label place found es) es ⊎ OneHolds (last_failing table label place found es) es
-  last-is [] found pairs = inl (record { fail = λ f m. absurd (Contains-none f m); last = inl (refl, λ f m. Contains-none f m) })
-  last-is (x ∷ es) found pairs = by_test (Test x) refl (last-is es x.condition (pairs_tail Shorter x es pairs))
-    where
-      by_test : (b : Bool) → Test x ≡ b → AllFail x.condition (last_failing table label place x.condition es) es ⊎ OneHolds (last_failing table label place x.condition es) es
-          → AllFail found (cond b None (last_failing table label place x.condition es)) (x ∷ es) ⊎ OneHolds (cond b None (last_failing table label place x.condition es)) (x ∷ es)
-      by_test true is later = inr (refl, (x, Contains-head x es, is))
-      by_test false is later = elim later [
-        | inl a ↦ inl (record {
-          fail = λ f m. elim (Contains-cases x es f m) [ inl same ↦ ap Test (sym same) ∙ is | inr k ↦ a.fail f k ];
-          last = elim a.last [
-            | inl none ↦ inr (
-              x,
-              Contains-head x es,
-              λ f m. elim (Contains-cases x es f m) [ inl same ↦ (let n = ap (λ (y : Entry). length y.source) same in omega (arith, n)) | inr k ↦ absurd (none.1 f k) ],
-              none.0,
-            )
-            | inr e ↦ inr (
-              e.0,
-              Contains-later x es e.0 e.1,
-              λ f m. elim (Contains-cases x es f m) [
-                | inl same ↦ (let n = ap (λ (y : Entry). length y.source) same in let l = pairs-head Shorter x es pairs e.0 e.1 in omega (arith, n, l))
-                | inr k ↦ e.2 f k
-              ],
-              e.3,
-            )
-          ];
-        })
-        | inr b ↦ inr (b.0, (b.1.0, Contains-later x es b.1.0 b.1.1, b.1.2))
-      ]
+  last-is : (es : List Entry) (found : Option Condition) → AllPairs Shorter es → LastIs found (last_condition found es) es
+  last-is [] found pairs = inl (refl, λ f m. Contains-none f m)
+  last-is (x ∷ es) found pairs = elim (last-is es x.condition (pairs_tail Shorter x es pairs)) [
+    | inl none ↦ inr (
+      x,
+      Contains-head x es,
+      λ f m. elim (Contains-cases x es f m) [ inl same ↦ (let n = ap (λ (y : Entry). length y.source) same in omega (arith, n)) | inr k ↦ absurd (none.1 f k) ],
+      none.0,
+    )
+    | inr e ↦ inr (
+      e.0,
+      Contains-later x es e.0 e.1,
+      λ f m. elim (Contains-cases x es f m) [
+        | inl same ↦ (let n = ap (λ (y : Entry). length y.source) same in let l = pairs-head Shorter x es pairs e.0 e.1 in omega (arith, n, l))
+        | inr k ↦ e.2 f k
+      ],
+      e.3,
+    )
+  ]
 
   module _ (formed : IsWellFormed table.entries) where
     abbrev At : List Entry
@@ -94,32 +67,37 @@ module _ (table : TableValue) (label : List ℕ) (place : ℕ) where
     member : (e : Entry) → Contains At e ↔ IsAt table label place e
     member e = (entries_are_at table.entries label place formed).members e
 
-    -- what is told is what stops the cut
-    stopped-is : IsStoppedBy table label place (stopped_by table label place)
-    stopped-is = elim (last-is At None (entries_are_at table.entries label place formed).rising) [
-      | inl a ↦ elim a.last [
-        | inl none ↦ subst (IsStoppedBy table label place) (sym none.0) (inl (λ e at. none.1 e ((member e).1 at)))
-        | inr e ↦
-            let c = has-condition e.0 (a.fail e.0 e.1) in
-            subst (IsStoppedBy table label place) (sym (e.3 ∙ c.1)) (
-              λ f stands. (let g = from-stands table label place formed f stands in opposite (Test f) g.1 (a.fail f g.0)),
-              (e.0, record { at = (member e.0).0 e.1; longest = λ f at. e.2 f ((member f).1 at) }, c.1),
-            )
-      ]
-      | inr b ↦ subst (IsStoppedBy table label place) (sym b.0) (inr (b.1.0, to-stands table label place formed b.1.0 b.1.1 b.1.2))
+    -- where the cut ends nothing stands
+    end-stops : IsCutEnd table label place → (f : Entry) → Stands table label place f → ⊥
+    end-stops is f stands = elim (longest-is table label place formed) [
+      | inl a ↦ a.1 f stands
+      | inr b ↦ is.last (place + length b.0.source) (b.0, b.2, refl)
     ]
+
+    module _ (stops : (f : Entry) → Stands table label place f → ⊥) where
+      -- an entry there has a condition, which fails
+      has-condition : (e : Entry) → Contains At e → (c : Condition) × (e.condition ≡ Some c)
+      has-condition e m = by_condition e.condition refl
+        where
+          by_condition : (o : Option Condition) → e.condition ≡ o → (c : Condition) × (e.condition ≡ Some c)
+          by_condition None is = absurd (stops e (to-stands table label place formed e m (ap (λ o. holds_in table label o place (place + length e.source)) is)))
+          by_condition (Some c) is = (c, is)
+
+      -- what is told is what stops the cut
+      stopped-is : IsStoppedBy table label place (stopped_by table label place)
+      stopped-is = elim (last-is At None (entries_are_at table.entries label place formed).rising) [
+        | inl none ↦ subst (IsStoppedBy table label place) (sym none.0) (λ e at. none.1 e ((member e).1 at))
+        | inr e ↦
+            let c = has-condition e.0 e.1 in
+            subst (IsStoppedBy table label place) (sym (e.3 ∙ c.1))
+            (stops, (e.0, record { at = (member e.0).0 e.1; longest = λ f at. e.2 f ((member f).1 at) }, c.1))
+      ]
 
     -- and nothing else does
     stopped-one : (a b : Option Condition) → IsStoppedBy table label place a → IsStoppedBy table label place b → a ≡ b
     stopped-one None None first second = refl
-    stopped-one None (Some d) first second = elim first [
-      | inl none ↦ absurd (none second.1.0 second.1.1.at)
-      | inr stands ↦ absurd (second.0 stands.0 stands.1)
-    ]
-    stopped-one (Some c) None first second = elim second [
-      | inl none ↦ absurd (none first.1.0 first.1.1.at)
-      | inr stands ↦ absurd (first.0 stands.0 stands.1)
-    ]
+    stopped-one None (Some d) first second = absurd (first second.1.0 second.1.1.at)
+    stopped-one (Some c) None first second = absurd (second first.1.0 first.1.1.at)
     stopped-one (Some c) (Some d) first second =
         let e = first.1.0 in
         let f = second.1.0 in
@@ -201,15 +179,15 @@ get-one xs m n a b e f g = same_Some a b (sym f ∙ ap (slice_get xs) e ∙ g)
 
 one-cause : (table : TableValue) (label : List ℕ) → IsWellFormed table.entries → (a b : ValidityCause) → IsCause table label a → IsCause table label b → a ≡ b
 one-cause table label formed (NotEligible p c) (NotEligible q d) first second =
-    let place : p ≡ q = ends-one Inside table label p q first.0 second.0 in
+    let place : p ≡ q = ends-one table label p q first.0 second.0 in
     let same : c ≡ d = stopped-one table label q formed c d (subst (λ n. IsStoppedBy table label n c) place first.2) second.2 in
     ap (λ n. NotEligible n c) place ∙ ap (NotEligible q) same
 one-cause table label formed (NotEligible p c) (Broken n k) first second =
-    let end = ends-one Inside table label p (length label) first.0 (whole-end Inside table label formed second.0) in
+    let end = ends-one table label p (length label) first.0 (whole-end table label formed second.0) in
     let l = first.1 in
     absurd (omega (arith, l, end))
 one-cause table label formed (Broken n k) (NotEligible p c) first second =
-    let end = ends-one Inside table label p (length label) second.0 (whole-end Inside table label formed first.0) in
+    let end = ends-one table label p (length label) second.0 (whole-end table label formed first.0) in
     let l = second.1 in
     absurd (omega (arith, l, end))
 one-cause table label formed (Broken m k) (Broken n l) first second =
@@ -229,21 +207,21 @@ one-cause table label formed (Broken m k) (Broken n l) first second =
 
 module _ (table : TableValue) (label : List ℕ) (formed : IsWellFormed table.entries) where
   abbrev End : ℕ
-  End = cut_end Inside table label
+  End = cut_end table label
 
   -- it is told by the place at which the cut ends
-  by-end : (P : Option ValidityCause → Type 0) → (IsCutEnd Inside table label (length label) → P (broken_from (seen_under table label) 0 table.definitions.demands))
+  by-end : (P : Option ValidityCause → Type 0) → (IsCutEnd table label (length label) → P (broken_from (seen_under table label) 0 table.definitions.demands))
       → ((End < length label) → P (Some (NotEligible End (stopped_by table label End)))) → P (cause_of table label)
   by-end P eligible stopped = by_test (eqb End (length label)) refl
     where
-      is_end : IsCutEnd Inside table label End
-      is_end = cut-end-is Inside table label formed
+      is_end : IsCutEnd table label End
+      is_end = cut-end-is table label formed
 
       by_test : (b : Bool) → eqb End (length label) ≡ b → P (cond b (broken_from (seen_under table label) 0 table.definitions.demands) (Some (NotEligible End (stopped_by table label End))))
-      by_test true is = eligible (subst (IsCutEnd Inside table label) (eqb-true End (length label) is) is_end)
+      by_test true is = eligible (subst (IsCutEnd table label) (eqb-true End (length label) is) is_end)
       by_test false is = stopped (elim (cases_order End (length label)) [
         | inl e ↦ opposite (eqb End (length label)) (eq-eqb End (length label) e) is
-        | inr o ↦ elim o [ inl less ↦ less | inr more ↦ absurd (let l = cut-within Inside table label formed End is_end.reached in omega (arith, l, more)) ]
+        | inr o ↦ elim o [ inl less ↦ less | inr more ↦ absurd (let l = cut-within table label formed End is_end.reached in omega (arith, l, more)) ]
       ])
 
   sound : (cause : ValidityCause) → cause_of table label ≡ Some cause → IsCause table label cause
@@ -252,7 +230,7 @@ module _ (table : TableValue) (label : List ℕ) (formed : IsWellFormed table.en
       let r = broken-sound (seen_under table label) table.definitions.demands 0 cause h in
       let number : 0 + r.0 ≡ r.0 = omega arith in
       subst (IsCause table label) (sym (r.1.2 ∙ ap (λ m. Broken m r.1.0.kind) number)) (end.reached, (r.1.0, r.1.1, refl)))
-      (λ less h. subst (IsCause table label) (same_Some (NotEligible End (stopped_by table label End)) cause h) (cut-end-is Inside table label formed, less, stopped-is table label End formed))
+      (λ less h. subst (IsCause table label) (same_Some (NotEligible End (stopped_by table label End)) cause h) (cut-end-is table label formed, less, stopped-is table label End formed (end-stops table label End formed (cut-end-is table label formed))))
 
   -- where none is told the label may be asked about
   pub none-told : cause_of table label ≡ None → IsAdmitted table label
@@ -265,8 +243,8 @@ module _ (table : TableValue) (label : List ℕ) (formed : IsWellFormed table.en
   none-is cause = by-end (λ told. told ≡ None → IsCause table label cause → ⊥) (λ end h is. by_cause cause end (broken-none (seen_under table label) table.definitions.demands 0 h) is)
       (λ less h is. none-some (NotEligible End (stopped_by table label End)) (sym h))
     where
-      by_cause : (x : ValidityCause) → IsCutEnd Inside table label (length label) → AllByRecursion (IsMet (seen_under table label)) table.definitions.demands → IsCause table label x → ⊥
-      by_cause (NotEligible p c) end met is = (let e = ends-one Inside table label p (length label) is.0 end in let l = is.1 in omega (arith, l, e))
+      by_cause : (x : ValidityCause) → IsCutEnd table label (length label) → AllByRecursion (IsMet (seen_under table label)) table.definitions.demands → IsCause table label x → ⊥
+      by_cause (NotEligible p c) end met is = (let e = ends-one table label p (length label) is.0 end in let l = is.1 in omega (arith, l, e))
       by_cause (Broken n k) end met is = is.1.1.broken (met-at (seen_under table label) table.definitions.demands n is.1.0 met is.1.1.at)
 
   complete : (cause : ValidityCause) → IsCause table label cause → cause_of table label ≡ Some cause

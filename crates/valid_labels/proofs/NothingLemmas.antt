@@ -11,13 +11,11 @@ use Rattle.variant_table.specs.Entries.{Entry, TableValue, IsOfVersion, IsPlain,
 use Rattle.variant_table.specs.WellFormed.{AreOfVersion, IsTable}
 use Rattle.variant_table.proofs.MemberLemmas.{Contains-cases, Contains-head}
 use Rattle.variant_table.specs.Segmentations.{IsMadeOfReplacements, IsMadeOfSources, HasNoConditions, HasSegmentation, seen_under}
-use Rattle.valid_labels.specs.declared.longest.Sources.TheVariants as by
 use Rattle.valid_labels.specs.Eligible.{IsEligible, LongestLeads}
-use Rattle.valid_labels.specs.Segments.{IsCovered}
 use Rattle.valid_labels.specs.Demands.{IsMet, MeetsDemands}
-use Rattle.valid_labels.specs.Validity.{AllowsAnyCut, AsksNothing, HasCoveredVariants, IsAdmitted, IsOfPoints, IsSound, IsValid}
+use Rattle.valid_labels.specs.Validity.{AllowsAnyCut, AsksNothing, HasVariantsOfSources, IsAdmitted, IsOfPoints, IsSound, IsValid}
 use Rattle.valid_labels.specs.Laws.{AdmittedAreValid, NothingIsAsked}
-use Rattle.valid_labels.proofs.EligibleLemmas.{eligible-segmentation, inside-eligible, point-leads, points-eligible}
+use Rattle.valid_labels.proofs.EligibleLemmas.{eligible-segmentation, point-leads, points-eligible}
 use Rattle.variant_table.proofs.MemberLists.{Contains-flat_map}
 use Rattle.valid_labels.proofs.PartLemmas.{first-part, first-inside, after-first}
 use Rattle.valid_labels.proofs.SegmentationLemmas.{HoldsIn, segmentation-free}
@@ -33,7 +31,7 @@ admitted-segmentation table label h = elim h.cut [
 
 admitted-is_valid : (table : TableValue) (label : List ℕ) → IsAdmitted table label → IsValid table label
 admitted-is_valid table label h = record {
-  cut = elim h.cut [ inl any ↦ inl any.0 | inr eligible ↦ inr (inside-eligible table label eligible) ];
+  cut = elim h.cut [ inl any ↦ inl any.0 | inr eligible ↦ inr eligible ];
   met = h.met;
 }
 
@@ -46,16 +44,16 @@ pub any-cut-asks_nothing : (table : TableValue) → AllowsAnyCut table → AsksN
 any-cut-asks_nothing table any = record { conditions = any.conditions; demands = any.demands; cuts = inl any.earlier }
 
 -- each source is one code point, and each variant is made of sources
-module _ (table : TableValue) (label : List ℕ) (conditions : HasNoConditions table) (points : IsOfPoints table) (covered : HasCoveredVariants table) where
+module _ (table : TableValue) (label : List ℕ) (conditions : HasNoConditions table) (points : IsOfPoints table) (made : HasVariantsOfSources table) where
   abbrev Leads : ℕ → ℕ → Type 0
-  Leads i j = LongestLeads by.All table label i j
+  Leads i j = LongestLeads table label i j
 
   no-condition : (e : Entry) → Contains table.entries e → e.condition ≡ None
   no-condition e h = All-contains (λ (x : Entry). x.condition ≡ None) table.entries e (All-from_recursion (λ (x : Entry). x.condition ≡ None) table.entries conditions) h
 
   -- a source that is in the label
   source-stands : (e : Entry) (i j : ℕ) → Contains table.entries e → i ≤ j → j ≤ length label → slice_range label i j ≡ e.source → Leads i j
-  source-stands e i j h l m is = point-leads by.All table label points i j (e, (h, tt), l, m, is, subst (λ c. HoldsIn table label c i j) (sym (no-condition e h)) tt)
+  source-stands e i j h l m is = point-leads table label points i j (e, h, l, m, is, subst (λ c. HoldsIn table label c i j) (sym (no-condition e h)) tt)
 
   -- sources one after the other
   sources-lead : (es : List Entry) (place : ℕ) (rest : List ℕ) → AllByRecursion (Contains table.entries) es → place ≤ length label → drop place label ≡ flat_map (λ (e : Entry). e.source) es ++ rest
@@ -79,15 +77,15 @@ module _ (table : TableValue) (label : List ℕ) (conditions : HasNoConditions t
       elim (Contains-cases e.0.source (sequences_in e.0.variants) s e.2) [
         | inl same ↦ one_more place (place + length s) rounds (source-stands e.0 place (place + length s) e.1 (omega arith) inside (at ∙ sym same))
         | inr variant ↦
-            let es = covered-in e.0 s e.1 variant in
-            subst (λ n. Rounds Leads 0 (place + n)) (ap length es.2) (sources-lead es.0 place rest es.1 l (is ∙ ap (λ t. t ++ rest) (sym es.2)) rounds)
+            let es = made-in e.0 s e.1 variant in
+            subst (λ n. Rounds Leads 0 (place + n)) (ap length es.1.joined) (sources-lead es.0 place rest es.1.of_table l (is ∙ ap (λ t. t ++ rest) (sym es.1.joined)) rounds)
       ]
     where
-      covered-in : (e : Entry) (v : List ℕ) → Contains table.entries e → Contains (sequences_in e.variants) v → IsCovered table v
-      covered-in e v h k =
-          let each : AllByRecursion (IsCovered table) (sequences_in e.variants) =
-          All-contains (λ (x : Entry). AllByRecursion (IsCovered table) (sequences_in x.variants)) table.entries e (All-from_recursion (λ (x : Entry). AllByRecursion (IsCovered table) (sequences_in x.variants)) table.entries covered) h in
-          All-contains (IsCovered table) (sequences_in e.variants) v (All-from_recursion (IsCovered table) (sequences_in e.variants) each) k
+      made-in : (e : Entry) (v : List ℕ) → Contains table.entries e → Contains (sequences_in e.variants) v → IsMadeOfSources table v
+      made-in e v h k =
+          let each : AllByRecursion (IsMadeOfSources table) (sequences_in e.variants) =
+          All-contains (λ (x : Entry). AllByRecursion (IsMadeOfSources table) (sequences_in x.variants)) table.entries e (All-from_recursion (λ (x : Entry). AllByRecursion (IsMadeOfSources table) (sequences_in x.variants)) table.entries made) h in
+          All-contains (IsMadeOfSources table) (sequences_in e.variants) v (All-from_recursion (IsMadeOfSources table) (sequences_in e.variants) each) k
 
   parts-lead : (parts : List (List ℕ)) (place : ℕ) → AllByRecursion (Contains (flat_map replacements table.entries)) parts → place ≤ length label → drop place label ≡ flat_map (λ (s : List ℕ). s) parts
       → Rounds Leads 0 place → Rounds Leads 0 (length label)
@@ -118,8 +116,8 @@ plain-source e plain = (All-contains IsPlain (whole e) (source_of e) plain (Cont
 
 free-in : (v : Version) (es : List Entry) → v ≢ Three → AllByRecursion (IsOfVersion v) es → AllByRecursion (λ e. e.condition ≡ None) es
 free-in v [] older each = tt
-free-in One (e ∷ es) older each = (plain-source e each.0.2, free-in One es older each.1)
-free-in Two (e ∷ es) older each = (plain-source e each.0.1, free-in Two es older each.1)
+free-in One (e ∷ es) older each = (plain-source e each.0, free-in One es older each.1)
+free-in Two (e ∷ es) older each = (each.0.0.1, free-in Two es older each.1)
 free-in Three (e ∷ es) older each = absurd (older refl)
 
 none-demanded : (v : Version) (d : Definitions) → v ≢ Three → AreOfVersion v d → d.demands ≡ []

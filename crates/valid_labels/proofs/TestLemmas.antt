@@ -17,19 +17,18 @@ use Rattle.variant_table.specs.declared.version.Version.{Version}
 use Rattle.variant_table.specs.declared.version.Version.TheVariants.{One, Two, Three}
 use Rattle.variant_table.specs.Entries.{Entry, TableValue, sequences_in}
 use Rattle.variant_table.specs.WellFormed.{IsWellFormed}
-use Rattle.valid_labels.specs.declared.longest.Sources.TheVariants.{All, Inside}
 use Rattle.variant_table.proofs.MemberLemmas.{Contains-head}
-use Rattle.variant_table.specs.Segmentations.{IsMadeOfSources, HasNoConditions, seen_under, inside_of}
-use Rattle.valid_labels.specs.Segments.{IsCovered, IsSegment, SegmentIs, MayReach}
+use Rattle.variant_table.specs.Segmentations.{IsMadeOfSources, HasNoConditions, seen_under}
+use Rattle.valid_labels.specs.Segments.{IsSegment, SegmentIs, MayReach}
 use Rattle.valid_labels.specs.Demands.{IsMet, IsWanted, MeetsDemands}
 use Rattle.valid_labels.specs.Validity.{AllowsAnyCut, AsksNothing, IsAdmitted, IsValid, IsRefused, LeadsNowhere, IsDeadUnder}
-use Rattle.valid_labels.specs.Tests.{Segment, cut_places, not_asked, sources_of, is_covered, segments_of, holds_in, may_hold_in, is_made_of_sources, is_eligible_by, may_reach, is_wanted, are_met, meets_demands, is_unconditional, is_three, allows_any_cut, is_admitted, is_valid, is_never, is_refused, leads_past, one_up_to, leads_on, is_dead_under, is_open, asks_nothing}
+use Rattle.valid_labels.specs.Tests.{Segment, cut_places, not_asked, sources_of, segments_of, holds_in, may_hold_in, is_made_of_sources, is_eligible, may_reach, is_wanted, are_met, meets_demands, is_unconditional, is_three, allows_any_cut, is_admitted, is_valid, is_never, is_refused, leads_past, one_up_to, leads_on, is_dead_under, is_open, asks_nothing}
 use Rattle.valid_labels.specs.Laws.{TestsAgree}
 use Rattle.valid_labels.proofs.CutLemmas.{EntryStands, rounds-map, sequence-filled, cut-steps, steps-cut}
 use Rattle.valid_labels.proofs.EligibleLemmas.{eligible-agrees}
-use Rattle.variant_table.proofs.MemberLists.{Contains-map, Contains-filter, not-true, any-one, all-members}
+use Rattle.variant_table.proofs.MemberLists.{Contains-map, not-true, any-one, all-members}
 use Rattle.valid_labels.proofs.SegmentLemmas.{OneStands, IsFilled, Tells, cut-places-are}
-use Rattle.valid_labels.proofs.SegmentationLemmas.{IsInside, NotAsked, HoldsIn, made-cut, covered-cut}
+use Rattle.valid_labels.proofs.SegmentationLemmas.{NotAsked, HoldsIn, made-cut}
 
 -- ---- sources
 
@@ -65,35 +64,15 @@ sources-agree asked A Q es label tells filled are j =
 not-asked-tells : (n : ℕ) → Tells n not_asked NotAsked
 not-asked-tells n c i j l m = (λ h. tt, λ h. refl)
 
-pub covered-agrees : (table : TableValue) (points : List ℕ) → IsWellFormed table.entries → IsTrue (is_covered table points) ↔ IsCovered table points
-covered-agrees table points formed =
-    let s = sources-agree not_asked NotAsked (Contains table.entries) table.entries points (not-asked-tells (length points)) (sources-filled table.entries table.entries formed (λ e h. h)) (λ e. (λ h. h, λ h. h)) (length points) in
-    let c = covered-cut table points in (
-      λ h. c.1 (steps-cut (Contains table.entries) NotAsked points (s.0 h)),
-      λ h. s.1 (cut-steps (Contains table.entries) NotAsked points (c.0 h)),
-    )
-
-pub inside-are : (table : TableValue) (e : Entry) → Contains (inside_of table.entries) e ↔ IsInside table e
-inside-are table e =
-    let f = Contains-filter (λ (x : Entry). not x.outside) table.entries e in
-    (λ h. (let g = f.0 h in (g.0, mark e.outside g.1)), λ h. f.1 (h.0, ap not h.1))
-  where
-    mark : (b : Bool) → not b ≡ true → b ≡ false
-    mark true h = not-true h
-    mark false h = refl
-
-pub inside-filled : (table : TableValue) → IsWellFormed table.entries → AllByRecursion IsFilled (sources_of (inside_of table.entries))
-inside-filled table formed = sources-filled table.entries (inside_of table.entries) formed (λ e h. ((inside-are table e).0 h).0)
-
 pub holds-tells : (table : TableValue) (label : List ℕ) → Tells (length label) (holds_in table label) (HoldsIn table label)
 holds-tells table label c i j l m = condition-agrees table.definitions.rules (seen_under table label) c i j l m
 
 pub made-agrees : (table : TableValue) (label : List ℕ) → IsWellFormed table.entries → IsTrue (is_made_of_sources table label) ↔ IsMadeOfSources table label
 made-agrees table label formed =
-    let s = sources-agree not_asked NotAsked (IsInside table) (inside_of table.entries) label (not-asked-tells (length label)) (inside-filled table formed) (inside-are table) (length label) in
+    let s = sources-agree not_asked NotAsked (Contains table.entries) table.entries label (not-asked-tells (length label)) (sources-filled table.entries table.entries formed (λ e h. h)) (λ e. (λ h. h, λ h. h)) (length label) in
     let c = made-cut table label in (
-      λ h. c.1 (steps-cut (IsInside table) NotAsked label (s.0 h)),
-      λ h. s.1 (cut-steps (IsInside table) NotAsked label (c.0 h)),
+      λ h. c.1 (steps-cut (Contains table.entries) NotAsked label (s.0 h)),
+      λ h. s.1 (cut-steps (Contains table.entries) NotAsked label (c.0 h)),
     )
 
 -- ---- segments
@@ -288,12 +267,12 @@ dead-agrees table label formed =
 
 admitted-agrees : (table : TableValue) (label : List ℕ) → IsWellFormed table.entries → IsTrue (is_admitted table label) ↔ IsAdmitted table label
 admitted-agrees table label formed =
-    let two = and-both ((allows_any_cut table && is_made_of_sources table label) || is_eligible_by Inside table label) (meets_demands table label) in
-    let either = or-one (allows_any_cut table && is_made_of_sources table label) (is_eligible_by Inside table label) in
+    let two = and-both ((allows_any_cut table && is_made_of_sources table label) || is_eligible table label) (meets_demands table label) in
+    let either = or-one (allows_any_cut table && is_made_of_sources table label) (is_eligible table label) in
     let any = and-both (allows_any_cut table) (is_made_of_sources table label) in
     let a = any-cut-agrees table in
     let m = made-agrees table label formed in
-    let s = eligible-agrees Inside table label formed in
+    let s = eligible-agrees table label formed in
     let d = demands-agree table label in (
       λ h.
           let b = two.0 h in
@@ -303,22 +282,22 @@ admitted-agrees table label formed =
 
 valid-agrees : (table : TableValue) (label : List ℕ) → IsWellFormed table.entries → IsTrue (is_valid table label) ↔ IsValid table label
 valid-agrees table label formed =
-    let two = and-both (allows_any_cut table || is_eligible_by All table label) (meets_demands table label) in
-    let either = or-one (allows_any_cut table) (is_eligible_by All table label) in
+    let two = and-both (allows_any_cut table || is_eligible table label) (meets_demands table label) in
+    let either = or-one (allows_any_cut table) (is_eligible table label) in
     let a = any-cut-agrees table in
-    let s = eligible-agrees All table label formed in
+    let s = eligible-agrees table label formed in
     let d = demands-agree table label in (
       λ h. (let b = two.0 h in record { cut = elim (either.0 b.0) [ inl x ↦ inl (a.0 x) | inr y ↦ inr (s.0 y) ]; met = d.0 b.1 }),
       λ h. two.1 (either.1 (elim h.cut [ inl x ↦ inl (a.1 x) | inr y ↦ inr (s.1 y) ]), d.1 h.met),
     )
 
 -- no variant is open where each is made of sources
-covered-all : (table : TableValue) (ss : List (List ℕ)) → IsWellFormed table.entries → IsTrue (not (list_any (λ s. not (is_covered table s)) ss)) ↔ AllByRecursion (IsCovered table) ss
-covered-all table [] formed = (λ h. tt, λ h. refl)
-covered-all table (s ∷ ss) formed = by_test (is_covered table s) refl (covered-agrees table s formed) (covered-all table ss formed)
+made-all : (table : TableValue) (ss : List (List ℕ)) → IsWellFormed table.entries → IsTrue (not (list_any (λ s. not (is_made_of_sources table s)) ss)) ↔ AllByRecursion (IsMadeOfSources table) ss
+made-all table [] formed = (λ h. tt, λ h. refl)
+made-all table (s ∷ ss) formed = by_test (is_made_of_sources table s) refl (made-agrees table s formed) (made-all table ss formed)
   where
-    by_test : (b : Bool) → is_covered table s ≡ b → IsTrue (is_covered table s) ↔ IsCovered table s → IsTrue (not (list_any (λ v. not (is_covered table v)) ss)) ↔ AllByRecursion (IsCovered table) ss
-        → IsTrue (not (not b || list_any (λ v. not (is_covered table v)) ss)) ↔ (IsCovered table s × AllByRecursion (IsCovered table) ss)
+    by_test : (b : Bool) → is_made_of_sources table s ≡ b → IsTrue (is_made_of_sources table s) ↔ IsMadeOfSources table s → IsTrue (not (list_any (λ v. not (is_made_of_sources table v)) ss)) ↔ AllByRecursion (IsMadeOfSources table) ss
+        → IsTrue (not (not b || list_any (λ v. not (is_made_of_sources table v)) ss)) ↔ (IsMadeOfSources table s × AllByRecursion (IsMadeOfSources table) ss)
     by_test true is agrees rest = (λ h. (agrees.0 is, rest.0 h), λ h. rest.1 h.1)
     by_test false is agrees rest = (λ h. not-true h, λ h. absurd (let f : true ≡ false = sym (agrees.1 h.0) ∙ is in cc))
 
@@ -327,16 +306,16 @@ not-or true b = (λ h. (refl, h), λ h. h.1)
 not-or false b = (λ h. not-true h, λ h. absurd (let f : false ≡ true = h.0 in cc))
 
 abbrev Singles : TableValue → List Entry → Type 0
-Singles table es = AllByRecursion (λ (e : Entry). length e.source ≡ 1) es × AllByRecursion (λ (e : Entry). AllByRecursion (IsCovered table) (sequences_in e.variants)) es
+Singles table es = AllByRecursion (λ (e : Entry). length e.source ≡ 1) es × AllByRecursion (λ (e : Entry). AllByRecursion (IsMadeOfSources table) (sequences_in e.variants)) es
 
 none-open : (table : TableValue) (es : List Entry) → IsWellFormed table.entries → IsTrue (not (list_any (is_open table) es)) ↔ Singles table es
 none-open table [] formed = (λ h. (tt, tt), λ h. refl)
 none-open table (e ∷ es) formed =
-    let one = not-or (eqb (length e.source) 1) (list_any (λ s. not (is_covered table s)) (sequences_in e.variants)) in
-    let variants = covered-all table (sequences_in e.variants) formed in
+    let one = not-or (eqb (length e.source) 1) (list_any (λ s. not (is_made_of_sources table s)) (sequences_in e.variants)) in
+    let variants = made-all table (sequences_in e.variants) formed in
     by_test (is_open table e) refl one variants (none-open table es formed)
   where
-    by_test : (b : Bool) → is_open table e ≡ b → IsTrue (not (is_open table e)) ↔ (IsTrue (eqb (length e.source) 1) × IsTrue (not (list_any (λ s. not (is_covered table s)) (sequences_in e.variants)))) → IsTrue (not (list_any (λ s. not (is_covered table s)) (sequences_in e.variants))) ↔ AllByRecursion (IsCovered table) (sequences_in e.variants)
+    by_test : (b : Bool) → is_open table e ≡ b → IsTrue (not (is_open table e)) ↔ (IsTrue (eqb (length e.source) 1) × IsTrue (not (list_any (λ s. not (is_made_of_sources table s)) (sequences_in e.variants)))) → IsTrue (not (list_any (λ s. not (is_made_of_sources table s)) (sequences_in e.variants))) ↔ AllByRecursion (IsMadeOfSources table) (sequences_in e.variants)
         → IsTrue (not (list_any (is_open table) es)) ↔ Singles table es → IsTrue (not (b || list_any (is_open table) es)) ↔ Singles table (e ∷ es)
     by_test true is one variants rest = (
       λ h. not-true h,
@@ -369,7 +348,7 @@ nothing-agrees table formed =
 pub tests-agree : TestsAgree
 tests-agree = record {
   made_of_sources = λ table label sound. made-agrees table label sound.entries;
-  eligible = λ sources table label sound. eligible-agrees sources table label sound.entries;
+  eligible = λ table label sound. eligible-agrees table label sound.entries;
   admitted = λ table label sound. admitted-agrees table label sound.entries;
   valid = λ table label sound. valid-agrees table label sound.entries;
   nothing = nothing-agrees;

@@ -1,5 +1,5 @@
 -- Why a label that is made of sources may not be asked about.
-use Rattle.std.specs.Prelude.{◌≡◌, ◌⊎◌, ℕ, suc, ◌+◌, ◌<◌, ◌≤◌, nat_eq, Option, Some, None, List, [], ◌∷◌, length, slice_get, if◌then◌else◌, Contains}
+use Rattle.std.specs.Prelude.{◌≡◌, ℕ, suc, ◌<◌, ◌≤◌, nat_eq, Option, Some, None, List, [], ◌∷◌, length, slice_get, if◌then◌else◌, Contains}
 use Rattle.label_patterns.specs.declared.condition.Condition.{Condition}
 use Rattle.label_patterns.specs.Matches.{Seen}
 use Rattle.label_patterns.specs.Tests.{occurs_in}
@@ -9,10 +9,9 @@ use Rattle.variant_table.specs.Places.{BeginsAt, entries_at}
 use Rattle.variant_table.specs.Segmentations.{seen_under}
 use Rattle.valid_labels.specs.declared.cause.ValidityCause.{ValidityCause}
 use Rattle.valid_labels.specs.declared.cause.ValidityCause.TheVariants.{NotEligible, Broken}
-use Rattle.valid_labels.specs.declared.longest.Sources.TheVariants.{Inside}
-use Rattle.valid_labels.specs.Eligible.{Stands, IsCutEnd, IsEligibleBy}
+use Rattle.valid_labels.specs.Eligible.{Stands, IsCutEnd, IsEligible}
 use Rattle.valid_labels.specs.Demands.{IsMet}
-use Rattle.valid_labels.specs.Tests.{cut_end, holds_in, is_wanted}
+use Rattle.valid_labels.specs.Tests.{cut_end, is_wanted}
 
 -- a source of the table is at the place, whether it may stand there or not
 abbrev pub IsAt : TableValue → List ℕ → ℕ → Entry → Type 0
@@ -23,12 +22,11 @@ pub record IsLongestAt (table : TableValue) (label : List ℕ) (place : ℕ) (e 
   pub at : IsAt table label place e
   pub longest : (f : Entry) → IsAt table label place f → length f.source ≤ length e.source
 
--- the conditions of all sources at the place fail, and this is that of the longest one; or no source is there, or one stands
--- there that is outside
+-- the conditions of all sources at the place fail, and this is that of the longest one; or no source is there
 abbrev pub IsStoppedBy : TableValue → List ℕ → ℕ → Option Condition → Type 0
 IsStoppedBy table label place (Some condition) =
     ((f : Entry) → ¬ Stands table label place f) × ((e : Entry) × IsLongestAt table label place e × (e.condition ≡ Some condition))
-IsStoppedBy table label place None = ((e : Entry) → ¬ IsAt table label place e) ⊎ ((e : Entry) × Stands table label place e)
+IsStoppedBy table label place None = (e : Entry) → ¬ IsAt table label place e
 
 -- the demand of this number is the first one that the label breaks
 pub record IsFirstBroken (seen : Seen) (demands : List Demand) (n : ℕ) (d : Demand) : Type 0 where
@@ -38,20 +36,20 @@ pub record IsFirstBroken (seen : Seen) (demands : List Demand) (n : ℕ) (d : De
 
 -- the cause is the place within the label at which its longest-first cut ends; or, where it is eligible, a demand
 abbrev pub IsCause : TableValue → List ℕ → ValidityCause → Type 0
-IsCause table label (NotEligible place condition) = IsCutEnd Inside table label place × (place < length label) × IsStoppedBy table label place condition
+IsCause table label (NotEligible place condition) = IsCutEnd table label place × (place < length label) × IsStoppedBy table label place condition
 IsCause table label (Broken n kind) =
-    IsEligibleBy Inside table label × ((d : Demand) × IsFirstBroken (seen_under table label) table.definitions.demands n d × (d.kind ≡ kind))
+    IsEligible table label × ((d : Demand) × IsFirstBroken (seen_under table label) table.definitions.demands n d × (d.kind ≡ kind))
 
 -- ---- the same as it computes
 
--- the condition of the last of these entries, or the one that was found before; none where one of them stands at the place
-abbrev pub last_failing : TableValue → List ℕ → ℕ → Option Condition → List Entry → Option Condition
-last_failing table label place found [] = found
-last_failing table label place found (e ∷ entries) =
-    if holds_in table label e.condition place (place + length e.source) then None else last_failing table label place e.condition entries
+-- the condition of the last of these entries, or the one that was found before
+abbrev pub last_condition : Option Condition → List Entry → Option Condition
+last_condition found [] = found
+last_condition found (e ∷ entries) = last_condition e.condition entries
 
+-- that of the longest source at the place
 abbrev pub stopped_by : TableValue → List ℕ → ℕ → Option Condition
-stopped_by table label place = last_failing table label place None (entries_at table.entries label place)
+stopped_by table label place = last_condition None (entries_at table.entries label place)
 
 -- the first demand that is broken; the first one has this number
 abbrev pub broken_from : Seen → ℕ → List Demand → Option ValidityCause
@@ -64,4 +62,4 @@ cause_at table label place =
     if nat_eq place (length label) then broken_from (seen_under table label) 0 table.definitions.demands else Some (NotEligible place (stopped_by table label place))
 
 abbrev pub cause_of : TableValue → List ℕ → Option ValidityCause
-cause_of table label = cause_at table label (cut_end Inside table label)
+cause_of table label = cause_at table label (cut_end table label)

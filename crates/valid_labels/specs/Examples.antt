@@ -23,7 +23,7 @@ when_second = Some (record { kind = When; rule = 1 })
 
 -- a source with its condition and its variants
 abbrev pub source : List ℕ → Option Condition → List (List ℕ) → Entry
-source points condition variants = record { source = points; outside = false; tags = []; condition = condition; variants = map (plain_variant false) variants }
+source points condition variants = record { source = points; type = None; condition = condition; variants = map (plain_variant None) variants }
 
 -- sources of one code point without conditions and variants
 abbrev pub letters : List ℕ → List Entry
@@ -84,9 +84,9 @@ ab_at_end = table_with [] (Then Anchor End ∷ []) [] (source (codes "a") None [
 abbrev pub bb_unless_after_a : TableValue
 bb_unless_after_a = table_with [] (Then (Point 97) Anchor ∷ []) [] (letters (codes "a") ++ source (codes "b") when_first [] ∷ source (codes "bb") unless_first [] ∷ [])
 
--- ab is outside, and c may be replaced by it
-abbrev pub outside_ab : TableValue
-outside_ab = table_with [] [] [] (letters (codes "ab") ++ record (source (codes "ab") None []) { outside = true } ∷ source (codes "c") None (codes "ab" ∷ []) ∷ [])
+-- ab has the type invalid, and c may be replaced by it
+abbrev pub invalid_ab : TableValue
+invalid_ab = table_with [] [] [] (letters (codes "ab") ++ record (source (codes "ab") None []) { type = Some 0 } ∷ source (codes "c") None (codes "ab" ∷ []) ∷ [])
 
 -- no label has two a
 abbrev pub one_a : TableValue
@@ -97,9 +97,9 @@ abbrev pub vowel_for_consonant : TableValue
 vowel_for_consonant = table_with ((record { first = 2325; last = 2361 } ∷ []) ∷ []) (Then (Set 0) Anchor ∷ []) []
     (source (2325 ∷ []) None ((2309 ∷ []) ∷ []) ∷ source (2366 ∷ []) when_first [] ∷ letters (2309 ∷ 2326 ∷ []))
 
--- a source outside, of one code point, that may not stand at the end
-abbrev pub outside_within : TableValue
-outside_within = table_with [] (Then Anchor End ∷ []) [] (source (codes "a") None ((1072 ∷ []) ∷ []) ∷ record (source (1072 ∷ []) unless_first []) { outside = true } ∷ letters (codes "b"))
+-- a source of the type invalid, of one code point, that may not stand at the end
+abbrev pub invalid_within : TableValue
+invalid_within = table_with [] (Then Anchor End ∷ []) [] (source (codes "a") None ((1072 ∷ []) ∷ []) ∷ record (source (1072 ∷ []) unless_first []) { type = Some 0 } ∷ letters (codes "b"))
 
 -- the consonant 0931 stands only with a virama, and that only before 092F or 0939; another virama follows a consonant
 abbrev pub half_ra : TableValue
@@ -165,17 +165,17 @@ pub record ValidityOfExamples : Type 0 where
   pub shorter_fails_first : cause_of bb_unless_after_a (codes "b") ≡ Some (NotEligible 0 when_first)
   pub longer_stands : is_admitted bb_unless_after_a (codes "bb") ≡ true
   pub longer_after_it : is_admitted bb_unless_after_a (codes "abbb") ≡ true
-  pub outside_longest : cause_of outside_ab (codes "ab") ≡ Some (NotEligible 0 None)
-  pub outside_variant : is_valid outside_ab (codes "ab") ≡ true
+  pub invalid_longest : is_made_of_sources invalid_ab (codes "ab") ≡ true
+  pub invalid_variant : is_valid invalid_ab (codes "ab") ≡ true
   pub sign_after_vowel : is_valid vowel_for_consonant (2309 ∷ 2366 ∷ []) ≡ false
   pub consonant_after_vowel : is_valid vowel_for_consonant (2309 ∷ 2326 ∷ []) ≡ true
   pub two_leads : is_admitted leads (3648 ∷ 3648 ∷ 3585 ∷ []) ≡ false
   pub two_kinds_made : is_made_of_sources digits (48 ∷ 2407 ∷ []) ≡ true
   pub two_a : is_admitted one_a (codes "aba") ≡ false
   pub two_a_dead : is_dead_under one_a (codes "aba") ≡ true
-  pub outside_arises : is_valid outside_within (1072 ∷ codes "ba") ≡ true
-  pub outside_at_end : is_valid outside_within (codes "ab" ++ 1072 ∷ []) ≡ false
-  pub outside_not_made : is_made_of_sources outside_within (1072 ∷ codes "b") ≡ false
+  pub invalid_arises : is_valid invalid_within (1072 ∷ codes "ba") ≡ true
+  pub invalid_at_end : is_valid invalid_within (codes "ab" ++ 1072 ∷ []) ≡ false
+  pub invalid_made : is_made_of_sources invalid_within (1072 ∷ codes "b") ≡ true
   pub half_before_ya : is_admitted half_ra (2325 ∷ 2353 ∷ 2381 ∷ 2351 ∷ []) ≡ true
   pub half_before_ka : is_admitted half_ra (2325 ∷ 2353 ∷ 2381 ∷ 2325 ∷ []) ≡ false
   pub half_before_ka_made : is_made_of_sources half_ra (2325 ∷ 2353 ∷ 2381 ∷ 2325 ∷ []) ≡ true

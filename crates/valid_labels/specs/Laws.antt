@@ -3,9 +3,7 @@ use Rattle.std.specs.Prelude.{◌≡◌, ◌≢◌, ◌↔◌, ℕ, List, ◌++�
 use Rattle.variant_table.specs.declared.version.Version.TheVariants.{Three}
 use Rattle.variant_table.specs.Entries.{Entry, TableValue}
 use Rattle.variant_table.specs.WellFormed.{IsTable, IsWellFormed}
-use Rattle.valid_labels.specs.declared.longest.Sources.{Sources}
-use Rattle.valid_labels.specs.declared.longest.Sources.TheVariants.{Inside}
-use Rattle.valid_labels.specs.Eligible.{IsCutEnd, IsEligibleBy, IsLongest}
+use Rattle.valid_labels.specs.Eligible.{IsCutEnd, IsEligible, IsLongest}
 use Rattle.valid_labels.specs.declared.validity.Admission.TheVariants.{NotAdmitted}
 use Rattle.variant_table.specs.Segmentations.{IsMadeOfSources, HasSegmentation, HasNoConditions, IsMadeOfReplacements}
 use Rattle.valid_labels.specs.Testing.{IsAdmission}
@@ -14,17 +12,17 @@ use Rattle.valid_labels.specs.Tests as tests
 
 -- longest first accepts no more labels than any cut; and the same where each source is one code point
 pub record LongestFirst : Type 0 where
-  pub no_more : (table : TableValue) (label : List ℕ) → IsEligibleBy Inside table label → HasSegmentation table label
-  pub of_points : (table : TableValue) (label : List ℕ) → IsOfPoints table → HasSegmentation table label → IsEligibleBy Inside table label
+  pub no_more : (table : TableValue) (label : List ℕ) → IsEligible table label → HasSegmentation table label
+  pub of_points : (table : TableValue) (label : List ℕ) → IsOfPoints table → HasSegmentation table label → IsEligible table label
 
 -- a label has one longest-first cut: one source is the longest at a place, and the cut ends at one place, which is told. A label
 -- is eligible exactly if that is its end
 pub record OneCut : Type 0 where
   pub source : (table : TableValue) (label : List ℕ) (place : ℕ) (e f : Entry) → IsWellFormed table.entries → IsLongest table label place e → IsLongest table label place f → e ≡ f
-  pub told : (sources : Sources) (table : TableValue) (label : List ℕ) (place : ℕ) → IsWellFormed table.entries →
-      IsCutEnd sources table label place ↔ (place ≡ tests.cut_end sources table label)
-  pub whole : (sources : Sources) (table : TableValue) (label : List ℕ) → IsWellFormed table.entries →
-      IsEligibleBy sources table label ↔ IsCutEnd sources table label (length label)
+  pub told : (table : TableValue) (label : List ℕ) (place : ℕ) → IsWellFormed table.entries →
+      IsCutEnd table label place ↔ (place ≡ tests.cut_end table label)
+  pub whole : (table : TableValue) (label : List ℕ) → IsWellFormed table.entries →
+      IsEligible table label ↔ IsCutEnd table label (length label)
 
 -- a label with a segmentation is made of sources, and where no source has a condition each label that is made of them has one
 pub record SegmentationsAgree : Type 0 where
@@ -34,7 +32,7 @@ pub record SegmentationsAgree : Type 0 where
 -- the tests that compute are true exactly where the definitions hold
 pub record TestsAgree : Type 0 where
   pub made_of_sources : (table : TableValue) (label : List ℕ) → IsSound table → IsTrue (tests.is_made_of_sources table label) ↔ IsMadeOfSources table label
-  pub eligible : (sources : Sources) (table : TableValue) (label : List ℕ) → IsSound table → IsTrue (tests.is_eligible_by sources table label) ↔ IsEligibleBy sources table label
+  pub eligible : (table : TableValue) (label : List ℕ) → IsSound table → IsTrue (tests.is_eligible table label) ↔ IsEligible table label
   pub admitted : (table : TableValue) (label : List ℕ) → IsSound table → IsTrue (tests.is_admitted table label) ↔ IsAdmitted table label
   pub valid : (table : TableValue) (label : List ℕ) → IsSound table → IsTrue (tests.is_valid table label) ↔ IsValid table label
   pub nothing : (table : TableValue) → IsWellFormed table.entries → IsTrue (tests.asks_nothing table) ↔ AsksNothing table

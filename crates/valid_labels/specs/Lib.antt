@@ -6,6 +6,7 @@ pub mod Validity
 pub mod Testing
 pub mod Tests
 pub mod Furthest
+pub mod Actions
 pub mod Causes
 pub mod CauseLaws
 pub mod Examples

@@ -1,6 +1,6 @@
 -- The sources of a table as segments of a label, in any cut.
 use Rattle.std.specs.Prelude.{◌≡◌, ℕ, ◌≤◌, List, length, Option, Contains}
-use Rattle.std.specs.List.{flat_map, slice_range, AllByRecursion}
+use Rattle.std.specs.List.{slice_range}
 use Rattle.label_patterns.specs.declared.condition.Condition.{Condition}
 use Rattle.label_patterns.specs.Matches.{Rounds}
 use Rattle.label_patterns.specs.Conditions.{ConditionHolds}
@@ -8,11 +8,7 @@ use Rattle.label_patterns.specs.Barring.{IsBarred}
 use Rattle.variant_table.specs.Entries.{Entry, TableValue}
 use Rattle.variant_table.specs.Segmentations.{seen_under}
 
--- a sequence is made of sources of the table, of outside ones too
-abbrev pub IsCovered : TableValue → List ℕ → Type 0
-IsCovered table points = (entries : List Entry) × AllByRecursion (Contains table.entries) entries × (flat_map (λ e. e.source) entries ≡ points)
-
--- a segment of the table: a source, also an outside one, with its condition
+-- a segment of the table: a source with its condition
 abbrev pub IsSegment : TableValue → List ℕ → Option Condition → Type 0
 IsSegment table points condition = (e : Entry) × Contains table.entries e × (e.source ≡ points) × (e.condition ≡ condition)
 

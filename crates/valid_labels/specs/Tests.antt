@@ -13,9 +13,7 @@ use Rattle.variant_table.specs.declared.version.Version.{Version}
 use Rattle.variant_table.specs.declared.version.Version.TheVariants.{Three}
 use Rattle.variant_table.specs.Entries.{Entry, TableValue, sequences_in}
 use Rattle.variant_table.specs.Places.{entries_at}
-use Rattle.valid_labels.specs.declared.longest.Sources.{Sources}
-use Rattle.valid_labels.specs.declared.longest.Sources.TheVariants.{All, Inside}
-use Rattle.variant_table.specs.Segmentations.{seen_under, inside_of}
+use Rattle.variant_table.specs.Segmentations.{seen_under}
 
 -- ---- sets of places that steps lead to
 
@@ -58,10 +56,6 @@ not_asked c i j = true
 abbrev pub sources_of : List Entry → List Segment
 sources_of entries = map (λ e. record { points = e.source; condition = e.condition }) entries
 
--- a sequence is made of sources of the table, of outside ones too
-abbrev pub is_covered : TableValue → List ℕ → Bool
-is_covered table points = has_place (cut_places not_asked (sources_of table.entries) points) (length points)
-
 -- the segments of a table
 abbrev pub segments_of : TableValue → List Segment
 segments_of table = sources_of table.entries
@@ -77,7 +71,7 @@ may_hold_in table label c i j = not (condition_barred table.definitions.rules (s
 
 -- the label is made of sources
 abbrev pub is_made_of_sources : TableValue → List ℕ → Bool
-is_made_of_sources table label = has_place (cut_places not_asked (sources_of (inside_of table.entries)) label) (length label)
+is_made_of_sources table label = has_place (cut_places not_asked (segments_of table) label) (length label)
 
 -- the places up to which the label may be cut
 abbrev pub may_reach : TableValue → List ℕ → ℕ
@@ -95,29 +89,25 @@ last_standing table label place found (e ∷ entries) =
 abbrev pub longest_at : TableValue → List ℕ → ℕ → Option Entry
 longest_at table label place = last_standing table label place None (entries_at table.entries label place)
 
-abbrev pub is_of : Sources → Entry → Bool
-is_of All e = true
-is_of Inside e = not e.outside
-
 -- the place after such an entry, or the same place
-abbrev pub place_after : Sources → ℕ → Option Entry → ℕ
-place_after sources place None = place
-place_after sources place (Some e) = if is_of sources e then place + length e.source else place
+abbrev pub place_after : ℕ → Option Entry → ℕ
+place_after place None = place
+place_after place (Some e) = place + length e.source
 
-abbrev pub advanced : Sources → TableValue → List ℕ → ℕ → ℕ
-advanced sources table label place = place_after sources place (longest_at table label place)
+abbrev pub advanced : TableValue → List ℕ → ℕ → ℕ
+advanced table label place = place_after place (longest_at table label place)
 
 -- the place after the first n sources of the cut, or the one at which it ends
-abbrev pub cut_after : Sources → TableValue → List ℕ → ℕ → ℕ
-cut_after sources table label zero = 0
-cut_after sources table label (suc n) = advanced sources table label (cut_after sources table label n)
+abbrev pub cut_after : TableValue → List ℕ → ℕ → ℕ
+cut_after table label zero = 0
+cut_after table label (suc n) = advanced table label (cut_after table label n)
 
 -- the place at which the cut ends
-abbrev pub cut_end : Sources → TableValue → List ℕ → ℕ
-cut_end sources table label = cut_after sources table label (length label)
+abbrev pub cut_end : TableValue → List ℕ → ℕ
+cut_end table label = cut_after table label (length label)
 
-abbrev pub is_eligible_by : Sources → TableValue → List ℕ → Bool
-is_eligible_by sources table label = nat_eq (cut_end sources table label) (length label)
+abbrev pub is_eligible : TableValue → List ℕ → Bool
+is_eligible table label = nat_eq (cut_end table label) (length label)
 
 -- ---- demands
 
@@ -148,10 +138,10 @@ allows_any_cut table = not (is_three table.version) && is_unconditional table
 
 -- the label may be asked about; it is valid
 abbrev pub is_admitted : TableValue → List ℕ → Bool
-is_admitted table label = ((allows_any_cut table && is_made_of_sources table label) || is_eligible_by Inside table label) && meets_demands table label
+is_admitted table label = ((allows_any_cut table && is_made_of_sources table label) || is_eligible table label) && meets_demands table label
 
 abbrev pub is_valid : TableValue → List ℕ → Bool
-is_valid table label = (allows_any_cut table || is_eligible_by All table label) && meets_demands table label
+is_valid table label = (allows_any_cut table || is_eligible table label) && meets_demands table label
 
 -- ---- what is dead
 
@@ -183,7 +173,7 @@ is_dead_under table label = not (allows_any_cut table) && (nat_lt 0 (length labe
 
 -- the source is more than one code point, or a variant is not made of sources
 abbrev pub is_open : TableValue → Entry → Bool
-is_open table e = not (nat_eq (length e.source) 1) || list_any (λ s. not (is_covered table s)) (sequences_in e.variants)
+is_open table e = not (nat_eq (length e.source) 1) || list_any (λ s. not (is_made_of_sources table s)) (sequences_in e.variants)
 
 -- the table asks nothing of its labels
 abbrev pub asks_nothing : TableValue → Bool

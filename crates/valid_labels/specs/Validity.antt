@@ -11,9 +11,8 @@ use Rattle.variant_table.specs.declared.version.Version.TheVariants.{Three}
 use Rattle.variant_table.specs.Entries.{TableValue, sequences_in}
 use Rattle.variant_table.specs.WellFormed.{IsWellFormed}
 use Rattle.variant_table.specs.Segmentations.{seen_under, IsMadeOfSources, HasNoConditions}
-use Rattle.valid_labels.specs.declared.longest.Sources.TheVariants.{Inside}
-use Rattle.valid_labels.specs.Segments.{IsCovered, IsSegment, MayReach}
-use Rattle.valid_labels.specs.Eligible.{IsEligible, IsEligibleBy}
+use Rattle.valid_labels.specs.Segments.{IsSegment, MayReach}
+use Rattle.valid_labels.specs.Eligible.{IsEligible}
 use Rattle.valid_labels.specs.Demands.{MeetsDemands}
 
 -- well-formed entries, and definitions without a fault
@@ -27,14 +26,13 @@ pub record AllowsAnyCut (table : TableValue) : Type 0 where
   pub conditions : HasNoConditions table
   pub demands : table.definitions.demands ≡ []
 
--- a label that may be asked about: it is eligible, by sources that are not outside, and meets the demands. Under a table of
--- version 1 or 2 it is only to be made of sources
+-- a label that may be asked about: it is eligible, and meets the demands. Under a table of version 1 or 2 it is only to be made of
+-- sources
 pub record IsAdmitted (table : TableValue) (label : List ℕ) : Type 0 where
-  pub cut : (AllowsAnyCut table × IsMadeOfSources table label) ⊎ IsEligibleBy Inside table label
+  pub cut : (AllowsAnyCut table × IsMadeOfSources table label) ⊎ IsEligible table label
   pub met : MeetsDemands table label
 
--- a valid label, be it asked about or a variant: it is eligible, and meets the demands. Under a table of version 1 or 2 each
--- label is valid
+-- a valid label, be it asked about or a variant: it is eligible, and meets the demands. Under a table of version 1 or 2 each label is valid
 pub record IsValid (table : TableValue) (label : List ℕ) : Type 0 where
   pub cut : AllowsAnyCut table ⊎ IsEligible table label
   pub met : MeetsDemands table label
@@ -44,15 +42,15 @@ abbrev pub IsOfPoints : TableValue → Type 0
 IsOfPoints table = AllByRecursion (λ e. length e.source ≡ 1) table.entries
 
 -- each variant is made of sources
-abbrev pub HasCoveredVariants : TableValue → Type 0
-HasCoveredVariants table = AllByRecursion (λ e. AllByRecursion (IsCovered table) (sequences_in e.variants)) table.entries
+abbrev pub HasVariantsOfSources : TableValue → Type 0
+HasVariantsOfSources table = AllByRecursion (λ e. AllByRecursion (IsMadeOfSources table) (sequences_in e.variants)) table.entries
 
 -- the table asks nothing of its labels: no source has a condition, there is no demand, and it is of version 1 or 2, or each
 -- source is one code point and each variant is made of sources
 pub record AsksNothing (table : TableValue) : Type 0 where
   pub conditions : HasNoConditions table
   pub demands : table.definitions.demands ≡ []
-  pub cuts : (table.version ≢ Three) ⊎ (IsOfPoints table × HasCoveredVariants table)
+  pub cuts : (table.version ≢ Three) ⊎ (IsOfPoints table × HasVariantsOfSources table)
 
 -- a part of the label matches a pattern that no label may match, and that doesn't ask for the end of the label
 abbrev pub IsRefused : TableValue → List ℕ → Type 0

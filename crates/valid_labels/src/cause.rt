@@ -9,7 +9,7 @@ ghost use Rattle.variant_table.specs.Segmentations.{seen_under};
 
 use crate::cutting::NO_STEPS;
 use crate::demands::is_met;
-use crate::longest::{Sources, cut_end, stands};
+use crate::longest::cut_end;
 use label_patterns::{Condition, PointSet, SeenLabel, renew_masks};
 use ruleset_text::{Demand, DemandKind};
 use std::alloc::{AllocError, Global};
@@ -19,8 +19,7 @@ use variant_table::Table;
 #[derive(Clone, Copy, Debug, PartialEq, Eq)]
 pub enum ValidityCause {
     /// The longest-first cut of the label ends at this place of it, from 0. This is the condition of the longest source
-    /// there, and the conditions of all sources there fail. Without one no source is there by which the label may be
-    /// cut.
+    /// there, and the conditions of all sources there fail. Without one no source is there.
     NotEligible(usize, Option<Condition>),
     /// The label breaks the demand of this number, from 0, of this kind, and no earlier one.
     Broken(usize, DemandKind),
@@ -57,27 +56,22 @@ fn cause_under(
     // Only for the proof: the contract of `len` says that a table is well-formed.
     let _entries = table.len();
     let seen = SeenLabel::of_masks(sets, label, masks);
-    let place = cut_end(table, &seen, label, Sources::Inside, NO_STEPS);
+    let place = cut_end(table, &seen, label, NO_STEPS);
     if place == label.len() {
         broken_demand(table, &seen)
     } else {
-        let condition = stopped_by(table, &seen, label, place);
+        let condition = stopped_by(table, label, place);
         Some(ValidityCause::NotEligible(place, condition))
     }
 }
 
-/// The condition of the longest source at a place. `None` where there is no source, or one stands there.
-fn stopped_by(table: &Table, seen: &SeenLabel<'_>, label: &[u32], place: usize) -> Option<Condition>
-    requires short { length label.now ≤ 63 }
-    requires seen { seen.now ≡ seen_under table.now label.now }
-    requires place { place ≤ length label.now }
+/// The condition of the longest source at a place. `None` where there is no source, or it has none.
+fn stopped_by(table: &Table, label: &[u32], place: usize) -> Option<Condition>
+    requires { place ≤ length label.now }
     ensures { result ≡ stopped_by_at table.now label.now place }
 {
     let mut found = None;
     for entry in table.entries_at(label, place) {
-        if stands(table, seen, label, place, &entry) {
-            return None;
-        }
         found = entry.condition(0);
     }
     found

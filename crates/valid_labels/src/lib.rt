@@ -1,6 +1,7 @@
 //! Which labels are valid under a ruleset.
 #![tactic(auto)]
 
+mod actions;
 mod cause;
 mod cutting;
 mod dead_prefix;
@@ -16,12 +17,12 @@ mod testing;
 mod valid;
 mod validity;
 
+pub use actions::actions_of;
 pub use cause::{ValidityCause, invalid_cause};
 pub use laws::{
     admitted_are_valid, cause_is_exact, dead_for_good, examples_hold, furthest_is_told,
     longest_first, nothing_is_asked, one_cut, segmentations_agree, tests_agree,
 };
-pub use longest::Sources;
 pub use segments::Segments;
 pub use sources::{asks_nothing, furthest, is_made_of_sources};
 pub use testing::ValidityTest;

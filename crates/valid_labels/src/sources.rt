@@ -6,21 +6,19 @@ ghost use Rattle.variant_table.specs.WellFormed.{IsWellFormed};
 ghost use Rattle.valid_labels.specs.Furthest.{furthest as furthest_place};
 ghost use Rattle.variant_table.specs.Entries.{sequences_in};
 ghost use Rattle.variant_table.specs.Segmentations.{HasNoConditions, IsMadeOfSources};
-ghost use Rattle.valid_labels.specs.Segments.{IsCovered};
-ghost use Rattle.valid_labels.specs.Validity.{AsksNothing, HasCoveredVariants, IsOfPoints};
+ghost use Rattle.valid_labels.specs.Validity.{AsksNothing, HasVariantsOfSources, IsOfPoints};
 
 use crate::cutting::{NO_STEPS, reached};
-use crate::source_predicate::{AnySource, InsideSource};
+use crate::source_predicate::AnySource;
 use label_patterns::has;
 use variant_table::{Entry, Table};
 
-/// Whether a label of at most 63 code points is made of sources of a table, none of them outside. Where they may stand
-/// is not asked.
+/// Whether a label of at most 63 code points is made of sources of a table. Where they may stand is not asked.
 pub fn is_made_of_sources(table: &Table, label: &[u32]) -> bool
     requires { length label.now ≤ 63 }
     ensures { IsTrue result ↔ IsMadeOfSources table.now label.now }
 {
-    has(inside_places(table, label), label.len())
+    has(source_places(table, label), label.len())
 }
 
 /// How many of the first code points of a label of at most 63 are made of sources, at the most. Where the label isn't
@@ -29,21 +27,11 @@ pub fn furthest(table: &Table, label: &[u32]) -> usize
     requires { length label.now ≤ 63 }
     ensures { result ≡ furthest_place table.now label.now }
 {
-    last_place(inside_places(table, label), label.len())
+    last_place(source_places(table, label), label.len())
 }
 
-/// Whether a sequence is made of sources of a table, of outside ones too.
-pub(crate) fn is_covered(table: &Table, points: &[u32]) -> bool
-    requires { length points.now ≤ 63 }
-    ensures { IsTrue result ↔ IsCovered table.now points.now }
-{
-    // Only for the proof: the contract of `len` says that a table is well-formed.
-    let _entries = table.len();
-    has(reached(table, points, &AnySource, NO_STEPS), points.len())
-}
-
-/// The places up to which a label is made of sources that are not outside.
-fn inside_places(table: &Table, label: &[u32]) -> u64
+/// The places up to which a label is made of sources.
+fn source_places(table: &Table, label: &[u32]) -> u64
     requires { length label.now ≤ 63 }
     ensures well_formed { IsWellFormed table.now.entries }
     ensures start { Has result 0 }
@@ -51,7 +39,7 @@ fn inside_places(table: &Table, label: &[u32]) -> u64
 {
     // Only for the proof: the contract of `len` says that a table is well-formed.
     let _entries = table.len();
-    reached(table, label, &InsideSource, NO_STEPS)
+    reached(table, label, &AnySource, NO_STEPS)
 }
 
 /// The greatest of the places up to `len` that are in a set. Place 0 must be.
@@ -93,11 +81,11 @@ fn has_no_conditions(table: &Table) -> bool
 
 /// Whether each source is one code point, and each variant is made of sources.
 fn has_single_sources(table: &Table) -> bool
-    ensures { IsTrue result ↔ (IsOfPoints table.now × HasCoveredVariants table.now) }
+    ensures { IsTrue result ↔ (IsOfPoints table.now × HasVariantsOfSources table.now) }
 {
     for number in 0..table.len() {
         let entry = table.entry(number);
-        if entry.source().len() != 1 || !has_covered_variants(table, &entry) {
+        if entry.source().len() != 1 || !has_variants_of_sources(table, &entry) {
             return false;
         }
     }
@@ -105,13 +93,13 @@ fn has_single_sources(table: &Table) -> bool
 }
 
 /// Whether each variant of an entry is made of sources.
-fn has_covered_variants(table: &Table, entry: &Entry<'_>) -> bool
+fn has_variants_of_sources(table: &Table, entry: &Entry<'_>) -> bool
     requires short { AllByRecursion (λ s. length s ≤ 63) (sequences_in entry.now.variants) }
-    ensures { IsTrue result ↔ AllByRecursion (IsCovered table.now) (sequences_in entry.now.variants) }
+    ensures { IsTrue result ↔ AllByRecursion (IsMadeOfSources table.now) (sequences_in entry.now.variants) }
 {
     // The source is the first of the replacements.
     for number in 0..entry.replacements() - 1 {
-        if !is_covered(table, entry.replacement(number + 1)) {
+        if !is_made_of_sources(table, entry.replacement(number + 1)) {
             return false;
         }
     }

@@ -3,7 +3,7 @@ ghost use Rattle.std.specs.Prelude.{◌≡◌, ◌↔◌, ◌≤◌, length, IsT
 ghost use Rattle.std.specs.List.{AllByRecursion};
 ghost use Rattle.label_patterns.specs.inner.Masks.{AreMasks};
 ghost use Rattle.valid_labels.specs.Demands.{IsMet};
-ghost use Rattle.valid_labels.specs.Eligible.{IsEligible, IsEligibleBy};
+ghost use Rattle.valid_labels.specs.Eligible.{IsEligible};
 ghost use Rattle.variant_table.specs.Segmentations.{seen_under};
 ghost use Rattle.valid_labels.specs.Testing.{IsValidity};
 ghost use Rattle.valid_labels.specs.Validity.{AsksNothing, IsAdmitted, IsValid};
@@ -12,7 +12,7 @@ ghost use Rattle.valid_labels.specs.inner.Singles.{AreSingles, HasRoom};
 use crate::cutting::NO_STEPS;
 use crate::dead_prefix::shortest_dead_prefix;
 use crate::demands::are_met;
-use crate::longest::{Sources, cut_end};
+use crate::longest::cut_end;
 use crate::segments::Segments;
 use crate::single_places::SinglePlaces;
 use crate::validity::Validity;
@@ -29,7 +29,7 @@ pub fn is_admitted(table: &Table, sets: &[PointSet], label: &[u32], masks: &[u64
     ensures { IsTrue result ↔ IsAdmitted table.now label.now }
 {
     let seen = SeenLabel::of_masks(sets, label, masks);
-    is_eligible_inside(table, &seen, label) && meets_demands(table, &seen)
+    is_eligible_anew(table, &seen, label) && meets_demands(table, &seen)
 }
 
 /// Whether a label is valid, and if it isn't, how long its shortest dead prefix is. `masks` has the places of each of
@@ -76,15 +76,15 @@ fn is_valid(
     is_eligible(segments, seen, label, singles) && meets_demands(segments.table(), seen)
 }
 
-/// Whether a label is eligible by sources that are not outside.
-fn is_eligible_inside(table: &Table, seen: &SeenLabel<'_>, label: &[u32]) -> bool
+/// Whether a label is eligible, of which nothing is kept.
+fn is_eligible_anew(table: &Table, seen: &SeenLabel<'_>, label: &[u32]) -> bool
     requires short { length label.now ≤ 63 }
     requires seen { seen.now ≡ seen_under table.now label.now }
-    ensures { IsTrue result ↔ IsEligibleBy Sources.Inside table.now label.now }
+    ensures { IsTrue result ↔ IsEligible table.now label.now }
 {
     // Only for the proof: the contract of `len` says that a table is well-formed.
     let _entries = table.len();
-    cut_end(table, seen, label, Sources::Inside, NO_STEPS) == label.len()
+    cut_end(table, seen, label, NO_STEPS) == label.len()
 }
 
 /// Whether a label is eligible.
@@ -103,7 +103,7 @@ fn is_eligible(
     segments.recall_soundness();
     let table = segments.table();
     let steps = singles.holding_steps(table.definitions().rules(), seen);
-    cut_end(table, seen, label, Sources::All, steps) == label.len()
+    cut_end(table, seen, label, steps) == label.len()
 }
 
 /// Whether a label meets the demands of a table.

@@ -3,7 +3,7 @@
 /// Whether a label may be asked about.
 #[derive(Clone, Copy, Debug, PartialEq, Eq)]
 pub enum Admission {
-    /// The label can't be cut into sources of the table, whatever their conditions. Outside sources don't count.
+    /// The label can't be cut into sources of the table, whatever their conditions.
     NotCut,
     /// The label can be cut into sources, but not so that their conditions hold; or it breaks a demand.
     NotAdmitted,

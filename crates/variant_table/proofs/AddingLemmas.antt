@@ -14,7 +14,7 @@ use Rattle.variant_table.specs.Faults.{Limit, NoSuchName, BadClass, SameVariant,
 use Rattle.variant_table.specs.Canonical.{table_text, written_text}
 use Rattle.variant_table.specs.Conditions.{is_too_large, is_text_too_long, is_over_limit, has_bad_class, has_repeat, has_source_in}
 use Rattle.variant_table.specs.Entries.{Entry}
-use Rattle.variant_table.specs.Forms.{with_point, written_out, knows_all, variant_of, entry_of, entries_of}
+use Rattle.variant_table.specs.Forms.{with_point, written_out, knows_all, source_mark, variant_by, entry_of, entries_of}
 use Rattle.variant_table.specs.Limits.{text_limit, entry_limit}
 use Rattle.variant_table.specs.Ranges.{range_size}
 use Rattle.variant_table.specs.Reading.{with_entries, with_form}
@@ -155,25 +155,25 @@ module _ (v : Version) (d : Definitions) (t : List Entry) (m : Mapped) (first la
 
     module _ (known : knows_all d (m ∷ []) ≡ true) where
       es : List Entry
-      es = points_from (variant_of d m) first count
+      es = points_from (variant_by source_mark d m) first count
 
       es-are : entries_of d range_form ≡ es
       unfolding es
       es-are = ap (map (entry_of d)) lines ∙ points_are d m (range_with_len first count)
 
-      pub range_bad : list_any (has_bad_class d.properties) (points_from (variant_of d m) first count) ≡ true → with_form v d t range_form ≡ Err BadClass
+      pub range_bad : list_any (has_bad_class d.properties) (points_from (variant_by source_mark d m) first count) ≡ true → with_form v d t range_form ≡ Err BadClass
       unfolding es
       range_bad b = with_form-entries v d t range_form range_fits known ∙ ap (with_entries d.properties t) es-are ∙ entries-bad d.properties t es b
 
-      pub range_good : list_any (has_bad_class d.properties) (points_from (variant_of d m) first count) ≡ false → with_form v d t range_form ≡ with_new_sources t (points_from (variant_of d m) first count)
+      pub range_good : list_any (has_bad_class d.properties) (points_from (variant_by source_mark d m) first count) ≡ false → with_form v d t range_form ≡ with_new_sources t (points_from (variant_by source_mark d m) first count)
       unfolding es
       range_good b =
-          with_form-entries v d t range_form range_fits known ∙ ap (with_entries d.properties t) es-are ∙ entries-new d.properties t es b (range_single (variant_of d m) first count)
-          ∙ sym (with_range (variant_of d m) t first count)
+          with_form-entries v d t range_form range_fits known ∙ ap (with_entries d.properties t) es-are ∙ entries-new d.properties t es b (range_single (variant_by source_mark d m) first count)
+          ∙ sym (with_range (variant_by source_mark d m) t first count)
 
-      pub range_counted : (t' : List Entry) → with_new_sources t (points_from (variant_of d m) first count) ≡ Ok t' → IsCounted v d rest t'
+      pub range_counted : (t' : List Entry) → with_new_sources t (points_from (variant_by source_mark d m) first count) ≡ Ok t' → IsCounted v d rest t'
       unfolding es
       range_counted t' e =
-          subst (IsCounted v d rest) (sym (new_table (list_any (has_source_in t) es) t es t' (sym (with_range (variant_of d m) t first count) ∙ e)))
+          subst (IsCounted v d rest) (sym (new_table (list_any (has_source_in t) es) t es t' (sym (with_range (variant_by source_mark d m) t first count) ∙ e)))
           (counted_with v d t range_form left so_far (known_form d (Some last) (m ∷ []) is known) es (sym es-are)
           (subst (AllByRecursion (IsNamed d)) es-are (named_form d (Some last) (m ∷ []) is known)) rest text_left)

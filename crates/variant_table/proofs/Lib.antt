@@ -56,8 +56,6 @@ pub mod LengthLemmas
 pub mod NumberLemmas
 -- Variants of an entry that stand again, and those that are apart.
 pub mod RepeatLemmas
--- The table without its blocked variants.
-pub mod UnblockedLemmas
 -- What the entries of a line add.
 pub mod AddingLemmas
 -- What is defined later changes no entry and no line of one.

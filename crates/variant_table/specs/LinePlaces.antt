@@ -58,7 +58,7 @@ abbrev pub class_place : Definitions → EntryForm → Notes → Option FaultPla
 class_place d form notes = class_by d form.mapped form.last notes
 
 -- of an entry or a range, by what is noted of its line: what goes past a limit, if it isn't the number of all entries or the canonical
--- text; a tag or a rule that isn't defined; a code point that no table may hold; where the first variant begins that is given again; and
+-- text; a type or a rule that isn't defined; a code point that no table may hold; where the first variant begins that is given again; and
 -- where the source does
 abbrev pub form_place : Definitions → TableFault → EntryForm → Notes → Option FaultPlace
 form_place d (tables.Limit number) form notes = notes.faults.limit

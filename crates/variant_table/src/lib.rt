@@ -18,12 +18,12 @@ mod places;
 mod reading;
 mod sequences;
 mod table;
-mod tags;
 mod version;
 
 pub use canonical::write_sequence;
 pub use entry::Entry;
 pub use fault::{TableFault, TableRefusal};
+pub use forms::look_up_condition;
 pub use places::EntriesAt;
 pub use table::Table;
 pub use version::{Head, Notation, Version, head_of};

@@ -54,8 +54,7 @@ known e = record {
 }
 
 -- an action that was read, and the first name that isn't defined
-pub record IsReadAction (k : Known) (ws : List Placed) (r : ReadAction) (answer : Result NamedAction FaultPlace)
-    : Type 0 where
+pub record IsReadAction (k : Known) (ws : List Placed) (r : ReadAction) (answer : Result NamedAction FaultPlace) : Type 0 where
   pub read : answer ≡ Ok (action r.action)
   pub unknown : r.unknown ≡ first_marked (action_marks k.types k.whole_rules (action r.action)) ws
 

@@ -49,11 +49,8 @@ returns-then-is_some-3-clause-read c =
     subst (λ r. Fails c.args.number r.fault (with_form c.args.self.now.version c.args.self.now.definitions c.args.self.now.entries (entry_form c.args.self.now.version c.args.self.now.definitions c.args.self.now.entries (map mapped c.args.mapped.now) c.args.self.now.left c.requires.counted))) (sym c.at-then-is_some-3.ensures)
     (refl, entry_bad c.args.self.now.version c.args.self.now.definitions c.args.self.now.entries (map mapped c.args.mapped.now) c.args.self.now.left c.requires.counted c.requires.form (omega (arith, c.if-len-entry_limit.false, c.len.ensures, c.entry_limit.ensures.limit)) (is_small c.args.self.now.notes.faults.limit (map mapped c.args.mapped.now) c.is_some.result c.requires.faults.limit c.is_some.ensures c.if-is_some.false) c.in-Some.left c.in-Some.ensures (not-false (knows_all c.args.self.now.definitions (map mapped c.args.mapped.now)) (sym c.requires.faults.name ∙ sym c.is_some-2.ensures ∙ c.if-is_some-2.false)) (class_of_entry (has_bad_class c.args.self.now.definitions.properties (entry_of c.args.self.now.definitions (map mapped c.args.mapped.now))) (sym (c.requires.faults.class refl) ∙ sym c.is_some-3.ensures ∙ c.if-is_some-3.true)))
 
-pub take_sequences-requires-clause-mapped : goal.take_sequences-requires-clause-mapped
-take_sequences-requires-clause-mapped c = all_mapped None (map mapped c.args.mapped.now) c.requires.form
-
-pub take_sequences-requires-clause-known : goal.take_sequences-requires-clause-known
-take_sequences-requires-clause-known c = (not-false (knows_all c.args.self.now.definitions (map mapped c.args.mapped.now)) (sym c.requires.faults.name ∙ sym c.is_some-2.ensures ∙ c.if-is_some-2.false))
+pub take_sequences-requires : goal.take_sequences-requires
+take_sequences-requires c = (not-false (knows_all c.args.self.now.definitions (map mapped c.args.mapped.now)) (sym c.requires.faults.name ∙ sym c.is_some-2.ensures ∙ c.if-is_some-2.false))
 
 pub returns-in-Some-given_again-clause-read : goal.returns-in-Some-given_again-clause-read
 returns-in-Some-given_again-clause-read c =
