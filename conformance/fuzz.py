@@ -233,8 +233,8 @@ class Fuzz:
         return "".join(self.chance.choices(letters, k=self.chance.choice((1, 1, 1, 2, longest))))
 
     def table(self, letters):
-        """The text of a table or a ruleset, and the variants of each source. Now and then it has a fault. An outside source, which
-        no label may have, is among the sources now and then."""
+        """The text of a table or a ruleset, and the variants of each source. Now and then it has a fault. Most often none of the sources
+        is invalid, so that labels may be made of them."""
         entries = self.entries(letters)
         lines = list(self.chance.choice(VERSION_LINES))
         if lines == [RULESET.decode()]:
@@ -264,23 +264,23 @@ class Fuzz:
             entries.update(dict.fromkeys(self.range(entries, lines, str), ()))
 
     def ruleset(self, letters, entries):
-        """The lines of a ruleset, and the variants of its sources, most often without those that are outside."""
-        outside = {source for source in list(entries)[1:] if self.chance.random() < 0.3}
-        drawn = DrawnRuleset(self.chance, letters, entries, outside)
+        """The lines of a ruleset, and the variants of its sources, most often without those of the type invalid."""
+        invalid = {source for source in list(entries)[1:] if self.chance.random() < 0.3}
+        drawn = DrawnRuleset(self.chance, letters, entries, invalid)
         lines = [RULESET.decode(), *drawn.lines]
         if self.chance.random() < 0.3:
-            is_outside = self.chance.random() < 0.3
-            sources = self.range(entries, lines, lambda text: drawn.source(text, is_outside))
-            entries.update({} if is_outside else dict.fromkeys(sources, ()))
+            is_invalid = self.chance.random() < 0.3
+            sources = self.range(entries, lines, lambda text: drawn.source(text, is_invalid))
+            entries.update({} if is_invalid else dict.fromkeys(sources, ()))
         if self.chance.random() < 0.05:
             first = lines.pop(self.chance.randrange(len(lines)))
             lines.insert(self.chance.randint(0, len(lines)), first)
         if self.chance.random() < 0.9:
-            entries = {source: variants for source, variants in entries.items() if source not in outside}
+            entries = {source: variants for source, variants in entries.items() if source not in invalid}
         return lines, entries
 
     def range(self, entries, lines, marked):
-        """Puts a range without any of the sources after the lines, with its marks, and answers its sources."""
+        """Puts a range without any of the sources after the lines, as `marked` writes it, and answers its sources."""
         first = self.chance.choice(RANGES)
         last = first + self.chance.randint(0, 3)
         sources = [chr(point) for point in range(first, last + 1)]

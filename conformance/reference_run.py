@@ -5,7 +5,6 @@ Where it does not know, since a code point is newer than the data here, or since
 `Unknown`. It holds all labels that a label spells in a set, so it is for small tables and short labels.
 """
 
-import functools
 import itertools
 import re
 import unicodedata
@@ -15,10 +14,10 @@ import table_places
 from causes import Causes
 from idn2_registry.notation import reading
 from idn2_registry.notation.faults import TableFault
-from idn2_registry.notation.ruleset import Entry, Mapped, Ruleset
+from idn2_registry.notation.ruleset import BLOCKED, Entry, Mapped, Ruleset
 from registration import Registration, a_label
 from rules import ProfileProperties, UnicodeProperties
-from ruleset_labels import NOT_MADE_OF_ENTRIES, NOT_VALID, RulesetLabels, Unknown
+from ruleset_labels import NOT_MADE_OF_ENTRIES, NOT_VALID, UNCLEAR, RulesetLabels, TableLabels, Unknown
 
 LINE_LIMIT, TEXT_LIMIT, LABEL_LIMIT = 1024, 1024, 63
 COUNT_LIMIT, TRIES = 1_000_000_000, 1_000_000
@@ -182,12 +181,7 @@ class Run:
     """`registration` has the rules of labels, `classes` the classes of code points."""
 
     def __init__(self, registration, classes):
-        self.registration, self.classes = registration, classes
-
-    @functools.cached_property
-    def causes(self):
-        """Made only where causes are told, since it reads more of Unicode's data."""
-        return Causes(self.registration, self.classes)
+        self.registration, self.classes, self.causes = registration, classes, Causes(registration, classes)
 
     def serve(self, options, given, files):
         if options.mode in CHECKS:
@@ -244,7 +238,7 @@ class Run:
         if mode == "--ruleset":
             return RulesetLabels(reading.read(text, self.classes.may_stand)), True
         table = check.read(text, self.classes)
-        return RulesetLabels(as_ruleset(table), cuts_anyway=True), table.version == 2
+        return TableLabels(as_ruleset(table)), table.version == 2
 
     def registered_labels(self, text):
         """The labels of a file of less than 4 GiB: one on each line, each greater than the one before."""
@@ -307,7 +301,8 @@ class Run:
             return [], refusal
         labels, has_third_field = table
         after = [each for each in candidates if each > options.after]
-        variants = [each for each in after if self.is_variant(labels, each)]
+        told = labels.answer(label)
+        variants = [each for each in after if each in told and self.registration.first_fault(self.known(each)) is None]
         tested = [each for each in after if self.dead_prefix(labels, each) is None]
         visited = [each for last, each in zip([None, *after], after) if self.is_visited(labels, last, each)]
         if registered is not None:
@@ -320,9 +315,15 @@ class Run:
         if stops:
             variants = [each for each in variants if each <= min(stops)]
         trailer = f"#stop {len(variants)} {min(stops)}" if stops else f"#end {len(variants)}"
-        allocatable = labels.allocatable(label) if has_third_field else set()
-        field = lambda each: "" if not has_third_field else "\tallocatable" if each in allocatable else "\tblocked"
-        return [f"{each}\t{a_label(each)}{field(each)}" for each in variants] + [trailer], None
+        tail = lambda each: self.fields_of(told[each], options) if has_third_field else ""
+        return [f"{each}\t{a_label(each)}{tail(each)}" for each in variants] + [trailer], None
+
+    @staticmethod
+    def fields_of(disposition, options):
+        """The third field of a line, and the fourth, which only an unclear variant has."""
+        if disposition != UNCLEAR:
+            return f"\t{disposition}"
+        return f"\t{BLOCKED}" + (f"\t{UNCLEAR}" if "explain" in options.given else "")
 
     def dead_prefix(self, labels, label):
         """How many letters the shortest beginning of the label has that no variant begins with, or None."""
@@ -334,9 +335,6 @@ class Run:
         """A step comes to each label that is tested, and to one whose dead prefix the candidate before it hasn't."""
         count = self.dead_prefix(labels, label)
         return count is None or last is None or last[:count] != label[:count]
-
-    def is_variant(self, labels, label):
-        return self.registration.first_fault(self.known(label)) is None and labels.is_valid(label)
 
     def candidates(self, table, label):
         """The labels of at most 63 code points that a label spells, in order, and no refusal, or none and a number."""
@@ -351,7 +349,7 @@ def as_ruleset(table):
     """A table of version 1 or 2 as the ruleset that says the same."""
     entries = {}
     for source, variants in table.entries.items():
-        mapped = tuple(Mapped(variant, is_blocked) for variant, is_blocked in variants.items())
+        mapped = tuple(Mapped(variant, BLOCKED if is_blocked else None) for variant, is_blocked in variants.items())
         entries[source] = Entry(Mapped(source), mapped)
     return Ruleset(entries=entries)
 

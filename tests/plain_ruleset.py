@@ -1,8 +1,8 @@
 """A plain reading of RFC 7940, for small rulesets and short labels: which labels a ruleset accepts, and their variants.
 
 Written from the RFC and not from the converter: it tries all ways to cut a label and all mappings, and follows each rule
-as it is written. Where the RFC can be read in two ways, the readings are those that the table notation has: a label may
-be cut in any way, and one way by which a variant is allowed is enough."""
+as it is written. It reads as versions 1 and 2 of the table notation do: a label may be cut in any way, and one way by
+which a variant is allowed is enough."""
 
 import itertools
 import re

@@ -544,7 +544,7 @@ def faults_of_the_file(folder):
     for data, fault in (
         ('<char cp="0061"/>\n<range first-cp="0060" last-cp="0062"/>', "line 3: 0061 is given twice, first on line 2"),
         ('<char cp="0062"><var cp="0063"/><var cp="0063"/></char>',
-         "line 2: char 0062: 0063 is given twice as a variant, and not under opposite conditions"),
+         "line 2: char 0062: 0063 is given twice as a variant, and not under conditions that differ"),
         ('<range first-cp="0062" last-cp="0061"/>', "line 2: the range ends at 0061, before it begins"),
         ('<range first-cp="0061" last-cp="0062"><var cp="0063"/></range>', "line 2: a range has no variants"),
         ('<char cp="D800"/>', "line 2: D800 is not a scalar value"),

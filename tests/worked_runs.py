@@ -13,6 +13,7 @@ sys.path += [os.path.join(ROOT, folder) for folder in ("conformance", "registry"
 import label_rows
 import ruleset_rows
 import run_rows
+import type_rows
 import worked_rows
 from worked_rows import in_bytes
 
@@ -52,12 +53,17 @@ def answers_rows_of_rulesets(folder):
     expect_rows(folder, ruleset_rows.rows())
 
 
+def answers_rows_of_types(folder):
+    expect_rows(folder, type_rows.rows())
+
+
 TESTS = [
     answers_rows_of_labels_and_names,
     answers_rows_of_runs,
     answers_rows_of_runs_byte_by_byte,
     answers_rows_of_tables_collisions_and_jumps,
     answers_rows_of_rulesets,
+    answers_rows_of_types,
 ]
 
 

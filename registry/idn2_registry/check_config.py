@@ -40,6 +40,9 @@ def check_tables(configuration: Configuration, program: Program, output: Output)
             # Advice, no fault: a registry may want it so.
             words = f"{path}: the pair {pair} has other conditions the other way, which RFC 7940, 5.3.5, advises against"
             output.fact({"table": name, "differs": pair}, words, ExitStatus.YES)
+        for kind in table.idle:
+            words = f"{path}: no action names the type {kind}, so that it blocks nothing: was it misspelt?"
+            output.fact({"table": name, "idle": kind}, words, ExitStatus.NO)
     if (zone := tables.get(configuration.zone)) is not None:
         admitting = [tables[name] for name in configuration.admitting if name in tables]
         if doubt := zone.doubt or lacking(zone, admitting):

@@ -6,6 +6,7 @@ from collections.abc import Iterable, Mapping
 from dataclasses import dataclass, field
 from enum import Enum
 from pathlib import Path
+from typing import Any
 
 from .answers import Refusal
 from .faults import Unknown, Unusable
@@ -13,10 +14,14 @@ from .program import HeldFile, Program, ended
 
 MOST_BYTES = 67_108_864
 VERSION_LINES = {b"%version 2": 2, b"%version 3": 3}
-# What hides collisions (docs/NOTATION.md): a condition of a variant; or a sequence of several code points beside a condition
-# of a source, or an outside source.
+# What hides collisions (docs/NOTATION.md): a condition of a variant; a sequence of several code points beside a
+# condition of a source; an action by which variants are invalid, and not sources alone.
 VARIANT_CONDITION = re.compile(rb"[|:].*[ \t](when|unless)[ \t]")
-SOURCE_CONDITION = re.compile(rb"^[ \t]*!|[ \t](when|unless)[ \t]")
+CONDITION = re.compile(rb"[ \t](when|unless)[ \t]")
+VARIANT_TYPE = re.compile(rb"[|:][^|:\n]*[ \t]as[ \t]+(\w+)")
+INVALID_SOURCE = re.compile(rb"^[ \t]*!|[ \t]as[ \t]+invalid\b", re.MULTILINE)
+ACTION = re.compile(rb"[ \t]*%action[ \t]+(\w+)[ \t]*((?:when|unless)[ \t]+\w+)?[ \t]*"
+                    rb"(?:(any|all|only)[ \t]+([\w, \t]+))?")
 
 
 class Kind(Enum):
@@ -28,8 +33,9 @@ class Kind(Enum):
 
 @dataclass(frozen=True)
 class Table:
-    """A table as it was read, with its gaps as `source|missing`, and as `source|differs` the pairs whose conditions one way
-    aren't those of the other way. It is asked by its bytes, whatever becomes of its file."""
+    """A table as it was read, with its gaps as `source|missing`, as `source|differs` the pairs whose conditions one way
+    aren't those of the other way, and the types that no action names. It is asked by its bytes, whatever becomes of its
+    file."""
 
     name: str
     path: Path
@@ -37,12 +43,13 @@ class Table:
     gaps: tuple[str, ...] = ()
     entries: int = 0
     differences: tuple[str, ...] = ()
+    idle: tuple[str, ...] = ()
 
     def __post_init__(self) -> None:
         object.__setattr__(self, "_held", HeldFile(self.data))
 
-    def __reduce__(self) -> tuple[type["Table"], tuple[str, Path, bytes, tuple[str, ...], int, tuple[str, ...]]]:
-        return Table, (self.name, self.path, self.data, self.gaps, self.entries, self.differences)
+    def __reduce__(self) -> tuple[type["Table"], tuple[Any, ...]]:
+        return Table, (self.name, self.path, self.data, self.gaps, self.entries, self.differences, self.idle)
 
     @property
     def held(self) -> HeldFile:
@@ -69,9 +76,23 @@ class Table:
             return None
         lines = [line for line in self.data.split(b"\n") if re.match(rb"[ \t]*[^#%\s\0]", line)]
         has_sequence = any(b"-" in line for line in lines)
-        if any(map(VARIANT_CONDITION.search, lines)) or has_sequence and any(map(SOURCE_CONDITION.search, lines)):
+        if any(map(VARIANT_CONDITION.search, lines)) or has_sequence and any(map(CONDITION.search, lines)):
             return f"the conditions of the ruleset {self.name} may hide collisions"
+        if not self.refuses_by_sources():
+            return f"the actions of the ruleset {self.name} may hide collisions"
         return None
+
+    def refuses_by_sources(self) -> bool:
+        """Whether each action that makes labels invalid, the default one too, stands before all others, and asks for a
+        rule, or for types that no variant has: so a label that is valid is a valid variant, too."""
+        of_variants = set(VARIANT_TYPE.findall(self.data))
+        actions = [found.groups() for line in self.data.split(b"\n") if (found := ACTION.match(line))]
+        refusing = [action for action in actions if action[0] == b"invalid"]
+        if INVALID_SOURCE.search(self.data) and refusing != actions:
+            return False
+        return b"invalid" not in of_variants and actions[:len(refusing)] == refusing and all(
+            asks is None or asks == b"any" and rule is None and of_variants.isdisjoint(re.findall(rb"\w+", types))
+            for _, rule, asks, types in refusing)
 
 
 def read_table(name: str, path: Path, program: Program) -> Table:
@@ -111,4 +132,5 @@ def checked(table: Table, program: Program) -> Table:
         raise Unusable(f"{table.path}: line 1: no entry in it: each label would be refused: was it cut short?")
     gaps, differences = (
         tuple(f"{pair['source']}|{pair[word]}" for pair in told[:-1] if word in pair) for word in ("missing", "differs"))
-    return Table(table.name, table.path, table.data, gaps, told[-1]["entries"], differences)
+    idle = tuple(each["idle"] for each in told[:-1] if "idle" in each)
+    return Table(table.name, table.path, table.data, gaps, told[-1]["entries"], differences, idle)

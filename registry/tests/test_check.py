@@ -10,12 +10,17 @@ from idn2_registry import Status, Variant
 
 # The holder may have what is simplified, or traditional, throughout, and no mixture.
 KINDS = """%version 3
-%tag simp
-%tag trad
-56FD as simp|570B as trad
-570B as trad|56FD as simp
-5B66 as simp|5B78 as trad
-5B78 as trad|5B66 as simp
+%type simp
+%type r_simp
+%type trad
+%type r_trad
+%action allocatable all simp,r_simp
+%action allocatable all trad,r_trad
+%action blocked any simp,trad
+56FD as r_simp|570B as trad
+570B as r_trad|56FD as simp
+5B66 as r_simp|5B78 as trad
+5B78 as r_trad|5B66 as simp
 """
 
 

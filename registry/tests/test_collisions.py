@@ -16,6 +16,7 @@ from conftest import LIMIT, PROGRAM, TABLES, Place
 from program import is_registrable, spelled
 
 from idn2_registry import Status
+from idn2_registry.tables import Table
 
 Sets = dict[str, list[str]]
 
@@ -145,9 +146,9 @@ def test_joins_tables_so_that_nothing_is_missed(bare: Place) -> None:
 
 
 def test_joins_rulesets(bare: Place) -> None:
-    """Of a ruleset its sources, outside ones among them, and its pairs, without tags and conditions."""
-    bare.write("ruleset.txt", "%version 3\n%tag as\n%tag BEEF\n%rule when _ 0062\n"
-               "0061 as as , BEEF when when|0062 as BEEF:!0063\tunless when\n"
+    """Of a ruleset its sources, and its pairs, without types and conditions."""
+    bare.write("ruleset.txt", "%version 3\n%type as\n%type BEEF\n%rule when _ 0062\n%action blocked any as , BEEF\n"
+               "0061 as as when when|0062 as BEEF:!0063\tunless when\n"
                "!0430 unless when|! 0061\n0064 .. 0065 as BEEF when when\n0065-0066\n")
     bare.write("other.txt", "0062|0067\n")
     joined = ("0061", "0062", "0063", "0067", "0430")
@@ -158,18 +159,50 @@ def test_joins_rulesets(bare: Place) -> None:
 
 
 def test_joins_no_tables_that_disagree_in_a_disposition(bare: Place) -> None:
-    """Both lines are named, and the remedy. Version 1 says nothing of dispositions, and no label has an outside source."""
+    """Both lines are named, and the remedy. Version 1 says nothing of dispositions, and no label has a source that is
+    invalid."""
     bare.write("one.txt", "%version 2\n0061\n0062|0063\n0063|0062\n")
     bare.write("two.txt", "%version 3\n%rule end _ $\n0062 unless end|!0063\n0063|0062\n")
     bare.write("both.txt", "%version 3\n%rule end _ $\n0063|0062 when end:!0062 unless end\n0062|0063\n")
     bare.write("first.txt", "0062|0063\n")
-    bare.write("outside.txt", "%version 3\n0063|0062\n!0062|!0063\n")
+    bare.write("invalid.txt", "%version 3\n0063|0062\n!0062|!0063\n")
+    bare.write("types.txt", "%version 3\n%type t\n%action blocked any t\n0062|0063 as t\n0063|0062 as valid\n")
     told = "one.txt: line 3: 0062|0063 is allocatable, and in two.txt: line 3 it is blocked: make both the same"
     bare.expect(["join", "one.txt", "two.txt"], "", 75, told)
     told = "one.txt: line 4: 0063|0062 is allocatable, and in both.txt: line 3 it is both by conditions: make both the same"
     bare.expect(["join", "first.txt", "one.txt", "both.txt"], "", 75, told)
-    for names in (["one.txt", "first.txt", "outside.txt"], ["two.txt", "first.txt"]):
+    told = "one.txt: line 3: 0062|0063 is allocatable, and in types.txt: line 4 it is blocked: make both the same"
+    bare.expect(["join", "one.txt", "types.txt"], "", 75, told)
+    for names in (["one.txt", "first.txt", "invalid.txt"], ["two.txt", "first.txt"]):
         assert bare.run("join", *names).returncode == 0, names
+
+
+BY_CONDITIONS, BY_ACTIONS = (f"the {what} of the ruleset own may hide collisions" for what in ("conditions", "actions"))
+TYPES = "%type t\n%type u\n%whole w 0061\n"
+ENTRIES = "0061|0062 as t\n0062|0061 as t\n0063 as u\n"
+# What of a ruleset may hide collisions: by a condition of a variant, of a source beside a sequence, or by an action by which
+# variants are invalid, and not sources alone.
+DOUBTS = [
+    ("0061|0062\n0062|0061\n0063-0063\n!0064\n", None),
+    ("%rule r _ $\n0061|0062 when r\n0062|0061\n", BY_CONDITIONS),
+    ("%rule r _ $\n0061|0062\n0062|0061\n0063 when r\n", None),
+    ("%rule r _ $\n0061|0062\n0062|0061\n0063 unless r\n0063-0063\n", BY_CONDITIONS),
+    ("%action blocked any t\n" + ENTRIES, None),
+    ("%action invalid any u\n%action invalid unless w\n%action blocked any t\n" + ENTRIES, None),
+    ("%action invalid any u , t\n" + ENTRIES, BY_ACTIONS),
+    ("%action invalid all u\n" + ENTRIES, BY_ACTIONS),
+    ("%action invalid when w any u\n" + ENTRIES, BY_ACTIONS),
+    ("%action blocked any t\n%action invalid any u\n" + ENTRIES, BY_ACTIONS),
+    (ENTRIES.replace("as t", "as invalid"), BY_ACTIONS),
+    # The default action stands after all others.
+    ("%action blocked any t\n" + ENTRIES + "!0064\n", BY_ACTIONS),
+    ("%action invalid any u\n" + ENTRIES + "0064 as invalid\n", None),
+]
+
+
+@pytest.mark.parametrize(("lines", "doubt"), DOUBTS)
+def test_tells_which_rulesets_may_hide_collisions(lines: str, doubt: str | None) -> None:
+    assert Table("own", Path("own.txt"), f"%version 3\n{TYPES}{lines}".encode()).doubt == doubt
 
 
 def test_joins_the_tables_that_come_with_the_program(bare: Place) -> None:
