@@ -1,5 +1,5 @@
 #!/usr/bin/env python3
-"""Times the look for registered labels among variants: python3 bench/collisions.py
+"""Times the look for registered labels that collide: python3 bench/collisions.py
 
 All times are of the processor, in the program and for it in the kernel, in seconds, and the least of some rounds, as in
 bench.py. What the lines of the tables say:
@@ -90,13 +90,18 @@ def listed(ours, table, labels):
     """For each label the variants that the program lists."""
     given = "".join(label + "\n" for label in labels).encode()
     words = [ours, "--variants", table, "--tries", "1000000000"]
-    blocks, variants = [], []
-    for line in subprocess.run(words, input=given, capture_output=True, env=ENVIRONMENT).stdout.decode().splitlines():
+    return blocks_of(subprocess.run(words, input=given, capture_output=True, env=ENVIRONMENT).stdout.decode())
+
+
+def blocks_of(output):
+    """For each label the labels of its block."""
+    blocks, labels = [], []
+    for line in output.splitlines():
         if line.startswith("#"):
-            blocks.append(variants)
-            variants = []
+            blocks.append(labels)
+            labels = []
         else:
-            variants.append(line.split("\t")[0])
+            labels.append(line.split("\t")[0])
     return blocks
 
 
@@ -110,7 +115,7 @@ class CoProcess:
     def jump(self, label, text):
         self.process.stdin.write(f"{label}\t{text}\n".encode())
         self.process.stdin.flush()
-        return self.process.stdout.readline().decode().rstrip("\n")
+        return self.process.stdout.readline().decode().rstrip("\n").split("\t")
 
     def end(self):
         self.process.stdin.close()
@@ -120,31 +125,27 @@ class CoProcess:
 
 
 def collisions_by_jumps(jump, labels, label):
-    """The registered labels that a label spells, where the labels are a list in order."""
+    """The registered labels that collide with a label, where the labels are a list in order."""
     place = 0
     while place < len(labels):
-        candidate = jump(label, labels[place])
-        if candidate == "#end":
+        near, *regards = jump(label, labels[place])
+        if near == "#end":
             return
-        if candidate == labels[place]:
-            yield candidate
+        if near == labels[place]:
+            if regards != ["none", "none"]:
+                yield near
             place += 1
         else:
-            place = bisect.bisect_left(labels, candidate)
+            place = bisect.bisect_left(labels, near)
 
 
 def compare_answers(kept):
-    """Of some labels: what the whole listings have of the file, what --among lists, and what jumps find."""
+    """Of some labels: what the whole listings have of the file, which under these tables are the same from either side,
+    what --among lists, and what jumps find."""
     asked = random.Random(SEED).sample(kept.labels, min(COMPARED, len(kept.labels)))
     known = set(kept.labels)
     wanted = [[each for each in variants if each in known] for variants in listed(kept.options.ours, kept.table, asked)]
-    blocks, lines = [], []
-    for line in kept.asking(asked).output().splitlines():
-        if line.startswith("#"):
-            blocks.append(lines)
-            lines = []
-        else:
-            lines.append(line.split("\t")[0])
+    blocks = blocks_of(kept.asking(asked).output())
     process = CoProcess(kept.options.ours, kept.table)
     jumps = [list(collisions_by_jumps(process.jump, kept.labels, label)) for label in asked]
     process.end()

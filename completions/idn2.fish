@@ -36,7 +36,7 @@ __idn2_option $modes -l check-table -r -F -d 'Print the pairs that the table in 
 __idn2_option $modes -l ruleset -r -F -d "List each label's variants by the ruleset in FILE"
 __idn2_option $modes -l check-ruleset -r -F -d 'Print the pairs that the ruleset in FILE lacks'
 
-__idn2_listing_option '--among --jump --tries --steps' -l among -r -F -d 'With --variants: list only the labels in FILE'
+__idn2_listing_option '--among --jump --tries --steps' -l among -r -F -d 'With --variants: list labels in FILE that collide'
 __idn2_listing_option '--jump --among --after --limit --tries --steps' -l jump \
     -d 'With --variants: answer LABEL TAB TEXT by a label'
 __idn2_listing_option '--after --jump' -l after -x -d 'With --variants: list only variants after TEXT'

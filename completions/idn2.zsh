@@ -5,7 +5,7 @@ local modes='-l --lookup -r --register -d --decode --variants --check-table --ru
 local -a listing
 # What goes with --variants and --ruleset; each begins with what it bars.
 (( $words[(I)--(variants|ruleset)(|=*)] )) && listing=(
-    '(--jump --tries --steps)--among=[With --variants: list only the labels in FILE]:FILE:_files'
+    '(--jump --tries --steps)--among=[With --variants: list labels in FILE that collide]:FILE:_files'
     '(--among --after --limit --tries --steps)--jump[With --variants: answer LABEL TAB TEXT by a label]'
     '(--jump)--after=[With --variants: list only variants after TEXT]:TEXT: '
     '(--jump)--limit=[With --variants: stop after N variants of a line]:N: '

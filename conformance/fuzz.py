@@ -233,8 +233,8 @@ class Fuzz:
         return "".join(self.chance.choices(letters, k=self.chance.choice((1, 1, 1, 2, longest))))
 
     def table(self, letters):
-        """The text of a table or a ruleset, and the variants of each source. Now and then it has a fault. An outside source, which
-        no label may have, is among the sources now and then."""
+        """The text of a table or a ruleset, and the variants of each source. Now and then it has a fault. Most often none of the sources
+        is invalid, so that labels may be made of them."""
         entries = self.entries(letters)
         lines = list(self.chance.choice(VERSION_LINES))
         if lines == [RULESET.decode()]:
@@ -264,23 +264,23 @@ class Fuzz:
             entries.update(dict.fromkeys(self.range(entries, lines, str), ()))
 
     def ruleset(self, letters, entries):
-        """The lines of a ruleset, and the variants of its sources, most often without those that are outside."""
-        outside = {source for source in list(entries)[1:] if self.chance.random() < 0.3}
-        drawn = DrawnRuleset(self.chance, letters, entries, outside)
+        """The lines of a ruleset, and the variants of its sources, most often without those of the type invalid."""
+        invalid = {source for source in list(entries)[1:] if self.chance.random() < 0.3}
+        drawn = DrawnRuleset(self.chance, letters, entries, invalid)
         lines = [RULESET.decode(), *drawn.lines]
         if self.chance.random() < 0.3:
-            is_outside = self.chance.random() < 0.3
-            sources = self.range(entries, lines, lambda text: drawn.source(text, is_outside))
-            entries.update({} if is_outside else dict.fromkeys(sources, ()))
+            is_invalid = self.chance.random() < 0.3
+            sources = self.range(entries, lines, lambda text: drawn.source(text, is_invalid))
+            entries.update({} if is_invalid else dict.fromkeys(sources, ()))
         if self.chance.random() < 0.05:
             first = lines.pop(self.chance.randrange(len(lines)))
             lines.insert(self.chance.randint(0, len(lines)), first)
         if self.chance.random() < 0.9:
-            entries = {source: variants for source, variants in entries.items() if source not in outside}
+            entries = {source: variants for source, variants in entries.items() if source not in invalid}
         return lines, entries
 
     def range(self, entries, lines, marked):
-        """Puts a range without any of the sources after the lines, with its marks, and answers its sources."""
+        """Puts a range without any of the sources after the lines, as `marked` writes it, and answers its sources."""
         first = self.chance.choice(RANGES)
         last = first + self.chance.randint(0, 3)
         sources = [chr(point) for point in range(first, last + 1)]
@@ -342,7 +342,8 @@ class Fuzz:
         return self.registration.knows(label) and self.registration.first_fault(label) is None
 
     def among(self):
-        """Variants of labels, among registered labels: mostly such as these labels spell, and their neighbours."""
+        """Labels among registered labels: mostly such as collide with these, whichever has the other as a variant, and
+        their neighbours."""
         letters = self.chance.choice(ALPHABETS)
         table, entries = self.table(letters)
         labels = [self.requested(entries) for _ in range(self.chance.randint(1, 4))]
@@ -353,7 +354,7 @@ class Fuzz:
         return self.compare(words, given, table=table, registered=self.registered(near))
 
     def jump(self):
-        """Jumps to what a label spells, to its neighbours, to texts that are longer than labels, and to anything else."""
+        """Jumps to what is near a label, to its neighbours, to texts longer than labels, and to anything else."""
         letters = self.chance.choice(ALPHABETS)
         table, entries = self.table(letters)
 
@@ -367,8 +368,8 @@ class Fuzz:
         return self.compare([listing_of(table), "table", "--jump"], self.lines(request), table=table)
 
     def near(self, entries, letters, sources):
-        """A label that the sources spell, or a neighbour of it."""
-        label = "".join(self.chance.choice((source, *entries[source])) for source in sources)
+        """A label that may collide with that of the sources, or a neighbour of it."""
+        label = "".join(self.chance.choice(partners_of(source, entries)) for source in sources)
         if self.chance.random() < 0.6:
             return label
         start = self.chance.randrange(len(label) + 1)
@@ -403,6 +404,11 @@ class Fuzz:
         registered = self.registered([self.sequence("ab") for _ in range(4)])
         given = self.lines(lambda: self.chance.choice(("ab", "ab\tb")))
         return self.compare(words, given, table=table, registered=registered)
+
+
+def partners_of(source, entries):
+    """What may stand for a source in a label that collides: itself, its variants, and the sources that have it."""
+    return [source, *entries[source], *(other for other, variants in entries.items() if source in variants)]
 
 
 def is_as_wanted(found, wanted):

@@ -34,6 +34,8 @@ def placed(refusal):
         return f"{text}: not ASCII"
     if "condition" in refusal:
         return f"{text}: {refusal['condition']} {refusal['rule']}"
+    if "type" in refusal:
+        return f"{text} is {refusal['type']}"
     if number == NOT_VALID:
         return f"{text}: no entry"
     if "bidi_class" in refusal:
@@ -59,6 +61,12 @@ def cause_of(refusal):
         return f"place {refusal['place']}{coded(refusal)}"
     if "demand" in refusal:
         return f"demand {refusal['demand']}, {refusal['kind']}"
+    if "action" in refusal:
+        return f"action {refusal['action']}{cause_of_action(refusal)}"
+    if "default_action" in refusal:
+        return f"default action {refusal['default_action']}{cause_of_action(refusal)}"
+    if "unclear" in refusal:
+        return "unclear"
     if "code_point" in refusal:
         return placed(refusal)
     if number == OUT_OF_ORDER:
@@ -72,6 +80,13 @@ def cause_of(refusal):
     if "alabel" in refusal:
         return f"the A-label is {refusal['alabel']}"
     return f"not {refusal['rule']} Punycode" if "rule" in refusal else "nothing after xn--"
+
+
+def cause_of_action(refusal):
+    """What is told of the action by which a label is invalid."""
+    if "condition" in refusal:
+        return f": {refusal['condition']} {refusal['rule']}"
+    return f": {placed(refusal)}" if "type" in refusal else ""
 
 
 def place_of_table(refusal):
@@ -103,15 +118,20 @@ def answer_of(each):
     if "source" in each:
         word = "missing" if "missing" in each else "differs"
         return f"{word} {each['source']}|{each[word]}"
+    if "idle" in each:
+        return f"idle {each['idle']}"
     if "gaps" in each:
         return f"#table {each['entries']} {each['gaps']}"
+    regards = [each[name] for name in ("there", "back") if name in each]
     if "alabel" in each:
         if a_label(each["ulabel"]) != each["alabel"]:
             raise Wrong(each)
         if "input" in each:
             return each["alabel"]
-        return "\t".join([each["ulabel"], each["alabel"], *([each["disposition"]] if "disposition" in each else [])])
-    return next("#end" if each[name] is None else each[name] for name in ("unicode", "ulabel", "ascii") if name in each)
+        more = [each["disposition"]] if "disposition" in each else regards
+        return "\t".join([each["ulabel"], each["alabel"], *more, *(["unclear"] if "unclear" in each else [])])
+    said = next(each[name] for name in ("unicode", "ulabel", "ascii") if name in each)
+    return "#end" if said is None else "\t".join([said, *regards])
 
 
 def input_of(each):

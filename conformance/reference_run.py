@@ -5,7 +5,7 @@ Where it does not know, since a code point is newer than the data here, or since
 `Unknown`. It holds all labels that a label spells in a set, so it is for small tables and short labels.
 """
 
-import functools
+import bisect
 import itertools
 import re
 import unicodedata
@@ -13,12 +13,13 @@ import unicodedata
 import check
 import table_places
 from causes import Causes
+from collisions import MOST_SOURCES, Collisions, sources_of
 from idn2_registry.notation import reading
-from idn2_registry.notation.faults import TableFault
-from idn2_registry.notation.ruleset import Entry, Mapped, Ruleset
+from idn2_registry.notation.faults import LIMIT, TableFault
+from idn2_registry.notation.ruleset import BLOCKED, Entry, Mapped, Ruleset
 from registration import Registration, a_label
 from rules import ProfileProperties, UnicodeProperties
-from ruleset_labels import NOT_MADE_OF_ENTRIES, NOT_VALID, RulesetLabels, Unknown
+from ruleset_labels import NOT_MADE_OF_ENTRIES, NOT_VALID, UNCLEAR, RulesetLabels, TableLabels, Unknown
 
 LINE_LIMIT, TEXT_LIMIT, LABEL_LIMIT = 1024, 1024, 63
 COUNT_LIMIT, TRIES = 1_000_000_000, 1_000_000
@@ -182,12 +183,7 @@ class Run:
     """`registration` has the rules of labels, `classes` the classes of code points."""
 
     def __init__(self, registration, classes):
-        self.registration, self.classes = registration, classes
-
-    @functools.cached_property
-    def causes(self):
-        """Made only where causes are told, since it reads more of Unicode's data."""
-        return Causes(self.registration, self.classes)
+        self.registration, self.classes, self.causes = registration, classes, Causes(registration, classes)
 
     def serve(self, options, given, files):
         if options.mode in CHECKS:
@@ -236,15 +232,30 @@ class Run:
         if "--among" in options.given:
             registered = self.registered_labels(files[options.given["--among"]])
         if options.mode in LISTINGS:
-            table = self.table(options.mode, files[options.given[options.mode]])
+            text = files[options.given[options.mode]]
+            table = self.table(options.mode, text)
+            if {"--among", "jump"} & options.given.keys():
+                self.check_sources(options.mode, text)
         return registered, table
 
     def table(self, mode, text):
-        """What the table or ruleset says of labels, and whether a listing has the third field."""
+        """What the table or ruleset says of labels, and whether it has dispositions."""
         if mode == "--ruleset":
             return RulesetLabels(reading.read(text, self.classes.may_stand)), True
         table = check.read(text, self.classes)
-        return RulesetLabels(as_ruleset(table), cuts_anyway=True), table.version == 2
+        return TableLabels(as_ruleset(table)), table.version == 2
+
+    def check_sources(self, mode, text):
+        """Refuses a text without any other fault at the first line by which a sequence has too many sources."""
+        lines = text.splitlines(keepends=True)
+
+        def is_past(count):
+            (labels, _) = self.table(mode, b"".join(lines[:count]))
+            return any(len(sources) > MOST_SOURCES for sources in sources_of(labels.entries).values())
+
+        line = bisect.bisect_left(range(len(lines) + 1), True, key=is_past)
+        if line <= len(lines):
+            raise TableFault(line, LIMIT)
 
     def registered_labels(self, text):
         """The labels of a file of less than 4 GiB: one on each line, each greater than the one before."""
@@ -258,7 +269,7 @@ class Run:
             if refusal is not None:
                 raise RegisteredFault(number, refusal)
             labels.append(label)
-        return set(labels)
+        return labels
 
     def check(self, options, text):
         lines, is_clean = (check.check if options.mode == "--check-table" else check.check_ruleset)(text, self.classes)
@@ -278,8 +289,10 @@ class Run:
             raise Unknown
         if "jump" in options.given:
             return self.jump(table, *parts_of(text))
+        if registered is not None:
+            return self.collisions(options, table, registered, text)
         if options.mode in LISTINGS:
-            return self.block(options, table, registered, text)
+            return self.block(options, table, text)
         answer, refusal = getattr(self.registration, options.mode)(self.known(text))
         return ([], refusal) if answer is None else ([answer], None)
 
@@ -295,23 +308,43 @@ class Run:
                 raise Unknown
         return text
 
-    def jump(self, table, label, text):
-        candidates, refusal = self.candidates(table, label)
-        if refusal is not None:
-            return [], refusal
-        return [next((each for each in candidates if each >= text), "#end")], None
+    def refusal(self, table, label):
+        """Why a label isn't answered, or None."""
+        labels, _ = table
+        return self.registration.first_fault(self.known(label)) or labels.refusal(label)
 
-    def block(self, options, table, registered, label):
-        candidates, refusal = self.candidates(table, label)
-        if refusal is not None:
+    def collisions_under(self, table):
+        labels, has_dispositions = table
+        may_be_registered = lambda label: self.registration.first_fault(self.known(label)) is None
+        return Collisions(labels, may_be_registered, has_dispositions)
+
+    def jump(self, table, label, text):
+        if refusal := self.refusal(table, label):
             return [], refusal
-        labels, has_third_field = table
-        after = [each for each in candidates if each > options.after]
-        variants = [each for each in after if self.is_variant(labels, each)]
+        under = self.collisions_under(table)
+        least = min((each for each in under.near(label) if each >= text), default=None)
+        return ["#end" if least is None else "\t".join((least, *under.regards(label, least)))], None
+
+    def collisions(self, options, table, registered, label):
+        """The block of the registered labels that collide with a label."""
+        if refusal := self.refusal(table, label):
+            return [], refusal
+        under = self.collisions_under(table)
+        found = [each for each in registered if each > options.after and under.collide(label, each)]
+        stops = [] if options.limit is None else found[options.limit - 1:options.limit]
+        lines = ["\t".join((each, a_label(each), *under.regards(label, each))) for each in found]
+        return ended(lines[:options.limit], stops), None
+
+    def block(self, options, table, label):
+        """The block of the variants of a label."""
+        if refusal := self.refusal(table, label):
+            return [], refusal
+        labels, has_dispositions = table
+        after = sorted(each for each in labels.spelled(label) if options.after < each and len(each) <= LABEL_LIMIT)
+        told = labels.answer(label)
+        variants = [each for each in after if each in told and self.registration.first_fault(self.known(each)) is None]
         tested = [each for each in after if self.dead_prefix(labels, each) is None]
         visited = [each for last, each in zip([None, *after], after) if self.is_visited(labels, last, each)]
-        if registered is not None:
-            variants, tested, visited = [each for each in variants if each in registered], [], []
         stops = tested[options.tries - 1:options.tries]
         if options.steps is not None:
             stops += visited[options.steps - 1:options.steps]
@@ -319,10 +352,15 @@ class Run:
             stops += variants[options.limit - 1:options.limit]
         if stops:
             variants = [each for each in variants if each <= min(stops)]
-        trailer = f"#stop {len(variants)} {min(stops)}" if stops else f"#end {len(variants)}"
-        allocatable = labels.allocatable(label) if has_third_field else set()
-        field = lambda each: "" if not has_third_field else "\tallocatable" if each in allocatable else "\tblocked"
-        return [f"{each}\t{a_label(each)}{field(each)}" for each in variants] + [trailer], None
+        tail = lambda each: self.fields_of(told[each], options) if has_dispositions else ""
+        return ended([f"{each}\t{a_label(each)}{tail(each)}" for each in variants], stops), None
+
+    @staticmethod
+    def fields_of(disposition, options):
+        """The third field of a line, and the fourth, which only an unclear variant has."""
+        if disposition != UNCLEAR:
+            return f"\t{disposition}"
+        return f"\t{BLOCKED}" + (f"\t{UNCLEAR}" if "explain" in options.given else "")
 
     def dead_prefix(self, labels, label):
         """How many letters the shortest beginning of the label has that no variant begins with, or None."""
@@ -335,23 +373,17 @@ class Run:
         count = self.dead_prefix(labels, label)
         return count is None or last is None or last[:count] != label[:count]
 
-    def is_variant(self, labels, label):
-        return self.registration.first_fault(self.known(label)) is None and labels.is_valid(label)
 
-    def candidates(self, table, label):
-        """The labels of at most 63 code points that a label spells, in order, and no refusal, or none and a number."""
-        labels, _ = table
-        fault = self.registration.first_fault(self.known(label)) or labels.refusal(label)
-        if fault:
-            return [], fault
-        return sorted(each for each in labels.spelled(label) if len(each) <= LABEL_LIMIT), None
+def ended(lines, stops):
+    """The lines of a block with its trailer, where it ends or at the first of its stops."""
+    return [*lines, f"#stop {len(lines)} {min(stops)}" if stops else f"#end {len(lines)}"]
 
 
 def as_ruleset(table):
     """A table of version 1 or 2 as the ruleset that says the same."""
     entries = {}
     for source, variants in table.entries.items():
-        mapped = tuple(Mapped(variant, is_blocked) for variant, is_blocked in variants.items())
+        mapped = tuple(Mapped(variant, BLOCKED if is_blocked else None) for variant, is_blocked in variants.items())
         entries[source] = Entry(Mapped(source), mapped)
     return Ruleset(entries=entries)
 

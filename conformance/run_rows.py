@@ -1,8 +1,6 @@
 """Worked rows of whole runs: labels, names, lines, listings, tables and rulesets, and what a run must print, worked out by hand
 from the standards. The file of the table is `t`."""
 
-from ruleset_rows import LONGEST_AT_THE_END, LONGEST_FIRST, LONGEST_UNLESS_IT_FAILS, ONLY_AFTER_A
-
 SHARP_S = "0061\n0065\n0072\n0073\n0074\n0073-0073|00DF\n00DF|0073-0073\n"
 DOUBLED = "0061|0061-0061\n"
 HYPHENS = "0061|002D\n"
@@ -12,7 +10,7 @@ SIGNS = "%version 3\n%set C 0915..0939\n%rule sign @C 093C? _\n0915..0939\n093C 
 # Digits of one kind, those of the other kind being blocked variants.
 DIGITS = ("%version 3\n%never (0030 / 0031) .* (0966 / 0967) / (0966 / 0967) .* (0030 / 0031)\n"
           "0030|!0966\n0031|!0967\n0966|!0030\n0967|!0031\n")
-# A letter from outside, and one that only ends a label.
+# An out-of-repertoire variant, and a letter that only ends a label.
 ENDS = "%version 3\n%rule end _ $\n0061|!0430\n0062|0063 when end\n0063|0062\n!0430|!0061\n"
 
 # Letters of Adlam, a sign that is ON by Unicode, and a mark that is L by Unicode.
@@ -292,11 +290,11 @@ OF_VERSION_2 = [
 ]
 
 OF_RULESETS = [
-    # A label that may arise from two others, and is outside.
+    # A label that may arise from two others, and is invalid.
     (RULESET, "%version 3\n0061|0062\n!0062|0061\n0063|!0062\n", "ac\naa\nb\nabc\n",
      "ab\tab\tblocked\nac\tac\tallocatable\nbb\tbb\tblocked\nbc\tbc\tallocatable\n#end 4\n"
      "aa\taa\tallocatable\nab\tab\tallocatable\nba\tba\tallocatable\nbb\tbb\tallocatable\n#end 4\n",
-     refused((3, "40 not made of table entries"), (4, "40 not made of table entries")), 1),
+     refused((3, "41 not valid under the table"), (4, "41 not valid under the table")), 1),
     (RULESET, SIGNS, "क\u093C\u093E\nक\u093E\u093E\nकa\n",
      "क\u093C\u093E\txn--11b2fg\tallocatable\n#end 1\n",
      refused((2, "41 not valid under the table"), (3, "40 not made of table entries")), 1),
@@ -305,22 +303,6 @@ OF_RULESETS = [
     ([*RULESET, "--json"], SIGNS, "क\u093E\u093E\n",
      '{"line":1,"input":"क\u093E\u093E","refusal":{"number":41,"text":"not valid under the table",'
      '"code_point":"U+093E","place":3,"condition":"when","rule":"sign"}}\n', "", 1),
-    # Where the longest-first cut ends: the condition of the longest source there, or no entry.
-    ([*RULESET, "--explain"], f"%version 3\n{LONGEST_FIRST}", "abc\nabd\nc\nbd\n", "abd\tabd\tallocatable\n#end 1\n",
-     refused((1, "41 not valid under the table: U+0063 at place 3: no entry"), (3, "40 not made of table entries: U+0063 at place 1"),
-             (4, "40 not made of table entries: U+0062 at place 1")), 1),
-    ([*RULESET, "--json"], f"%version 3\n{LONGEST_FIRST}", "abc\n",
-     '{"line":1,"input":"abc","refusal":{"number":41,"text":"not valid under the table","code_point":"U+0063","place":3}}\n', "", 1),
-    ([*RULESET, "--explain"], f"%version 3\n{LONGEST_AT_THE_END}", "abab\n", "",
-     refused((1, "41 not valid under the table: U+0062 at place 2: no entry")), 1),
-    ([*RULESET, "--explain"], f"%version 3\n{LONGEST_UNLESS_IT_FAILS}", "abb\nb\n", "",
-     refused((1, "41 not valid under the table: U+0062 at place 3: when r"),
-             (2, "41 not valid under the table: U+0062 at place 1: when r")), 1),
-    ([*RULESET, "--json"], f"%version 3\n{LONGEST_UNLESS_IT_FAILS}", "b\n",
-     '{"line":1,"input":"b","refusal":{"number":41,"text":"not valid under the table","code_point":"U+0062","place":1,'
-     '"condition":"when","rule":"r"}}\n', "", 1),
-    ([*RULESET, "--explain"], f"%version 3\n{ONLY_AFTER_A}", "b\n", "",
-     refused((1, "41 not valid under the table: U+0062 at place 1: when after_a")), 1),
     # A beginning with both kinds of digits is a dead prefix: `--tries` doesn't count the labels after it.
     ([*RULESET, "--tries", "3"], DIGITS, "01\n",
      "01\t01\tallocatable\n०१\txn--d4bc\tblocked\n#end 2\n", "", 0),
@@ -328,11 +310,11 @@ OF_RULESETS = [
      "", refused((1, "41 not valid under the table: demand 1, never")), 1),
     ([*RULESET, "--json"], DIGITS, "0१\n",
      '{"line":1,"input":"0१","refusal":{"number":41,"text":"not valid under the table","demand":1,"kind":"never"}}\n', "", 1),
-    # A condition of a variant is asked in the label that is given; an outside source may only arise.
+    # A condition of a variant is asked in the label that is given; an out-of-repertoire source may only arise.
     (RULESET, ENDS, "ab\nba\nаb\n",
      "ab\tab\tallocatable\nac\tac\tallocatable\nаb\txn--b-7sb\tblocked\nаc\txn--c-7sb\tblocked\n#end 4\n"
-     "ba\tba\tallocatable\nbа\txn--b-8sb\tblocked\n#end 2\n", refused((3, "40 not made of table entries")), 1),
-    ([*RULESET, "--jump"], ENDS, "ab\tb\n", "аb\n", "", 0),
+     "ba\tba\tallocatable\nbа\txn--b-8sb\tblocked\n#end 2\n", refused((3, "41 not valid under the table")), 1),
+    ([*RULESET, "--jump"], ENDS, "ab\tb\n", "аb\tblocked\tblocked\n", "", 0),
     (["--check-ruleset", "t", "--json"], ENDS, "", '{"source":"0062","differs":"0063"}\n{"entries":4,"gaps":0}\n', "", 1),
     # A byte order mark before the version line.
     ([*RULESET, "--explain"], "\ufeff" + ENDS, "aa\n", "", "idn2: table line 1: 30 table syntax: a byte order mark at byte 1\n", 2),
@@ -356,7 +338,7 @@ BY_EITHER = [
     (["--check-table", "t", "--standard"], ADLAM, "",
      "#table 3 0\n", "", 0),
     (["--standard", *LIST, "--jump"], ADLAM, "\U0001E922\U0001E928\t\U0001E923\n",
-     "\U0001E923\U0001E928\n", "", 0),
+     "\U0001E923\U0001E928\tvariant\tvariant\n", "", 0),
     (RULESET, ADLAM_RULESET, "\U0001E922\n",
      "", "idn2: table line 2: 33 code point not allowed in a table\n", 2),
     (["--check-ruleset", "t", "--standard"], ADLAM_RULESET, "",
@@ -407,20 +389,20 @@ BY_EITHER = [
      '"place":2,"rule":"RFC 5893 2 condition 6","bidi_class":"ES"}}\n', "", 1),
 ]
 
-# Listings that are kept to one registered label, by the profile and by the standards alone.
+# Collisions with one registered label, by the profile and by the standards alone.
 AMONG = [
     # A script that the profile leaves out is refused in the file, too.
     ([], "0061\n", "\U0001E923\U0001E928", "a\n",
      "", "idn2: registered line 1: 10 disallowed code point\n", 2),
     (["--standard"], ADLAM, "\U0001E923\U0001E928", "\U0001E922\U0001E928\n",
-     "\U0001E923\U0001E928\txn--be6hka\n#end 1\n", "", 0),
+     "\U0001E923\U0001E928\txn--be6hka\tvariant\tvariant\n#end 1\n", "", 0),
     # A sign may stand within a label by Unicode, and a mark that is L there by the profile.
     ([], SIGN, "\u05D1\u02C6\u05D1", "\u05D1\u05D0\u05D1\n",
      "", "idn2: registered line 1: 17 Bidi rule broken\n", 2),
     (["--standard"], SIGN, "\u05D1\u02C6\u05D1", "\u05D1\u05D0\u05D1\n",
-     SIGN_WITHIN + "#end 1\n", "", 0),
+     SIGN_WITHIN[:-1] + "\tvariant\tnone\n#end 1\n", "", 0),
     ([], MARK, "\u05D0\u0CBF", "\u05D0\u05D1\n",
-     "\u05D0\u0CBF\txn--4db466a\n#end 1\n", "", 0),
+     "\u05D0\u0CBF\txn--4db466a\tvariant\tnone\n#end 1\n", "", 0),
     (["--standard", "--explain"], MARK, "\u05D0\u0CBF", "\u05D0\u05D1\n",
      "", "idn2: registered line 1: 17 Bidi rule broken: U+0CBF at place 2 is L: RFC 5893 2, condition 2\n", 2),
 ]

@@ -15,13 +15,16 @@ import tempfile
 from compare import HERE, PROGRAM
 
 import check
+import collision_rows
 import label_rows
 import ruleset_rows
 import run_rows
+import type_rows
 from idn2_registry.notation import canonical, reading
 from idn2_registry.notation.faults import TEXTS as FAULT_TEXTS
 from idn2_registry.unicode_data import Classes
-from reference_run import TEXTS, Reference, Unknown
+from objects import as_explained, without_what_objects_leave_out
+from reference_run import TEXTS, Options, Reference, Unknown, bodies
 from run_rows import ADLAM, DOUBLED, SHARP_S
 
 # The words before the table's file, the table, the label, and what is printed.
@@ -62,34 +65,36 @@ def refused_at(line, fault):
 # The table, the registered labels, which are None where there is no such file, more words, the input, and what must be
 # answered: output, messages, status.
 COLLISIONS = [
-    (GERMAN, "haus\nstrasse\n", [], "straße\n", ("strasse\tstrasse\tallocatable\n#end 1\n", "", 0)),
+    (GERMAN, "haus\nstrasse\n", [], "straße\n", ("strasse\tstrasse\tallocatable\tallocatable\n#end 1\n", "", 0)),
     (GERMAN, "strasse\nstraße\n", [], "strasse\n",
-     ("strasse\tstrasse\tallocatable\nstraße\txn--strae-oqa\tallocatable\n#end 2\n", "", 0)),
+     ("strasse\tstrasse\tallocatable\tallocatable\nstraße\txn--strae-oqa\tallocatable\tallocatable\n#end 2\n", "", 0)),
     # A label spells itself.
-    (GERMAN, "haus\n", [], "haus\n", ("haus\thaus\tallocatable\n#end 1\n", "", 0)),
+    (GERMAN, "haus\n", [], "haus\n", ("haus\thaus\tallocatable\tallocatable\n#end 1\n", "", 0)),
     (GERMAN, "haus\nstrasse\n", [], "maus\n", ("#end 0\n", "", 0)),
     # Both are variants of a third, and neither is one of the other.
     (GERMAN, "ßs\n", [], "sß\n", ("#end 0\n", "", 0)),
     (GERMAN, THREE_SPELLINGS, ["--limit", "2"], "sss\n",
-     ("sss\tsss\tallocatable\nsß\txn--s-qfa\tallocatable\n#stop 2 sß\n", "", 0)),
-    (GERMAN, THREE_SPELLINGS, ["--after", "sß"], "sss\n", ("ßs\txn--s-pfa\tallocatable\n#end 1\n", "", 0)),
+     ("sss\tsss\tallocatable\tallocatable\nsß\txn--s-qfa\tallocatable\tallocatable\n#stop 2 sß\n", "", 0)),
+    (GERMAN, THREE_SPELLINGS, ["--after", "sß"], "sss\n", ("ßs\txn--s-pfa\tallocatable\tallocatable\n#end 1\n", "", 0)),
     (GERMAN, THREE_SPELLINGS, ["--after", "sz"], "sss\n",
-     ("sß\txn--s-qfa\tallocatable\nßs\txn--s-pfa\tallocatable\n#end 2\n", "", 0)),
+     ("sß\txn--s-qfa\tallocatable\tallocatable\nßs\txn--s-pfa\tallocatable\tallocatable\n#end 2\n", "", 0)),
     (GERMAN, "sss\nsß\n", ["--limit", "2"], "sss\n",
-     ("sss\tsss\tallocatable\nsß\txn--s-qfa\tallocatable\n#stop 2 sß\n", "", 0)),
+     ("sss\tsss\tallocatable\tallocatable\nsß\txn--s-qfa\tallocatable\tallocatable\n#stop 2 sß\n", "", 0)),
     (GERMAN, "haus\nstrasse\n", [], "Haus\nhaus\nстол\nstraße\n",
-     ("haus\thaus\tallocatable\n#end 1\nstrasse\tstrasse\tallocatable\n#end 1\n",
+     ("haus\thaus\tallocatable\tallocatable\n#end 1\nstrasse\tstrasse\tallocatable\tallocatable\n#end 1\n",
       "idn2: line 1: 10 disallowed code point\nidn2: line 3: 40 not made of table entries\n", 1)),
-    (ALIKE, "t0ss\ntoß\n", [], "toss\n", ("t0ss\tt0ss\tblocked\ntoß\txn--to-hia\tallocatable\n#end 2\n", "", 0)),
-    (HAN, "中国\n中國\n", [], "中國\n", ("中国\txn--fiqs8s\n中國\txn--fiqz9s\n#end 2\n", "", 0)),
+    (ALIKE, "t0ss\ntoß\n", [], "toss\n",
+     ("t0ss\tt0ss\tblocked\tnone\ntoß\txn--to-hia\tallocatable\tnone\n#end 2\n", "", 0)),
+    (HAN, "中国\n中國\n", [], "中國\n",
+     ("中国\txn--fiqs8s\tvariant\tvariant\n中國\txn--fiqz9s\tvariant\tvariant\n#end 2\n", "", 0)),
     (GERMAN, "", [], "haus\n", ("#end 0\n", "", 0)),
     # Registered labels are tested as the options say.
     (ADLAM, "\U0001E923\U0001E928\n", ["--standard"], "\U0001E922\U0001E928\n",
-     ("\U0001E923\U0001E928\txn--be6hka\n#end 1\n", "", 0)),
+     ("\U0001E923\U0001E928\txn--be6hka\tvariant\tvariant\n#end 1\n", "", 0)),
     (GERMAN, "\u05D0\u02C6\u05D1\n", [], "haus\n", refused_at(1, "17 Bidi rule broken")),
     (GERMAN, "\u05D0\u02C6\u05D1\n", ["--standard"], "haus\n", ("#end 0\n", "", 0)),
     (GERMAN, "\u05D0\u0CBF\n", ["--standard"], "haus\n", refused_at(1, "17 Bidi rule broken")),
-    (GERMAN, "haus\r\nstrasse", [], "straße\n", ("strasse\tstrasse\tallocatable\n#end 1\n", "", 0)),
+    (GERMAN, "haus\r\nstrasse", [], "straße\n", ("strasse\tstrasse\tallocatable\tallocatable\n#end 1\n", "", 0)),
     (GERMAN, "strasse\nhaus\n", [], "haus\n", refused_at(2, "4 out of order")),
     (GERMAN, "haus\nhaus\n", [], "haus\n", refused_at(2, "4 out of order")),
     (GERMAN, "haus\n\nstrasse\n", [], "haus\n", refused_at(2, "3 empty")),
@@ -98,19 +103,19 @@ COLLISIONS = [
     (GERMAN, "haus\nxn--strae-oqa\n", [], "haus\n", refused_at(2, "13 hyphen out of place")),
     (GERMAN, "haus\n" + "i" * 1025 + "\n", [], "haus\n", refused_at(2, "2 line too long")),
     (GERMAN, "haus\n" + "i" * 64 + "\n", [], "haus\n", refused_at(2, "18 label too long")),
-    # What a table with a gap tells depends on which of the two labels is asked for.
-    (GAP, "b\n", [], "a\n", ("b\tb\n#end 1\n", "", 0)),
-    (GAP, "a\n", [], "b\n", ("#end 0\n", "", 0)),
+    # A gap is in the way from one side alone.
+    (GAP, "b\n", [], "a\n", ("b\tb\tvariant\tnone\n#end 1\n", "", 0)),
+    (GAP, "a\n", [], "b\n", ("a\ta\tnone\tvariant\n#end 1\n", "", 0)),
     # 2^62 variants, none of them registered.
     (TWO_TO_THE_62, "abba\nabc\nbac\nc\nzoo\n", [], "a" * 62 + "\n", ("#end 0\n", "", 0)),
-    # A registered label that the table doesn't cover is no fault of the file.
-    (GERMAN, "haus\nстол\n", [], "haus\n", ("haus\thaus\tallocatable\n#end 1\n", "", 0)),
+    # A registered label that can't be cut into sources of the table is no fault of the file.
+    (GERMAN, "haus\nстол\n", [], "haus\n", ("haus\thaus\tallocatable\tallocatable\n#end 1\n", "", 0)),
     # The text may be longer than any label.
     (GERMAN, "haus\nstrasse\n", ["--after", "haus" + "a" * 1000], "haus\nstraße\n",
-     ("#end 0\nstrasse\tstrasse\tallocatable\n#end 1\n", "", 0)),
+     ("#end 0\nstrasse\tstrasse\tallocatable\tallocatable\n#end 1\n", "", 0)),
     (GERMAN, "a" * 63 + "\n", ["--after", "a" * 64], "a" * 63 + "\n", ("#end 0\n", "", 0)),
     (GERMAN, "a" * 63 + "\n", ["--after", "a" * 62], "a" * 63 + "\n",
-     ("a" * 63 + "\t" + "a" * 63 + "\tallocatable\n#end 1\n", "", 0)),
+     ("a" * 63 + "\t" + "a" * 63 + "\tallocatable\tallocatable\n#end 1\n", "", 0)),
     (GERMAN, "haus\n", ["--tries", "5"], "haus\n", ("", "idn2: 50 usage\n", 2)),
     (GERMAN, None, [], "haus\n", ("", "idn2: 60 read fault\n", 3)),
     # A faulty table is told of after the registered labels, and a file that isn't there before both.
@@ -120,38 +125,39 @@ COLLISIONS = [
     (GERMAN, "haus\nHaus\n", [], "haus\n", refused_at(2, "10 disallowed code point")),
     # The order is that of code points, not of UTF-16.
     ("FA0E\n20000\n", "\uFA0E\n\U00020000\n", [], "\uFA0E\n\U00020000\n",
-     ("\uFA0E\txn--lf6c\n#end 1\n\U00020000\txn--j50i\n#end 1\n", "", 0)),
+     ("\uFA0E\txn--lf6c\tvariant\tvariant\n#end 1\n\U00020000\txn--j50i\tvariant\tvariant\n#end 1\n", "", 0)),
 ]
 
-# A table, a line of input, and the answer: the least label that is spelled and that is no less than the text.
+# A table, a line of input, and the answer: the least near label that is no less than the text, with what it is to the
+# label, and the label to it.
 JUMPS = [
-    (GERMAN, "sss", "sss"),
-    (GERMAN, "sss\t", "sss"),
-    (GERMAN, "sss\tsss", "sss"),
-    (GERMAN, "sss\tssss", "sß"),
-    (GERMAN, "sss\tsz", "sß"),
-    (GERMAN, "sss\tsß", "sß"),
-    (GERMAN, "sss\tsßa", "ßs"),
-    (GERMAN, "sss\tt", "ßs"),
-    (GERMAN, "sss\tßs", "ßs"),
+    (GERMAN, "sss", "sss\tallocatable\tallocatable"),
+    (GERMAN, "sss\t", "sss\tallocatable\tallocatable"),
+    (GERMAN, "sss\tsss", "sss\tallocatable\tallocatable"),
+    (GERMAN, "sss\tssss", "sß\tallocatable\tallocatable"),
+    (GERMAN, "sss\tsz", "sß\tallocatable\tallocatable"),
+    (GERMAN, "sss\tsß", "sß\tallocatable\tallocatable"),
+    (GERMAN, "sss\tsßa", "ßs\tallocatable\tallocatable"),
+    (GERMAN, "sss\tt", "ßs\tallocatable\tallocatable"),
+    (GERMAN, "sss\tßs", "ßs\tallocatable\tallocatable"),
     (GERMAN, "sss\tßt", "#end"),
     # The text begins after the first tab, and another one is less than any letter.
-    (GERMAN, "sss\t\tz", "sss"),
-    (GERMAN, "sss\tsss\t", "sß"),
-    # What is spelled needn't be registrable: two hyphens stand third and fourth.
-    ("0061|002D\n", "aaaa\taa", "aa--"),
-    ("0061|002D\n", "aaaa\ta-", "a---"),
-    ("0061|002D\n", "aaaa", "----"),
-    # Two segmentations begin alike, and one of them has no end.
-    ("0061-0062|0063\n0061|0062\n", "ab\tac", "c"),
-    (GAP, "a\tb", "b"),
-    (GAP, "b", "b"),
+    (GERMAN, "sss\t\tz", "sss\tallocatable\tallocatable"),
+    (GERMAN, "sss\tsss\t", "sß\tallocatable\tallocatable"),
+    # What is near needn't be registrable: two hyphens stand third and fourth.
+    ("0061|002D\n", "aaaa\taa", "aa--\tvariant\tnone"),
+    ("0061|002D\n", "aaaa\ta-", "a---\tvariant\tnone"),
+    ("0061|002D\n", "aaaa", "----\tvariant\tnone"),
+    # Two cuts begin alike, and what is only a variant is cut into the sources that have it.
+    ("0061-0062|0063\n0061|0062\n", "ab\tac", "ba\tnone\tnone"),
+    (GAP, "a\tb", "b\tvariant\tnone"),
+    (GAP, "b", "a\tnone\tvariant"),
     # A text that is longer than any label is greater than its first 63 code points.
-    (TWO_TO_THE_62, "a" * 63 + "\t" + "a" * 63, "a" * 63),
-    (TWO_TO_THE_62, "a" * 63 + "\t" + "a" * 64, "a" * 62 + "b"),
-    (TWO_TO_THE_62, "a" * 63 + "\t" + "a" * 62 + "b" + "\0", "a" * 61 + "ba"),
+    (TWO_TO_THE_62, "a" * 63 + "\t" + "a" * 63, "a" * 63 + "\tvariant\tvariant"),
+    (TWO_TO_THE_62, "a" * 63 + "\t" + "a" * 64, "a" * 62 + "b" + "\tvariant\tvariant"),
+    (TWO_TO_THE_62, "a" * 63 + "\t" + "a" * 62 + "b" + "\0", "a" * 61 + "ba" + "\tvariant\tvariant"),
     (TWO_TO_THE_62, "a" * 63 + "\t" + "b" * 63 + "a", "#end"),
-    (TWO_TO_THE_62, "a" * 63 + "\t" + "ab" * 480, "ab" * 31 + "b"),
+    (TWO_TO_THE_62, "a" * 63 + "\t" + "ab" * 480, "ab" * 31 + "b" + "\tvariant\tvariant"),
 ]
 
 # A line that a jump refuses, and its number.
@@ -244,9 +250,11 @@ def rows_of_tables():
 
 
 def rows():
-    """These, and the rows of rulesets, of whole runs, and of labels and names."""
+    """These, and the rows of rulesets, of types and actions, of collisions, of whole runs, and of labels and names."""
     yield from rows_of_tables()
     yield from ruleset_rows.rows()
+    yield from type_rows.rows()
+    yield from collision_rows.rows()
     yield from run_rows.rows()
     yield from label_rows.rows()
 
@@ -263,26 +271,41 @@ def program_answer(program, words, given, files):
     return done.stdout.decode(), done.stderr.decode(), done.returncode
 
 
-def answers(second, program, words, given, files):
-    """Who was asked, and the answer: the reference implementation where it can tell, which has no objects, and the program where it is
+def in_words(words, given, wanted):
+    """What is wanted of a run, as a run with `--explain` has it if that is by objects: without what objects leave out."""
+    output, messages, status = wanted
+    if "--json" not in words:
+        return wanted
+    strings = Options([word for word in words if word != "--json"]).strings
+    answers, told = as_explained(output.encode(), [string.encode() for string in strings] or list(bodies(given)))
+    return answers.decode(), told.decode() + messages, status
+
+
+def by_reference(second, words, given, files, wanted):
+    """The answer of the reference implementation, and what is wanted of it: in words, where the row asks for objects."""
+    explained = ["--explain" if word == "--json" else word for word in words]
+    output, messages, status = second.answer(explained, given, files)
+    messages = messages if explained == words else without_what_objects_leave_out(messages)
+    return (output.decode(), messages.decode(), status), in_words(words, given, wanted)
+
+
+def answers(second, program, words, given, files, wanted):
+    """Who was asked, the answer, and what is wanted: the reference implementation where it can tell, and the program where it is
     built."""
     try:
-        if "--json" not in words:
-            output, messages, status = second.answer(words, given, files)
-            yield "the reference implementation", (output.decode(), messages.decode(), status)
+        yield "the reference implementation", *by_reference(second, words, given, files, wanted)
     except Unknown:
         pass
     if program.exists():
-        yield "the program", program_answer(program.resolve(), words, given, files)
+        yield "the program", program_answer(program.resolve(), words, given, files), wanted
 
 
 def canonical_texts(classes):
     """Each text, what the reference implementation makes of it, and what is expected."""
     for table, wanted in CANONICAL:
         yield table, check.canonical_text(check.read(table.encode(), classes)), wanted
-    for ruleset, wanted in ruleset_rows.CANONICAL:
-        text = (ruleset_rows.VERSION_LINE + ruleset).encode()
-        yield ruleset, canonical.text_of(reading.read(text, classes.may_stand)), ruleset_rows.VERSION_LINE + wanted
+    for ruleset, wanted in [*ruleset_rows.canonical(), *type_rows.canonical()]:
+        yield ruleset, canonical.text_of(reading.read(ruleset.encode(), classes.may_stand)), wanted
 
 
 def main():
@@ -293,12 +316,12 @@ def main():
     for words, given, files, wanted in rows():
         given, files = in_bytes(given), {name: in_bytes(text) for name, text in files.items()}
         asked["worked rows"] += 1
-        for name, answer in answers(second, program, words, given, files):
+        for name, answer, expected in answers(second, program, words, given, files, wanted):
             asked[name] += 1
-            if answer != wanted:
+            if answer != expected:
                 wrong += 1
                 shown = {file: text[:80] for file, text in files.items()}
-                print(f"{words}, {given[:80]!r}, {shown}: {name} answered {answer}, expected {wanted}")
+                print(f"{words}, {given[:80]!r}, {shown}: {name} answered {answer}, expected {expected}")
     for table, found, wanted in canonical_texts(classes):
         asked["canonical texts"] += 1
         if found != wanted:

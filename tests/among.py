@@ -1,17 +1,18 @@
 #!/usr/bin/env python3
-"""Runs the built program over registered labels: listings that are kept to them (--among), and the least label from a
-text on (--jump), by which a database finds them.
+"""Runs the built program over registered labels: those that collide with a label (--among), and the least label from a
+text on that may collide (--jump), by which a database finds them.
 
 The cases were worked out by hand from the rules, and the random ones are compared with a database's own index and with
 full listings. The last line is 'N passed, M failed', and the exit status is 0 where nothing failed."""
 
+import functools
 import os
 import random
 import sqlite3
 import subprocess
 import sys
 
-from program import LIMIT, PROGRAM, TABLES, expect, is_registrable, run, run_tests, spelled, table_file
+from program import LIMIT, PROGRAM, TABLES, expect, is_registrable, run, run_tests, table_file
 
 GERMAN = os.path.join(TABLES, "german.txt")
 ALIKE = "%version 2\n0030\n006F|!0030\n0073\n0074\n0073-0073|00DF\n"
@@ -46,36 +47,42 @@ FAULTS = (
     ("haus\nstraße\nstrasse", 3, "4 out of order"),
 )
 
+def both(*labels):
+    """The answers of jumps to labels that are allocatable variants of the one asked about, and this one of them."""
+    return "".join(label + "\tallocatable\tallocatable\n" for label in labels)
+
+
 # (table, lines, answers, messages): jumps.
 JUMPS = (
     # Below all, at one of them, between two, above all; and without a tab or a text.
     (GERMAN, "sss\tabc\nsss\tsss\nsss\tssz\nsss\tsß\nsss\tßs\nsss\tßsa\nsss\tüber\n",
-     "sss\nsss\nsß\nsß\nßs\n#end\n#end\n", ""),
-    (GERMAN, "sss\nsss\t\nsss\r\nsss\t\r\n", "sss\nsss\nsss\nsss\n", ""),
+     both("sss", "sss", "sß", "sß", "ßs") + "#end\n#end\n", ""),
+    (GERMAN, "sss\nsss\t\nsss\r\nsss\t\r\n", both("sss", "sss", "sss", "sss"), ""),
     # The text goes to the end of the line: another tab, a space or a capital is a part of it.
-    (GERMAN, "sss\tsss\t\nsss\ts\ts\nsss\tSSS\nsss\t sss\nsss\t\tzzz\n", "sß\nsss\nsss\nsss\nsss\n", ""),
+    (GERMAN, "sss\tsss\t\nsss\ts\ts\nsss\tSSS\nsss\t sss\nsss\t\tzzz\n", both("sß", "sss", "sss", "sss", "sss"), ""),
     # What begins with a candidate is greater.
-    (GERMAN, "sss\tss\nsss\tsssa\nsss\t\U0010ffff\n", "sss\nsß\n#end\n", ""),
+    (GERMAN, "sss\tss\nsss\tsssa\nsss\t\U0010ffff\n", both("sss", "sß") + "#end\n", ""),
     # Texts of 63 code points, of 64, and of a whole line.
     (LETTERS, "".join("a" * 63 + "\t" + text + "\n" for text in
                       ("a" * 63, "a" * 64, "a" * 62 + "b", "a" * 62 + "bb", "b" * 63, "b" * 64, "a" * 960)),
-     "".join(each + "\n" for each in
+     "".join(each + "\tvariant\tvariant" * (each != "#end") + "\n" for each in
              ("a" * 63, "a" * 62 + "b", "a" * 62 + "b", "a" * 61 + "ba", "b" * 63, "#end", "a" * 62 + "b")), ""),
-    # The answer is spelled, but need not be registrable.
-    ("0061|002D\n", "aaaa\naaaa\t----\naaaa\t-z\n", "----\n----\na---\n", ""),
+    # The answer need not be registrable.
+    ("0061|002D\n", "aaaa\naaaa\t----\naaaa\t-z\n",
+     "----\tvariant\tnone\n----\tvariant\tnone\na---\tvariant\tnone\n", ""),
     # Nor does it have more than 63 code points.
-    ("0061|0061-0061\n", "a" * 63 + "\n" + "a" * 63 + "\t" + "a" * 64 + "\n", "a" * 63 + "\n#end\n", ""),
-    # The version of the table makes no difference, and a blocked variant is an answer like any other.
-    (ALIKE, "toss\nto\tt1\n", "t0ss\nto\n", ""),
+    ("0061|0061-0061\n", "a" * 63 + "\n" + "a" * 63 + "\t" + "a" * 64 + "\n", "a" * 32 + "\tnone\tvariant\n#end\n", ""),
+    # A blocked variant is an answer like any other.
+    (ALIKE, "toss\nto\tt1\n", "t0ss\tblocked\tnone\nto\tallocatable\tallocatable\n", ""),
     # One variant graph for each line, whatever was asked before.
-    (GERMAN, "sss\tßs\nhaus\nsss\tsss\n", "ßs\nhaus\nsss\n", ""),
+    (GERMAN, "sss\tßs\nhaus\nsss\tsss\n", both("ßs", "haus", "sss"), ""),
     # The label is refused by its first fault, then by 40; the text never is.
-    (GERMAN, "Sss\tsss\n\tsss\n-s\ts\nстол\tсто\nsss\tSTRASSE!\n" + "s" * 64 + "\ts\nxn--zca\txn\n", "sss\n",
+    (GERMAN, "Sss\tsss\n\tsss\n-s\ts\nстол\tсто\nsss\tSTRASSE!\n" + "s" * 64 + "\ts\nxn--zca\txn\n", both("sss"),
      "idn2: line 1: 10 disallowed code point\nidn2: line 2: 3 empty\nidn2: line 3: 13 hyphen out of place\n"
      "idn2: line 4: 40 not made of table entries\nidn2: line 6: 18 label too long\n"
      "idn2: line 7: 13 hyphen out of place\n"),
     # As in each mode, the line is UTF-8, has at most 1,024 bytes, and isn't empty.
-    (GERMAN, b"sss\t\xff\n\nsss\t" + b"s" * 1021 + b"\nsss\t" + b"s" * 1020 + b"\nsss", "sß\nsss\n".encode(),
+    (GERMAN, b"sss\t\xff\n\nsss\t" + b"s" * 1021 + b"\nsss\t" + b"s" * 1020 + b"\nsss", both("sß", "sss").encode(),
      b"idn2: line 1: 1 not UTF-8\nidn2: line 2: 3 empty\nidn2: line 3: 2 line too long\n"),
 )
 
@@ -228,10 +235,11 @@ def refuses_a_pipe_for_two(folder):
 
 def reads_a_stream_where_nobody_else_does(folder):
     """A pipe where STRINGS are given or no line is read, two pipes, a file that is opened twice, and what is empty."""
-    block = b"haus\thaus\tallocatable\n#end 1\n"
+    block = b"haus\thaus\tallocatable\tallocatable\n#end 1\n"
     among = [*TABLE_WORDS, "--among"]
     expect([*among, "/dev/stdin", "haus"], b"haus\n", block, b"", 0)
-    expect(["--variants", "/dev/stdin", "--among", registered_file(folder, "a\n"), "a"], b"0061\n", b"a\ta\n#end 1\n", b"", 0)
+    words = ["--variants", "/dev/stdin", "--among", registered_file(folder, "a\n"), "a"]
+    expect(words, b"0061\n", b"a\ta\tvariant\tvariant\n#end 1\n", b"", 0)
     expect(["--check-table", "/dev/stdin"], b"0061\n", b"#table 1 0\n", b"", 0)
     expect([*among, "-", "haus"], b"haus\n", b"", b"idn2: 60 read fault\n", 3)
     with open(registered_file(folder, "haus\n"), "rb") as labels:
@@ -252,7 +260,7 @@ def answers_the_least_label_from_a_text_on(folder):
     for table, lines, answers, messages in JUMPS:
         words = ["--variants", table_of(folder, table), "--jump"]
         expect(words, encoded(lines), encoded(answers), encoded(messages), 1 if messages else 0)
-    expect([*TABLE_WORDS, "--jump", "sss\tssz", "sss"], b"", "sß\nsss\n".encode(), b"", 0)
+    expect([*TABLE_WORDS, "--jump", "sss\tssz", "sss"], b"", both("sß", "sss").encode(), b"", 0)
 
 
 class Partner:
@@ -269,13 +277,14 @@ class Partner:
         self.program.kill()
         self.program.communicate()
 
-    def least(self, label, text):
-        """The least label from a text on, or none. Each answer comes before the next request is sent."""
-        self.program.stdin.write(f"{label}\t{text}\n".encode())
+    def least(self, requests):
+        """To each label and text the least label from there on with what it is to the label, and back, or none. All
+        answers come before the next requests are sent."""
+        self.program.stdin.write("".join(f"{label}\t{text}\n" for label, text in requests).encode())
         self.program.stdin.flush()
-        answer = self.program.stdout.readline().decode()
-        assert answer.endswith("\n"), (label, text, answer)
-        return None if answer == "#end\n" else answer[:-1]
+        answers = [self.program.stdout.readline().decode() for _ in requests]
+        assert all(answer.endswith("\n") for answer in answers), (requests, answers)
+        return [None if answer == "#end\n" else answer[:-1].split("\t") for answer in answers]
 
 
 class Database:
@@ -291,31 +300,33 @@ class Database:
         row = self.labels.execute(query, (text,)).fetchone()
         return row and row[0].decode()
 
-    def collisions(self, partner, label):
-        """All registered labels that the label spells, and how many jumps that took."""
-        found, jumps = [], 0
-        registered = self.least(b"")
-        while registered is not None:
-            jumps += 1
-            candidate = partner.least(label, registered)
-            if candidate is None:
-                break
-            if candidate == registered:
-                found.append(registered)
-                registered = self.least(registered.encode() + b"\0")
-            else:
-                registered = self.least(candidate.encode())
+    def collisions(self, partner, labels):
+        """For each label all registered labels that collide with it, and how many jumps that took."""
+        found, jumps = {label: [] for label in labels}, dict.fromkeys(labels, 0)
+        at = dict.fromkeys(labels, self.least(b""))
+        while requests := [(label, registered) for label, registered in at.items() if registered is not None]:
+            at = {}
+            for (label, registered), least in zip(requests, partner.least(requests)):
+                jumps[label] += 1
+                if least is None:
+                    continue
+                if least[0] != registered:
+                    at[label] = self.least(least[0].encode())
+                    continue
+                found[label] += [least] if least[1:] != ["none", "none"] else []
+                at[label] = self.least(registered.encode() + b"\0")
         return found, jumps
 
 
 def blocks_of(words, labels):
-    """For each label the first fields of its block, which is whole."""
+    """For each label the lines of its block, which is whole, each by its label and the fields after its A-label."""
     done = run(words, "".join(label + "\n" for label in labels).encode())
     assert (done.returncode, done.stderr) == (0, b""), (words, done.stderr)
     blocks, block = [], []
     for line in done.stdout.decode().splitlines():
         if not line.startswith("#"):
-            block.append(line.split("\t")[0])
+            label, _, *fields = line.split("\t")
+            block.append([label, *fields])
             continue
         assert line == f"#end {len(block)}", (words, line)
         blocks.append(block)
@@ -333,13 +344,6 @@ def random_table(chance, alphabet):
     return {source: sorted(variants - {source}) for source, variants in table.items()}
 
 
-def with_reverse_pairs(table):
-    """The table with each pair also the other way round."""
-    pairs = {(source, each) for source, variants in table.items() for each in variants}
-    pairs |= {(each, source) for source, each in pairs}
-    return {source: sorted(each for of, each in pairs if of == source) for source in {*table, *(of for of, _ in pairs)}}
-
-
 def text_of(chance, table):
     """The same as a text of one of the two versions, in which some variants are blocked."""
     is_version_2 = chance.random() < 0.5
@@ -352,41 +356,62 @@ def text_of(chance, table):
 
 
 def drawn_labels(chance, table):
-    """Labels that are cut into sources, and registered labels: some of what these spell, and neighbors of that."""
-    labels = [label for label in ("".join(chance.choices([*table], k=chance.randint(1, 4))) for _ in range(12))
-              if is_registrable(label)]
-    near = {label for each in labels for label in spelled(table, each)}
+    """Labels that are cut into sources, and at most a hundred registered labels: some that are near these, and neighbors of
+    such. All are short, so that they have short listings."""
+    drawn = {"".join(chance.choices([*table], k=chance.randint(1, 4))) for _ in range(12)}
+    labels = [label for label in sorted(drawn) if is_registrable(label) and len(label) <= 5]
+    near = {label for each in labels for label in near_of(table, each)}
     near |= {label + chance.choice([*table]) for label in near} | {label[:-1] for label in near}
-    share = chance.choice((0.02, 0.2, 0.7))
-    return labels, sorted(label for label in near if is_registrable(label) and chance.random() < share)
+    short = sorted(label for label in near if is_registrable(label) and len(label) <= 6)
+    return labels, sorted(chance.sample(short, min(chance.choice((5, 20, 100)), len(short))))
+
+
+def both_ways(table):
+    """Each source or variant with all that goes together with it: by this, a label spells what is near it."""
+    pairs = {(source, each) for source, variants in table.items() for each in variants}
+    pairs |= {(each, source) for source, each in pairs} | {(source, source) for source in table}
+    return {one: sorted(other for of, other in pairs if of == one) for one, _ in pairs}
+
+
+def near_of(table, label):
+    """All labels that may collide with a label, in order. What is only a variant doesn't stand for itself."""
+    partners = both_ways(table)
+
+    @functools.cache
+    def joined(rest):
+        return {""} if not rest else {first + last for part, others in partners.items() if rest.startswith(part)
+                                      for first in others for last in joined(rest[len(part):])}
+    return sorted(joined(label))
 
 
 def finds_the_same_in_three_ways(folder):
-    """By the file, by a database with jumps, and by all that is spelled: under random tables, from a fixed seed. A jump
-    passes at least one registered label."""
+    """By the file, by a database with jumps, and by whole listings of both labels: under random tables with gaps, from
+    a fixed seed. A jump passes at least one registered label."""
     chance = random.Random(5890)
     asked, found = 0, 0
-    for _ in range(60):
+    for _ in range(30):
         table = random_table(chance, "abß")
         labels, registered = drawn_labels(chance, table)
         words = ["--variants", table_file(folder, text_of(chance, table).encode())]
         among = blocks_of([*words, "--among", lines_file(folder, registered)], labels)
-        whole = blocks_of(words, labels)
+        whole = [{label: (*fields, "variant")[0] for label, *fields in block}
+                 for block in blocks_of(words, labels + registered)]
+        back = dict(zip(registered, whole[len(labels):]))
         database = Database(registered)
         with Partner(words[1]) as partner:
-            for label, kept, listed in zip(labels, among, whole):
-                collisions, jumps = database.collisions(partner, label)
-                expected = sorted(spelled(table, label) & {*registered})
-                case = (table, registered, label)
-                assert (kept, collisions) == (expected, expected), (*case, expected, kept, collisions)
-                assert {*kept} == {*listed} & {*registered}, (*case, listed)
-                assert jumps <= len(registered), (*case, jumps)
-                asked, found = asked + 1, found + len(kept)
-    assert asked > 500 and found > 1000, (asked, found)
+            collisions, jumps = database.collisions(partner, labels)
+        for label, block, listed in zip(labels, among, whole):
+            regards = [[each, listed.get(each, "none"), back[each].get(label, "none")] for each in registered]
+            expected = [each for each in regards if each[1:] != ["none", "none"]]
+            case = (table, registered, label)
+            assert block == expected == collisions[label], (*case, expected, block, collisions[label])
+            assert jumps[label] <= len(registered), (*case, jumps[label])
+            asked, found = asked + 1, found + len(block)
+    assert asked > 200 and found > 300, (asked, found)
 
 
-def jumps_to_the_least_of_all_that_is_spelled(folder):
-    """From each neighbour of each label that is spelled, registrable or not."""
+def jumps_to_the_least_of_all_that_is_near(folder):
+    """From neighbours of labels that may collide, registrable or not."""
     chance = random.Random(3492)
     for _ in range(40):
         table = random_table(chance, "a-ß")
@@ -394,12 +419,15 @@ def jumps_to_the_least_of_all_that_is_spelled(folder):
         labels, _ = drawn_labels(chance, table)
         requests, answers = [], []
         for label in labels:
-            candidates = sorted(spelled(table, label))
-            texts = {"", *candidates, *(each + "a" for each in candidates), *(each[:-1] + "b" for each in candidates)}
+            near = near_of(table, label)
+            some = chance.sample(near, min(20, len(near)))
+            texts = {"", *some, *(each + "a" for each in some), *(each[:-1] + "b" for each in some)}
             for text in sorted(texts):
                 requests.append(f"{label}\t{text}\n")
-                answers.append(next((each for each in candidates if each >= text), "#end") + "\n")
-        expect(["--variants", path, "--jump"], "".join(requests).encode(), "".join(answers).encode(), b"", 0)
+                answers.append(next((each for each in near if each >= text), "#end"))
+        done = run(["--variants", path, "--jump"], "".join(requests).encode())
+        assert (done.stderr, done.returncode) == (b"", 0), done
+        assert [line.split("\t")[0] for line in done.stdout.decode().splitlines()] == answers, (table, labels)
 
 
 def finds_in_parts_what_the_whole_has(folder):
@@ -416,19 +444,20 @@ def finds_in_parts_what_the_whole_has(folder):
 
 
 def sees_a_collision_from_either_side(folder):
-    """In a table without gaps by symmetry, also where others are missing and variants are blocked."""
+    """What is there from one side is back from the other, also in a table with gaps."""
     chance = random.Random(4290)
     seen = 0
     for _ in range(12):
-        table = with_reverse_pairs(random_table(chance, "abß"))
+        table = random_table(chance, "abß")
         labels, registered = drawn_labels(chance, table)
         registered = chance.sample(registered, min(200, len(registered)))
         words = ["--variants", table_file(folder, text_of(chance, table).encode()), "--among"]
         forth = blocks_of([*words, lines_file(folder, registered)], labels)
-        back = blocks_of([*words, lines_file(folder, labels)], registered)
+        back = dict(zip(registered, blocks_of([*words, lines_file(folder, labels)], registered)))
         for label, found in zip(labels, forth):
-            reverse = {other for other, block in zip(registered, back) if label in block}
-            assert {*found} == reverse, (table, label, found, reverse)
+            reverse = [[other, *regards[::-1]] for other in sorted(registered)
+                       for each, *regards in back[other] if each == label]
+            assert found == reverse, (table, label, found, reverse)
             seen += len(found)
     assert seen > 100, seen
 
@@ -443,7 +472,7 @@ TESTS = [
     reads_a_stream_where_nobody_else_does,
     answers_the_least_label_from_a_text_on,
     finds_the_same_in_three_ways,
-    jumps_to_the_least_of_all_that_is_spelled,
+    jumps_to_the_least_of_all_that_is_near,
     finds_in_parts_what_the_whole_has,
     sees_a_collision_from_either_side,
 ]

@@ -7,6 +7,7 @@ import concurrent.futures
 import fcntl
 import itertools
 import os
+import re
 import resource
 import subprocess
 import sys
@@ -26,13 +27,15 @@ STRASSE = "strasse\tstrasse\nstraße\txn--strae-oqa\n#end 2\n"
 # Of version 2: in the first ß is blocked where ss stands, in the second nothing is blocked.
 BLOCKING = b"%version 2\n0061..0063\n0073-0073|!00DF:0078\n00DF|0073-0073\n"
 ALLOCATING = b"%version 2\n0061..0063\n0073-0073|00DF\n00DF|0073-0073\n"
-# A ruleset that defines a tag, a set and a rule.
-DEFINING = b"%version 3\n%tag t\n%set A 0061..0063 0065\n%rule r ^ (@A / 0062)* _ / _ $\n0061|!0062\n0062\n"
-# A ruleset with two outside sources.
+# A ruleset that defines a type, a set, a rule of each kind and an action.
+DEFINING = (b"%version 3\n%type t\n%set A 0061..0063 0065\n%rule r ^ (@A / 0062)* _ / _ $\n%whole w @A\n"
+            b"%action blocked unless w any t\n0061|!0062\n0062\n")
+# A ruleset with two out-of-repertoire variants.
 OUTSIDE = b"%version 3\n0061|!0430\n!0430|!0061\n0062\n!0063|!0062\n"
-# A ruleset with two tags, a demand, and conditions of sources and of variants: after a letter of A comes no `c`, and an `e`
-# comes nowhere else; a `c` stands in place of `a` and `d` there alone, so it is a variant that is never valid.
-CONDITIONS = (b"%version 3\n%tag s\n%tag t\n%set A 0061..0063\n%rule r @A _\n%never 0064 0064\n0061 as s|0062 as t:!0063 when r\n"
+# A ruleset with two types, a demand, and conditions of sources and of variants: after a letter of A comes no `c`, and an `e`
+# comes nowhere else; a `c` stands in place of `a` and `d` there alone, so it is a variant that is never eligible.
+CONDITIONS = (b"%version 3\n%type s\n%type t\n%set A 0061..0063\n%rule r @A _\n%never 0064 0064\n%action valid all s\n"
+              b"%action valid all t\n%action blocked any s,t\n0061 as s|0062 as t:!0063 when r\n"
               b"0062 as t|0061 as s\n0063 unless r\n0064|0063 when r\n0065 when r\n")
 # A ruleset with two variants of each other, one way at the end alone.
 DIFFERING = b"%version 3\n%rule r _ $\n0061|0062 when r:0063\n0062|0061\n"
@@ -110,7 +113,7 @@ CASES = [
     Case(["--variants", "table", "--limit", "1"], ALLOCATING, [("ass\n", "ass\tass\tallocatable\n#stop 1 ass\n", "")], 0),
     Case(["--variants", "table"], b"%version 2\n0063..0061\n", [("", "", "idn2: table line 2: 30 table syntax\n")], 2),
     Case(["--ruleset", "table"], OUTSIDE, [("ab\n", "ab\tab\tallocatable\nаb\txn--b-7sb\tblocked\n#end 2\n", ""),
-                                           ("аb\n", "", "idn2: line 2: 40 not made of table entries\n")], 1),
+                                           ("аb\n", "", "idn2: line 2: 41 not valid under the table\n")], 1),
     Case(["--ruleset", "table"], CONDITIONS,
          [("aae\n", "aae\taae\tallocatable\nabe\tabe\tblocked\nbae\tbae\tblocked\nbbe\tbbe\tallocatable\n#end 4\n", ""),
           ("ea\n", "", "idn2: line 2: 41 not valid under the table\n"),
@@ -120,9 +123,10 @@ CASES = [
     Case(["--ruleset", "table", "--tries", "3", "--after", "aae"], CONDITIONS,
          [("aae\n", "abe\tabe\tblocked\nbae\tbae\tblocked\nbbe\tbbe\tallocatable\n#stop 3 bbe\n", "")], 0),
     Case(["--ruleset", "table", "--among", "registered"], CONDITIONS,
-         [("aae\n", "abe\tabe\tblocked\nbbe\tbbe\tallocatable\n#end 2\n", "")], 0, b"abe\nace\nbbe\n"),
-    # What a jump answers need not be valid.
-    Case(["--ruleset", "table", "--jump"], CONDITIONS, [("aae\tabf\n", "ace\n", "")], 0),
+         [("aae\n", "abe\tabe\tblocked\tallocatable\nace\tace\tblocked\tnone\nbbe\tbbe\tallocatable\tallocatable\n"
+           "#end 3\n", "")], 0, b"abe\nace\nbbe\n"),
+    # What a jump answers need not be eligible.
+    Case(["--ruleset", "table", "--jump"], CONDITIONS, [("aae\tabf\n", "ace\tblocked\tnone\n", "")], 0),
     Case(["--ruleset", "table", "--json"], CONDITIONS,
          [("ad\n", '{"line":1,"ulabel":"ad","alabel":"ad","disposition":"allocatable"}\n'
            '{"line":1,"ulabel":"bd","alabel":"bd","disposition":"allocatable"}\n'
@@ -139,20 +143,26 @@ CASES = [
     Case(["--check-ruleset", "table"], DEFINING, [("", "missing 0062|0061\n#table 2 1\n", "")], 1),
     Case(["--ruleset", "table"], b"%version 3\n%set A 0061\n%rule r @A @B _\n",
          [("", "", "idn2: table line 3: 35 name not defined\n")], 2),
-    Case(["--ruleset", "table"], b"%version 3\n%tag t\n%rule t _\n", [("", "", "idn2: table line 3: 36 name given twice\n")], 2),
+    Case(["--ruleset", "table"], b"%version 3\n%type t\n%rule t _\n", [("", "", "idn2: table line 3: 36 name given twice\n")], 2),
     Case(["--check-ruleset", "table"], OUTSIDE, [("", "missing 0062|0063\n#table 4 1\n", "")], 1),
     Case(["--check-table", "table"], BLOCKING, [("", "missing 0078|0073-0073\nmissing 00DF|0078\n#table 5 2\n", "")], 1),
     Case(["--check-table", "table"], SHARP_S, [("", "#table 7 0\n", "")], 0),
     Case(["--check-table", "table"], DOUBLED, [("", "missing 0061-0061|0061\n#table 1 1\n", "")], 1),
     Case(["--check-table", "table"], b"0061|0062\n0062|0061:0063\n0063|0062\n",
          [("", "missing 0061|0063\nmissing 0063|0061\n#table 3 2\n", "")], 1),
-    Case(AMONG, SHARP_S, [("sss\n", "sss\tsss\nßs\txn--s-pfa\n#end 2\n", ""),
+    Case(AMONG, SHARP_S, [("sss\n", "sss\tsss\tvariant\tvariant\nßs\txn--s-pfa\tvariant\tvariant\n#end 2\n", ""),
                           ("Sss\n", "", "idn2: line 2: 10 disallowed code point\n"), ("aaa\n", "#end 0\n", "")], 1,
          "rest\nsss\nß\nßs".encode()),
-    Case([*AMONG, "--limit", "1", "--after", "a"], BLOCKING, [("ass\n", "aß\txn--a-qfa\tblocked\n#stop 1 aß\n", "")], 0,
+    Case([*AMONG, "--limit", "1", "--after", "a"], BLOCKING,
+         [("ass\n", "aß\txn--a-qfa\tblocked\tallocatable\n#stop 1 aß\n", "")], 0,
          "a\r\naß\r\nb\r\n".encode()),
     # Reading a label takes memory: the test of a mark that may compose.
-    Case(AMONG, b"0071|0061\n0301\n", [("q\u0301\n", "q\u0301\txn--q-xbb\n#end 1\n", "")], 0, "q\u0301\n".encode()),
+    Case(AMONG, b"0071|0061\n0301\n", [("q\u0301\n", "q\u0301\txn--q-xbb\tvariant\tvariant\n#end 1\n", "")], 0,
+         "q\u0301\n".encode()),
+    # Registered labels of which one has the label as a variant, one is a variant of it, and one is neither.
+    Case(AMONG, b"0061|0062\n0062\n0063|0064\n",
+         [("bc\n", "ac\tac\tnone\tvariant\nbd\tbd\tvariant\tnone\n#end 2\n", "")], 0,
+         b"ac\nad\nbd\n"),
     Case(AMONG, SHARP_S, [("", "", "idn2: registered line 2: 4 out of order\n")], 2, b"b\na\nc\n"),
     Case(AMONG, b"0061|", [("", "", "idn2: registered line 1: 1 not UTF-8\n")], 2, b"\xff\n"),
     Case(AMONG, b"0061|", [("", "", "idn2: table line 1: 30 table syntax\n")], 2, b"a\n"),
@@ -172,7 +182,7 @@ CASES = [
                                            "RFC 5892 2.2 Unstable\n")], 2, "Faß\n".encode()),
     Case(["--variants", "table", "--explain"], b"0061\n0062|\n",
          [("", "", "idn2: table line 2: 30 table syntax: the line ends at byte 6\n")], 2),
-    Case(["--check-ruleset", "table", "--explain"], b"%version 3\n%tag t\n0061|0062-0041\n",
+    Case(["--check-ruleset", "table", "--explain"], b"%version 3\n%type t\n0061|0062-0041\n",
          [("", "", "idn2: table line 3: 33 code point not allowed in a table: U+0041 at byte 11\n")], 2),
     Case(["--check-ruleset", "table", "--explain"], b"%version 3\n%set A 0061\n%rule r @A @B _\n",
          [("", "", "idn2: table line 3: 35 name not defined: '@B' at byte 12\n")], 2),
@@ -196,7 +206,8 @@ CASES = [
            '"place":2}}\n', "")], 1),
     Case([*AMONG, "--json"], SHARP_S, [("", '{"registered_line":2,"refusal":{"number":4,"text":"out of order",'
                                         '"code_point":"U+0061","place":1}}\n', "")], 2, b"b\na\nc\n"),
-    Case([*JUMP, "--json"], SHARP_S, [("sss\tsssa\n", '{"line":1,"input":"sss\\tsssa","ulabel":"sß"}\n', ""),
+    Case([*JUMP, "--json"], SHARP_S, [("sss\tsssa\n", '{"line":1,"input":"sss\\tsssa","ulabel":"sß","there":"variant",'
+                                       '"back":"variant"}\n', ""),
                                       ("sss\tßt\n", '{"line":2,"input":"sss\\tßt","ulabel":null}\n', "")], 0),
     Case(["--check-ruleset", "table", "--json"], DIFFERING,
          [("", '{"source":"0062","missing":"0063"}\n{"source":"0063","missing":"0061"}\n{"source":"0061","differs":"0062"}\n'
@@ -223,24 +234,27 @@ CASES = [
          [("ab\n", '{"line":1,"ulabel":"ab","alabel":"ab","disposition":"allocatable"}\n'
            '{"line":1,"ulabel":"аb","alabel":"xn--b-7sb","disposition":"blocked"}\n'
            '{"line":1,"input":"ab","count":2,"complete":true}\n', ""),
-          ("аb\n", '{"line":2,"input":"аb","refusal":{"number":40,"text":"not made of table entries","code_point":"U+0430",'
-           '"place":1}}\n', "")], 1),
-    Case(["--check-ruleset", "table", "--json"], b"%version 3\n%tag t\n0061|0062-0041\n",
+          ("аb\n", '{"line":2,"input":"аb","refusal":{"number":41,"text":"not valid under the table","code_point":"U+0430",'
+           '"place":1,"default_action":1,"type":"invalid"}}\n', "")], 1),
+    Case(["--check-ruleset", "table", "--json"], b"%version 3\n%type t\n0061|0062-0041\n",
          [("", '{"table_line":3,"refusal":{"number":33,"text":"code point not allowed in a table","code_point":"U+0041",'
            '"byte":11}}\n', "")], 2),
     Case(["--check-ruleset", "table", "--json"], b"%version 3\n%set A 0024\n",
          [("", '{"table_line":2,"refusal":{"number":33,"text":"code point not allowed in a table","code_point":"U+0024",'
            '"byte":8}}\n', "")], 2),
     Case([*AMONG, "--json"], SHARP_S,
-         [("sss\n", '{"line":1,"ulabel":"sss","alabel":"sss"}\n{"line":1,"ulabel":"ßs","alabel":"xn--s-pfa"}\n'
+         [("sss\n", '{"line":1,"ulabel":"sss","alabel":"sss","there":"variant","back":"variant"}\n'
+           '{"line":1,"ulabel":"ßs","alabel":"xn--s-pfa","there":"variant","back":"variant"}\n'
            '{"line":1,"input":"sss","count":2,"complete":true}\n', ""),
           ("Sss\n", '{"line":2,"input":"Sss","refusal":{"number":10,"text":"disallowed code point","code_point":"U+0053","place":1,'
            '"rule":"RFC 5892 2.2"}}\n', "")], 1, "rest\nsss\nß\nßs".encode()),
     Case([*AMONG, "--json"], SHARP_S, [("", '{"registered_line":1,"refusal":{"number":10,"text":"disallowed code point",'
                                         '"code_point":"U+0046","place":1,"rule":"RFC 5892 2.2"}}\n', "")], 2, "Faß\n".encode()),
-    Case([*JUMP, "--explain"], SHARP_S, [("sss\tt\n", "ßs\n", ""), ("sx\ta\n", "", "idn2: line 2: 40 not made of table entries: "
+    Case([*JUMP, "--explain"], SHARP_S, [("sss\tt\n", "ßs\tvariant\tvariant\n", ""),
+                                         ("sx\ta\n", "", "idn2: line 2: 40 not made of table entries: "
                                                                   "U+0078 at place 2\n")], 1),
-    Case(JUMP, SHARP_S, [("sss\tsssa\n", "sß\n", ""), ("\tsss\n", "", "idn2: line 2: 3 empty\n"), ("sss\tt\n", "ßs\n", ""),
+    Case(JUMP, SHARP_S, [("sss\tsssa\n", "sß\tvariant\tvariant\n", ""), ("\tsss\n", "", "idn2: line 2: 3 empty\n"),
+                         ("sss\tt\n", "ßs\tvariant\tvariant\n", ""),
                          ("sss\tßt\n", "#end\n", ""), ("x\ta\n", "", "idn2: line 5: 40 not made of table entries\n")], 1),
 ]
 
@@ -484,9 +498,13 @@ def sets_at_their_limits():
     return f"%version 3\n{sets}%never {' / '.join(f'@{name} @{name} 0061' for name in names)}\n4E00..5FFF\n0061|0062\n0062|0061\n"
 
 
+# As many types as there may be, and an action that names them.
+TYPES = [*(f"%type t{number}" for number in range(57)), f"%action valid any {','.join(f't{number}' for number in range(57))}"]
+
+
 def serves_hostile_rulesets(folder):
     """Within a second: 4,096 atoms with stars within each other; 256 sets of thousands of spans; as many entries as there may be,
-    in falling order, each with 8 tags."""
+    in falling order, of as many types."""
     table = table_file(folder, conditions_at_every_limit().encode())
     for label in ("a" * 63, "ab" * 31):
         done = within_a_second(["--ruleset", table, "--limit", "3", "--tries", "10", label])
@@ -499,25 +517,25 @@ def serves_hostile_rulesets(folder):
     assert (done.stdout, done.returncode) == (b"", 1) and b": 41 not valid under the table" in done.stderr, done
     spans = (range(0x4E00, 0xA000), range(0xAC00, 0xD7A4), range(0x20000, 0x2825C))
     points = [f"{point:04X}" for span in spans for point in span]
-    tags = "abcdefgh"
-    lines = ["%version 3", *(f"%tag {tag}" for tag in tags), *(f"{point} as {','.join(tags)}" for point in reversed(points))]
+    entries = [f"{point} as t{number % 57}" for number, point in enumerate(reversed(points))]
+    lines = ["%version 3", *TYPES, *entries]
     table = table_file(folder, "\n".join(lines).encode())
     assert within_a_second(["--check-ruleset", table]).stdout == b"#table 65536 0\n"
     assert within_a_second(["--ruleset", table, "\u4e2d"]).stdout.decode() == "中\txn--fiq\tallocatable\n#end 1\n"
 
 
 def lists_in_the_largest_nets_of_rulesets(folder):
-    """Each substitution has the kinds of 8 tags: eight sources begin at each place, each with sixteen variants of eight code points,
-    which are sources, too."""
-    tags = "stuvwxyz"
+    """Eight sources begin at each place, each with sixteen variants of eight code points, which are sources, too, and have as many
+    types as there may be."""
+    numbers = itertools.count()
     with open(table_of_the_largest_nets(folder), encoding="ascii") as file:
-        entries = [line.replace(":", f" as {','.join(tags)}:") for line in file.read().splitlines()]
+        entries = [re.sub(":", lambda _: f" as t{next(numbers) % 57}:", line) for line in file.read().splitlines()]
     entries += map(points, "bcdefghijklmnopq12345678")
-    table = table_file(folder, "\n".join(["%version 3", *(f"%tag {tag}" for tag in tags), *entries]).encode())
+    table = table_file(folder, "\n".join(["%version 3", *TYPES, *entries]).encode())
     done = within_a_second(["--ruleset", table, "--limit", "100"], b"a" * 63)
     variants = done.stdout.splitlines()
     assert (len(variants), variants[-1].split()[:2]) == (101, [b"#stop", b"100"]), variants[-1]
-    assert variants[:-1] == sorted(set(variants[:-1])) and all(line.endswith(b"\tallocatable") for line in variants[:-1])
+    assert variants[:-1] == sorted(set(variants[:-1]))
 
 
 def serves_a_table_cut_in_its_last_line(folder):
@@ -552,33 +570,38 @@ def collides_and_jumps_in_the_largest_nets(folder):
     largest, halves = table_of_the_largest_nets(folder), table_file(folder, b"0061|0062\n0062|0061\n", "halves.txt")
     found, found_of_halves = b"bbbbbbb8" * 7 + b"a" * 7, b"ab" * 31
     rows = [
-        (largest, b"a" * 63, block_of_labels(3).replace(b"bbb\n", b"bbb\n" + found + b"\n"), found),
-        (halves, b"a" * 62, block_of_labels(4).replace(b"abab\n", b"abab\n" + found_of_halves + b"\n"), found_of_halves),
+        (largest, b"a" * 63, block_of_labels(3).replace(b"bbb\n", b"bbb\n" + found + b"\n"), found, b"none"),
+        (halves, b"a" * 62, block_of_labels(4).replace(b"abab\n", b"abab\n" + found_of_halves + b"\n"), found_of_halves,
+         b"variant"),
     ]
-    for table, label, text, collision in rows:
+    for table, label, text, collision, back in rows:
         registered = table_file(folder, text, "registered.txt")
         done = within_a_second(["--variants", table, "--among", registered], label)
-        assert done.stdout == b"\t".join([collision] * 2) + b"\n#end 1\n", done
-    for table, request, answer in ((largest, b"a" * 63 + b"\t" + b"bbbbbbb8" * 7, found),
-                                   (halves, b"a" * 62 + b"\t" + b"ab" * 30 + b"c", b"ab" * 29 + b"baaa")):
+        assert done.stdout == b"\t".join([collision, collision, b"variant", back]) + b"\n#end 1\n", done
+    for table, request, answer, back in (
+        (largest, b"a" * 63 + b"\t" + b"bbbbbbb8" * 7, found, b"none"),
+        (halves, b"a" * 62 + b"\t" + b"ab" * 30 + b"c", b"ab" * 29 + b"baaa", b"variant"),
+    ):
         done = within_a_second(["--variants", table, "--jump"], request)
-        assert done.stdout == answer + b"\n", done
+        assert done.stdout == b"\t".join([answer, b"variant", back]) + b"\n", done
 
 
 def jumps_to_texts_that_fill_their_lines(folder):
-    """Of 1,024 bytes with the label. Of aa, aaa and aaaa the last is the least that is greater than aaa and a NUL."""
+    """Of 1,024 bytes with the label. Of a, which has aa as a variant, aa, aaa and aaaa the last is the least that is
+    greater than aaa and a NUL."""
     words = ["--variants", table_file(folder, DOUBLED), "--jump"]
-    for text, answer in ((b"aaa" + b"\0" * 1018, b"aaaa"), (b"a" * 1021, b"#end"), (b"\t" * 1021, b"aa"),
+    least = b"a\tnone\tvariant"
+    for text, answer in ((b"aaa" + b"\0" * 1018, b"aaaa\tvariant\tnone"), (b"a" * 1021, b"#end"), (b"\t" * 1021, least),
                          (("\U00010000" * 255 + "b").encode(), b"#end")):
         expect(words, b"aa\t" + text, answer + b"\n", b"", 0)
-        expect(words, b"aa\t" + text + b"a\naa\t\n", b"aa\n", b"idn2: line 1: 2 line too long\n", 1)
+        expect(words, b"aa\t" + text + b"a\naa\t\n", least + b"\n", b"idn2: line 1: 2 line too long\n", 1)
 
 
 def reads_registered_labels_from_anywhere(folder):
     """From a file, from the standard input and from a FIFO, each with every ending of its lines; an empty one, too."""
     table, fifo = table_file(folder, SHARP_S), os.path.join(folder, "fifo")
     os.mkfifo(fifo)
-    strasse = b"strasse\tstrasse\n#end 1\n"
+    strasse = b"strasse\tstrasse\tvariant\tvariant\n#end 1\n"
     none, words = b"#end 0\n", lambda name: ["--variants", table, "--among", name, "straße"]
     for text, answer in ((b"", none), (b"ast\nstrasse\n", strasse), (b"ast\nstrasse", strasse), (b"strasse\r", strasse),
                          (b"ast\r\nstrasse\r\n", strasse), (b"ast\nstrasse\r\nt", strasse), (b"t", none)):
@@ -728,9 +751,11 @@ def collides_in_pages_as_at_once(folder):
         registered = table_file(folder, b"\n".join(sorted(labels + near)), "registered.txt")
         words += ["--among", registered]
         *lines, end = run(words, label.encode()).stdout.splitlines()
-        assert (lines, end) == (wanted, b"#end %d" % len(wanted)), (label, lines, end, wanted)
+        # A table of version 1 has no dispositions, and says of a variant that it is one.
+        there = [line.rsplit(b"\t", 1)[0].removesuffix(b"\tvariant") for line in lines]
+        assert (there, end) == (wanted, b"#end %d" % len(wanted)), (label, lines, end, wanted)
         for limit in ("1", "2"):
-            assert pages([*words, "--limit", limit], label)[0] == wanted, (label, limit, wanted)
+            assert pages([*words, "--limit", limit], label)[0] == lines, (label, limit, wanted)
 
 
 def listing_of(table, text):

@@ -210,7 +210,7 @@ def has_the_names_of_the_definition(folder):
 
 
 # What stands for each word in italics in a form of a cause, and what has no form of its own.
-PLACEHOLDERS = {"n": r"\d+", "k": r"\d+", "XXXX": "[0-9A-F]{4,6}", "FF": "[0-9A-F]{2}", "class": "[A-Z]+", "label": "[a-z0-9-]+",
+PLACEHOLDERS = {"n": r"\d+", "k": r"\d+", "m": r"\d+", "type": r"[A-Za-z]\w*", "XXXX": "[0-9A-F]{4,6}", "FF": "[0-9A-F]{2}", "class": "[A-Z]+", "label": "[a-z0-9-]+",
                 "ulabel": r"\S+", "text": r"\S+", "rule": r"[A-Za-z]\w*"}
 # Normalization Form C never ends where a label goes on.
 NEVER_TOLD = ("12", "NFC ends")

@@ -132,7 +132,7 @@ Options:
       --check-table <FILE>    Print the pairs that the table in FILE lacks
       --ruleset <FILE>        List each label's variants by the ruleset in FILE
       --check-ruleset <FILE>  Print the pairs that the ruleset in FILE lacks
-      --among <FILE>          With --variants: list only the labels in FILE
+      --among <FILE>          With --variants: list labels in FILE that collide
       --jump                  With --variants: answer LABEL TAB TEXT by a label
   -N, --tr46nt                Non-transitional lookup, which lookup does anyway
       --usestd3asciirules     Lookup refuses ASCII but letters, digits, hyphens

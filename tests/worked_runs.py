@@ -10,9 +10,11 @@ from program import ROOT, run, run_tests, table_file
 
 sys.path += [os.path.join(ROOT, folder) for folder in ("conformance", "registry", "tables")]
 
+import collision_rows
 import label_rows
 import ruleset_rows
 import run_rows
+import type_rows
 import worked_rows
 from worked_rows import in_bytes
 
@@ -48,8 +50,16 @@ def answers_rows_of_tables_collisions_and_jumps(folder):
     expect_rows(folder, worked_rows.rows_of_tables())
 
 
+def answers_rows_of_collisions(folder):
+    expect_rows(folder, collision_rows.rows())
+
+
 def answers_rows_of_rulesets(folder):
     expect_rows(folder, ruleset_rows.rows())
+
+
+def answers_rows_of_types(folder):
+    expect_rows(folder, type_rows.rows())
 
 
 TESTS = [
@@ -57,7 +67,9 @@ TESTS = [
     answers_rows_of_runs,
     answers_rows_of_runs_byte_by_byte,
     answers_rows_of_tables_collisions_and_jumps,
+    answers_rows_of_collisions,
     answers_rows_of_rulesets,
+    answers_rows_of_types,
 ]
 
 

@@ -22,7 +22,7 @@ def check_configuration(configuration: Configuration, program: Program, output: 
 
 
 def check_tables(configuration: Configuration, program: Program, output: Output) -> None:
-    """Each table; where labels collide, also whether each collision is known."""
+    """Each table, and whether that of the zone has all pairs of the others."""
     tables: dict[str, Table] = {}
     for name, path in configuration.tables.items():
         try:
@@ -42,7 +42,7 @@ def check_tables(configuration: Configuration, program: Program, output: Output)
             output.fact({"table": name, "differs": pair}, words, ExitStatus.YES)
     if (zone := tables.get(configuration.zone)) is not None:
         admitting = [tables[name] for name in configuration.admitting if name in tables]
-        if doubt := zone.doubt or lacking(zone, admitting):
+        if doubt := lacking(zone, admitting):
             words = f"{doubt}: no label is told to be available"
             output.fact({"table": zone.name, "doubt": words}, f"{zone.path}: {words}", ExitStatus.NO)
 

@@ -3,45 +3,62 @@
 import json
 import re
 from collections.abc import Sequence
+from typing import NamedTuple
 
 from .answers import NOT_MADE, NOT_VALID, Object, Refusal
 from .faults import Unknown
 from .processes import Question, Questions, only
-from .program import HeldFile, Program
+from .program import HeldFile
 from .register import Row, Transaction
 from .tables import Table
 
-ALLOCATABLE = "allocatable"
+# What a label is to another one, as the program says it.
+NONE, ALLOCATABLE = "none", "allocatable"
+REGARDS = {NONE, "variant", "blocked", ALLOCATABLE}
 # The line that ends a block, and that of a label which collides with another than itself.
 END = b"#end "
 COLLIDING = re.compile(rb"#end (?!1\n)(\d+)\n")
 
 
+class Near(NamedTuple):
+    """A label that may collide with the one that is asked about: what it is to that one, and that one to it."""
+
+    label: str
+    there: str
+    back: str
+
+    @property
+    def collides(self) -> bool:
+        """Whether one is something to the other."""
+        return (self.there, self.back) != (NONE, NONE)
+
+
 class Collisions:
-    """Collisions under one table. The program tells those registered labels that are variants of the label. Where the table
-    may hide others, `doubt` says why, and a label without a found collision isn't known to be free."""
+    """Collisions under one table, whichever of two labels is a variant of the other."""
 
     def __init__(self, table: Table) -> None:
-        self.doubt = table.doubt
         self._list, _ = table.kind.value
         self._table = table
         self._jump = Question((self._list, table.held.path, "--jump"), (table.held,))
 
     async def of(self, label: str, transaction: Transaction, questions: Questions) -> list[Row]:
-        """The registered labels that collide with a label, in label order, each with its holder; itself, too, whatever
-        the table says. Raises Unknown if the table refuses the label."""
+        """The registered labels that collide with a label, in label order, each with its holder; itself among them.
+        Raises Unknown if the table refuses the label."""
         found: list[Row] = []
         near, first = await self._first_near(label, "", questions), None
         # The program and the register take turns: each goes on from what the other has.
         while near is not None:
-            if first is None or first[0] < near:
-                first = await transaction.first_from(near)
+            if first is None or first[0] < near.label:
+                first = await transaction.first_from(near.label)
             if first is None:
                 break
-            if first[0] == near:
+            if first[0] != near.label:
+                near = await self._first_near(label, first[0], questions)
+                continue
+            if near.collides:
                 found.append(first)
-            # The least text above it, where it is registered.
-            near = await self._first_near(label, near + "\0" if first[0] == near else first[0], questions)
+            # The least text above it.
+            near = await self._first_near(label, near.label + "\0", questions)
         return found
 
     async def refusal(self, label: str, questions: Questions) -> Refusal | None:
@@ -54,26 +71,25 @@ class Collisions:
             raise Unknown(f"the program gave another answer than it should: {refusal}")
         return refusal
 
-    async def _first_near(self, label: str, text: str, questions: Questions) -> str | None:
-        """The first label at or after a text that is the label itself or one of its variants."""
+    async def is_offered(self, label: str, registered: str, questions: Questions) -> bool:
+        """Whether the holder of a registered label may have the label, too: it is one of its allocatable variants."""
+        near = await self._first_near(label, registered, questions)
+        return near is not None and (near.label, near.back) == (registered, ALLOCATABLE)
+
+    async def _first_near(self, label: str, text: str, questions: Questions) -> Near | None:
+        """The first label at or after a text that may collide."""
         answer = only(await questions.ask(self._jump, (f"{label}\t{text}" if text else label).encode()), "ulabel")
         if "refusal" in answer:
             refusal = answer["refusal"]
             raise Unknown(f"the table {self._table.name} refuses it: {refusal['number']} {refusal['text']}")
-        variant: str | None = answer["ulabel"]
-        if variant is not None and variant < text:
-            raise Unknown(f"the program went back: {variant}")
-        return min((each for each in (label, variant) if each is not None and each >= text), default=None)
-
-    def is_offered(self, label: str, registered: str, program: Program, seconds: float) -> bool:
-        """Whether the holder of a registered label may have the label, too: it is one of its allocatable variants."""
-        file = HeldFile(f"{label}\n".encode())
-        words = [self._list, self._table.held.path, "--among", file.path, "--", registered]
-        files = [self._table.held.descriptor, file.descriptor]
-        told = [json.loads(line) for line in program.answered(words, files=files, seconds=seconds).splitlines()]
-        if not told or told[-1].get("complete") is not True:
-            return False
-        return [(variant["ulabel"], variant.get("disposition")) for variant in told[:-1]] == [(label, ALLOCATABLE)]
+        if answer["ulabel"] is None:
+            return None
+        near = Near(answer["ulabel"], answer.get("there", ""), answer.get("back", ""))
+        if not {near.there, near.back} <= REGARDS:
+            raise Unknown(f"the program gave another answer than it should: {answer}")
+        if near.label < text:
+            raise Unknown(f"the program went back: {near.label}")
+        return near
 
     def audit_words(self, registered: HeldFile) -> tuple[list[str], list[int]]:
         """The words and the files of a run that is asked all registered labels, each on a line."""
@@ -82,8 +98,9 @@ class Collisions:
 
 
 def found_in_audit(output: bytes, part: bytes, refused: Sequence[int]) -> tuple[int, list[tuple[str, str]]]:
-    """What a run with `audit_words` says of the lines of a part that it didn't refuse: how many it answered, and the pairs that
-    collide. Labels without another collision than with themselves, which are most, aren't looked at one by one."""
+    """What a run with `audit_words` says of the lines of a part that it didn't refuse: how many it answered, and the
+    pairs that collide. Labels without another collision than with themselves, which are most, aren't looked at one by
+    one."""
     pairs: list[tuple[str, str]] = []
     labels: list[bytes] = []
     number, before = 0, 0

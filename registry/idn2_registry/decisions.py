@@ -27,8 +27,8 @@ class Tables:
         self.admitting = {name: tables[name] for name in configuration.admitting}
         self._asked = {name: Collisions(table) for name, table in tables.items()}
         self.collisions = self._asked[configuration.zone]
-        # Why a label without a found collision may still have one.
-        self.doubt = self.collisions.doubt or lacking(tables[configuration.zone], list(self.admitting.values()))
+        # Why a label without a found collision may still have one under a table that isn't that of the zone.
+        self.doubt = lacking(tables[configuration.zone], list(self.admitting.values()))
         self.pool = Pool(program, configuration.processes, configuration.limits.seconds)
         self._listing = {name: self.question(table, *self.bounds(self.limits.limit))
                          for name, table in self.admitting.items()}
@@ -113,8 +113,7 @@ class Tables:
         does."""
         both = [self._asked[name] for name in self.admitting
                 if not any([await self.refusal(name, each, questions) for each in (label, registered)])]
-        seconds = self.limits.seconds
-        return bool(both) and all(each.is_offered(label, registered, self.program, seconds) for each in both)
+        return bool(both) and all([await each.is_offered(label, registered, questions) for each in both])
 
 
 def variant_of(told: Object) -> Variant:

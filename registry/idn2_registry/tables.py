@@ -1,7 +1,6 @@
 """Tables and rulesets: what is read of them, and what the program says of them."""
 
 import json
-import re
 from collections.abc import Iterable, Mapping
 from dataclasses import dataclass, field
 from enum import Enum
@@ -13,10 +12,6 @@ from .program import HeldFile, Program, ended
 
 MOST_BYTES = 67_108_864
 VERSION_LINES = {b"%version 2": 2, b"%version 3": 3}
-# What hides collisions (docs/NOTATION.md): a condition of a variant; or a sequence of several code points beside a condition
-# of a source, or an outside source.
-VARIANT_CONDITION = re.compile(rb"[|:].*[ \t](when|unless)[ \t]")
-SOURCE_CONDITION = re.compile(rb"^[ \t]*!|[ \t](when|unless)[ \t]")
 
 
 class Kind(Enum):
@@ -59,19 +54,6 @@ class Table:
     def kind(self) -> Kind:
         """Whether it is a ruleset."""
         return Kind.RULESET if self.version == 3 else Kind.TABLE
-
-    @property
-    def doubt(self) -> str | None:
-        """Why a label may collide although none was found under this table; None where that can't be."""
-        if self.gaps:
-            return f"the table {self.name} has {len(self.gaps)} gap{'s' if len(self.gaps) > 1 else ''}"
-        if self.kind is Kind.TABLE:
-            return None
-        lines = [line for line in self.data.split(b"\n") if re.match(rb"[ \t]*[^#%\s\0]", line)]
-        has_sequence = any(b"-" in line for line in lines)
-        if any(map(VARIANT_CONDITION.search, lines)) or has_sequence and any(map(SOURCE_CONDITION.search, lines)):
-            return f"the conditions of the ruleset {self.name} may hide collisions"
-        return None
 
 
 def read_table(name: str, path: Path, program: Program) -> Table:

@@ -123,3 +123,14 @@ def server() -> Iterator[Callable[[str], str]]:
             return f"postgresql://{user}@/{name}?host={folder}"
 
         yield database
+
+
+@pytest.fixture(params=["sqlite", "postgresql"])
+def kind(request: pytest.FixtureRequest, place: Place) -> Iterator[Place]:
+    """A zone with either register."""
+    if request.param == "postgresql":
+        database: Callable[[str], str] = request.getfixturevalue("server")
+        place.register = database(f"zone{abs(hash(str(place.folder)))}")
+        place.configure()
+        place.load()
+    yield place

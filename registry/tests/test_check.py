@@ -1,6 +1,7 @@
 """Which labels are available, and what else is said of one label."""
 
 import json
+import sqlite3
 from collections.abc import Mapping
 
 import pytest
@@ -192,17 +193,34 @@ def test_offers_nothing_under_version_1(bare: Place) -> None:
         assert zone.check("b", "H1").status is Status.TAKEN
 
 
-def test_does_not_know_what_a_table_hides(bare: Place) -> None:
+def test_finds_what_only_the_registered_label_shows(bare: Place) -> None:
+    """It has the new one as a variant, and the new one hasn't it: by a gap, or by a condition of a variant. Its holder
+    may have what is allocatable to it."""
     bare.write("gap.txt", "0061|0062\n0062\n")
     bare.write("sigma.txt", "%version 3\n%rule end _ $\n03B1..03C1\n03C3|03C2 when end\n03C2|03C3\n03C4..03C9\n")
-    for table, there, asked in (("gap.txt", "a", "b"), ("sigma.txt", "ςα", "σα")):
+    for table, there, asked, free, to_holder in (("gap.txt", "a", "b", "bb", Status.TAKEN),
+                                                 ("sigma.txt", "ςα", "σα", "σ", Status.AVAILABLE)):
         bare.configure(own=table)
-        bare.load(there)
+        bare.load(f"{there}\tH1")
         with bare.zone() as zone:
-            assert zone.check(asked).status is Status.UNKNOWN
-            assert zone.register(asked).status is Status.UNKNOWN
-            assert zone.check(there).status is Status.TAKEN
-        assert bare.run("check", asked).returncode == 75
+            for label in (asked, there):
+                assert [each.ulabel for each in zone.check(label).taken_by] == [there], label
+            assert zone.register(asked, "H2").status is Status.TAKEN
+            assert (zone.check(asked, "H1").status, zone.check(free).status) == (to_holder, Status.AVAILABLE)
+        (bare.folder / "register.db").unlink()
+
+
+def test_finds_registered_labels_that_the_table_refuses_today(bare: Place) -> None:
+    """By an outside source, or since it is made of no sources. They are blocked, also to their holders."""
+    bare.write("outside.txt", "%version 3\n0061|!0430\n0062\n!0430|!0061\n")
+    bare.write("piece.txt", "%version 2\n0061|0062-0063\n0078\n")
+    for table, there, asked in (("outside.txt", "аb", "ab"), ("piece.txt", "bcx", "ax")):
+        bare.configure(own=table)
+        bare.load()
+        with sqlite3.connect(bare.folder / "register.db") as database:
+            database.execute("insert into registered (label, holder) values (?, 'H1')", (there,))
+        with bare.zone() as zone:
+            assert [each.ulabel for each in zone.check(asked, "H1").taken_by] == [there], table
         (bare.folder / "register.db").unlink()
 
 

@@ -15,7 +15,8 @@ import pytest
 from conftest import LIMIT, PROGRAM, TABLES, Place
 from program import is_registrable, spelled
 
-from idn2_registry import Status
+from idn2_registry import Check, Status
+from idn2_registry.register import Register, Transaction
 
 Sets = dict[str, list[str]]
 
@@ -78,35 +79,89 @@ def test_finds_the_collisions_that_sets_have(place: Place) -> None:
                 assert (found, answer.status) == (expected, Status.TAKEN if expected else Status.AVAILABLE), (table, label)
 
 
-def zone_with_gaps(place: Place, chance: random.Random, share: float) -> Sets:
-    """A random table that has lost some of its variants, under which the zone is put."""
-    table = random_table(chance, "abc", 2)
-    kept = {source: [each for each in variants if chance.random() < share] for source, variants in table.items()}
-    place.write("table.txt", written(kept, chance))
-    place.configure(own="table.txt")
-    return kept
+def with_gaps(table: Sets, chance: random.Random, share: float) -> Sets:
+    """The table with a share of its variants."""
+    return {source: [each for each in variants if chance.random() < share] for source, variants in table.items()}
 
 
-def test_tells_what_it_finds_under_a_table_with_gaps(place: Place) -> None:
-    """What is found is taken, and nothing else is said to be available."""
+RULES = ("start", "before_b", "after_a")
+DEFINITIONS = "%version 3\n%tag t\n%tag v\n%rule start ^ _\n%rule before_b _ 0062\n%rule after_a 0061 _\n"
+
+
+def ruleset_of(table: Sets, chance: random.Random) -> str:
+    """The text of a ruleset of these pairs: with marks, tags and conditions, and at times with outside sources."""
+    def condition(share: float) -> str:
+        return f" {chance.choice(('when', 'unless'))} {chance.choice(RULES)}" if chance.random() < share else ""
+
+    def marked(text: str) -> str:
+        mark = chance.choice(("!", "", "", " as t", " as v"))
+        points = "-".join(f"{ord(letter):04X}" for letter in text)
+        return (mark + points if mark == "!" else points + mark) + condition(0.3)
+
+    def source(text: str) -> str:
+        points = "-".join(f"{ord(letter):04X}" for letter in text)
+        return ("!" if chance.random() < 0.1 else "") + points + condition(0.1)
+
+    lines = [source(each) + "|" * bool(variants) + ":".join(map(marked, variants)) for each, variants in table.items()]
+    return DEFINITIONS + "".join(f"{line}\n" for line in lines)
+
+
+def listings(place: Place, labels: list[str]) -> dict[str, set[str]]:
+    """The whole listing of each label that the table of the zone doesn't refuse."""
+    table = place.folder / "table.txt"
+    words = [PROGRAM, "--json", "--ruleset" if table.read_bytes().startswith(b"%version 3") else "--variants", table]
+    given = "".join(f"{label}\n" for label in labels).encode()
+    done = subprocess.run(words, input=given, capture_output=True, timeout=LIMIT)
+    told = [json.loads(line) for line in done.stdout.splitlines()]
+    found: dict[str, set[str]] = {labels[each["line"] - 1]: set() for each in told if each.get("complete")}
+    for each in told:
+        if "alabel" in each:
+            found[labels[each["line"] - 1]].add(each["ulabel"])
+    return found
+
+
+def test_finds_what_the_whole_listings_of_both_sides_have(kind: Place) -> None:
+    """Under random tables of all versions, with gaps, sequences, conditions, tags and outside sources."""
     chance = random.Random(60)
+    collisions = 0
     for _ in range(8):
-        kept = zone_with_gaps(place, chance, 0.6)
-        registered = set(registrable_labels(chance, "abc", 4, 20))
-        set_register(place, registered)
-        with place.zone() as zone:
-            doubt = zone.tables.doubt
-            for label in registrable_labels(chance, "abc", 4, 8):
-                expected = bool(registered & spelled(kept, label))
-                status = Status.TAKEN if expected else Status.UNKNOWN if doubt else Status.AVAILABLE
-                assert zone.check(label).status is status, (kept, label)
+        kept = with_gaps(random_table(chance, "abc", 2), chance, 0.6)
+        kind.write("table.txt", chance.choice((written, ruleset_of))(kept, chance))
+        kind.configure("[limits]\nseconds = 60", own="table.txt")
+        found = listings(kind, registrable_labels(chance, "abc", 4, 40))
+        labels = [*found]
+        registered = {label for label in found if chance.random() < 0.6}
+        with kind.zone() as zone:
+            reset(zone.registered, registered)
+            for number, answer in zone.check_together([Check(label) for label in labels]):
+                label = labels[number]
+                expected = sorted(each for each in registered if each in found[label] or label in found[each])
+                told = [each.ulabel for each in answer.taken_by], answer.status
+                assert told == (expected, Status.TAKEN if expected else Status.AVAILABLE), (kept, label, answer.reason)
+                collisions += len(expected)
+    assert collisions > 100, collisions
+
+
+def reset(register: Register, labels: set[str]) -> None:
+    """Registers these labels, and releases all others."""
+    before = [label for label, _ in register.rows()]
+
+    def job(transaction: Transaction) -> None:
+        for label in before:
+            transaction.delete(label)
+        for label in labels:
+            transaction.insert(label, None)
+
+    register.change(job)
 
 
 def test_an_audit_finds_the_collisions_that_sets_have(place: Place) -> None:
     """From one side or the other, also under a table with gaps."""
     chance = random.Random(8228)
     for _ in range(8):
-        kept = zone_with_gaps(place, chance, 0.7)
+        kept = with_gaps(random_table(chance, "abc", 2), chance, 0.7)
+        place.write("table.txt", written(kept, chance))
+        place.configure(own="table.txt")
         labels = registrable_labels(chance, "abc", 4, 12)
         set_register(place, labels)
         told = [json.loads(line) for line in place.run("audit", "--json").stdout.splitlines()]

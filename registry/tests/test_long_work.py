@@ -83,8 +83,8 @@ def test_audit_takes_no_other_answer(place: Place, monkeypatch: pytest.MonkeyPat
         assert done.returncode == 75 and not done.stdout and len(done.stderr.splitlines()) == 1, done
 
 
-def test_audit_finds_what_is_hidden_from_one_side(bare: Place) -> None:
-    """Each label's variants are looked for, so that a collision is found from one side or the other."""
+def test_audit_finds_what_only_one_side_shows(bare: Place) -> None:
+    """By a gap, or by a condition of a variant."""
     bare.write("gap.txt", "0061|0062\n0062\n")
     bare.write("sigma.txt", "%version 3\n%rule end _ $\n03B1..03C1\n03C3|03C2 when end\n03C2|03C3\n03C4..03C9\n")
     for table, first, second in (("gap.txt", "a", "b"), ("sigma.txt", "ςα", "σα")):

@@ -78,13 +78,15 @@ def test_says_of_a_label_what_the_program_says(place: Place) -> None:
 
 @needs_aiohttp
 def test_what_is_not_known_is_no_200_here_either(bare: Place) -> None:
+    bare.write("zone.txt", "0061\n0062\n")
     bare.write("gap.txt", "0061|0062\n0062\n")
-    configure(bare, gap="gap.txt")
+    configure(bare, more='zone = "zone"\n', zone="zone.txt", gap="gap.txt")
     bare.load()
     with Served(bare) as served:
         told = served.ask("GET", "/?label=b")
         assert (told.status, told.headers["Retry-After"]) == (503, "60")
-        assert "It isn’t known whether b is available: the table gap has 1 gap." in words_of(told)
+        lacks = "the table zone lacks 0061|0062 of gap: join the tables again"
+        assert f"It isn’t known whether b is available: {lacks}." in words_of(told)
         told = served.ask("GET", "/tables/gap")
         assert "b U+0062 has no variant a U+0061: add 0062|0061" in words_of(told), words_of(told)
 

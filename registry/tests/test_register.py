@@ -8,7 +8,7 @@ import sqlite3
 import subprocess
 import sys
 import time
-from collections.abc import Callable, Iterator
+from collections.abc import Callable
 from pathlib import Path
 
 import pytest
@@ -31,17 +31,6 @@ with Zone.open(sys.argv[1], sys.argv[2]) as zone:
         answer = zone.register(line.rstrip("\\n"), sys.argv[3])
         print(answer.status.value, answer.reason or "", flush=True)
 """
-
-
-@pytest.fixture(params=["sqlite", "postgresql"])
-def kind(request: pytest.FixtureRequest, place: Place) -> Iterator[Place]:
-    """A zone with either register."""
-    if request.param == "postgresql":
-        database: Callable[[str], str] = request.getfixturevalue("server")
-        place.register = database(f"zone{abs(hash(str(place.folder)))}")
-        place.configure()
-        place.load()
-    yield place
 
 
 def test_registers_and_releases(kind: Place) -> None:

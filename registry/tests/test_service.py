@@ -95,27 +95,31 @@ def test_registers_and_releases_with_the_token_alone(place: Place) -> None:
 
 
 def test_what_is_not_known_is_never_a_200(bare: Place) -> None:
-    bare.write("gap.txt", "0061|0062\n0062\n")
-    configure(bare, gap="gap.txt")
+    """As long as the table of the zone lacks a pair of another one."""
+    bare.write("zone.txt", "0061\n0062\n")
+    bare.write("own.txt", "0061|0062\n0062\n")
+    configure(bare, more='zone = "zone"\n', zone="zone.txt", own="own.txt")
     bare.load("a")
+    lacks = "the table zone lacks 0061|0062 of own: join the tables again"
     with Served(bare) as served:
         told = served.ask("GET", "/v1/check?label=b")
         # It lasts until the table is mended.
         assert (told.status, told.headers["Retry-After"]) == (503, "60")
-        assert told.object == {"label": "b", "status": "unknown", "ulabel": "b", "alabel": "b", "tables": ["gap"],
-                               "reason": "the table gap has 1 gap"}
+        assert told.object == {"label": "b", "status": "unknown", "ulabel": "b", "alabel": "b", "tables": ["own"],
+                               "reason": lacks}
         told = served.ask("POST", "/v1/check", {"labels": ["a", "b", "c"]})
         assert told.status == 503 and [each["status"] for each in told.object["answers"]] == ["taken", "unknown", "refused"]
         told = served.ask("GET", "/v1/health")
-        assert (told.status, told.headers["Retry-After"], told.object["reason"]) == (503, "60", "the table gap has 1 gap")
-        bare.write("gap.txt", "0061|0062\n0062\n0063|0061\n")
+        assert (told.status, told.headers["Retry-After"], told.object["reason"]) == (503, "60", lacks)
+        bare.write("own.txt", "0061\n0062|0061\n")
+        other = lacks.replace("0061|0062", "0062|0061")
         served.process.send_signal(signal.SIGHUP)
         until = time.monotonic() + LIMIT
         while 'idn2_registry_reloads_total{result="done"} 1\n' not in served.ask("GET", "/metrics").text:
             assert time.monotonic() < until
-        assert served.end() == ("idn2-registry: the table gap has 1 gap: no label is told to be available\n"
-                                "idn2-registry: 1 answer not known, the last one because: the table gap has 1 gap\n"
-                                "idn2-registry: the table gap has 3 gaps: no label is told to be available\n")
+        assert served.end() == (f"idn2-registry: {lacks}: no label is told to be available\n"
+                                f"idn2-registry: 1 answer not known, the last one because: {lacks}\n"
+                                f"idn2-registry: {other}: no label is told to be available\n")
 
 
 def test_tells_what_lasts_until_an_operator_mends_it(bare: Place) -> None:

@@ -58,8 +58,8 @@ def table_page(frame: Frame, view: View, shown: Shown) -> bytes:
     """The page."""
     parsed, table = view.parsed, view.parsed.table
     head = element("p", counted(table.entries, "entry", "entries"), f" of a {KINDS[table.version]}.", class_="quiet")
-    parts = [doubt_part(table), gaps_part(table), uneven_part(parsed), repertoire_part(frame, view, shown),
-             variants_part(view, shown), rules_part(view), demands_part(view), sets_part(parsed), actions_part(parsed)]
+    parts = [gaps_part(table), uneven_part(parsed), repertoire_part(frame, view, shown), variants_part(view, shown),
+             rules_part(view), demands_part(view), sets_part(parsed), actions_part(parsed)]
     return frame.page(f"Table {table.name}", element("h1", f"Table {table.name}"), head, *parts)
 
 
@@ -67,14 +67,6 @@ def whole_page(table: Table, program: Program) -> bytes:
     """All of a table on a page that stands alone: one file, which needs no other. Raises Unusable where what reads tables
     isn't installed."""
     return table_page(Frame(stands_alone=True), View.of(table, program), Shown(tiles=ALL, sets=ALL))
-
-
-def doubt_part(table: Table) -> Markup | None:
-    """Why labels may collide although nothing shows it."""
-    if table.doubt is None:
-        return None
-    return element("p", element("strong", "A zone whose labels collide by this table tells no label to be available: "),
-                   f"{table.doubt}.", class_="warning")
 
 
 def gaps_part(table: Table) -> Markup | None:

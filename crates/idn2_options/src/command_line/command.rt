@@ -135,7 +135,7 @@ fn with_collisions<'a>(command: Command<'a>, alloc: Global) -> Result<Command<'a
         alloc,
         AMONG,
         "FILE",
-        "With --variants: list only the labels in FILE",
+        "With --variants: list labels in FILE that collide",
     )?;
     with_flag(
         command,

@@ -1,0 +1,194 @@
+#!/usr/bin/env python3
+"""Compares `--among` and `--jump` of the program with whole listings from both sides: python3 conformance/both_ways.py
+
+It draws tables of all versions, with gaps, sequences, conditions, types and actions, with registered labels, until it
+has the given number of pairs of a label and a registered one. Of two labels that the table doesn't refuse,
+what each is to the other is what the program's own whole listings say; with one that it refuses, it is what arises
+(collisions.py). The blocks of `--among` must say just that, and so must turns: the program names the least label from a
+text on, and a database of SQLite its first label from there on. Status 1 where anything differs.
+"""
+
+import argparse
+import collections
+import pathlib
+import random
+import re
+import sqlite3
+import subprocess
+import sys
+import tempfile
+
+from compare import PROGRAM
+
+from fuzz import ALPHABETS, Fuzz, listing_of
+from collisions import NONE, VARIANT
+from idn2_registry.notation.faults import TableFault
+from ruleset_labels import Unknown
+
+ASKED, REGISTERED, MOST_SOURCES, SHOWN = 30, 100, 4, 5
+
+
+class Program:
+    """The program under a table in a folder, by the profile or by the standards."""
+
+    def __init__(self, path, folder, words):
+        self.path, self.folder, self.words = path, folder, words
+
+    def blocks(self, words, lines):
+        """Of each line the fields of the lines of its block, or None if it is refused."""
+        given = "".join(line + "\n" for line in lines).encode()
+        done = subprocess.run([self.path, *self.words, *words], input=given, capture_output=True, cwd=self.folder)
+        if done.returncode not in (0, 1):
+            raise SystemExit(f"{self.words} {words}: {done.stderr.decode()}")
+        refused = {int(number) for number in re.findall(rb"line (\d+):", done.stderr)}
+        blocks, block = [], []
+        for line in done.stdout.decode().splitlines():
+            if not line.startswith("#"):
+                block.append(line.split("\t"))
+                continue
+            if line != f"#end {len(block)}":
+                raise SystemExit(f"{words}: {line}")
+            blocks.append(block)
+            block = []
+        rest = iter(blocks)
+        return [None if number in refused else next(rest) for number in range(1, len(lines) + 1)]
+
+
+class Jumps:
+    """The program, which is kept open for jumps."""
+
+    def __init__(self, program):
+        words = [program.path, *program.words, "--jump"]
+        self.process = subprocess.Popen(words, stdin=subprocess.PIPE, stdout=subprocess.PIPE, cwd=program.folder)
+
+    def __enter__(self):
+        return self
+
+    def __exit__(self, *reason):
+        self.process.communicate()
+
+    def answers(self, requests):
+        """What it answers to labels with texts, of which a pipe takes all at once."""
+        self.process.stdin.write("".join(f"{label}\t{text}\n" for label, text in requests).encode())
+        self.process.stdin.flush()
+        return [self.process.stdout.readline().decode().rstrip("\n") for _ in requests]
+
+
+class Register:
+    """Registered labels in a database, in the order of their bytes."""
+
+    def __init__(self, labels):
+        self.count = len(labels)
+        self.database = sqlite3.connect(":memory:")
+        self.database.execute("create table registered (label text primary key) without rowid")
+        self.database.executemany("insert into registered values (?)", ((label,) for label in labels))
+
+    def first(self, text):
+        query = "select label from registered where label >= ? order by label limit 1"
+        row = self.database.execute(query, (text,)).fetchone()
+        return row and row[0]
+
+
+def by_turns(program, labels, register):
+    """What jumps find for each label, all of them at once. A label takes at most the first one, one from each
+    registered label on, and one after each that is near."""
+    found, texts = {label: [] for label in labels}, dict.fromkeys(labels, "")
+    turns, near = collections.Counter(), collections.Counter()
+    with Jumps(program) as jumps:
+        while texts:
+            asked, texts = list(texts.items()), {}
+            for (label, _), answer in zip(asked, jumps.answers(asked)):
+                turns[label] += 1
+                if answer == "#end":
+                    continue
+                least, there, back = answer.split("\t")
+                registered = register.first(least)
+                if registered == least:
+                    near[label] += 1
+                    found[label] += [[least, there, back]] if (there, back) != (NONE, NONE) else []
+                    registered = least + "\0"
+                if registered is not None:
+                    texts[label] = registered
+    if any(turns[label] > register.count + near[label] + 1 for label in labels):
+        raise SystemExit(f"{turns} jumps for {near} near labels")
+    return found
+
+
+def by_listings(program, labels, registered, under):
+    """The registered labels that collide with each label that isn't refused, with what they are to it, and back."""
+    blocks = zip([*labels, *registered], program.blocks([], [*labels, *registered]))
+    listed = {label: block and {fields[0]: (*fields[2:], VARIANT)[0] for fields in block} for label, block in blocks}
+
+    def regards(label, other):
+        if listed[other] is None:
+            return under.regards(label, other)
+        return listed[label].get(other, NONE), listed[other].get(label, NONE)
+
+    pairs = {label: [[other, *regards(label, other)] for other in registered]
+             for label in labels if listed[label] is not None}
+    return {label: [each for each in found if each[1:] != [NONE, NONE]] for label, found in pairs.items()}
+
+
+class Cases(Fuzz):
+    """Cases are drawn as those of the other comparisons are, of labels with short listings."""
+
+    def sources_of_any_length(self, entries):
+        return self.sources(entries, MOST_SOURCES)
+
+    def case(self):
+        """How many labels were asked under one table, how many collisions there are, and what differs."""
+        self.choose_properties()
+        letters = self.chance.choice(ALPHABETS)
+        text, entries = self.table(letters)
+        (self.folder / "table").write_bytes(text)
+        run = self.second.by_standard if self.choice else self.second.by_profile
+        try:
+            table = run.table(listing_of(text), text)
+        except TableFault:
+            return 0, 0, None
+        drawn = [self.requested(entries) for _ in range(ASKED)]
+        count = self.chance.randint(0, REGISTERED)
+        near = [self.near(entries, letters, self.chance.choice(drawn)) for _ in range(count)]
+        labels = sorted({label for label in map("".join, drawn) if self.may_be_registered(label)})
+        registered = sorted(filter(self.may_be_registered, {*near, *self.chance.sample(labels, len(labels) // 2)}))
+        (self.folder / "registered").write_text("".join(label + "\n" for label in registered), encoding="utf-8")
+        program = Program(self.program, self.folder, [*self.choice, listing_of(text), "table"])
+        try:
+            wanted = by_listings(program, labels, registered, run.collisions_under(table))
+        except Unknown:
+            return 0, 0, None
+        labels = list(wanted)
+        blocks = program.blocks(["--among", "registered"], labels)
+        among = {label: [[fields[0], *fields[2:]] for fields in block] for label, block in zip(labels, blocks)}
+        turns = by_turns(program, labels, Register(registered))
+        said = {label: (wanted[label], among[label], turns[label]) for label in labels}
+        differences = [f"{self.choice} {text.decode()!r}, {registered}: {label}\n"
+                       f"  listings {own}\n  --among  {blocks}\n  --jump   {jumps}"
+                       for label, (own, blocks, jumps) in said.items() if not own == blocks == jumps]
+        return len(labels) * len(registered), sum(map(len, wanted.values())), differences
+
+
+def main():
+    words = argparse.ArgumentParser(description="Compares collisions with whole listings from both sides.")
+    words.add_argument("--program", default=PROGRAM, type=pathlib.Path, help="our program")
+    words.add_argument("--cases", default=20_000, type=int, help="how many pairs of a label and a registered one")
+    words.add_argument("--seed", default=random.randrange(10**9), type=int, help="where the random input begins")
+    options = words.parse_args()
+    if not options.program.exists():
+        raise SystemExit(f"{options.program} is not there: run make first, or name our program by --program")
+    print(f"seed {options.seed}", flush=True)
+    counts = collections.Counter()
+    with tempfile.TemporaryDirectory() as folder:
+        cases = Cases(options.program.resolve(), random.Random(options.seed), folder)
+        while counts["cases"] < options.cases:
+            asked, collisions, differences = cases.case()
+            counts.update(cases=asked, collisions=collisions, differences=len(differences or ()), tables=bool(asked))
+            for difference in (differences or ())[:SHOWN]:
+                print(difference, flush=True)
+    print(f"{counts['tables']:,} tables, {counts['cases']:,} pairs, {counts['collisions']:,} collisions, "
+          f"{counts['differences']:,} differences")
+    return 1 if counts["differences"] else 0
+
+
+if __name__ == "__main__":
+    sys.exit(main())
