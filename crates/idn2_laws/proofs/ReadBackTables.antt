@@ -1,5 +1,5 @@
 -- The objects of tables and of registered labels are read back.
-use Rattle.std.proofs.Common.{◌≡◌, ℕ, suc, ◌-◌, ◌/◌, ◌%◌, ◌<◌, ◌≤◌, ◌^◌, ◌==◌, nat_lt, Bool, true, false, ◌&&◌, List, [], ◌∷◌, ◌++◌, map, codes, length, take, chars, cond, slice_index, Option, Some, None, refl, ap, arith}
+use Rattle.std.proofs.Common.{◌≡◌, ℕ, suc, ◌-◌, ◌/◌, ◌%◌, ◌<◌, ◌≤◌, ◌^◌, ◌==◌, nat_lt, Bool, true, false, ◌&&◌, List, [], ◌∷◌, ◌++◌, map, codes, length, take, chars, cond, slice_index, Option, Some, None, refl, ap, arith, length-take}
 use Rattle.std.specs.Prelude.{slice_get}
 use Rattle.std.specs.List.{AllByRecursion}
 use Rattle.std.specs.Option.{option_map}
@@ -29,7 +29,8 @@ use Rattle.answer_json.specs.declared.checked.PairFinding.TheVariants.{Missing, 
 use Rattle.idn2_answers.specs.Said.{Finding, Found, Counted, finding_object}
 use Rattle.idn2_answers.specs.Transcript.{check_findings}
 use Rattle.idn2_refusals.specs.TableCauses.{begins_with_mark, cause_at, fault_cause, is_syntax_of_first, line_cause, told_if}
-use Rattle.idn2_refusals.specs.WrongLines.{body_at, body_if_any, differs_at, points_at, points_in, told_of_wrong_line, wrong_line_cause}
+use Rattle.idn2_refusals.specs.WrongLines.{body_at, body_if_any, differs_at, points_at, points_in, told_of_wrong_line, without_mark, wrong_line_cause}
+use Rattle.idn_label.specs.OldNames.{before_mark, has_mark, mark}
 use Rattle.idn2_refusals.specs.declared.cause.LineCause.{LineCause}
 use Rattle.idn2_refusals.specs.declared.cause.LineCause.TheVariants.{ByteOrderMark}
 use Rattle.idn2_laws.proofs.ReadBackCauses.{points-length, taken, u_label_fits}
@@ -136,7 +137,15 @@ short_at bytes number = by_line (slice_get (raw_lines bytes) (number - 1))
   where
     by_line : (line : Option (List ℕ)) → IsShortBody (body_if_any line)
     by_line None = tt
-    by_line (Some line) = short_body line
+    by_line (Some line) = without (body_of line) (short_body line)
+      where
+        without : (body : Option (List ℕ)) → IsShortBody body → IsShortBody (option_map without_mark body)
+        without None short = tt
+        without (Some text) short = by_mark (has_mark text)
+          where
+            by_mark : (b : Bool) → length (cond b (before_mark text) text) ≤ 1024
+            by_mark true = omega (arith, length-take (length text - length mark) text, short)
+            by_mark false = short
 
 short_points : (bytes : List ℕ) → length bytes ≤ 1024 → is_utf8 bytes ≡ true → length (chars bytes) ≤ 1024
 short_points bytes short utf8 = let whole = utf8-of_chars bytes utf8 in omega (arith, points-length (chars bytes), ap length whole.encoded, short)

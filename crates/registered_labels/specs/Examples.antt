@@ -1,6 +1,7 @@
 -- Worked examples of the definitions, by computation.
 use Rattle.std.specs.Prelude.{◌≡◌, ℕ, List, [], ◌∷◌, ◌++◌, Some, None, true, codes}
-use Rattle.idn_text.specs.declared.refusal.Refusal.TheVariants.{Empty, LineTooLong, NotUtf8}
+use Rattle.idn_text.specs.declared.refusal.Refusal.TheVariants.{Disallowed, Empty, Hyphen, LineTooLong, NotUtf8}
+use Rattle.idn_label.specs.OldNames.{mark}
 use Rattle.variant_table.specs.declared.version.Version.TheVariants.{Two}
 use Rattle.variant_table.specs.Entries.{Entry, TableValue, empty_table, plain_variant}
 use Rattle.variant_list.specs.Examples.{allocatable, entry}
@@ -77,8 +78,13 @@ pub record ExamplesOfCollisions : Type 0 where
   pub over_a_gap : found gap (codes "a") (codes "b" ∷ []) [] ≡ codes "b" ∷ []
   pub back_over_a_gap : found gap (codes "b") (codes "a" ∷ []) [] ≡ []
 
--- what is wrong with a line by itself: it is too long, no UTF-8, or empty
+-- what is wrong with a line by itself: it is too long, no UTF-8, or empty; and with the mark: nothing, a capital, a name that
+-- stands for another label, or no label before it
 pub record ExamplesOfLines : Type 0 where
   pub too_long : line_refusal Profile None ≡ Some LineTooLong
   pub not_utf8 : line_refusal Profile (Some (0xFF ∷ [])) ≡ Some NotUtf8
   pub empty : line_refusal Profile (Some []) ≡ Some Empty
+  pub old : line_refusal Profile (Some (codes "ab--c" ++ mark)) ≡ None
+  pub capital : line_refusal Profile (Some (codes "Haus" ++ mark)) ≡ Some Disallowed
+  pub decoded : line_refusal Profile (Some (codes "xn--fa-hia" ++ mark)) ≡ Some Hyphen
+  pub mark_alone : line_refusal Profile (Some mark) ≡ Some Empty
