@@ -1,5 +1,5 @@
-"""Labels from older rules: what a name of a zone stands for, and which labels may have the mark in a file of registered
-labels. It is written from the definitions alone, with the codec of RFC 3492 that Python has."""
+"""Labels from older rules: what a name of a zone stands for, and which labels may have the mark among registered labels. It
+is written from the definitions alone, with the codec of RFC 3492 that Python has."""
 
 import re
 
@@ -38,8 +38,8 @@ def old_fault(label: str) -> int | None:
 
 
 def zone_line(line: str, registered_as) -> str | int:
-    """The line of a label of a zone in a file of registered labels, or the number of its refusal. What may be
-    registered is told by `registered_as`: the A-label of a label, or its refusal."""
+    """The line of a label of a zone in a file of registered labels, or the number of its refusal. What may be registered is
+    told by `registered_as`: the A-label of a label, or its refusal."""
     answer = registered_as(line)
     if isinstance(answer, str):
         return stands_for(line)

@@ -36,14 +36,10 @@ registered line input ulabel alabel =
 abbrev pub decoded : ℕ → Told → List ℕ → Answer
 decoded line input unicode = answered (line_field line ∷ input_field input ∷ (codes "unicode", text unicode) ∷ [])
 
--- the least label from a text on; nothing where there is none
-abbrev pub least_field : Option (List ℕ) → Field
-least_field None = (codes "ulabel", nothing)
-least_field (Some label) = (codes "ulabel", text label)
-
--- {"line":1,"input":"strasse\tstra","ulabel":"strasse"}, or {"line":1,"input":"strasse\tu","ulabel":null}
-abbrev pub least : ℕ → Told → Option (List ℕ) → Answer
-least line input label = answered (line_field line ∷ input_field input ∷ least_field label ∷ [])
+-- {"line":1,"input":"xn--ls8h","unicode":"💩","old":true}
+abbrev pub old_label : ℕ → Told → List ℕ → Answer
+old_label line input unicode =
+    answered (line_field line ∷ input_field input ∷ (codes "unicode", text unicode) ∷ (codes "old", flag true) ∷ [])
 
 -- {"line":1,"input":"Faß","refusal":{"number":10,"text":"disallowed code point","code_point":"U+0046","place":1,"rule":"RFC 5892 2.2"}}
 abbrev pub refused : ℕ → Told → Refusal → Details → Answer
@@ -82,7 +78,16 @@ abbrev pub collision : ℕ → List ℕ → List ℕ → Regards → Answer
 collision line ulabel alabel regards =
     answered (line_field line ∷ (codes "ulabel", text ulabel) ∷ (codes "alabel", text alabel) ∷ regard_fields regards)
 
--- a block is complete, or there may be more variants after a label
+-- the least near label from a text on, and what it is to the one that was asked about, and back; or that there is none
+abbrev pub least_fields : Option (List ℕ × Regards) → List Field
+least_fields None = (codes "ulabel", nothing) ∷ []
+least_fields (Some found) = (codes "ulabel", text found.0) ∷ regard_fields found.1
+
+-- {"line":1,"input":"b\tb","ulabel":"b","there":"variant","back":"variant"}, or {"line":2,"input":"b\tc","ulabel":null}
+abbrev pub least : ℕ → Told → Option (List ℕ × Regards) → Answer
+least line input found = answered (line_field line ∷ input_field input ∷ least_fields found)
+
+-- a block is complete, or there may be more labels after one
 abbrev pub end_fields : Option (List ℕ) → List Field
 end_fields None = (codes "complete", flag true) ∷ []
 end_fields (Some after) = (codes "complete", flag false) ∷ (codes "after", text after) ∷ []

@@ -1,18 +1,16 @@
 //! The objects of lines that are answered by one text.
 //!
 //! Always inline: one call writes each kind of answer, and knows how the line is told.
-ghost use Rattle.std.specs.Prelude.{◌≡◌, ◌≤◌, ◌+◌, ◌++◌, ◌∷◌, length, take};
-ghost use Rattle.std.specs.Option.{option_copied};
+ghost use Rattle.std.specs.Prelude.{◌≡◌, ◌≤◌, length, Some, None};
 ghost use Rattle.answer_json.specs.Answers.{line_of};
-ghost use Rattle.answer_json.specs.Details.{given_len};
 ghost use Rattle.answer_json.specs.Inputs.{told, told_len};
-ghost use Rattle.answer_json.specs.Objects.{decoded, least, least_field, looked_up, registered};
-ghost use Rattle.answer_json.specs.inner.Texts.{field_text};
+ghost use Rattle.answer_json.specs.Objects.{decoded, least, looked_up, old_label, registered};
 
+use crate::collision::{Regards, put_regards};
 use crate::ends::{begin_line, end_line};
 use crate::input::Input;
-use crate::member::{put_null, put_text};
-use crate::room::{MAX_OBJECT_LEN, ObjectRoom};
+use crate::member::{put_flag, put_null, put_text};
+use crate::room::ObjectRoom;
 
 /// Writes the object of a line that is looked up, and a line feed.
 #[inline(always)]
@@ -68,33 +66,50 @@ pub fn write_decoded<'a>(
     end_line(out, end)
 }
 
-/// Writes the object of a request that is answered by the least label from its text on, or by none where there is no
-/// such label, and a line feed.
+/// Writes the object of a label of a zone that is answered by an old label, and a line feed.
+#[inline(always)]
+pub fn write_old_label<'a>(
+    out: &'a mut ObjectRoom,
+    line: u64,
+    input: &Input,
+    unicode: &[u8],
+) -> &'a [u8]
+    requires input { told_len input.now ≤ 1024 }
+    requires unicode { length unicode.now ≤ 252 }
+    ensures { result.now ≡ line_of (old_label line (told input.now) unicode.now) }
+{
+    let at = begin_line(out, line, input);
+    let next = put_text(out, at, ",\"unicode\":", unicode);
+    let end = put_flag(out, next, ",\"old\":", true);
+    end_line(out, end)
+}
+
+/// Writes the object of a request that is answered by the least near label from its text on, and a line feed.
 #[inline(always)]
 pub fn write_least<'a>(
     out: &'a mut ObjectRoom,
     line: u64,
     input: &Input,
-    label: Option<&[u8]>,
+    label: &[u8],
+    regards: Regards,
 ) -> &'a [u8]
     requires input { told_len input.now ≤ 1024 }
-    requires label { given_len (option_copied label) ≤ 252 }
-    ensures { result.now ≡ line_of (least line (told input.now) (option_copied label.entry)) }
+    requires label { length label.now ≤ 252 }
+    ensures { result.now ≡ line_of (least line (told input.now) (Some (label.now, regards))) }
 {
     let at = begin_line(out, line, input);
-    let end = put_least(out, at, label);
+    let next = put_text(out, at, ",\"ulabel\":", label);
+    let end = put_regards(out, next, regards);
     end_line(out, end)
 }
 
-/// Writes a label as a member, which holds nothing where there is none.
-fn put_least(out: &mut ObjectRoom, at: usize, label: Option<&[u8]>) -> usize
-    requires short { given_len (option_copied label) ≤ 252 }
-    requires room { at + 1600 ≤ MAX_OBJECT_LEN }
-    ensures field { take result out.new ≡ take at out.old ++ 44 ∷ field_text (least_field (option_copied label.entry)) }
-    ensures end { result ≤ at + 1600 }
+/// Writes the object of a request that is answered by no label, and a line feed.
+#[inline(always)]
+pub fn write_no_least<'a>(out: &'a mut ObjectRoom, line: u64, input: &Input) -> &'a [u8]
+    requires { told_len input.now ≤ 1024 }
+    ensures { result.now ≡ line_of (least line (told input.now) None) }
 {
-    match label {
-        Some(label) => put_text(out, at, ",\"ulabel\":", label),
-        None => put_null(out, at, ",\"ulabel\":"),
-    }
+    let at = begin_line(out, line, input);
+    let end = put_null(out, at, ",\"ulabel\":");
+    end_line(out, end)
 }

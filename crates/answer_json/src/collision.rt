@@ -68,7 +68,7 @@ pub fn write_collision<'a>(
 
 /// Writes as two members what each of two labels is to the other.
 #[tactic(auto, using(crate::proofs::Members::one_field))]
-fn put_regards(out: &mut ObjectRoom, at: usize, regards: Regards) -> usize
+pub(crate) fn put_regards(out: &mut ObjectRoom, at: usize, regards: Regards) -> usize
     requires { at + 160 ≤ MAX_OBJECT_LEN }
     ensures fields { take result out.new ≡ take at out.old ++ fields_text (regard_fields regards) [] }
     ensures end { result ≤ at + 160 }

@@ -17,7 +17,9 @@ mod refusal_members;
 mod refused;
 mod room;
 
-pub use answered::{write_decoded, write_least, write_looked_up, write_registered};
+pub use answered::{
+    write_decoded, write_least, write_looked_up, write_no_least, write_old_label, write_registered,
+};
 pub use block::{Disposition, write_trailer, write_variant};
 pub use checked::{PairFinding, write_checked, write_pair};
 pub use collision::{Regard, Regards, write_collision};

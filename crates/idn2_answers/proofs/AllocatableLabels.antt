@@ -14,7 +14,7 @@ use Rattle.variant_list.specs.Spelled.{part_spelled}
 use Rattle.variant_list.specs.Spelling.{PartSpells}
 use Rattle.variant_list.proofs.SpelledByLemmas.{part_spelled-PartSpells}
 use Rattle.variant_list.proofs.SpellingLemmas.{PartSpells-itself}
-use Rattle.idn2_answers.specs.Answers.{IsAllocatable, IsSubTable, is_allocatable, is_among, sub_tables_below, sub_tables_of}
+use Rattle.idn2_answers.specs.Listings.{IsAllocatable, IsSubTable, is_allocatable, is_among, sub_tables_below, sub_tables_of}
 use Rattle.variant_table.proofs.MemberLemmas.{Contains-head, Contains-later, Contains-none, Contains-one, Contains-cases}
 
 -- ---- a list has what a test finds

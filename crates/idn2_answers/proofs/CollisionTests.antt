@@ -23,7 +23,7 @@ use Rattle.answer_json.specs.declared.block.Disposition.TheVariants as dispositi
 use Rattle.answer_json.specs.declared.collision.Regard.{Regard}
 use Rattle.answer_json.specs.declared.collision.Regard.TheVariants.{NoVariant, Variant, Blocked, Allocatable}
 use Rattle.idn2_options.specs.Settings.{Settings}
-use Rattle.idn2_answers.specs.Answers.{IsAllocation, IsDisposition, IsFieldOf, disposition as disposition_of, is_among, is_registrable}
+use Rattle.idn2_answers.specs.Listings.{IsAllocation, IsDisposition, IsFieldOf, disposition as disposition_of, is_among, is_registrable}
 use Rattle.idn2_answers.specs.Collisions.{IsGood, IsVariantOf, IsBarred, IsSomething, IsRegard, Collides, barred_in, collide, is_barred, is_good, is_something, is_variant_of, regard_by, regard_of}
 use Rattle.idn2_answers.proofs.AllocatableLabels.{among-found}
 use Rattle.idn2_answers.proofs.DisposedLabels.{disposition-IsDisposition}
@@ -86,7 +86,7 @@ module _ (o : Settings) (table : TableValue) (sound : IsSound table) where
       let both = both-told (is_good registrable table v) (registrable w && (is_valid table w && is_among (spelled table v) w)) _ _ (good-told v) listed in (
         λ h. (let p = both.0 h in record {
           good = p.0;
-          listed = record { registrable = p.1.0; valid = p.1.1.0; greater = above-empty w p.1.0; spelled = p.1.1.1; kept = tt };
+          listed = record { registrable = p.1.0; valid = p.1.1.0; greater = above-empty w p.1.0; spelled = p.1.1.1 };
         }),
         λ i. both.1 (i.good, (i.listed.registrable, (i.listed.valid, i.listed.spelled))),
       )

@@ -14,7 +14,7 @@ use Rattle.variant_list.specs.Parts.Part.{Unblocked}
 use Rattle.variant_list.specs.Laws.{without_blocked}
 use Rattle.variant_list.specs.Spelling.{PartSpells, Spells}
 use Rattle.variant_list.proofs.PartLemmas.{PartSpells-Unblocked, Spells-of_part}
-use Rattle.idn2_answers.specs.Answers.{IsAllocatable, is_allocatable, allocation, disposition_in, disposition, IsFieldOf, IsAllocation, IsDisposition}
+use Rattle.idn2_answers.specs.Listings.{IsAllocatable, is_allocatable, allocation, disposition_in, disposition, IsFieldOf, IsAllocation, IsDisposition}
 use Rattle.answer_json.specs.declared.block.Disposition.TheVariants.{Allocatable}
 
 -- a version with marks has a disposition

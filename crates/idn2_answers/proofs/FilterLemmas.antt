@@ -23,7 +23,7 @@ use Rattle.variant_list.specs.Beginnings.{HasNoDeadPrefix, has_no_dead_prefix}
 use Rattle.variant_list.proofs.BeginningLemmas.{shortest_hopeless-none}
 use Rattle.idn2_answers.proofs.DeadPrefixLemmas.{clear}
 use Rattle.idn2_answers.proofs.LostBeginnings.{ruled-for_good}
-use Rattle.idn2_answers.specs.Answers.{Filter, filter_if, filter_of, is_registrable, registrable_labels, ruled_labels}
+use Rattle.idn2_answers.specs.Listings.{Filter, filter_if, filter_of, is_registrable, registrable_labels, ruled_labels}
 
 module _ (properties : Properties) where
   -- each label that is accepted may be registered, and none of them begins with a dead prefix

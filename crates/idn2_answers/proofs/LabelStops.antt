@@ -6,7 +6,7 @@ use Rattle.std.specs.List.{AllByRecursion, filter, slice_get}
 use Rattle.variant_list.specs.Labels.{IsBelow, label_cmp}
 use Rattle.variant_list.specs.Jumps.{IsFrom}
 use Rattle.variant_list.proofs.OrderLemmas.{below_itself, below_both, ranked_labels}
-use Rattle.idn2_answers.specs.Answers.{lesser_label, up_to}
+use Rattle.idn2_answers.specs.Listings.{lesser_label, up_to}
 
 -- ---- comparisons
 

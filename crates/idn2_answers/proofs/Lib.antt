@@ -6,8 +6,6 @@ pub mod LostBeginnings
 pub mod FilterLemmas
 -- The stop of a listing: the lesser of two labels, and the labels up to one.
 pub mod LabelStops
--- A listing that is kept to registered labels has the collisions that its filter accepts.
-pub mod KeptLabels
 -- Labels that a table admits, and others.
 pub mod AdmittedLabels
 -- Which labels may be allocated, as a test tells it.
@@ -18,3 +16,5 @@ pub mod DisposedLabels
 pub mod RegisteredLines
 -- The tests of collisions are true where the definitions hold.
 pub mod CollisionTests
+-- The registered labels that collide with a label, and its block.
+pub mod FoundLabels

@@ -9,7 +9,7 @@ use Rattle.variant_table.specs.Entries.{TableValue}
 use Rattle.valid_labels.specs.Tests.{allows_any_cut, is_dead_under, is_valid}
 use Rattle.variant_list.specs.Beginnings.{has_no_dead_prefix}
 use Rattle.variant_list.proofs.BeginningLemmas.{alive-gives}
-use Rattle.idn2_answers.specs.Answers.{is_registrable, ruled_labels}
+use Rattle.idn2_answers.specs.Listings.{is_registrable, ruled_labels}
 
 pub not-left : (a b : Bool) → a ≡ false → (a && b) ≡ false
 not-left false b h = refl

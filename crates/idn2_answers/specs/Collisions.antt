@@ -1,8 +1,9 @@
 -- Which labels collide, and what each of two is to the other (RFC 7940, sections 5.1 and 7.3). Where both are good today,
 -- their whole listings decide. A label that isn't has no listing: there the relation of the table decides, with
--- conditions of variants alone.
+-- conditions of variants alone. And the block of a label that is asked among registered ones.
 use Rattle.std.specs.Prelude.{◌≡◌, ◌⊎◌, ◌&&◌, ◌||◌, ℕ, Bool, true, false, not, if◌then◌else◌}
-use Rattle.std.specs.Prelude.{List, [], Option, Some, None}
+use Rattle.std.specs.Prelude.{List, [], filter, Contains, Option, Some, None}
+use Rattle.std.specs.Ordering.{is_gt}
 use Rattle.idn_label.specs.FirstFault.{IsRegistrable}
 use Rattle.variant_table.specs.declared.version.Version.{Version}
 use Rattle.variant_table.specs.declared.version.Version.TheVariants.{One, Two, Three}
@@ -10,6 +11,7 @@ use Rattle.variant_table.specs.Entries.{TableValue}
 use Rattle.valid_labels.specs.Validity.{IsAdmitted}
 use Rattle.valid_labels.specs.Tests.{is_admitted, is_valid}
 use Rattle.variant_list.specs.Arising.{Arises, unasked}
+use Rattle.variant_list.specs.Labels.{IsBelow, IsListOf, label_cmp}
 use Rattle.variant_list.specs.Spelled.{spelled}
 use Rattle.answer_json.specs.declared.block.Disposition.{Disposition}
 use Rattle.answer_json.specs.declared.block.Disposition.TheVariants as disposition
@@ -17,16 +19,18 @@ use Rattle.answer_json.specs.declared.collision.Regard.{Regard}
 use Rattle.answer_json.specs.declared.collision.Regard.TheVariants.{NoVariant, Variant, Blocked, Allocatable}
 use Rattle.answer_json.specs.declared.collision.Regards.{Regards}
 use Rattle.idn2_options.specs.Settings.{Settings}
-use Rattle.idn2_answers.specs.Answers.{IsDisposition, IsListed, disposition as disposition_of, is_among}
+use Rattle.idn2_answers.specs.Listings.{IsDisposition, IsListed, block_to, disposition as disposition_of}
+use Rattle.idn2_answers.specs.Listings.{is_among, is_registrable, nth_if_given}
+use Rattle.idn2_answers.specs.Said.{Said, Collision}
 
 -- v is good today: it may be registered, and the table admits it
 pub record IsGood (o : Settings) (table : TableValue) (v : List ℕ) : Type 0 where
   pub registrable : IsRegistrable o.properties v
   pub admitted : IsAdmitted table v
 
--- the same settings for whole listings: from the empty text on, and kept to no labels
+-- the same settings for whole listings: from the empty text on
 abbrev pub whole : Settings → Settings
-whole o = record o { after = []; registered = None }
+whole o = record o { after = [] }
 
 -- the whole listing of v has w
 pub record IsVariantOf (o : Settings) (table : TableValue) (v w : List ℕ) : Type 0 where
@@ -105,3 +109,39 @@ is_either regards = is_something regards.there || is_something regards.back
 
 abbrev pub collide : (List ℕ → Bool) → TableValue → List ℕ → List ℕ → Bool
 collide registrable table v w = is_either (regards_of registrable table v w)
+
+-- ---- the block of a label that is asked among registered labels
+
+-- the registered labels after the text of the settings that collide with the label
+abbrev pub collisions_after : Settings → TableValue → List (List ℕ) → List ℕ → List (List ℕ)
+collisions_after o table registered label =
+    filter (λ v. is_gt (label_cmp v o.after) && collide (is_registrable o.properties) table label v) registered
+
+-- one of them, with what each of the two is to the other
+abbrev pub collision_by : (List ℕ → Regards) → List ℕ → Said
+collision_by regards v = Collision (regards v) v
+
+-- those up to the limit-th, if there is one, and then the end
+abbrev pub collisions_to : (List ℕ → Regards) → Option ℕ → List (List ℕ) → List Said
+collisions_to regards limit found = block_to (collision_by regards) (nth_if_given found limit) found
+
+abbrev pub collision_block : Settings → TableValue → List (List ℕ) → List ℕ → List Said
+collision_block o table registered label =
+    collisions_to (regards_of (is_registrable o.properties) table label) o.limit (collisions_after o table registered label)
+
+-- ---- the same block, by what its lines have to be
+
+-- one of these registered labels, greater than the text of the settings, that collides with the label
+pub record IsFound (o : Settings) (table : TableValue) (labels : List (List ℕ)) (label v : List ℕ) : Type 0 where
+  pub registered : Contains labels v
+  pub greater : IsBelow o.after v
+  pub collides : Collides o table label v
+
+-- each label that is found is said, up to the limit-th, with what it is to the label and the label to it, and then the end
+pub record IsCollisionBlock (o : Settings) (table : TableValue) (labels : List (List ℕ)) (label : List ℕ) (said : List Said) : Type 0 where
+  pub found : List (List ℕ)
+  pub exactly : IsListOf (IsFound o table labels label) found
+  pub regards : List ℕ → Regards
+  pub there : (v : List ℕ) → IsRegard o table label v (regards v).there
+  pub back : (v : List ℕ) → IsRegard o table v label (regards v).back
+  pub exact : said ≡ collisions_to regards o.limit found

@@ -1,5 +1,6 @@
 -- The transcript of a run: all that it writes where nothing fails, line by line.
-use Rattle.std.specs.Prelude.{ℕ, ◌+◌, List, [], ◌∷◌, ◌++◌, ◌≡◌, Option, Result, Ok, Err, ◌==◌, Bool, not, length, map, if◌then◌else◌}
+use Rattle.std.specs.Prelude.{◌≡◌, ◌⊎◌, ◌==◌, ℕ, ◌+◌, ◌-◌, Bool, not, if◌then◌else◌, Option, Some, None, Result, Ok, Err}
+use Rattle.std.specs.Prelude.{List, [], ◌∷◌, ◌++◌, length, map, take, count_by}
 use Rattle.std.specs.List.{flat_map, list_any}
 use Rattle.std.specs.Result.{is_err}
 use Rattle.idn_class.specs.declared.properties.Properties.{Properties}
@@ -10,8 +11,9 @@ use Rattle.variant_table.specs.Entries.{Entry, TableValue, empty_table}
 use Rattle.variant_table.specs.declared.version.Notation.{Notation}
 use Rattle.variant_table.specs.Texts.{IsTextOf, IsFaultOf}
 use Rattle.variant_table.specs.Faults.{LineFault, table_fault as fault_of_line}
+use Rattle.variant_list.specs.Reversed.{IsCrowded}
 use Rattle.idn2_options.specs.declared.command_line.mode.Mode.{Mode}
-use Rattle.idn2_options.specs.declared.command_line.mode.Mode.TheVariants.{Lookup, Register, Decode, Variants, Jump, CheckTable}
+use Rattle.idn2_options.specs.declared.command_line.mode.Mode.TheVariants.{Lookup, Register, Decode, DecodeOld, Variants, Jump, CheckTable}
 use Rattle.idn_text.specs.Lines.{Numbered}
 use Rattle.variant_table.specs.Differences.{differences_of, AreDifferencesOf}
 use Rattle.variant_table.specs.Gaps.{gaps_of, AreGapsOf}
@@ -62,12 +64,38 @@ abbrev pub IsReadAs : Properties → Notation → List ℕ → TableGiven → Ty
 IsReadAs properties notation text (Ok table) = IsTextOf properties notation text table
 IsReadAs properties notation text (Err fault) = HasFault properties notation text fault
 
+-- by these entries some sequence is a variant of too many sources for a search of collisions
+abbrev pub AreCrowded : List Entry → Type 0
+AreCrowded entries = (a : List ℕ) × IsCrowded entries a
+
+-- the line of the last byte of a text
+abbrev pub last_line : List ℕ → ℕ
+last_line text = count_by (λ byte. byte == 10) (take (length text - 1) text) + 1
+
+-- the text spells this table, by which collisions are searched; or it has this first fault, or spells a table by which they
+-- aren't: that is told at its last line
+abbrev pub IsSearchedAs : Properties → Notation → List ℕ → TableGiven → Type 0
+IsSearchedAs properties notation text (Ok table) = IsTextOf properties notation text table × ¬ AreCrowded table.entries
+IsSearchedAs properties notation text (Err fault) =
+    HasFault properties notation text fault
+    ⊎ (((table : TableValue) × IsTextOf properties notation text table × AreCrowded table.entries)
+    × (fault ≡ (last_line text, refusals.Limit, None)))
+
+-- a listing is whole, or the label is asked among registered ones
+abbrev pub IsListedBy : Option (List (List ℕ)) → Properties → Notation → List ℕ → TableGiven → Type 0
+IsListedBy None properties notation text table = IsReadAs properties notation text table
+IsListedBy (Some registered) properties notation text table = IsSearchedAs properties notation text table
+
 -- the table by which a mode works, as its text says; a mode that names no table has the empty one
-abbrev pub IsTableOf : Properties → Mode → Notation → List ℕ → TableGiven → Type 0
-IsTableOf properties Variants notation text table = IsReadAs properties notation text table
-IsTableOf properties Jump notation text table = IsReadAs properties notation text table
-IsTableOf properties CheckTable notation text table = IsReadAs properties notation text table
-IsTableOf properties mode notation text table = table ≡ Ok no_table
+abbrev pub IsTableFor : Mode → Option (List (List ℕ)) → Properties → Notation → List ℕ → TableGiven → Type 0
+IsTableFor Variants registered properties notation text table = IsListedBy registered properties notation text table
+IsTableFor Jump registered properties notation text table = IsSearchedAs properties notation text table
+IsTableFor CheckTable registered properties notation text table = IsReadAs properties notation text table
+IsTableFor mode registered properties notation text table = table ≡ Ok no_table
+
+-- the same by the settings of a run
+abbrev pub IsTableOf : Settings → List ℕ → TableGiven → Type 0
+IsTableOf o text table = IsTableFor o.mode o.registered o.properties o.notation text table
 
 -- ---- what a run says
 
@@ -94,6 +122,7 @@ abbrev pub explained_by_mode : Mode → Settings → TableValue → Explained
 explained_by_mode Lookup o table = ByQuery o.std3
 explained_by_mode Register o table = ByLabel o.properties
 explained_by_mode Decode o table = ByName o.properties
+explained_by_mode DecodeOld o table = ByLabel o.properties
 explained_by_mode Variants o table = ByTable o.properties table
 explained_by_mode Jump o table = ByRequest o.properties table
 explained_by_mode CheckTable o table = Unexplained

@@ -14,7 +14,7 @@ use Rattle.variant_list.proofs.HeldLemmas.{same_by}
 use Rattle.variant_list.proofs.KindLemmas.{kinds-tell_parts}
 use Rattle.variant_list.proofs.PartLemmas.{Spells-of_part}
 use Rattle.variant_list.proofs.SubstitutionLemmas.{SubstitutionsSpell-label}
-use Rattle.idn2_answers.specs.Answers.{IsSubTable, is_allocatable}
+use Rattle.idn2_answers.specs.Listings.{IsSubTable, is_allocatable}
 use Rattle.idn2_answers.proofs.AllocatableLabels.{allocatable-test}
 use Rattle.idn2_cli.specs.inner.Dispositions.{IsOfSubTable}
 

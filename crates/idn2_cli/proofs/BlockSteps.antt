@@ -5,7 +5,7 @@ use Rattle.variant_list.specs.Labels.{IsBelow}
 use Rattle.variant_list.specs.Jumps.{IsFrom}
 use Rattle.idn2_answers.proofs.LabelStops.{up_to-first, up_to-above, up_to-later}
 use Rattle.idn2_answers.specs.Said.{Said, BlockEnd}
-use Rattle.idn2_answers.specs.Answers.{up_to}
+use Rattle.idn2_answers.specs.Listings.{up_to}
 use Rattle.idn2_cli.specs.inner.LineAnswers.{reaches}
 
 -- ---- the block of lists, by the places of its stop

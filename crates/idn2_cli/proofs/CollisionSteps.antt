@@ -1,202 +1,156 @@
--- A listing that is kept to registered labels, step by step.
-use Rattle.std.proofs.Common.{◌≡◌, ◌≤◌, ◌+◌, ◌-◌, ℕ, zero, suc, List, [], ◌∷◌, ◌++◌, Bool, true, false, Option, Some, None, IfSome, Result, Err, All, length, drop, refl, sym, ap, subst, ◌∙◌, if◌then◌else◌, arith}
-use Rattle.std.specs.List.{filter, slice_get}
-use Rattle.std.proofs.lemmas.List.{append_assoc}
-use Rattle.std.proofs.lemmas.List.Elements.{All-drop, All-filter, All-head, All-tail}
-use Rattle.idn_class.specs.declared.properties.Properties.{Properties}
-use Rattle.idn_label.specs.FirstFault.{IsRegistrable}
-use Rattle.variant_list.specs.Labels.{IsRising}
-use Rattle.variant_list.specs.Positions.{Built}
+-- The block of a label that is asked among registered ones, label by label.
+use Rattle.std.proofs.Common.{◌≡◌, ◌↔◌, ◌≤◌, ◌<◌, ◌+◌, ◌-◌, ◌&&◌, ℕ, zero, suc, List, [], ◌∷◌, ◌++◌, Bool, true, false, cond, Option, Some, None, IfSome, All, Contains, length, map, refl, sym, ap, subst, ◌∙◌, if◌then◌else◌, arith}
+use Rattle.std.specs.List.{filter, slice_get, slice_index_or}
+use Rattle.std.specs.Option.{option_map}
+use Rattle.std.specs.Ordering.{is_gt}
+use Rattle.std.proofs.lemmas.List.{append_assoc, map-append, length-append}
+use Rattle.std.proofs.lemmas.Option.{get_or_from_slice_get, slice_get_within}
+use Rattle.std.proofs.lemmas.List.Elements.{All-push}
+use Rattle.variant_table.specs.Entries.{TableValue}
+use Rattle.valid_labels.specs.Validity.{IsSound}
+use Rattle.variant_list.specs.Closure.{AreNear}
+use Rattle.variant_list.specs.Labels.{IsRising, label_cmp}
 use Rattle.variant_list.proofs.RisingLists.{IsRising-filter}
 use Rattle.registered_labels.specs.Registered.{AreRegistered}
-use Rattle.registered_labels.specs.Collisions.{Matching, SearchesAfter, collisions, collisions_ahead, is_spelled}
-use Rattle.registered_labels.proofs.ListedCollisions.{collisions-exactly}
-use Rattle.idn2_options.specs.Settings.{Settings, IsCount, IsWithinLimits, keeping}
-use Rattle.idn2_output.specs.OutputLines.{OutputLine, Output, outputs}
-use Rattle.answer_json.specs.declared.block.Disposition.{Disposition}
-use Rattle.idn2_answers.specs.Said.{Said, Listed, BlockEnd}
-use Rattle.idn2_answers.specs.Answers.{Filter, lesser_label, nth, nth_if_given, block_to}
-use Rattle.idn2_answers.proofs.KeptLabels.{kept-collisions}
-use Rattle.idn2_cli.specs.inner.Dispositions.{block_by}
-use Rattle.idn2_output.specs.Writing.{Held, Writes, Emits, StopsWithin}
-use Rattle.idn2_cli.specs.inner.LineAnswers.{reaches}
-use Rattle.idn2_output.specs.declared.stop.Stop.{Stop}
-use Rattle.idn2_cli.proofs.BlockSteps.{lines_to, get_if_given, limit_from, stops_at_variant, stops_later, reaches-now, reaches-later, limit_from-later, add_none}
+use Rattle.registered_labels.specs.Collisions.{Matching, collisions, collisions_ahead}
+use Rattle.idn2_options.specs.Settings.{Settings, IsCount}
+use Rattle.answer_json.specs.declared.collision.Regards.{Regards}
+use Rattle.idn2_answers.specs.Said.{Said, BlockEnd}
+use Rattle.idn2_answers.specs.Said as said
+use Rattle.idn2_answers.specs.Listings.{nth_if_given, block_to, is_registrable}
+use Rattle.idn2_answers.specs.Collisions.{IsGood, collide, collision_block, collisions_after, regards_of}
+use Rattle.idn2_answers.proofs.CollisionTests.{collide-told, near-of}
+use Rattle.idn2_answers.proofs.FoundLabels.{found-walked}
 use Rattle.idn2_answers.proofs.LabelStops.{get-above}
+use Rattle.idn2_cli.specs.declared.modes.collisions.Collision.{Collision}
+use Rattle.idn2_cli.specs.inner.FoundLabels.{AreWithin, collides_by, collision_line_by, found_block, label_of, lines_from, said_of, stop_at}
+use Rattle.idn2_cli.specs.declared.modes.decided.Decisions.{Decisions}
+use Rattle.idn2_cli.specs.inner.Decided.{IsOfPair}
+use Rattle.idn2_cli.specs.inner.LineAnswers.{reaches}
+use Rattle.idn2_cli.proofs.BlockSteps.{lines_to, get_if_given, limit_from, stops_at_variant, stops_later, reaches-now, reaches-later, limit_from-later, add_none}
 use Rattle.idn2_cli.proofs.ListingLemmas.{lines_to-none}
-use Rattle.idn2_cli.proofs.ListingProgress.{emits_after}
-use Rattle.idn2_output.proofs.WrittenOutputLines.{writes_nothing, writes_join, stops_between}
 
 -- ---- the lines to come
 
 module _ (line : List ℕ → Said) where
-  -- where `count` labels are listed, and these are to come
-  abbrev pub lines_from : Option ℕ → ℕ → List (List ℕ) → List Said
-  lines_from limit count [] = BlockEnd count None ∷ []
-  lines_from limit count (v ∷ vs) =
-      line v ∷ (if reaches limit (count + 1) then BlockEnd (count + 1) (Some v) ∷ [] else lines_from limit (count + 1) vs)
-
-  -- what follows a label that is listed
-  abbrev pub lines_after : Option ℕ → ℕ → List ℕ → List (List ℕ) → List Said
-  lines_after limit count v vs = if reaches limit (count + 1) then BlockEnd (count + 1) (Some v) ∷ [] else lines_from limit (count + 1) vs
-
   lines_to-from : (vs : List (List ℕ)) → IsRising vs → (count : ℕ) (place : Option ℕ)
-      → lines_to line count (get_if_given vs place) vs ≡ lines_from (limit_from count place) count vs
+      → lines_to line count (get_if_given vs place) vs ≡ lines_from line (limit_from count place) count vs
   lines_to-from [] rising count None = ap (λ (n : ℕ). BlockEnd n None ∷ []) (add_none count)
   lines_to-from [] rising count (Some i) = ap (λ (n : ℕ). BlockEnd n None ∷ []) (add_none count)
   lines_to-from (v ∷ vs) rising count None =
       stops_later line count v vs None tt ∙ ap (λ (l : List Said). line v ∷ l) (lines_to-from vs rising.1 (count + 1) None)
   lines_to-from (v ∷ vs) rising count (Some zero) =
       stops_at_variant line count v vs (Some v) rising.0 refl
-      ∙ ap (λ (b : Bool). line v ∷ (if b then BlockEnd (count + 1) (Some v) ∷ [] else lines_from (limit_from count (Some 0)) (count + 1) vs)) (sym (reaches-now count))
+      ∙ ap (λ (b : Bool). line v ∷ (if b then BlockEnd (count + 1) (Some v) ∷ [] else lines_from line (limit_from count (Some 0)) (count + 1) vs)) (sym (reaches-now count))
   lines_to-from (v ∷ vs) rising count (Some (suc i)) =
       stops_later line count v vs (slice_get vs i) (get-above v vs i rising.0)
       ∙ ap (λ (l : List Said). line v ∷ l) (lines_to-from vs rising.1 (count + 1) (Some i))
-      ∙ ap (λ (limit : Option ℕ). line v ∷ lines_from limit (count + 1) vs) (sym (limit_from-later count i))
-      ∙ ap (λ (b : Bool). line v ∷ (if b then BlockEnd (count + 1) (Some v) ∷ [] else lines_from (limit_from count (Some (suc i))) (count + 1) vs)) (sym (reaches-later count i))
+      ∙ ap (λ (limit : Option ℕ). line v ∷ lines_from line limit (count + 1) vs) (sym (limit_from-later count i))
+      ∙ ap (λ (b : Bool). line v ∷ (if b then BlockEnd (count + 1) (Some v) ∷ [] else lines_from line (limit_from count (Some (suc i))) (count + 1) vs)) (sym (reaches-later count i))
 
--- ---- the block is these lines
-
-module _ (field : List ℕ → Option Disposition) where
-  abbrev pub line_of : List ℕ → Said
-  line_of v = Listed (field v) v
-
-  block-lines : (vs : List (List ℕ)) (limit : Option ℕ) → IsRising vs → IfSome limit IsCount → block_to field (nth_if_given vs limit) vs ≡ lines_from line_of limit 0 vs
-  block-lines vs None rising limits = lines_to-none field None vs ∙ lines_to-from line_of vs rising 0 None
+  -- the block is these lines
+  block-lines : (vs : List (List ℕ)) (limit : Option ℕ) → IsRising vs → IfSome limit IsCount → block_to line (nth_if_given vs limit) vs ≡ lines_from line limit 0 vs
+  block-lines vs None rising limits = lines_to-none line None vs ∙ lines_to-from vs rising 0 None
   block-lines vs (Some zero) rising limits = absurd (omega (arith, limits.0))
   block-lines vs (Some (suc m)) rising limits =
-      lines_to-none field (slice_get vs (suc m - 1)) vs
-      ∙ ap (λ (n : ℕ). lines_to line_of 0 (slice_get vs n) vs) (let one : suc m - 1 ≡ m = omega arith in one)
-      ∙ lines_to-from line_of vs rising 0 (Some m)
-      ∙ ap (λ (n : ℕ). lines_from line_of (Some n) 0 vs) (let same : (0 + 1) + m ≡ suc m = omega arith in same)
+      lines_to-none line (slice_get vs (suc m - 1)) vs
+      ∙ ap (λ (n : ℕ). lines_to line 0 (slice_get vs n) vs) (let one : suc m - 1 ≡ m = omega arith in one)
+      ∙ lines_to-from vs rising 0 (Some m)
+      ∙ ap (λ (n : ℕ). lines_from line (Some n) 0 vs) (let same : (0 + 1) + m ≡ suc m = omega arith in same)
 
--- ---- collisions are the variants that are kept
+-- ---- the labels that are found among those that a walk comes to
 
--- nothing is tried or passed over, so only the limit stops the listing
-no_try : (stop : Option (List ℕ)) (n : ℕ) (m : Option ℕ) → lesser_label stop (lesser_label (nth [] n) (nth_if_given [] m)) ≡ stop
-no_try None n None = refl
-no_try None n (Some m) = refl
-no_try (Some v) n None = refl
-no_try (Some v) n (Some m) = refl
+module _ (o : Settings) (table : TableValue) (label : List ℕ) where
+  abbrev test : List ℕ → Bool
+  test = collides_by o table label
 
--- those that are still to come
-abbrev pub kept_ahead : Filter → Matching → List (List ℕ)
-kept_ahead f s = filter f.accepts (collisions_ahead s)
+  abbrev line : List ℕ → Said
+  line = collision_line_by o table label
 
-module _ (properties : Properties) where
-  module _ (f : Filter) (text : Said → List ℕ) (field : List ℕ → Option Disposition) where
-    block-from : (o : Settings) (net : Built) (labels : List (List ℕ)) → AreRegistered properties labels → IfSome o.limit IsCount
-        → block_by f field (keeping (Some labels) o) net.spelled ≡ lines_from (line_of field) o.limit 0 (filter f.accepts (collisions net.spelled labels o.after))
-    block-from o net labels all limits =
-        let found : List (List ℕ) = collisions net.spelled labels o.after in
-        let kept : List (List ℕ) = filter f.accepts found in
-        ap (λ (vs : List (List ℕ)). block_to field (lesser_label (nth_if_given vs o.limit) (lesser_label (nth [] o.tries) (nth_if_given [] o.steps))) vs) (kept-collisions properties f o net.spelled labels all)
-        ∙ ap (λ (stop : Option (List ℕ)). block_to field stop kept) (no_try (nth_if_given kept o.limit) o.tries o.steps)
-        ∙ block-lines field kept o.limit (IsRising-filter f.accepts found (collisions-exactly properties net.spelled labels o.after all).rising) limits
+  -- the block, by the labels that a variant graph spells, which are those that are near the label
+  pub block-walked : (registered spelled : List (List ℕ)) → IsSound table → AreRegistered o.properties registered → IfSome o.limit IsCount → ((w : List ℕ) → Contains spelled w ↔ AreNear table label w)
+      → collision_block o table registered label ≡ lines_from line o.limit 0 (filter test (collisions spelled registered o.after))
+  block-walked registered spelled sound all limits near =
+      let sure : (v : List ℕ) → test v ≡ true → Contains spelled v = λ v told. (near v).1 (near-of o table label v ((collide-told o table sound label v).0 told)) in
+      block-lines line (collisions_after o table registered label) o.limit (IsRising-filter (λ v. is_gt (label_cmp v o.after) && collide (is_registrable o.properties) table label v) registered all.rising) limits
+      ∙ ap (lines_from line o.limit 0) (sym (found-walked test spelled o.after sure registered))
 
-    -- ---- a listing under way
+  -- what a walk still comes to
+  abbrev pub ahead : Matching → List (List ℕ)
+  ahead s = filter test (collisions_ahead s)
 
-    -- `so_far` is written; what is to come follows from the collisions ahead that are accepted, and from the count
-    pub record IsUnderWay (o : Settings) (net : Built) (labels : List (List ℕ)) (old now : Held) (s : Matching) (count total : ℕ) : Type 0 where
-      pub so_far : List OutputLine
-      pub split : outputs text (block_by f field (keeping (Some labels) o) net.spelled) ≡ so_far ++ outputs text (lines_from (line_of field) o.limit count (kept_ahead f s))
-      pub output_lines : Writes old now so_far
-      pub few : count + length (collisions_ahead s) ≤ total
-      pub registrable : All (IsRegistrable properties) (collisions_ahead s)
+  next_if : (s next : Matching) (b : Bool) → collisions_ahead s ≡ next.label ∷ collisions_ahead next → test next.label ≡ b → ahead s ≡ cond b (next.label ∷ ahead next) (ahead next)
+  next_if s next b found told = ap (filter test) found ∙ ap (λ (c : Bool). cond c (next.label ∷ ahead next) (ahead next)) told
 
-    filter-few : (test : List ℕ → Bool) (xs : List (List ℕ)) → length (filter test xs) ≤ length xs
-    filter-few test [] = omega arith
-    filter-few test (x ∷ xs) = by_test (test x) (filter-few test xs)
-      where
-        by_test : (b : Bool) → length (filter test xs) ≤ length xs → length (if b then x ∷ filter test xs else filter test xs) ≤ suc (length xs)
-        by_test true h = omega (arith, h)
-        by_test false h = omega (arith, h)
+  module _ (limit : Option ℕ) (registered : List (List ℕ)) where
+    -- these are found, and those to come follow
+    abbrev pub IsUnderWay : Matching → Matching → List Collision → Type 0
+    IsUnderWay start s found =
+        lines_from line limit 0 (ahead start) ≡ map (said_of registered) found ++ lines_from line limit (length found) (ahead s)
 
-    pub under_way-start : (o : Settings) (net : Built) (labels : List (List ℕ)) (old : Held) (s : Matching) (after : List ℕ) (total : ℕ) → AreRegistered properties labels → IsWithinLimits o
-        → after ≡ o.after → total ≡ length labels → SearchesAfter net labels after s → IsUnderWay o net labels old old s 0 total
-    under_way-start o net labels old s after total all limits same_after same_total begun =
-        let ahead : collisions_ahead s ≡ collisions net.spelled labels o.after = begun.ahead ∙ ap (λ (a : List ℕ). collisions net.spelled labels a) same_after in
-        let count : length (collisions_ahead s) ≤ length labels = subst (λ (l : List (List ℕ)). length l ≤ length labels) (sym ahead) (filter-few _ labels) in record {
-          so_far = [];
-          split = ap (outputs text) (block-from o net labels all limits.limit) ∙ ap (λ (l : List (List ℕ)). outputs text (lines_from (line_of field) o.limit 0 (filter f.accepts l))) (sym ahead);
-          output_lines = writes_nothing old;
-          few = omega (arith, count, same_total);
-          registrable = subst (λ (ls : List (List ℕ)). All (IsRegistrable properties) (filter (is_spelled s.net.spelled) (drop s.passed ls))) (sym begun.registered)
-              (All-filter (is_spelled s.net.spelled) (IsRegistrable properties) (drop s.passed labels) (All-drop (IsRegistrable properties) s.passed labels all.registrable));
-        }
+    -- it doesn't collide
+    pub under_way-passed : (start s next : Matching) (found : List Collision) → IsUnderWay start s found → collisions_ahead s ≡ next.label ∷ collisions_ahead next → test next.label ≡ false → IsUnderWay start next found
+    under_way-passed start s next found h goes told = h ∙ ap (λ (l : List (List ℕ)). map (said_of registered) found ++ lines_from line limit (length found) l) (next_if s next false goes told)
 
-    -- no label is left
-    pub under_way-ended : {A : Type 0} (o : Settings) (net : Built) (labels : List (List ℕ)) (old now new : Held) (s : Matching) (count total : ℕ) (r : Result A Stop) → IsUnderWay o net labels old now s count total
-        → collisions_ahead s ≡ [] → Emits now new (Output (text (BlockEnd count None)) ∷ []) r → Emits old new (outputs text (block_by f field (keeping (Some labels) o) net.spelled)) r
-    under_way-ended o net labels old now new s count total r h none emits =
-        emits_after old now new _ h.so_far (outputs text (BlockEnd count None ∷ [])) r
-        (h.split ∙ ap (λ (l : List (List ℕ)). h.so_far ++ outputs text (lines_from (line_of field) o.limit count (filter f.accepts l))) none) h.output_lines emits
+    module _ (start s next : Matching) (found : List Collision) (c : Collision) (h : IsUnderWay start s found) (goes : collisions_ahead s ≡ next.label ∷ collisions_ahead next) (told : test next.label ≡ true) (is : said_of registered c ≡ line next.label) where
+      rest : Bool → List Said
+      rest b = if b then BlockEnd (length found + 1) (Some next.label) ∷ [] else lines_from line limit (length found + 1) (ahead next)
 
-    -- the label found is the next one that is accepted
-    next-kept : (s next : Matching) → collisions_ahead s ≡ next.label ∷ collisions_ahead next → f.accepts next.label ≡ true → kept_ahead f s ≡ next.label ∷ kept_ahead f next
-    next-kept s next found accepted =
-        ap (filter f.accepts) found ∙ ap (λ (b : Bool). if b then next.label ∷ kept_ahead f next else kept_ahead f next) accepted
+      one_more : (l : List Said) → map (said_of registered) found ++ (line next.label ∷ l) ≡ map (said_of registered) (found ++ c ∷ []) ++ l
+      one_more l =
+          sym (append_assoc (map (said_of registered) found) (line next.label ∷ []) l)
+          ∙ ap (λ (x : Said). (map (said_of registered) found ++ x ∷ []) ++ l) (sym is)
+          ∙ ap (λ (ls : List Said). ls ++ l) (sym (map-append (said_of registered) found (c ∷ [])))
 
-    -- so it is the next line
-    next-split : (o : Settings) (net : Built) (labels : List (List ℕ)) (old now : Held) (s next : Matching) (count total : ℕ) → (h : IsUnderWay o net labels old now s count total)
-        → collisions_ahead s ≡ next.label ∷ collisions_ahead next → f.accepts next.label ≡ true
-        → outputs text (block_by f field (keeping (Some labels) o) net.spelled) ≡ h.so_far ++ (Output (text (line_of field next.label)) ∷ outputs text (lines_after (line_of field) o.limit count next.label (kept_ahead f next)))
-    next-split o net labels old now s next count total h found accepted =
-        h.split ∙ ap (λ (l : List (List ℕ)). h.so_far ++ outputs text (lines_from (line_of field) o.limit count l)) (next-kept s next found accepted)
+      longer : length found + 1 ≡ length (found ++ c ∷ [])
+      longer = sym (length-append found (c ∷ []))
 
-    -- it may be registered
-    pub under_way-registrable : {o : Settings} {net : Built} {labels : List (List ℕ)} {old now : Held} {count total : ℕ} (s next : Matching) (v : List ℕ) → IsUnderWay o net labels old now s count total
-        → collisions_ahead s ≡ next.label ∷ collisions_ahead next → v ≡ next.label → IsRegistrable properties v
-    under_way-registrable s next v h found is =
-        subst (IsRegistrable properties) (sym is) (All-head (IsRegistrable properties) next.label (collisions_ahead next) (subst (All (IsRegistrable properties)) found h.registrable))
+      split : (b : Bool) → reaches limit (length found + 1) ≡ b → lines_from line limit 0 (ahead start) ≡ map (said_of registered) (found ++ c ∷ []) ++ rest b
+      unfolding rest
+      split b reached =
+          h ∙ ap (λ (l : List (List ℕ)). map (said_of registered) found ++ lines_from line limit (length found) l) (next_if s next true goes told)
+          ∙ ap (λ (d : Bool). map (said_of registered) found ++ (line next.label ∷ rest d)) reached
+          ∙ one_more (rest b)
 
-    -- it isn't accepted, and is passed over
-    pub under_way-passed : (o : Settings) (net : Built) (labels : List (List ℕ)) (old now : Held) (s next : Matching) (count total : ℕ) → IsUnderWay o net labels old now s count total
-        → collisions_ahead s ≡ next.label ∷ collisions_ahead next → f.accepts next.label ≡ false → IsUnderWay o net labels old now next count total
-    under_way-passed o net labels old now s next count total h found passed =
-        let fewer : length (collisions_ahead s) ≡ suc (length (collisions_ahead next)) = ap (λ (l : List (List ℕ)). length l) found in
-        let kept : kept_ahead f s ≡ kept_ahead f next = ap (filter f.accepts) found ∙ ap (λ (b : Bool). if b then next.label ∷ kept_ahead f next else kept_ahead f next) passed in record {
-          so_far = h.so_far;
-          split = h.split ∙ ap (λ (l : List (List ℕ)). h.so_far ++ outputs text (lines_from (line_of field) o.limit count l)) kept;
-          output_lines = h.output_lines;
-          few = omega (arith, h.few, fewer);
-          registrable = All-tail (IsRegistrable properties) next.label (collisions_ahead next) (subst (All (IsRegistrable properties)) found h.registrable);
-        }
+      -- it does, and may not be the last
+      pub under_way-found : reaches limit (length found + 1) ≡ false → IsUnderWay start next (found ++ c ∷ [])
+      unfolding rest
+      under_way-found going = split false going ∙ ap (λ (n : ℕ). map (said_of registered) (found ++ c ∷ []) ++ lines_from line limit n (ahead next)) longer
 
-    -- its line could not be written whole
-    pub under_way-broken : {A : Type 0} (o : Settings) (net : Built) (labels : List (List ℕ)) (old now new : Held) (s next : Matching) (count total : ℕ) (v : List ℕ) (r : Result A Stop) (why : Stop) → IsUnderWay o net labels old now s count total
-        → collisions_ahead s ≡ next.label ∷ collisions_ahead next → f.accepts next.label ≡ true → v ≡ next.label → Emits now new (Output (text (line_of field v)) ∷ []) r → r ≡ Err why
-        → StopsWithin why old new (outputs text (block_by f field (keeping (Some labels) o) net.spelled))
-    under_way-broken o net labels old now new s next count total v r why h found accepted is emits stopped =
-        stops_between old now new _ h.so_far (Output (text (line_of field next.label)) ∷ []) _ r why (next-split o net labels old now s next count total h found accepted) h.output_lines
-        (subst (λ (u : List ℕ). Emits now new (Output (text (line_of field u)) ∷ []) r) is emits) stopped
+      -- it is the last
+      pub under_way-reached : label_of registered c ≡ next.label → reaches limit (length found + 1) ≡ true → found_block limit registered (found ++ c ∷ []) ≡ lines_from line limit 0 (ahead start)
+      unfolding rest
+      under_way-reached at reached =
+          let last : slice_get (found ++ c ∷ []) (length (found ++ c ∷ []) - 1) ≡ Some c = last_of found c in
+          sym (split true reached
+          ∙ ap (λ (n : ℕ). map (said_of registered) (found ++ c ∷ []) ++ BlockEnd n (Some next.label) ∷ []) longer
+          ∙ ap (λ (e : Option (List ℕ)). map (said_of registered) (found ++ c ∷ []) ++ BlockEnd (length (found ++ c ∷ [])) e ∷ []) (
+              ap (λ (v : List ℕ). let o : Option (List ℕ) = Some v in o) (sym at)
+              ∙ ap (option_map (label_of registered)) (sym last)
+              ∙ ap (λ (b : Bool). if b then option_map (label_of registered) (slice_get (found ++ c ∷ []) (length (found ++ c ∷ []) - 1)) else None)
+              (sym (ap (reaches limit) (sym longer) ∙ reached))))
+        where
+          last_of : (xs : List Collision) (x : Collision) → slice_get (xs ++ x ∷ []) (length (xs ++ x ∷ []) - 1) ≡ Some x
+          last_of [] x = refl
+          last_of (y ∷ []) x = refl
+          last_of (y ∷ (z ∷ ys)) x = last_of (z ∷ ys) x
 
-    -- its line is written, and is not the last
-    pub under_way-found : (o : Settings) (net : Built) (labels : List (List ℕ)) (old now new : Held) (s next : Matching) (count total : ℕ) (v : List ℕ) → IsUnderWay o net labels old now s count total
-        → collisions_ahead s ≡ next.label ∷ collisions_ahead next → f.accepts next.label ≡ true → v ≡ next.label → Writes now new (Output (text (line_of field v)) ∷ []) → reaches o.limit (count + 1) ≡ false
-        → IsUnderWay o net labels old new next (count + 1) total
-    under_way-found o net labels old now new s next count total v h found accepted is written going =
-        let line : List OutputLine = Output (text (line_of field next.label)) ∷ [] in
-        let fewer : length (collisions_ahead s) ≡ suc (length (collisions_ahead next)) = ap (λ (l : List (List ℕ)). length l) found in record {
-          so_far = h.so_far ++ line;
-          split = next-split o net labels old now s next count total h found accepted
-              ∙ ap (λ (b : Bool). h.so_far ++ (Output (text (line_of field next.label)) ∷ outputs text (if b then BlockEnd (count + 1) (Some next.label) ∷ [] else lines_from (line_of field) o.limit (count + 1) (kept_ahead f next)))) going
-              ∙ sym (append_assoc h.so_far line (outputs text (lines_from (line_of field) o.limit (count + 1) (kept_ahead f next))));
-          output_lines = writes_join old now new h.so_far line h.output_lines (subst (λ (u : List ℕ). Writes now new (Output (text (line_of field u)) ∷ [])) is written);
-          few = omega (arith, h.few, fewer);
-          registrable = All-tail (IsRegistrable properties) next.label (collisions_ahead next) (subst (All (IsRegistrable properties)) found h.registrable);
-        }
+    -- none is left
+    pub under_way-ended : (start s : Matching) (found : List Collision) → IsUnderWay start s found → collisions_ahead s ≡ [] → reaches limit (length found) ≡ false → found_block limit registered found ≡ lines_from line limit 0 (ahead start)
+    under_way-ended start s found h none going =
+        ap (λ (b : Bool). map (said_of registered) found ++ BlockEnd (length found) (if b then option_map (label_of registered) (slice_get found (length found - 1)) else None) ∷ []) going
+        ∙ ap (λ (l : List (List ℕ)). map (said_of registered) found ++ lines_from line limit (length found) l) (sym (ap (filter test) none))
+        ∙ sym h
 
-    -- its line is written, and is the last
-    pub under_way-reached : {A : Type 0} (o : Settings) (net : Built) (labels : List (List ℕ)) (old now new last : Held) (s next : Matching) (count total : ℕ) (v stop_at : List ℕ) (r : Result A Stop) → IsUnderWay o net labels old now s count total
-        → collisions_ahead s ≡ next.label ∷ collisions_ahead next → f.accepts next.label ≡ true → v ≡ next.label → Writes now new (Output (text (line_of field v)) ∷ []) → reaches o.limit (count + 1) ≡ true
-        → stop_at ≡ next.label → Emits new last (Output (text (BlockEnd (count + 1) (Some stop_at))) ∷ []) r → Emits old last (outputs text (block_by f field (keeping (Some labels) o) net.spelled)) r
-    under_way-reached o net labels old now new last s next count total v stop_at r h found accepted is written reached at emits =
-        let line : List OutputLine = Output (text (line_of field next.label)) ∷ [] in
-        let end : List OutputLine = Output (text (BlockEnd (count + 1) (Some next.label))) ∷ [] in
-        emits_after old new last _ (h.so_far ++ line) end r
-        (next-split o net labels old now s next count total h found accepted
-        ∙ ap (λ (b : Bool). h.so_far ++ (Output (text (line_of field next.label)) ∷ outputs text (if b then BlockEnd (count + 1) (Some next.label) ∷ [] else lines_from (line_of field) o.limit (count + 1) (kept_ahead f next)))) reached
-        ∙ sym (append_assoc h.so_far line end))
-        (writes_join old now new h.so_far line h.output_lines (subst (λ (u : List ℕ). Writes now new (Output (text (line_of field u)) ∷ [])) is written))
-        (subst (λ (u : List ℕ). Emits new last (Output (text (BlockEnd (count + 1) (Some u))) ∷ []) r) at emits)
+-- what is said of a label that was found
+pub said-found : (o : Settings) (table : TableValue) (label : List ℕ) (registered : List (List ℕ)) (c : Collision) (v : List ℕ) → slice_get registered c.number ≡ Some v → (let line = collision_line_by o table label in said.Collision c.regards v ≡ line v)
+    → said_of registered c ≡ collision_line_by o table label v
+said-found o table label registered c v at told = ap (λ (w : List ℕ). said.Collision c.regards w) (get_or_from_slice_get registered c.number v [] at) ∙ told
+
+-- what is told of a label by what decides
+pub told-of : (o : Settings) (table : TableValue) (label v : List ℕ) (d : Decisions) (told : Regards) (ok : Type 0) → IsOfPair table label d
+    → (IsGood o d.table.now d.label.now → ok → told ≡ regards_of (is_registrable o.properties) d.table.now d.label.now v) → IsGood o table label → ok → told ≡ regards_of (is_registrable o.properties) table label v
+told-of o table label v d told ok pair from =
+    let at_table : IsGood o table d.label.now → ok → told ≡ regards_of (is_registrable o.properties) table d.label.now v =
+    subst (λ (t : TableValue). IsGood o t d.label.now → ok → told ≡ regards_of (is_registrable o.properties) t d.label.now v) pair.table_is from in
+    subst (λ (l : List ℕ). IsGood o table l → ok → told ≡ regards_of (is_registrable o.properties) table l v) pair.label_is at_table

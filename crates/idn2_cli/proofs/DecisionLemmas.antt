@@ -19,7 +19,7 @@ use Rattle.variant_list.specs.Spelling.{Spells}
 use Rattle.answer_json.specs.declared.collision.Regard.{Regard}
 use Rattle.answer_json.specs.declared.collision.Regard.TheVariants.{NoVariant}
 use Rattle.idn2_options.specs.Settings.{Settings}
-use Rattle.idn2_answers.specs.Answers.{Filter, disposition, filter_of, is_among, is_registrable}
+use Rattle.idn2_answers.specs.Listings.{Filter, disposition, filter_of, is_among, is_registrable}
 use Rattle.idn2_answers.specs.Collisions.{IsBarred, IsGood, IsVariantOf, barred_in, regard_by, regard_of}
 use Rattle.idn2_answers.proofs.CollisionTests.{arises-told, regard-barred, regard-none, regard-variant}
 use Rattle.idn2_answers.proofs.FilterLemmas.{accepted-is}

@@ -18,8 +18,7 @@ use Rattle.variant_list.specs.Tested.{tested_among}
 use Rattle.variant_list.specs.Variants.{candidates_among, fits_label, in_order, variants_among}
 use Rattle.variant_list.specs.Visited.{visited}
 use Rattle.variant_list.proofs.NetLabels.{among-in_order}
-use Rattle.variant_list.proofs.RisingLists.{Contains-filter}
-use Rattle.idn2_answers.specs.Answers.{Filter, block, block_to, filter_of, is_among, kept_to, lesser_label, nth, nth_if_given, unless_kept, is_allocatable, allocation, disposition_in, disposition, stop_of, up_to, variants_after}
+use Rattle.idn2_answers.specs.Listings.{Filter, block, block_to, filter_of, lesser_label, nth, nth_if_given, is_allocatable, allocation, disposition_in, disposition, stop_of, up_to, variant_by, variants_after}
 use Rattle.answer_json.specs.declared.block.Disposition.{Disposition}
 use Rattle.idn2_answers.specs.Said.{Said, Listed, BlockEnd}
 use Rattle.idn2_answers.proofs.DisposedLabels.{all_unblocked, disposition-full_replacements}
@@ -54,11 +53,6 @@ up_to-all : (P : List ℕ → Type 0) (stop : Option (List ℕ)) (vs : List (Lis
 up_to-all P None vs all = all
 up_to-all P (Some b) vs all = kept_all P (λ v. is_le (label_cmp v b)) vs all
 
--- what a listing is kept to is in the list
-kept-listed : (labels : Option (List (List ℕ))) (vs : List (List ℕ)) (v : List ℕ) → Contains (kept_to labels vs) v → Contains vs v
-kept-listed None vs v at = at
-kept-listed (Some registered) vs v at = ((Contains-filter (is_among registered) vs v).0 at).1
-
 -- the block by the fields that are told is the block
 told-block : (o : Settings) (table : TableValue) (label : List ℕ) (told : Dispositions Asked) → IsWellFormed table.entries → AreOfLabel table label told
     → block_by (filter_of o.properties table) (field_by told) o (spelled table label) ≡ block_by (filter_of o.properties table) (disposition table label) o (spelled table label)
@@ -68,7 +62,7 @@ told-block o table label told well is =
     let stop = stop_of f o (spelled table label) in
     let same : AllByRecursion (λ v. Listed (field_by told v) v ≡ Listed (disposition table label v) v) vs =
     all-members (λ v. Listed (field_by told v) v ≡ Listed (disposition table label v) v) vs
-    (λ v at. ap (λ field. Listed field v) (field-is table label v told well is (((variants-IsListed f.accepts (spelled table label) o.after).members v).0 (kept-listed o.registered (variants_among f.accepts (spelled table label) o.after) v at)).spelled)) in
+    (λ v at. ap (λ field. Listed field v) (field-is table label v told well is (((variants-IsListed f.accepts (spelled table label) o.after).members v).0 at).spelled)) in
     ap (λ said. said ++ BlockEnd (length (up_to stop vs)) stop ∷ [])
     (map-same (λ v. Listed (field_by told v) v) (λ v. Listed (disposition table label v) v) (up_to stop vs) (up_to-all _ stop vs same))
 
@@ -81,8 +75,7 @@ block-same f field o labels others same =
   where
     of_lists : List (List ℕ) → List (List ℕ) → List (List ℕ) → List Said
     of_lists vs ts cs =
-        let kept = kept_to o.registered vs in
-        block_to field (lesser_label (nth_if_given kept o.limit) (lesser_label (nth (unless_kept o.registered ts) o.tries) (nth_if_given (visited f.hopeless None (unless_kept o.registered cs)) o.steps))) kept
+        block_to (variant_by field) (lesser_label (nth_if_given vs o.limit) (lesser_label (nth ts o.tries) (nth_if_given (visited f.hopeless None cs) o.steps))) vs
 
 -- what is written of a variant graph is the block
 pub written_block : (text : Said → List ℕ) (o : Settings) (table : TableValue) (label : List ℕ) (net : Built) (told : Dispositions Asked) → IsWellFormed table.entries → in_order net.spelled ≡ in_order (spelled table label) → AreOfLabel table label told

@@ -30,7 +30,7 @@ use Rattle.idn2_options.specs.declared.command_line.form.Form.{Form}
 use Rattle.idn2_options.specs.declared.command_line.form.Form.TheVariants.{Plain, Json}
 use Rattle.idn2_answers.specs.Said.{Said, said_text}
 use Rattle.idn2_output.specs.OutputLines.{OutputLine, Output, Message, outputs, output_of}
-use Rattle.idn2_answers.specs.Transcript.{Refuses, TableGiven, IsReadAs, IsTableOf, mode_output, line_output, lines_output, output_line_in, output_for, explained_in}
+use Rattle.idn2_answers.specs.Transcript.{Refuses, TableGiven, AreCrowded, IsListedBy, IsReadAs, IsSearchedAs, IsTableFor, IsTableOf, mode_output, line_output, lines_output, output_line_in, output_for, explained_in}
 use Rattle.idn2_refusals.specs.Messages.{refused_object}
 use Rattle.idn2_refusals.specs.declared.cause.LineCause.{LineCause}
 use Rattle.idn2_refusals.specs.Explained.{Explained, body_cause}
@@ -43,7 +43,7 @@ use Rattle.idn2_output.specs.declared.status.Status.TheVariants.{Clean, Refused,
 use Rattle.idn2_output.specs.declared.stop.Stop.{Stop}
 use Rattle.idn2_output.specs.declared.stop.Stop.TheVariants as stop
 use Rattle.idn2_answers.proofs.AdmittedLabels.{sound_table}
-use Rattle.idn2_cli.proofs.BlockMembers.{variants_answer-IsListing}
+use Rattle.idn2_cli.proofs.BlockMembers.{HasRising, variants_answer-IsListing}
 use Rattle.idn2_cli.proofs.TextAnswers.{text_answer-none, text_answer-points}
 use Rattle.idn2_refusals.proofs.Utf8Bytes.{chars-encoded, utf8-of_chars}
 use Rattle.idn2_output.proofs.WrittenOutputLines.{output_of-append}
@@ -86,14 +86,14 @@ module _ (o : Settings) (table : TableValue) where
   abbrev printed_line : Numbered → List ℕ
   printed_line line = output_of (line_output o.form (explained_in Variants o table) (variants_answer o table) line)
 
-  listing-printed : IsSound table → (line : Numbered) (label : List ℕ) → IsLineOf o.properties label line
+  listing-printed : IsSound table → HasRising o.registered → (line : Numbered) (label : List ℕ) → IsLineOf o.properties label line
       → (answer : LineAnswer) × IsListing o table label answer × (printed_line line ≡ printed_of o.form (explained_in Variants o table) line answer)
-  listing-printed formed line label is =
+  listing-printed formed rising line label is =
       let answers : line_answer (variants_answer o table) line.body ≡ variants_answer o table label =
       ap (line_answer (variants_answer o table)) is.utf8
       ∙ text_answer-points (variants_answer o table) (utf8_of label) label (utf8-given o.properties label is.registrable) (utf8-some o.properties label is.registrable) in (
         variants_answer o table label,
-        variants_answer-IsListing o table label formed is.registrable,
+        variants_answer-IsListing o table label formed rising is.registrable,
         output_for-printed o.form (explained_in Variants o table) line (line_answer (variants_answer o table) line.body) ∙ ap (printed_of o.form (explained_in Variants o table) line) answers,
       )
 
@@ -128,17 +128,17 @@ module _ (o : Settings) (table : TableValue) where
         ap (λ (b : Bool). let r : LineAnswer = if b then (if length bytes == 0 then Err Empty else variants_answer o table (chars bytes)) else Err NotUtf8 in r) other,
       )
 
-  line-printed : IsSound table → (line : Numbered) → IsPrintedFor o table line (printed_line line)
-  line-printed formed line = record {
-    listing = listing-printed formed line;
+  line-printed : IsSound table → HasRising o.registered → (line : Numbered) → IsPrintedFor o table line (printed_line line)
+  line-printed formed rising line = record {
+    listing = listing-printed formed rising line;
     refused = λ none.
         let other = other-refused line.body (λ label registrable utf8. none label (record { registrable = registrable; utf8 = utf8 })) in
         (other.0, refused-printed line other.0 other.1);
   }
 
-  lines-printed : IsSound table → (lines : List Numbered) → ArePrintedFor o table lines (map printed_line lines)
-  lines-printed formed [] = tt
-  lines-printed formed (line ∷ lines) = (line-printed formed line, lines-printed formed lines)
+  lines-printed : IsSound table → HasRising o.registered → (lines : List Numbered) → ArePrintedFor o table lines (map printed_line lines)
+  lines-printed formed rising [] = tt
+  lines-printed formed rising (line ∷ lines) = (line-printed formed rising line, lines-printed formed rising lines)
 
   -- joined, it is what the output lines of these lines put on the output
   lines-joined : (lines : List Numbered) → concat (map printed_line lines) ≡ output_of (lines_output o.form (explained_in Variants o table) (variants_answer o table) lines)
@@ -180,7 +180,7 @@ begun-cut stop.Messages output_lines written cut =
     rw (cut.split, cut.cut) (begun-before cut.before (Message cut.text ∷ cut.after) (Message (take cut.taken cut.text) ∷ []) (output_of cut.after, refl))
 begun-cut stop.Memory output_lines written cut = (output_of cut.0, ap output_of cut.1 ∙ output_of-append written cut.0)
 
-module _ (o : Settings) (table : TableValue) (formed : IsSound table) (is : o.mode ≡ Variants) where
+module _ (o : Settings) (table : TableValue) (formed : IsSound table) (rising : HasRising o.registered) (is : o.mode ≡ Variants) where
   abbrev job : Job
   job = mode_job o (Ok table)
 
@@ -242,7 +242,7 @@ module _ (o : Settings) (table : TableValue) (formed : IsSound table) (is : o.mo
     lines = does.lines;
     read = does.read;
     printed = map (printed_line o table) does.lines;
-    each = lines-printed o table formed does.lines;
+    each = lines-printed o table formed rising does.lines;
     taken = output_of (job.output_lines does.lines);
     missing = [];
     joined = lines-joined o table does.lines ∙ sym (ap output_of (output_lines-lines does.lines)) ∙ sym (append-nil (output_of (job.output_lines does.lines)));
@@ -260,7 +260,7 @@ module _ (o : Settings) (table : TableValue) (formed : IsSound table) (is : o.mo
         lines = does.lines;
         read = does.read;
         printed = map (printed_line o table) does.lines;
-        each = lines-printed o table formed does.lines;
+        each = lines-printed o table formed rising does.lines;
         taken = output_of does.ending.written;
         missing = begun.0;
         joined = lines-joined o table does.lines ∙ begun.1;
@@ -280,11 +280,29 @@ module _ (properties : Properties) where
   same_table n text (Ok other) table read spelled = ap Ok (one_table properties n text other table read spelled)
   same_table n text (Err fault) table read spelled = absurd (not_both properties n text table fault.0 read.0 spelled read.2)
 
--- the law: what a run ends with is the theorem of a listing
+  -- also where collisions are searched by it
+  same_searched : (n : Notation) (text : List ℕ) (given : TableGiven) (table : TableValue) → IsSearchedAs properties n text given → IsSearchedAs properties n text (Ok table) → given ≡ Ok table
+  same_searched n text (Ok other) table read spelled = ap Ok (one_table properties n text other table read.0 spelled.0)
+  same_searched n text (Err fault) table (inl read) spelled = absurd (not_both properties n text table fault.0 read.0 spelled.0 read.2)
+  same_searched n text (Err fault) table (inr crowd) spelled =
+      let same : crowd.0.0 ≡ table = one_table properties n text crowd.0.0 table crowd.0.1 spelled.0 in
+      absurd (spelled.1 (subst (λ (t : TableValue). AreCrowded t.entries) same crowd.0.2))
+
+  same_listed : (registered : Option (List (List ℕ))) (n : Notation) (text : List ℕ) (given : TableGiven) (table : TableValue) → IsListedBy registered properties n text given → IsListedBy registered properties n text (Ok table) → given ≡ Ok table
+  same_listed None n text given table read spelled = same_table n text given table read spelled
+  same_listed (Some labels) n text given table read spelled = same_searched n text given table read spelled
+
+  sound_listed : (registered : Option (List (List ℕ))) (n : Notation) (text : List ℕ) (table : TableValue) → IsListedBy registered properties n text (Ok table) → IsSound table
+  sound_listed None n text table spelled = sound_table table spelled.lines.well_formed
+  sound_listed (Some labels) n text table spelled = sound_table table spelled.0.lines.well_formed
+
+-- the law: what a run ends with is the theorem of a block
 pub headline : (o : Settings) (text : List ℕ) (table : TableValue) (given : TableGiven) (start now : Reading) (old new : Held) (status : Status)
-    → o.mode ≡ Variants → IsReadAs o.properties o.notation text (Ok table) → IsTableOf o.properties o.mode o.notation text given → Ends (mode_job o given) start now old new status
+    → HasRising o.registered → o.mode ≡ Variants → IsTableOf o text (Ok table) → IsTableOf o text given → Ends (mode_job o given) start now old new status
     → PrintsListings o table start now old.output.contents new.output.contents status
-headline o text table given start now old new status is spelled read ends =
-    let same = same_table o.properties o.notation text given table (subst (λ (m : Mode). IsTableOf o.properties m o.notation text given) is read) spelled in
-    ends-prints o table (sound_table table spelled.lines.well_formed) is start now old new status
+headline o text table given start now old new status rising is spelled read ends =
+    let of_mode : (g : TableGiven) → IsTableOf o text g → IsListedBy o.registered o.properties o.notation text g =
+    λ (g : TableGiven) table_of. subst (λ (m : Mode). IsTableFor m o.registered o.properties o.notation text g) is table_of in
+    let same = same_listed o.properties o.registered o.notation text given table (of_mode given read) (of_mode (Ok table) spelled) in
+    ends-prints o table (sound_listed o.properties o.registered o.notation text table (of_mode (Ok table) spelled)) rising is start now old new status
     (subst (λ (g : TableGiven). Ends (mode_job o g) start now old new status) same ends)

@@ -1,65 +1,106 @@
--- The answer to a request is the least label from its text on.
-use Rattle.std.proofs.Common.{◌≡◌, inl, inr, ℕ, List, [], ◌∷◌, Option, Some, Err, refl, sym, ap, subst}
+-- The answer to a request is the least near label from its text on.
+use Rattle.std.proofs.Common.{◌≡◌, ◌↔◌, inl, inr, ℕ, List, [], ◌∷◌, Option, Some, None, Err, refl, sym, ap, subst}
 use Rattle.std.specs.Prelude.{slice_get, Contains}
+use Rattle.std.specs.Option.{option_map}
 use Rattle.idn_class.specs.declared.properties.Properties.{Properties}
 use Rattle.idn_text.specs.declared.refusal.Refusal.{Refusal}
 use Rattle.idn_label.specs.Answers.{unless_fault}
 use Rattle.idn_label.specs.FirstFault.{first_fault, IsRegistrable}
 use Rattle.variant_table.specs.Entries.{TableValue}
 use Rattle.variant_table.specs.WellFormed.{IsWellFormed}
+use Rattle.variant_list.specs.Closure.{AreNear, near}
 use Rattle.variant_list.specs.Labels.{IsListOf}
 use Rattle.variant_list.specs.Positions.{Built, Position}
 use Rattle.valid_labels.specs.Validity.{IsSound}
-use Rattle.variant_list.specs.Spelling.{Spells}
-use Rattle.variant_list.specs.Jumps.{IsFrom, IsLeastFrom, IsCandidate, candidates_from}
-use Rattle.variant_list.proofs.FromLemmas.{candidates_from-IsListOf}
-use Rattle.variant_list.proofs.ListedLemmas.{above_first}
+use Rattle.variant_list.specs.Jumps.{IsFrom, IsLeastFrom, HasNoneFrom, IsCandidate, candidates_among_from}
+use Rattle.variant_list.proofs.FromLemmas.{among_from-IsListOf, among_from-first, among_from-none}
+use Rattle.variant_list.proofs.ListedLemmas.{IsListOf-same, above_first}
+use Rattle.variant_list.proofs.NearLists.{near-AreNear}
+use Rattle.idn2_options.specs.Settings.{Settings}
+use Rattle.answer_json.specs.declared.collision.Regards.{Regards}
 use Rattle.idn2_answers.specs.Said.{Least}
-use Rattle.idn2_answers.specs.Answers.{IsJump, IsLeast, IsJumpAnswer, jump_answer, least_answer}
+use Rattle.idn2_answers.specs.Listings.{is_registrable}
+use Rattle.idn2_answers.specs.Collisions.{regards_of}
+use Rattle.idn2_answers.specs.Answers.{IsJump, IsJumpAnswer, jump_answer, least_answer, least_near}
 use Rattle.idn2_refusals.specs.Requests.{requested_label, requested_text}
 use Rattle.idn2_answers.proofs.AdmittedLabels.{admitted-made, admitted_answer, admitted_or_refused, refused_answer}
+use Rattle.idn2_answers.proofs.CollisionTests.{regard-told}
 use Rattle.variant_table.proofs.MemberLemmas.{Contains-head, Contains-none, Contains-cases}
 
--- the first of the candidates from a text on is the least
-least_is_first : (P : List ℕ → Type 0) (text : List ℕ) (vs : List (List ℕ)) → IsListOf (λ v. IsCandidate P v × IsFrom text v) vs → IsLeast P text (slice_get vs 0)
-least_is_first P text [] list = λ w is up. Contains-none w ((list.members w).1 (is, up))
-least_is_first P text (v ∷ vs) list =
-    let first = (list.members v).0 (Contains-head v vs) in
-    record {
-      holds = first.0;
-      «from» = first.1;
-      least = λ w is up. elim (Contains-cases v vs w ((list.members w).1 (is, up))) [ inl same ↦ inl same | inr later ↦ inr (above_first v vs w list.rising later) ];
-    }
+-- of the near labels from a text on the first is the least, and what is told of it holds
+jump-is : (o : Settings) (table : TableValue) (label text : List ℕ) → IsSound table → (vs : List (List ℕ)) → IsListOf (λ v. IsCandidate (AreNear table label) v × IsFrom text v) vs
+    → IsJump o table label text (option_map (λ v. (v, regards_of (is_registrable o.properties) table label v)) (slice_get vs 0))
+jump-is o table label text sound [] list = λ w is up. Contains-none w ((list.members w).1 (is, up))
+jump-is o table label text sound (v ∷ vs) list =
+    let first = (list.members v).0 (Contains-head v vs) in (
+      record {
+        holds = first.0;
+        «from» = first.1;
+        least = λ w is up. elim (Contains-cases v vs w ((list.members w).1 (is, up))) [ inl same ↦ inl same | inr later ↦ inr (above_first v vs w list.rising later) ];
+      },
+      regard-told o table sound label v,
+      regard-told o table sound v label,
+    )
 
-least-IsJump : (table : TableValue) (label text : List ℕ) → IsWellFormed table.entries → IsJump table label text (slice_get (candidates_from table label text) 0)
-least-IsJump table label text formed =
-    least_is_first (Spells table label) text (candidates_from table label text) (candidates_from-IsListOf table label text formed)
+-- the candidates of labels that are the same
+candidate-same : {P Q : List ℕ → Type 0} → ((w : List ℕ) → P w ↔ Q w) → (w : List ℕ) → IsCandidate P w → IsCandidate Q w
+candidate-same same w is = record { spelled = (same w).0 is.spelled; short = is.short }
+
+turned : {P Q : List ℕ → Type 0} → ((w : List ℕ) → P w ↔ Q w) → (w : List ℕ) → Q w ↔ P w
+turned same w = ((same w).1, (same w).0)
+
+near-IsJump : (o : Settings) (table : TableValue) (label text : List ℕ) → IsSound table → IsJump o table label text (least_near o.properties table label text)
+near-IsJump o table label text sound =
+    let same = near-AreNear table sound.entries label in
+    jump-is o table label text sound (candidates_among_from (near table label) text)
+    (IsListOf-same (λ v. IsCandidate (Contains (near table label)) v × IsFrom text v) (λ v. IsCandidate (AreNear table label) v × IsFrom text v) (candidates_among_from (near table label) text)
+    (λ v. (λ p. (candidate-same same v p.0, p.1), λ p. (candidate-same (turned same) v p.0, p.1)))
+    (among_from-IsListOf (near table label) text))
+
+-- the least label that a variant graph of near labels spells
+module _ (properties : Properties) (table : TableValue) (label : List ℕ) (spelled : List (List ℕ)) (formed : IsWellFormed table.entries) (is_near : (w : List ℕ) → Contains spelled w ↔ AreNear table label w) where
+  same_near : (w : List ℕ) → Contains spelled w ↔ Contains (near table label) w
+  same_near w = let as_listed = near-AreNear table formed label w in (λ c. as_listed.1 ((is_near w).0 c), λ c. (is_near w).1 (as_listed.0 c))
+
+  pub least_near-found : (text v : List ℕ) → IsLeastFrom (IsCandidate (Contains spelled)) text v → Some (v, regards_of (is_registrable properties) table label v) ≡ least_near properties table label text
+  least_near-found text v least =
+      ap (option_map (λ w. (w, regards_of (is_registrable properties) table label w)))
+      (among_from-first (near table label) text v (record {
+        holds = candidate-same same_near v least.holds;
+        «from» = least.«from»;
+        least = λ w is up. least.least w (candidate-same (turned same_near) w is) up;
+      }))
+
+  pub least_near-none : (text : List ℕ) → HasNoneFrom (IsCandidate (Contains spelled)) text → None ≡ least_near properties table label text
+  least_near-none text none =
+      ap (option_map (λ w. (w, regards_of (is_registrable properties) table label w)))
+      (among_from-none (near table label) text (λ w is up. none w (candidate-same (turned same_near) w is) up))
+
+-- the answer to a request whose label may be registered
+pub jump_answer-IsJumpAnswer : (o : Settings) (table : TableValue) (request : List ℕ) → IsSound table → IsRegistrable o.properties (requested_label request) → IsJumpAnswer o table request (jump_answer o.properties table request)
+jump_answer-IsJumpAnswer o table request sound registrable =
+    subst (IsJumpAnswer o table request) (sym (ap (λ (f : Option Refusal). unless_fault f (least_answer o.properties table label text)) registrable))
+    (elim (admitted_or_refused table label sound) [
+      | inl is ↦
+          subst (IsJumpAnswer o table request) (sym (admitted_answer table label (Least least ∷ []) sound is))
+          (is, (least, refl, near-IsJump o table label text sound))
+      | inr refused ↦
+          subst (IsJumpAnswer o table request) (sym (refused_answer table label refused.0 (Least least ∷ []) sound refused.1 (admitted-made table label))) refused.1
+    ])
+  where
+    label : List ℕ
+    label = requested_label request
+
+    text : List ℕ
+    text = requested_text request
+
+    least : Option (List ℕ × Regards)
+    least = least_near o.properties table label text
 
 module _ (properties : Properties) where
-  -- the answer to a request whose label may be registered
-  pub jump_answer-IsJumpAnswer : (table : TableValue) (request : List ℕ) → IsSound table → IsRegistrable properties (requested_label request) → IsJumpAnswer table request (jump_answer properties table request)
-  jump_answer-IsJumpAnswer table request sound registrable =
-      subst (IsJumpAnswer table request) (sym (ap (λ (f : Option Refusal). unless_fault f (least_answer table label text)) registrable))
-      (elim (admitted_or_refused table label sound) [
-        | inl is ↦
-            subst (IsJumpAnswer table request) (sym (admitted_answer table label (Least least ∷ []) sound is))
-            (is, (least, refl, least-IsJump table label text sound.entries))
-        | inr refused ↦
-            subst (IsJumpAnswer table request) (sym (refused_answer table label refused.0 (Least least ∷ []) sound refused.1 (admitted-made table label))) refused.1
-      ])
-    where
-      label : List ℕ
-      label = requested_label request
-
-      text : List ℕ
-      text = requested_text request
-
-      least : Option (List ℕ)
-      least = slice_get (candidates_from table label text) 0
-
   -- the first fault of the label is told before that
   pub jump-refused : (table : TableValue) (request : List ℕ) (refusal : Refusal) → first_fault properties (requested_label request) ≡ Some refusal → jump_answer properties table request ≡ Err refusal
-  jump-refused table request refusal fault = ap (λ (f : Option Refusal). unless_fault f (least_answer table (requested_label request) (requested_text request))) fault
+  jump-refused table request refusal fault = ap (λ (f : Option Refusal). unless_fault f (least_answer properties table (requested_label request) (requested_text request))) fault
 
 -- the label to which a new cursor of a variant graph jumped
 pub jumped_to : (net : Built) (after : List ℕ) (old new : Position) (text last : List ℕ) → old ≡ record { net = net; last = after; edge_tests = 0 }

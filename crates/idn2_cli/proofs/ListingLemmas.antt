@@ -15,10 +15,10 @@ use Rattle.variant_list.specs.Steps.{last_of, moved_over}
 use Rattle.variant_list.proofs.ListedLemmas.{variants-IsListed, variants-after}
 use Rattle.variant_list.proofs.ListingLemmas.{fits_label-short, variants-cut}
 use Rattle.variant_list.proofs.TestedLaws.{accepted-tested, tested-cut}
-use Rattle.idn2_options.specs.Settings.{Settings, IsBound, IsCount, IsWithinLimits, keeping}
+use Rattle.idn2_options.specs.Settings.{Settings, IsBound, IsCount, IsWithinLimits}
 use Rattle.answer_json.specs.declared.block.Disposition.{Disposition}
 use Rattle.idn2_answers.specs.Said.{Said, Listed, BlockEnd}
-use Rattle.idn2_answers.specs.Answers.{Filter, nth, nth_if_given, lesser_label, up_to, block_to}
+use Rattle.idn2_answers.specs.Listings.{Filter, nth, nth_if_given, lesser_label, up_to, variant_by, block_to}
 use Rattle.idn2_cli.specs.inner.Dispositions.{block_by}
 use Rattle.idn2_cli.proofs.BlockSteps.{get_if_given, limit_from, lines_to}
 use Rattle.idn2_answers.proofs.FilterLemmas.{IsSound, accepted-short}
@@ -27,12 +27,8 @@ use Rattle.variant_table.proofs.MemberLists.{all-members}
 
 -- ---- the block
 
--- what is said of each variant
-abbrev line_by : (List ℕ → Option Disposition) → List ℕ → Said
-line_by field v = Listed (field v) v
-
-pub lines_to-none : (field : List ℕ → Option Disposition) (stop : Option (List ℕ)) (vs : List (List ℕ)) → block_to field stop vs ≡ lines_to (line_by field) 0 stop vs
-lines_to-none field stop vs = ap (λ (n : ℕ). map (line_by field) (up_to stop vs) ++ BlockEnd n stop ∷ []) (omega arith)
+pub lines_to-none : (line : List ℕ → Said) (stop : Option (List ℕ)) (vs : List (List ℕ)) → block_to line stop vs ≡ lines_to line 0 stop vs
+lines_to-none line stop vs = ap (λ (n : ℕ). map line (up_to stop vs) ++ BlockEnd n stop ∷ []) (omega arith)
 
 -- the block of these lists, by the places at which it may stop
 at_place : (vs : List (List ℕ)) (limit : Option ℕ) → IfSome limit IsCount → (place : Option ℕ) × (nth_if_given vs limit ≡ get_if_given vs place) × (limit ≡ limit_from 0 place)
@@ -59,7 +55,7 @@ candidates-cut labels after = variants-cut fits_label fits_label-short labels af
 pub record IsStart (f : Filter) (field : List ℕ → Option Disposition) (o : Settings) (p : Position) : Type 0 where
   pub place : Option ℕ
   pub limit : o.limit ≡ limit_from 0 place
-  pub block : block_by f field (keeping None o) p.net.spelled ≡ lines_to (line_by field) 0 (stop_from f place p o.tries o.steps) (variants_ahead f p)
+  pub block : block_by f field o p.net.spelled ≡ lines_to (variant_by field) 0 (stop_from f place p o.tries o.steps) (variants_ahead f p)
 
 pub block-start : (properties : Properties) (f : Filter) → IsSound properties f → (field : List ℕ → Option Disposition) (o : Settings) (net : Built) → IsWithinLimits o → IsStart f field o (record { net = net; last = take 63 o.after; edge_tests = 0 })
 block-start properties f sound field o net limits =
@@ -77,11 +73,11 @@ block-start properties f sound field o net limits =
       place = place.0;
       limit = place.2;
       block =
-          ap (λ (ds : List (List ℕ)). block_to field (lesser_label (nth_if_given ds o.limit) (lesser_label (nth (tested_among f.hopeless net.spelled o.after) o.tries) (nth_if_given (visited f.hopeless None (candidates_among net.spelled o.after)) o.steps))) ds) vs
-          ∙ ap (λ (t : Option (List ℕ)). block_to field (lesser_label (nth_if_given (filter f.accepts cs) o.limit) (lesser_label t (nth_if_given (visited f.hopeless None (candidates_among net.spelled o.after)) o.steps))) (filter f.accepts cs)) tries
-          ∙ ap (λ (s : Option (List ℕ)). block_to field (lesser_label (nth_if_given (filter f.accepts cs) o.limit) (lesser_label (from_here last cs o.tries) s)) (filter f.accepts cs)) steps
-          ∙ ap (λ (l : Option (List ℕ)). block_to field (lesser_label l (lesser_label (from_here last cs o.tries) (from_here_if last us o.steps))) (filter f.accepts cs)) place.1
-          ∙ lines_to-none field (lesser_label (get_if_given (filter f.accepts cs) place.0) (lesser_label (from_here last cs o.tries) (from_here_if last us o.steps))) (filter f.accepts cs);
+          ap (λ (ds : List (List ℕ)). block_to (variant_by field) (lesser_label (nth_if_given ds o.limit) (lesser_label (nth (tested_among f.hopeless net.spelled o.after) o.tries) (nth_if_given (visited f.hopeless None (candidates_among net.spelled o.after)) o.steps))) ds) vs
+          ∙ ap (λ (t : Option (List ℕ)). block_to (variant_by field) (lesser_label (nth_if_given (filter f.accepts cs) o.limit) (lesser_label t (nth_if_given (visited f.hopeless None (candidates_among net.spelled o.after)) o.steps))) (filter f.accepts cs)) tries
+          ∙ ap (λ (s : Option (List ℕ)). block_to (variant_by field) (lesser_label (nth_if_given (filter f.accepts cs) o.limit) (lesser_label (from_here last cs o.tries) s)) (filter f.accepts cs)) steps
+          ∙ ap (λ (l : Option (List ℕ)). block_to (variant_by field) (lesser_label l (lesser_label (from_here last cs o.tries) (from_here_if last us o.steps))) (filter f.accepts cs)) place.1
+          ∙ lines_to-none (variant_by field) (lesser_label (get_if_given (filter f.accepts cs) place.0) (lesser_label (from_here last cs o.tries) (from_here_if last us o.steps))) (filter f.accepts cs);
     }
 
 -- the test of the labels that a listing tests

@@ -15,7 +15,7 @@ use Rattle.idn2_answers.proofs.LostBeginnings.{not-left, not-right}
 use Rattle.idn2_cli.specs.inner.Ruling.{IsValidityBy, filter_by, lesser_count, dead_prefix_in, passes, ruling_of}
 use Rattle.valid_labels.specs.declared.validity.Validity.{Validity}
 use Rattle.valid_labels.specs.declared.validity.Validity.TheVariants.{DeadPrefix, Valid, NotValid}
-use Rattle.idn2_answers.specs.Answers.{filter_if, filter_of, is_registrable}
+use Rattle.idn2_answers.specs.Listings.{filter_if, filter_of, is_registrable}
 
 -- ---- the filter by the table that labels are tested by
 

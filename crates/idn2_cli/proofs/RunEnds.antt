@@ -1,22 +1,28 @@
 -- From the lines of the input, or none, to the end of a run.
-use Rattle.std.proofs.Common.{Option, Bool, inl, inr, ◌⊎◌, ◌≡◌, ◌≢◌, ℕ, List, [], true, false, Result, Ok, Err, IfOk, refl, sym, ap, subst, ◌∙◌}
+use Rattle.std.proofs.Common.{Option, Some, None, IfSome, Bool, inl, inr, ◌⊎◌, ◌≡◌, ◌≢◌, ℕ, List, [], true, false, Result, Ok, Err, IfOk, chars, refl, sym, ap, subst, ◌∙◌}
 use Rattle.idn_class.specs.declared.properties.Properties.{Properties}
 use Rattle.idn_text.specs.Reading.{Reading, IsUnread}
 use Rattle.idn_text.specs.declared.refusal.Refusal.{Refusal}
+use Rattle.idn_text.specs.declared.refusal.Refusal.TheVariants as refusals
+use Rattle.variant_table.specs.Texts.{IsTextOf}
 use Rattle.idn_text.proofs.ReadingLemmas.{has_read_nothing}
 use Rattle.std.proofs.lemmas.Bool.{false≢true}
 use Rattle.variant_table.specs.Entries.{TableValue}
-use Rattle.idn2_options.specs.Settings.{Settings, tells_causes}
-use Rattle.idn2_cli.specs.Memory.{reads_table}
-use Rattle.idn2_answers.specs.Transcript.{TableGiven, IsReadAs, IsTableOf, check_output, check_status}
+use Rattle.idn2_options.specs.Settings.{Settings, keeping, tells_causes}
+use Rattle.idn2_cli.specs.Memory.{BlockGoesOn, IsRefusedWithoutMemory, ListsWithoutMemory, reads_table}
+use Rattle.idn2_answers.specs.Answers.{variants_answer}
+use Rattle.idn2_refusals.specs.Explained.{Explained}
+use Rattle.idn2_answers.specs.Transcript.{TableGiven, AreCrowded, IsListedBy, IsReadAs, IsSearchedAs, IsTableFor, IsTableOf, check_output, check_status, last_line}
+use Rattle.idn2_refusals.specs.Messages.{fault_piece}
+use Rattle.idn2_refusals.specs.TableCauses.{told_if}
 use Rattle.idn2_output.specs.OutputLines.{OutputLine}
 use Rattle.idn2_output.specs.Writing.{Held, refusal_of, Emits}
 use Rattle.idn2_refusals.specs.Reports.{TakesText, closing_message}
-use Rattle.idn2_cli.specs.Ends.{Job, Does, Ends, Closes, mode_job}
+use Rattle.idn2_cli.specs.Ends.{Job, Does, Ends, Closes, lines_job, mode_job}
 use Rattle.idn2_options.specs.declared.command_line.form.Form.{Form}
 use Rattle.idn2_options.specs.declared.command_line.mode.Mode.{Mode}
-use Rattle.idn2_options.specs.declared.command_line.mode.Mode.TheVariants.{CheckTable}
-use Rattle.idn2_cli.specs.inner.ServedModes.{Serves, mode_of}
+use Rattle.idn2_options.specs.declared.command_line.mode.Mode.TheVariants.{Variants, CheckTable}
+use Rattle.idn2_cli.specs.inner.ServedModes.{Serves, mode_of, search_mode}
 use Rattle.idn2_cli.specs.declared.session.run.TableMode.{TableMode}
 use Rattle.idn2_cli.specs.declared.session.run.TableMode.TheVariants as work
 use Rattle.idn2_output.specs.declared.status.Status.{Status}
@@ -25,7 +31,7 @@ use Rattle.idn2_output.specs.declared.stop.Stop.TheVariants as stop
 use Rattle.idn2_output.proofs.WrittenOutputLines.{stops_first}
 use Rattle.idn2_cli.proofs.LineSteps.{stands_at}
 use Rattle.idn2_refusals.proofs.ToldRefusals.{IsTold}
-use Rattle.idn2_cli.proofs.TableLemmas.{some_table, refused_table}
+use Rattle.idn2_cli.proofs.TableLemmas.{some_table, some_searched, refused_table}
 use Rattle.idn2_refusals.specs.declared.cause.LineCause.{LineCause}
 use Rattle.variant_table.specs.declared.version.Notation.{Notation}
 use Rattle.variant_table.specs.Texts.{IsToldOf}
@@ -43,11 +49,11 @@ does_mode o mode given job start now old new r e same done =
 
 -- with the table by which it works
 pub as_mode : (o : Settings) (mode : Mode) (text : List ℕ) (given : TableGiven) (job : Job) (start now : Reading) (old new : Held) (r : Result Status Stop)
-    → o.mode ≡ mode → IsTableOf o.properties mode o.notation text given → job ≡ mode_job (record o { mode = mode }) given → Does job start now old new r
+    → o.mode ≡ mode → IsTableFor mode o.registered o.properties o.notation text given → job ≡ mode_job (record o { mode = mode }) given → Does job start now old new r
     → Serves o text start now old new r
 as_mode o mode text given job start now old new r e table same done = (
   given,
-  subst (λ (m : Mode). IsTableOf o.properties m o.notation text given) (sym e) table,
+  subst (λ (m : Mode). IsTableFor m o.registered o.properties o.notation text given) (sym e) table,
   does_mode o mode given job start now old new r e same done,
 )
 
@@ -93,26 +99,63 @@ emits_memory {A} old output_lines r why e memory =
 -- its table is the one that the text spells
 pub record WorksByTable (o : Settings) (mode : Mode) : Type 0 where
   pub named : o.mode ≡ mode
-  pub reads : (text : List ℕ) (given : TableGiven) → IsReadAs o.properties o.notation text given → IsTableOf o.properties mode o.notation text given
+  pub some : (text : List ℕ) → (given : TableGiven) × IsTableFor mode o.registered o.properties o.notation text given
+  pub faults : (text : List ℕ) (told : ℕ × Refusal × Option LineCause) → IsReadAs o.properties o.notation text (Err told) → IsTableFor mode o.registered o.properties o.notation text (Err told)
   pub by_table : reads_table mode ≡ true
 
-pub works_by_table : (o : Settings) (mode : TableMode) → o.mode ≡ mode_of mode → WorksByTable o (mode_of mode)
-works_by_table o work.Variants is = record { named = is; reads = λ text given read. read; by_table = refl }
-works_by_table o work.Jump is = record { named = is; reads = λ text given read. read; by_table = refl }
-works_by_table o work.CheckTable is = record { named = is; reads = λ text given read. read; by_table = refl }
+some_listed : (properties : Properties) (n : Notation) (text : List ℕ) (registered : Option (List (List ℕ))) → (given : TableGiven) × IsListedBy registered properties n text given
+some_listed properties n text None = some_table properties n text
+some_listed properties n text (Some labels) = some_searched properties n text
 
-pub table_read : (o : Settings) (mode : TableMode) (text : List ℕ) (given : TableGiven) → o.mode ≡ mode_of mode → IsReadAs o.properties o.notation text given → IsTableOf o.properties o.mode o.notation text given
-table_read o mode text given is read =
-    subst (λ (m : Mode). IsTableOf o.properties m o.notation text given) (sym is) ((works_by_table o mode is).reads text given read)
+faults_listed : (properties : Properties) (n : Notation) (text : List ℕ) (registered : Option (List (List ℕ))) (told : ℕ × Refusal × Option LineCause) → IsReadAs properties n text (Err told) → IsListedBy registered properties n text (Err told)
+faults_listed properties n text None told read = read
+faults_listed properties n text (Some labels) told read = inl read
+
+pub works_by_table : (o : Settings) (mode : TableMode) → o.mode ≡ mode_of mode → WorksByTable o (mode_of mode)
+works_by_table o work.Variants is = record {
+  named = is;
+  some = λ text. some_listed o.properties o.notation text o.registered;
+  faults = λ text told read. faults_listed o.properties o.notation text o.registered told read;
+  by_table = refl;
+}
+works_by_table o work.Jump is = record { named = is; some = λ text. some_searched o.properties o.notation text; faults = λ text told read. inl read; by_table = refl }
+works_by_table o work.CheckTable is = record { named = is; some = λ text. some_table o.properties o.notation text; faults = λ text told read. read; by_table = refl }
+
+-- ---- the table that was read
+
+pub listed_read : (o : Settings) (text : List ℕ) (given : TableGiven) → o.mode ≡ Variants → o.registered ≡ None → IsReadAs o.properties o.notation text given → IsTableOf o text given
+listed_read o text given is whole read =
+    subst (λ (m : Mode). IsTableFor m o.registered o.properties o.notation text given) (sym is)
+    (subst (λ (r : Option (List (List ℕ))). IsListedBy r o.properties o.notation text given) (sym whole) read)
+
+pub checked_read : (o : Settings) (text : List ℕ) (given : TableGiven) → o.mode ≡ CheckTable → IsReadAs o.properties o.notation text given → IsTableOf o text given
+checked_read o text given is read = subst (λ (m : Mode). IsTableFor m o.registered o.properties o.notation text given) (sym is) read
+
+module _ (o : Settings) (text : List ℕ) (given : TableGiven) where
+  pub searched_for : (among : Option (List (List ℕ))) → IfSome among (λ labels. o.registered ≡ Some labels) → IsSearchedAs o.properties o.notation text given → IsTableFor (search_mode among) o.registered o.properties o.notation text given
+  searched_for None registered read = read
+  searched_for (Some labels) registered read = subst (λ (r : Option (List (List ℕ))). IsListedBy r o.properties o.notation text given) (sym registered) read
+
+  pub searched_read : (among : Option (List (List ℕ))) → o.mode ≡ search_mode among → IfSome among (λ labels. o.registered ≡ Some labels) → IsSearchedAs o.properties o.notation text given → IsTableOf o text given
+  searched_read among is registered read = subst (λ (m : Mode). IsTableFor m o.registered o.properties o.notation text given) (sym is) (searched_for among registered read)
+
+search_reads : (among : Option (List (List ℕ))) → reads_table (search_mode among) ≡ true
+search_reads None = refl
+search_reads (Some labels) = refl
+
+-- no cause is told where there is none
+no_cause : (wanted : Bool) → told_if wanted None ≡ None
+no_cause true = refl
+no_cause false = refl
 
 module _ (o : Settings) (mode : Mode) (works : WorksByTable o mode) (text : List ℕ) (start : Reading) where
   -- memory was refused while the table was read
   unread_stopped : (old : Held) (r : Result Status Stop) (why : Stop) → IsUnread start → r ≡ Err why → why ≡ stop.Memory
       → Serves o text start start old old r
   unread_stopped old r why unread is memory =
-      let t = some_table o.properties o.notation text in
+      let t = works.some text in
       let job = mode_job (record o { mode = mode }) t.0 in
-      as_mode o mode text t.0 job start start old old r works.named (works.reads text t.0 t.1) refl
+      as_mode o mode text t.0 job start start old old r works.named t.1 refl
       (does_unread job start old old r unread (emits_memory old (job.output_lines []) r why is memory)
       (subst (λ (s : Result Status Stop). IfOk s (λ status. (job.reads ≡ false) × (status ≡ job.status []))) (sym is) tt) works.by_table)
 
@@ -122,7 +165,7 @@ module _ (o : Settings) (mode : Mode) (works : WorksByTable o mode) (text : List
       → Serves o text start start old new r
   faulty told old new r read unread writes answered =
       let job = mode_job (record o { mode = mode }) (Err told) in
-      as_mode o mode text (Err told) job start start old new r works.named (works.reads text (Err told) read) refl
+      as_mode o mode text (Err told) job start start old new r works.named (works.faults text told read) refl
       (does_unread job start old new r unread writes (with_false r _ answered) works.by_table)
 
   -- the table is not read
@@ -161,3 +204,45 @@ closes_by stop.Messages old new not same told = absurd (not refl)
 closes_by stop.Reading old new not same told = (same, told)
 closes_by stop.Output old new not same told = (same, told)
 closes_by stop.Memory old new not same told = (same, told)
+
+-- by the table no collision is searched
+pub crowded_search : (o : Settings) (among : Option (List (List ℕ))) (text : List ℕ) (table : TableValue) (line : ℕ) (start : Reading) (old new : Held) (r : Result Status Stop)
+    → o.mode ≡ search_mode among → IfSome among (λ labels. o.registered ≡ Some labels) → IsTextOf o.properties o.notation text table → AreCrowded table.entries → line ≡ last_line text → IsUnread start
+    → Emits old new (fault_piece o.form line refusals.Limit None ∷ []) r → IfOk r (λ status. status ≡ Unusable) → Serves o text start start old new r
+crowded_search o among text table line start old new r is registered spelled crowded at unread writes answered =
+    let told : ℕ × Refusal × Option LineCause = (last_line text, refusals.Limit, None) in
+    let job = mode_job (record o { mode = search_mode among }) (Err told) in
+    let written : Emits old new (check_output o.form (tells_causes o) (Err told)) r =
+    subst (λ (cause : Option LineCause). Emits old new (fault_piece o.form (last_line text) refusals.Limit cause ∷ []) r) (sym (no_cause (tells_causes o)))
+    (subst (λ (n : ℕ). Emits old new (fault_piece o.form n refusals.Limit None ∷ []) r) at writes) in
+    as_mode o (search_mode among) text (Err told) job start start old new r is (searched_for o text (Err told) among registered (inr ((table, spelled, crowded), refl))) refl
+    (does_unread job start old new r unread written (with_false r _ answered) (search_reads among))
+
+-- memory was refused before a line was read
+pub search_stopped : (o : Settings) (among : Option (List (List ℕ))) (text : List ℕ) (start : Reading) (old : Held) (r : Result Status Stop)
+    → o.mode ≡ search_mode among → IfSome among (λ labels. o.registered ≡ Some labels) → IsUnread start → r ≡ Err stop.Memory → Serves o text start start old old r
+search_stopped o among text start old r is registered unread memory =
+    let t = some_searched o.properties o.notation text in
+    let job = mode_job (record o { mode = search_mode among }) t.0 in
+    as_mode o (search_mode among) text t.0 job start start old old r is (searched_for o text t.0 among registered t.1) refl
+    (does_unread job start old old r unread (emits_memory old (job.output_lines []) r stop.Memory memory refl)
+    (subst (λ (s : Result Status Stop). IfOk s (λ status. (job.reads ≡ false) × (status ≡ job.status []))) (sym memory) tt) (search_reads among))
+
+-- ---- the settings of a run, by its options and its registered labels
+
+-- these labels, in settings that have them
+pub settings_among : (o given : Settings) (seen registered : Option (List (List ℕ))) → keeping seen given ≡ o → o.registered ≡ registered → keeping registered given ≡ o
+settings_among o given seen registered viewed is =
+    let same : seen ≡ registered = ap (λ (v : Settings). v.registered) viewed ∙ is in
+    ap (λ (r : Option (List (List ℕ))). keeping r given) (sym same) ∙ viewed
+
+-- a listing goes on where its variants need no memory; a block among registered labels does always
+pub listed_job : (o : Settings) (table : TableValue) (f : Form) (e : Explained) → o.registered ≡ None
+    → (let by : (List ℕ → Type 0) → Job = λ goes_on. lines_job f e (variants_answer o table) true (λ line. IsRefusedWithoutMemory o.properties (chars line)) goes_on in by (λ line. ListsWithoutMemory o table (chars line)) ≡ by (λ line. BlockGoesOn o.registered o table (chars line)))
+listed_job o table f e whole =
+    ap (λ (r : Option (List (List ℕ))). lines_job f e (variants_answer o table) true (λ line. IsRefusedWithoutMemory o.properties (chars line)) (λ line. BlockGoesOn r o table (chars line))) (sym whole)
+
+pub among_job : (o : Settings) (table : TableValue) (f : Form) (e : Explained) (labels : List (List ℕ)) → o.registered ≡ Some labels
+    → (let by : (List ℕ → Type 0) → Job = λ goes_on. lines_job f e (variants_answer o table) true (λ line. IsRefusedWithoutMemory o.properties (chars line)) goes_on in by (λ line. Unit {0}) ≡ by (λ line. BlockGoesOn o.registered o table (chars line)))
+among_job o table f e labels is =
+    ap (λ (r : Option (List (List ℕ))). lines_job f e (variants_answer o table) true (λ line. IsRefusedWithoutMemory o.properties (chars line)) (λ line. BlockGoesOn r o table (chars line))) (sym is)

@@ -6,7 +6,7 @@ use Rattle.variant_list.specs.Jumps.{IsFrom}
 use Rattle.variant_list.specs.Positions.{Position, tested_ahead}
 use Rattle.variant_list.specs.Steps.{last_of}
 use Rattle.variant_list.specs.Visited.{visited_ahead}
-use Rattle.idn2_answers.specs.Answers.{Filter, lesser_label}
+use Rattle.idn2_answers.specs.Listings.{Filter, lesser_label}
 use Rattle.idn2_cli.proofs.BlockSteps.{get_if_given}
 use Rattle.idn2_answers.proofs.LabelStops.{lesser_label-first, lesser_label-second, lesser_label-either, get-above, filter-above}
 

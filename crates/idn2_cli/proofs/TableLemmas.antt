@@ -9,7 +9,9 @@ use Rattle.variant_table.specs.Faults.{table_fault, LineFault}
 use Rattle.variant_table.specs.Faults as kinds
 use Rattle.variant_table.specs.declared.fault.TableFault.{TableFault}
 use Rattle.variant_table.proofs.TextLemmas.{text_decided}
-use Rattle.idn2_answers.specs.Transcript.{TableGiven, IsReadAs, table_refusal, check_output}
+use Rattle.variant_list.proofs.CrowdLemmas.{crowded-or-not}
+use Rattle.idn_text.specs.declared.refusal.Refusal.TheVariants as refusals
+use Rattle.idn2_answers.specs.Transcript.{TableGiven, IsReadAs, IsSearchedAs, last_line, table_refusal, check_output}
 use Rattle.idn2_refusals.specs.TableCauses.{fault_cause}
 use Rattle.idn2_refusals.proofs.ToldRefusals.{IsTold}
 use Rattle.idn2_refusals.specs.TableFaults.{told_of}
@@ -28,6 +30,17 @@ module _ (properties : Properties) where
       decided : ((table : TableValue) × IsTextOf properties n text table) ⊎ ((line : ℕ) × (kind : LineFault) × IsFaultOf properties n text line kind) → (given : TableGiven) × IsReadAs properties n text given
       decided (inl t) = (Ok t.0, t.1)
       decided (inr f) = (Err (f.0, table_refusal f.1, fault_cause properties n text (table_fault f.0 f.1)), (f.1, refl, f.2, refl))
+
+-- and a table by which collisions are searched, or aren't
+pub some_searched : (properties : Properties) (n : Notation) (text : List ℕ) → (given : TableGiven) × IsSearchedAs properties n text given
+some_searched properties n text = by (some_table properties n text)
+  where
+    by : (given : TableGiven) × IsReadAs properties n text given → (given : TableGiven) × IsSearchedAs properties n text given
+    by (Ok table, read) = elim (crowded-or-not table.entries read.lines.well_formed.well_formed) [
+      | inl crowded ↦ (Err (last_line text, refusals.Limit, None), inr ((table, read, crowded), refl))
+      | inr free ↦ (Ok table, (read, free))
+    ]
+    by (Err fault, read) = (Err fault, inl read)
 
 told_of-fault : (line : ℕ) (kind : LineFault) → told_of (table_fault line kind) ≡ Some (line, table_refusal kind)
 told_of-fault line kinds.Limit = refl

@@ -6,13 +6,14 @@ use Rattle.idn_label.specs.FirstFault.{first_fault}
 use Rattle.idn_label.specs.Memory.{NeedsNoMemory, LooksUpWithoutMemory, RegistersWithoutMemory, DecodesWithoutMemory}
 use Rattle.variant_table.specs.Entries.{TableValue}
 use Rattle.variant_list.specs.Spelled.{spelled}
-use Rattle.idn2_answers.specs.Answers.{Filter, LineAnswer, filter_of, tested_after, mode_answer, text_answer}
+use Rattle.idn2_answers.specs.Listings.{Filter, filter_of, tested_after}
+use Rattle.idn2_answers.specs.Answers.{LineAnswer, mode_answer, text_answer}
 use Rattle.idn2_refusals.specs.Requests.{requested_label}
 use Rattle.idn2_refusals.specs.Explained.{Explained, TextCauseNeedsNone}
 use Rattle.idn2_answers.specs.Transcript.{explained_in, TableGiven}
 use Rattle.idn2_options.specs.Settings.{Settings}
 use Rattle.idn2_options.specs.declared.command_line.mode.Mode.{Mode}
-use Rattle.idn2_options.specs.declared.command_line.mode.Mode.TheVariants.{Lookup, Register, Decode, Variants, Jump, CheckTable}
+use Rattle.idn2_options.specs.declared.command_line.mode.Mode.TheVariants.{Lookup, Register, Decode, DecodeOld, Variants, Jump, CheckTable}
 
 -- the bytes of a name of which each label is decoded without memory
 abbrev pub DecodesLineWithoutMemory : List ℕ → Type 0
@@ -27,6 +28,7 @@ abbrev pub AnswersWithoutMemory : Mode → Settings → List ℕ → Type 0
 AnswersWithoutMemory Lookup o line = LooksUpWithoutMemory o.std3 line
 AnswersWithoutMemory Register o line = RegistersWithoutMemory (chars line)
 AnswersWithoutMemory Decode o line = DecodesLineWithoutMemory line
+AnswersWithoutMemory DecodeOld o line = ⊥
 AnswersWithoutMemory Variants o line = IsRefusedWithoutMemory o.properties (chars line)
 AnswersWithoutMemory Jump o line = IsRefusedWithoutMemory o.properties (requested_label (chars line))
 AnswersWithoutMemory CheckTable o line = ⊥
@@ -61,9 +63,14 @@ TestsWithoutMemory filter o labels = All NeedsNoMemory (tested_after filter o la
 abbrev pub ListsWithoutMemory : Settings → TableValue → List ℕ → Type 0
 ListsWithoutMemory o table label = TestsWithoutMemory (filter_of o.properties table) o (spelled table label)
 
+-- the block of a label does; among registered labels it does so whatever the label is
+abbrev pub BlockGoesOn : Option (List (List ℕ)) → Settings → TableValue → List ℕ → Type 0
+BlockGoesOn None o table label = ListsWithoutMemory o table label
+BlockGoesOn (Some registered) o table label = Unit {0}
+
 -- the bytes of a line whose answer, once begun, goes on without memory; all but a listing do so whatever the line is
 abbrev pub GoesOnWithoutMemory : Mode → Settings → TableGiven → List ℕ → Type 0
-GoesOnWithoutMemory Variants o (Ok table) line = ListsWithoutMemory o table (chars line)
+GoesOnWithoutMemory Variants o (Ok table) line = BlockGoesOn o.registered o table (chars line)
 GoesOnWithoutMemory mode o given line = Unit {0}
 
 -- the body of a line; one that is too long is refused without memory

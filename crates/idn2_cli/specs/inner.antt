@@ -10,3 +10,5 @@ pub mod ServedLines
 pub mod Ruling
 pub mod ForGood
 pub mod Decided
+pub mod Searches
+pub mod FoundLabels

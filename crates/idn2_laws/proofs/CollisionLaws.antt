@@ -16,7 +16,7 @@ both-ways = record {
   symmetric = λ o table v w. (turned o table v w, turned o table w v);
   itself = λ o table v good. inl (inl (record {
     good = good;
-    listed = listed-itself (whole o) table v (record { registrable = good.registrable; admitted = good.admitted; whole = refl; kept = tt });
+    listed = listed-itself (whole o) table v (record { registrable = good.registrable; admitted = good.admitted; whole = refl });
   }));
   near = near-of;
 }

@@ -25,7 +25,8 @@ use Rattle.variant_list.specs.Variants.{variants, in_order}
 use Rattle.variant_list.specs.Examples.{a_or_two, letter_or_hyphen}
 use Rattle.idn2_options.specs.Settings.{Settings}
 use Rattle.valid_labels.specs.Tests.{asks_nothing}
-use Rattle.idn2_answers.specs.Answers.{Filter, block, block_to, disposition, filter_if, registrable_labels, stop_of, variants_after, is_registrable, kept_to, lesser_label, nth, nth_if_given, one_answer, tested_after, u_label_of, visited_in}
+use Rattle.idn2_answers.specs.Listings.{Filter, block, block_to, disposition, filter_if, registrable_labels, stop_of, variants_after, is_registrable, lesser_label, nth, nth_if_given, tested_after, variant_by, visited_in}
+use Rattle.idn2_answers.specs.Answers.{one_answer, u_label_of}
 use Rattle.idn2_options.specs.declared.command_line.form.Form.TheVariants.{Plain}
 use Rattle.idn2_answers.specs.Said.{Said, Registered, said_line}
 use Rattle.std.specs.Char.{encode_utf8}
@@ -58,14 +59,14 @@ filter-passes after (v ∷ vs) ldh =
 
 -- the block of a label by what is asked of labels
 abbrev pub block_with : Filter → Settings → TableValue → List ℕ → List Said
-block_with f o table label = block_to (disposition table label) (stop_of f o (spelled table label)) (variants_after f o (spelled table label))
+block_with f o table label = block_to (variant_by (disposition table label)) (stop_of f o (spelled table label)) (variants_after f o (spelled table label))
 
 -- that of a label that spells such labels alone
 abbrev ldh_block : Settings → TableValue → List ℕ → List Said
 ldh_block o table label =
-    let vs = kept_to o.registered (variants passes table label o.after) in
+    let vs = variants passes table label o.after in
     let f : Filter = registrable_labels Profile in
-    block_to (disposition table label) (lesser_label (nth_if_given vs o.limit) (lesser_label (nth (tested_after f o (spelled table label)) o.tries) (nth_if_given (visited_in f o (spelled table label)) o.steps))) vs
+    block_to (variant_by (disposition table label)) (lesser_label (nth_if_given vs o.limit) (lesser_label (nth (tested_after f o (spelled table label)) o.tries) (nth_if_given (visited_in f o (spelled table label)) o.steps))) vs
 
 -- under a table that asks nothing of its labels
 block-ldh : (o : Settings) (table : TableValue) (label : List ℕ) → o.properties ≡ Profile → asks_nothing table ≡ true → AllLdh (in_order (spelled table label)) → block o table label ≡ ldh_block o table label
@@ -73,7 +74,7 @@ block-ldh o table label profile nothing ldh =
     let f : Filter = registrable_labels Profile in
     ap (λ (p : Properties). block_with (filter_if p (asks_nothing table) table) o table label) profile
     ∙ ap (λ (b : Bool). block_with (filter_if Profile b table) o table label) nothing
-    ∙ ap (λ (all : List (List ℕ)). let vs = kept_to o.registered all in block_to (disposition table label) (lesser_label (nth_if_given vs o.limit) (lesser_label (nth (tested_after f o (spelled table label)) o.tries) (nth_if_given (visited_in f o (spelled table label)) o.steps))) vs)
+    ∙ ap (λ (vs : List (List ℕ)). block_to (variant_by (disposition table label)) (lesser_label (nth_if_given vs o.limit) (lesser_label (nth (tested_after f o (spelled table label)) o.tries) (nth_if_given (visited_in f o (spelled table label)) o.steps))) vs)
     (filter-passes o.after (in_order (spelled table label)) ldh)
 
 pub blocks : ExamplesOfBlocks

@@ -12,7 +12,8 @@ use Rattle.variant_list.proofs.ListedLemmas.{IsListOf-same}
 use Rattle.variant_list.proofs.MutualLemmas.{variants-first, variants-same}
 use Rattle.variant_list.proofs.NetLemmas.{Spells-itself}
 use Rattle.idn2_options.specs.Settings.{Settings}
-use Rattle.idn2_answers.specs.Answers.{IsKept, IsListed, IsRefusedAs}
+use Rattle.idn2_answers.specs.Listings.{IsListed}
+use Rattle.idn2_answers.specs.Answers.{IsRefusedAs}
 use Rattle.idn2_laws.specs.ListingLaws.{AdmittedAreListed, IsAsked, ListedAreMutual, NotValidIsNeverTold}
 
 -- ---- a label among its own variants
@@ -35,7 +36,6 @@ listed-itself o table label asked = record {
   valid = (admitted-valid table label asked.admitted).0;
   greater = after-text o label asked.whole asked.registrable;
   spelled = Spells-itself table label (admitted-valid table label asked.admitted).1;
-  kept = asked.kept;
 }
 
 pub admitted-listed : AdmittedAreListed
@@ -48,15 +48,14 @@ record IsTaken (o : Settings) (table : TableValue) (v : List ℕ) : Type 0 where
   registrable : IsRegistrable o.properties v
   valid : IsValid table v
   greater : IsBelow o.after v
-  kept : IsKept o.registered v
 
 abbrev IsTakenOf : Settings → TableValue → List ℕ → List ℕ → Type 0
 IsTakenOf o table label v = IsTaken o table v × Spells table label v
 
 taken : (o : Settings) (table : TableValue) (label v : List ℕ) → IsListed o table label v ↔ IsTakenOf o table label v
 taken o table label v = (
-  λ h. (record { registrable = h.registrable; valid = h.valid; greater = h.greater; kept = h.kept }, h.spelled),
-  λ h. record { registrable = h.0.registrable; valid = h.0.valid; greater = h.0.greater; spelled = h.1; kept = h.0.kept },
+  λ h. (record { registrable = h.registrable; valid = h.valid; greater = h.greater }, h.spelled),
+  λ h. record { registrable = h.0.registrable; valid = h.0.valid; greater = h.0.greater; spelled = h.1 },
 )
 
 taken-list : (o : Settings) (table : TableValue) (label : List ℕ) (vs : List (List ℕ)) → IsListOf (IsListed o table label) vs → IsListOf (IsTakenOf o table label) vs
@@ -83,5 +82,5 @@ never-invalid table label nothing (inr h) = h.1 (admitted-if_made table label no
 pub not-valid-told : NotValidIsNeverTold
 not-valid-told = record {
   listing = λ o table label nothing refused. never-invalid table label nothing refused;
-  jump = λ table request nothing refused. never-invalid table _ nothing refused;
+  jump = λ o table request nothing refused. never-invalid table _ nothing refused;
 }

@@ -5,8 +5,6 @@ use Rattle.std.proofs.lemmas.Bool.{false≢true}
 use Rattle.std.specs.declared.cmp.Ordering.TheVariants.{Less, Equal, Greater}
 use Rattle.std.specs.List.{filter}
 use Rattle.std.specs.Ordering.{MatchOrdering, is_gt, is_le}
-use Rattle.registered_labels.specs.Collisions.{collisions, is_spelled}
-use Rattle.registered_labels.specs.Registered.{AreRegistered}
 use Rattle.variant_table.specs.Entries.{TableValue}
 use Rattle.variant_list.specs.Beginnings.{has_no_dead_prefix}
 use Rattle.variant_list.specs.Labels.{IsBelow, IsRising, label_cmp}
@@ -18,9 +16,9 @@ use Rattle.variant_list.proofs.ListedLemmas.{variants-IsListed}
 use Rattle.variant_list.proofs.OrderLemmas.{below_through, ranked_labels}
 use Rattle.variant_list.proofs.TestedLaws.{accepted-tested}
 use Rattle.idn2_options.specs.Settings.{Settings}
-use Rattle.idn2_answers.specs.Answers.{Filter, filter_of, kept_to, lesser_label, nth, nth_if_given, stop_of, unless_kept, up_to, variants_after}
+use Rattle.idn2_answers.specs.Listings.{Filter, filter_of, is_registrable, lesser_label, nth, nth_if_given, stop_of, up_to, variants_after}
+use Rattle.idn2_answers.specs.Collisions.{collide, collisions_after}
 use Rattle.idn2_answers.proofs.LabelStops.{get-above, is_le-below, up_to-first, up_to-later}
-use Rattle.idn2_answers.proofs.KeptLabels.{kept-collisions}
 use Rattle.idn2_answers.proofs.FilterLemmas.{accepted-short, filter_of-IsSound}
 
 -- ---- of two labels
@@ -125,9 +123,11 @@ up_to-nth (v ∷ vs) (suc i) rising = omega (arith, ap length (up_to-later v vs 
 
 -- ---- of a listing
 
-pub within_tries : (o : Settings) (table : TableValue) (label : List ℕ) → 1 ≤ o.tries → o.registered ≡ None
+pub within_tries : (o : Settings) (table : TableValue) (label : List ℕ) → 1 ≤ o.tries
     → (let f : Filter = filter_of o.properties table in let vs = variants_after f o (spelled table label) in length (up_to (stop_of f o (spelled table label)) vs) ≤ o.tries)
-within_tries o table label some whole = by_kept o.registered whole
+within_tries o table label some =
+    subst (λ (vs : List (List ℕ)). length (up_to (lesser_label (nth_if_given vs o.limit) (lesser_label (nth tested o.tries) (nth_if_given (visited f.hopeless None (candidates_among labels o.after)) o.steps))) vs) ≤ o.tries) (sym same)
+    (few (nth_if_given (filter f.accepts tested) o.limit) (nth_if_given (visited f.hopeless None (candidates_among labels o.after)) o.steps))
   where
     f : Filter
     f = filter_of o.properties table
@@ -154,22 +154,9 @@ within_tries o table label some whole = by_kept o.registered whole
     same : variants_among f.accepts labels o.after ≡ filter f.accepts tested
     same = accepted-tested f.accepts f.hopeless (accepted-short o.properties f (filter_of-IsSound o.properties table)) (filter_of-IsSound o.properties table).for_good labels o.after
 
-    by_kept : (r : Option (List (List ℕ))) → r ≡ None
-        → length (up_to (lesser_label (nth_if_given (kept_to r (variants_among f.accepts labels o.after)) o.limit)
-        (lesser_label (nth (unless_kept r tested) o.tries) (nth_if_given (visited f.hopeless None (unless_kept r (candidates_among labels o.after))) o.steps)))
-        (kept_to r (variants_among f.accepts labels o.after))) ≤ o.tries
-    by_kept None e =
-        subst (λ (vs : List (List ℕ)). length (up_to (lesser_label (nth_if_given vs o.limit) (lesser_label (nth tested o.tries) (nth_if_given (visited f.hopeless None (candidates_among labels o.after)) o.steps))) vs) ≤ o.tries) (sym same)
-        (few (nth_if_given (filter f.accepts tested) o.limit) (nth_if_given (visited f.hopeless None (candidates_among labels o.after)) o.steps))
-    by_kept (Some registered) e = absurd (let clash : Some registered ≡ None = e in cc)
-
--- one that is kept to registered labels counts no more than these
-pub within_registered : (o : Settings) (table : TableValue) (label : List ℕ) (kept : List (List ℕ)) → AreRegistered o.properties kept → o.registered ≡ Some kept
-    → (let f : Filter = filter_of o.properties table in length (up_to (stop_of f o (spelled table label)) (variants_after f o (spelled table label))) ≤ length kept)
-within_registered o table label kept are is =
-    let f : Filter = filter_of o.properties table in
-    let labels = spelled table label in
-    let found = collisions labels kept o.after in
-    let same : variants_after f o labels ≡ filter f.accepts found =
-    ap (λ (r : Option (List (List ℕ))). kept_to r (variants_among f.accepts labels o.after)) is ∙ kept-collisions o.properties f o labels kept are in
-    omega (arith, up_to_few (stop_of f o labels) (variants_after f o labels), ap length same, filter_few f.accepts found, filter_few (λ v. is_gt (label_cmp v o.after) && is_spelled labels v) kept)
+-- a block among registered labels counts no more than these
+pub within_registered : (o : Settings) (table : TableValue) (label : List ℕ) (registered : List (List ℕ))
+    → (let found = collisions_after o table registered label in length (up_to (nth_if_given found o.limit) found) ≤ length registered)
+within_registered o table label registered =
+    let found = collisions_after o table registered label in
+    omega (arith, up_to_few (nth_if_given found o.limit) found, filter_few (λ v. is_gt (label_cmp v o.after) && collide (is_registrable o.properties) table label v) registered)

@@ -3,11 +3,13 @@ use Rattle.std.proofs.Common.{◌≡◌, ℕ, zero, suc, ◌<◌, ◌-◌, ◌/�
 use Rattle.std.specs.Prelude.{slice_get, Contains, IsUtf8}
 use Rattle.std.specs.Char.{is_ascii}
 use Rattle.std.specs.List.{AllByRecursion, filter}
-use Rattle.std.specs.Ordering.{is_le}
+use Rattle.std.specs.Option.{option_map}
+use Rattle.std.specs.Ordering.{is_gt, is_le}
 use Rattle.std.specs.Str.{is_utf8}
 use Rattle.std.proofs.lemmas.Bool.{and_from}
 use Rattle.std.proofs.lemmas.Bool.Decides.{nat_tests}
-use Rattle.std.proofs.lemmas.List.Elements.{All-from_recursion}
+use Rattle.std.proofs.lemmas.List.Elements.{All-contains, All-from_recursion}
+use Rattle.registered_labels.specs.Registered.{AreRegistered}
 use Rattle.std.proofs.lemmas.List.Sums.{list_all-from_AllPass}
 use Rattle.std.proofs.lemmas.Str.{IsUtf8-from_is_utf8, is_utf8-from_IsUtf8, IsUtf8-from_ascii}
 use Rattle.idn_class.specs.declared.properties.Properties.{Properties}
@@ -39,14 +41,17 @@ use Rattle.valid_labels.specs.Tests.{is_admitted, is_made_of_sources}
 use Rattle.valid_labels.specs.Validity.{IsSound}
 use Rattle.variant_table.proofs.MemberLists.{all-members}
 use Rattle.variant_list.specs.Beginnings.{has_no_dead_prefix, is_new, shortest_hopeless}
-use Rattle.variant_list.specs.Jumps.{candidates_from}
+use Rattle.variant_list.specs.Closure.{near}
+use Rattle.variant_list.specs.Jumps.{candidates_among_from}
+use Rattle.variant_list.proofs.NearLemmas.{AreNear-scalar}
+use Rattle.variant_list.proofs.NearLists.{near-AreNear}
 use Rattle.variant_list.specs.Labels.{label_cmp}
 use Rattle.variant_list.specs.Spelled.{spelled}
 use Rattle.variant_list.specs.Tested.{tested_among}
 use Rattle.variant_list.specs.Variants.{candidates_among, fits_label, variants_among}
 use Rattle.variant_list.specs.Visited.{visited}
 use Rattle.variant_list.specs.Parts.Part.{Whole}
-use Rattle.variant_list.proofs.FromLemmas.{candidates_from-IsListOf}
+use Rattle.variant_list.proofs.FromLemmas.{among_from-IsListOf}
 use Rattle.variant_list.proofs.ListedLemmas.{variants-IsListed}
 use Rattle.variant_list.proofs.SpelledByLemmas.{spelled-Spells}
 use Rattle.variant_list.proofs.SpellingLemmas.{PartSpells-scalar}
@@ -59,13 +64,20 @@ use Rattle.answer_json.specs.Inputs.{Told, as_text, as_octets, not_kept, input_f
 use Rattle.answer_json.specs.Unicode.{HasUnicodeTexts, IsUnicode}
 use Rattle.answer_json.specs.declared.block.Disposition.{Disposition}
 use Rattle.answer_json.specs.declared.block.Disposition.TheVariants.{Allocatable, Blocked}
+use Rattle.answer_json.specs.declared.collision.Regard.{Regard}
+use Rattle.answer_json.specs.declared.collision.Regard.TheVariants.{NoVariant, Variant}
+use Rattle.answer_json.specs.declared.collision.Regard.TheVariants as regards
+use Rattle.answer_json.specs.declared.collision.Regards.{Regards}
+use Rattle.answer_json.specs.Objects.{regard_text}
 use Rattle.answer_json.proofs.OneLine.{print_from-clear}
 use Rattle.answer_json.proofs.Unicode.{answer_utf8, print_from-utf8}
 use Rattle.answer_json.proofs.Written.{answer_clear, answer_depth, answer_numbers}
-use Rattle.idn2_answers.specs.Answers.{Filter, LineAnswer, block, disposition, filter_of, if_admitted, kept_to, least_answer, lesser_label, line_answer, listing_answer, mode_answer, nth, nth_if_given, one_answer, stop_of, tested_after, u_label_of, unless_kept, up_to, variants_after, visited_in}
+use Rattle.idn2_answers.specs.Listings.{Filter, block, disposition, filter_of, is_registrable, lesser_label, nth, nth_if_given, stop_of, tested_after, up_to, variants_after, visited_in}
+use Rattle.idn2_answers.specs.Answers.{LineAnswer, block_among, if_admitted, least_answer, least_near, line_answer, listing_answer, mode_answer, one_answer, u_label_of}
+use Rattle.idn2_answers.specs.Collisions.{collide, collision_block, collision_by, collisions_after, regards_of}
 use Rattle.idn2_refusals.specs.Requests.{requested_label, requested_text}
 use Rattle.idn2_laws.specs.ReadBack.{IsReadBack, IsKeptToFew, SaidIsReadBack}
-use Rattle.idn2_answers.specs.Said.{Said, LookedUp, Registered, Decoded, Listed, BlockEnd, Least, said_object}
+use Rattle.idn2_answers.specs.Said.{Said, LookedUp, Registered, Decoded, Listed, Collision, BlockEnd, Least, said_object}
 use Rattle.idn2_laws.proofs.ReadBackCounts.{within_registered, within_tries}
 use Rattle.idn2_answers.proofs.RegisteredLines.{stands_for-decoded, stands_for-itself}
 use Rattle.idn2_refusals.proofs.Utf8Bytes.{utf8-of_chars}
@@ -151,7 +163,16 @@ HasTexts (Registered u_label a_label) = AreScalarValues u_label × IsUtf8 a_labe
 HasTexts (Decoded unicode) = IsUtf8 unicode
 HasTexts (Listed disposition v) = AreScalarValues v
 HasTexts (BlockEnd count stop) = IsText stop
-HasTexts (Least label) = IsText label
+HasTexts (Collision regards v) = AreScalarValues v
+HasTexts (Least None) = Unit {0}
+HasTexts (Least (Some found)) = AreScalarValues found.0
+
+-- what a label is to another one is told in ASCII
+regard-utf8 : (regard : Regard) → IsUtf8 (regard_text regard)
+regard-utf8 NoVariant = ascii_utf8 (codes "none") refl
+regard-utf8 Variant = ascii_utf8 (codes "variant") refl
+regard-utf8 regards.Blocked = ascii_utf8 (codes "blocked") refl
+regard-utf8 regards.Allocatable = ascii_utf8 (codes "allocatable") refl
 
 module _ (line : Numbered) (small : line.number < 2 ^ 64) where
   said_good : (s : Said) → HasTexts s → CountsFew s → IsReadBack (said_object line.number (told_of line.body) s)
@@ -182,9 +203,14 @@ module _ (line : Numbered) (small : line.number < 2 ^ 64) where
   said_good (Least None) h few =
       object_read_back _ ((small, (input_small (told_of line.body), (tt, tt))), tt)
       ((ascii_utf8 (codes "line") refl, tt, ((input_unicode line.body).0, (input_unicode line.body).1, (ascii_utf8 (codes "ulabel") refl, tt, tt))), tt)
-  said_good (Least (Some v)) h few =
-      object_read_back _ ((small, (input_small (told_of line.body), (tt, tt))), tt)
-      ((ascii_utf8 (codes "line") refl, tt, ((input_unicode line.body).0, (input_unicode line.body).1, (ascii_utf8 (codes "ulabel") refl, scalars_utf8 v h, tt))), tt)
+  said_good (Collision regards v) h few =
+      object_read_back _ ((small, (tt, (tt, (tt, (tt, tt))))), tt)
+      ((ascii_utf8 (codes "line") refl, tt, (ascii_utf8 (codes "ulabel") refl, scalars_utf8 v h, (ascii_utf8 (codes "alabel") refl, a_label-utf8 v,
+      (ascii_utf8 (codes "there") refl, regard-utf8 regards.there, (ascii_utf8 (codes "back") refl, regard-utf8 regards.back, tt))))), tt)
+  said_good (Least (Some found)) h few =
+      object_read_back _ ((small, (input_small (told_of line.body), (tt, (tt, (tt, tt))))), tt)
+      ((ascii_utf8 (codes "line") refl, tt, ((input_unicode line.body).0, (input_unicode line.body).1, (ascii_utf8 (codes "ulabel") refl, scalars_utf8 found.0 h,
+      (ascii_utf8 (codes "there") refl, regard-utf8 found.1.there, (ascii_utf8 (codes "back") refl, regard-utf8 found.1.back, tt))))), tt)
 
 -- ---- one text
 
@@ -265,14 +291,6 @@ up_to-all : (P : List ℕ → Type 0) (stop : Option (List ℕ)) (vs : List (Lis
 up_to-all P None vs all = all
 up_to-all P (Some b) vs all = kept_all P (λ v. is_le (label_cmp v b)) vs all
 
-kept_to-all : (P : List ℕ → Type 0) (labels : Option (List (List ℕ))) (vs : List (List ℕ)) → AllByRecursion P vs → AllByRecursion P (kept_to labels vs)
-kept_to-all P None vs all = all
-kept_to-all P (Some registered) vs all = kept_all P _ vs all
-
-unless_kept-all : (P : List ℕ → Type 0) (labels : Option (List (List ℕ))) (vs : List (List ℕ)) → AllByRecursion P vs → AllByRecursion P (unless_kept labels vs)
-unless_kept-all P None vs all = all
-unless_kept-all P (Some registered) vs all = tt
-
 visited-all : (hopeless : List ℕ → Bool) (P : List ℕ → Type 0) (before : Option (List ℕ)) (vs : List (List ℕ)) → AllByRecursion P vs → AllByRecursion P (visited hopeless before vs)
 visited-all hopeless P before [] all = tt
 visited-all hopeless P before (v ∷ vs) all = by_test (has_no_dead_prefix hopeless v || is_new before v (shortest_hopeless hopeless v)) (visited-all hopeless P (Some v) vs all.1)
@@ -307,15 +325,33 @@ block-texts : (o : Settings) (table : TableValue) (label : List ℕ) → IsWellF
 block-texts o table label well =
     let f : Filter = filter_of o.properties table in
     let labels = spelled table label in
-    let vs = kept_to-all AreScalarValues o.registered (variants_among f.accepts labels o.after) (among-scalar table label well f.accepts o.after) in
-    let tests = unless_kept-all AreScalarValues o.registered (tested_among f.hopeless labels o.after) (among-scalar table label well (λ v. fits_label v && has_no_dead_prefix f.hopeless v) o.after) in
-    let candidates = unless_kept-all AreScalarValues o.registered (candidates_among labels o.after) (among-scalar table label well fits_label o.after) in
+    let vs = among-scalar table label well f.accepts o.after in
+    let tests = among-scalar table label well (λ v. fits_label v && has_no_dead_prefix f.hopeless v) o.after in
+    let candidates = among-scalar table label well fits_label o.after in
     let stop = stop_of f o labels in
     let stops : IsText stop =
     lesser-text (nth_if_given (variants_after f o labels) o.limit) (lesser_label (nth (tested_after f o labels) o.tries) (nth_if_given (visited_in f o labels) o.steps)) (nth-text (variants_after f o labels) o.limit vs)
     (lesser-text (nth (tested_after f o labels) o.tries) (nth_if_given (visited_in f o labels) o.steps) (get-text (tested_after f o labels) (o.tries - 1) tests)
-    (nth-text (visited_in f o labels) o.steps (visited-all f.hopeless AreScalarValues None (unless_kept o.registered (candidates_among labels o.after)) candidates))) in
+    (nth-text (visited_in f o labels) o.steps (visited-all f.hopeless AreScalarValues None (candidates_among labels o.after) candidates))) in
     listed-texts (disposition table label) (up_to stop (variants_after f o labels)) (length (up_to stop (variants_after f o labels))) stop (up_to-all AreScalarValues stop (variants_after f o labels) vs) stops
+
+collision-texts : (regards : List ℕ → Regards) (vs : List (List ℕ)) (n : ℕ) (stop : Option (List ℕ)) → AllByRecursion AreScalarValues vs → IsText stop → AllByRecursion HasTexts (map (collision_by regards) vs ++ BlockEnd n stop ∷ [])
+collision-texts regards [] n stop all h = (h, tt)
+collision-texts regards (v ∷ vs) n stop all h = (all.0, collision-texts regards vs n stop all.1 h)
+
+registered-scalar : (properties : Properties) (labels : List (List ℕ)) → AreRegistered properties labels → AllByRecursion AreScalarValues labels
+registered-scalar properties labels are = all-members AreScalarValues labels (λ v at. registrable_scalars properties v (All-contains (IsRegistrable properties) labels v are.registrable at))
+
+collision_block-texts : (o : Settings) (table : TableValue) (registered : List (List ℕ)) (label : List ℕ) → AreRegistered o.properties registered → AllByRecursion HasTexts (collision_block o table registered label)
+collision_block-texts o table registered label are =
+    let found = collisions_after o table registered label in
+    let all = kept_all AreScalarValues (λ v. is_gt (label_cmp v o.after) && collide (is_registrable o.properties) table label v) registered (registered-scalar o.properties registered are) in
+    let stop = nth_if_given found o.limit in
+    collision-texts (regards_of (is_registrable o.properties) table label) (up_to stop found) (length (up_to stop found)) stop (up_to-all AreScalarValues stop found all) (nth-text found o.limit all)
+
+among-texts : (o : Settings) (table : TableValue) (label : List ℕ) → IsWellFormed table.entries → (registered : Option (List (List ℕ))) → IsKeptToFew o.properties registered → AllByRecursion HasTexts (block_among registered o table label)
+among-texts o table label well None kept = block-texts o table label well
+among-texts o table label well (Some labels) kept = collision_block-texts o table labels label kept.0
 
 admitted-texts : (table : TableValue) (label : List ℕ) (told said : List Said) → AllByRecursion HasTexts told → if_admitted table label told ≡ Ok said → AllByRecursion HasTexts said
 admitted-texts table label told said texts is = by_tests (is_admitted table label) (is_made_of_sources table label) is
@@ -329,33 +365,38 @@ unless-texts : (fault : Option Refusal) (answer : LineAnswer) (said : List Said)
 unless-texts None answer said is = is
 unless-texts (Some refusal) answer said is = absurd (let clash : Err refusal ≡ Ok said = is in cc)
 
-least-text : (table : TableValue) (label text : List ℕ) → IsWellFormed table.entries → IsText (slice_get (candidates_from table label text) 0)
-least-text table label text well =
-    get-text (candidates_from table label text) 0
-    (all-members AreScalarValues (candidates_from table label text) (λ v at. PartSpells-scalar Whole table label v well.entries (((candidates_from-IsListOf table label text well).members v).0 at).0.spelled))
+found-texts : (regards : List ℕ → Regards) (vs : List (List ℕ)) → AllByRecursion AreScalarValues vs → HasTexts (Least (option_map (λ v. (v, regards v)) (slice_get vs 0)))
+found-texts regards [] all = tt
+found-texts regards (v ∷ vs) all = all.0
+
+least-text : (properties : Properties) (table : TableValue) (label text : List ℕ) → IsWellFormed table.entries → HasTexts (Least (least_near properties table label text))
+least-text properties table label text well =
+    let vs = candidates_among_from (near table label) text in
+    found-texts (regards_of (is_registrable properties) table label) vs
+    (all-members AreScalarValues vs (λ v at. AreNear-scalar table well label v ((near-AreNear table well label v).0 (((among_from-IsListOf (near table label) text).members v).0 at).0.spelled)))
 
 -- ---- a line
 
-mode-texts : (mode : Mode) (o : Settings) (table : TableValue) (points : List ℕ) (said : List Said) → IsSound table → AreScalarValues points → mode_answer mode o table points ≡ Ok said → AllByRecursion HasTexts said
-mode-texts Lookup o table points said sound scalar is = looked_up-texts points o.std3 said is scalar
-mode-texts Register o table points said sound scalar is = registered-texts o.properties points said is
-mode-texts Decode o table points said sound scalar is = decoded-texts o.properties points said scalar is
-mode-texts Variants o table points said sound scalar is =
-    admitted-texts table points (block o table points) said (block-texts o table points sound.entries) (unless-texts (first_fault o.properties points) (listing_answer o table points) said is)
-mode-texts Jump o table points said sound scalar is =
+mode-texts : (mode : Mode) (o : Settings) (table : TableValue) (points : List ℕ) (said : List Said) → IsSound table → IsKeptToFew o.properties o.registered → AreScalarValues points → mode_answer mode o table points ≡ Ok said → AllByRecursion HasTexts said
+mode-texts Lookup o table points said sound kept scalar is = looked_up-texts points o.std3 said is scalar
+mode-texts Register o table points said sound kept scalar is = registered-texts o.properties points said is
+mode-texts Decode o table points said sound kept scalar is = decoded-texts o.properties points said scalar is
+mode-texts Variants o table points said sound kept scalar is =
+    admitted-texts table points (block_among o.registered o table points) said (among-texts o table points sound.entries o.registered kept) (unless-texts (first_fault o.properties points) (listing_answer o table points) said is)
+mode-texts Jump o table points said sound kept scalar is =
     let label = requested_label points in
     let request = requested_text points in
-    admitted-texts table label (Least (slice_get (candidates_from table label request) 0) ∷ []) said (least-text table label request sound.entries, tt)
-    (unless-texts (first_fault o.properties label) (least_answer table label request) said is)
-mode-texts CheckTable o table points said sound scalar is = subst (AllByRecursion HasTexts) (let one : [] ≡ said = cc in one) tt
+    admitted-texts table label (Least (least_near o.properties table label request) ∷ []) said (least-text o.properties table label request sound.entries, tt)
+    (unless-texts (first_fault o.properties label) (least_answer o.properties table label request) said is)
+mode-texts CheckTable o table points said sound kept scalar is = subst (AllByRecursion HasTexts) (let one : [] ≡ said = cc in one) tt
 
-body-texts : (mode : Mode) (o : Settings) (table : TableValue) (body : Option (List ℕ)) (said : List Said) → IsSound table → line_answer (mode_answer mode o table) body ≡ Ok said → AllByRecursion HasTexts said
-body-texts mode o table None said sound is = absurd (let clash : Err LineTooLong ≡ Ok said = is in cc)
-body-texts mode o table (Some bytes) said sound is = by_tests (is_utf8 bytes) refl (length bytes == 0) is
+body-texts : (mode : Mode) (o : Settings) (table : TableValue) (body : Option (List ℕ)) (said : List Said) → IsSound table → IsKeptToFew o.properties o.registered → line_answer (mode_answer mode o table) body ≡ Ok said → AllByRecursion HasTexts said
+body-texts mode o table None said sound kept is = absurd (let clash : Err LineTooLong ≡ Ok said = is in cc)
+body-texts mode o table (Some bytes) said sound kept is = by_tests (is_utf8 bytes) refl (length bytes == 0) is
   where
     by_tests : (utf8 : Bool) → is_utf8 bytes ≡ utf8 → (empty : Bool) → (let answer : LineAnswer = if utf8 then (if empty then Err Empty else mode_answer mode o table (chars bytes)) else Err NotUtf8 in answer) ≡ Ok said → AllByRecursion HasTexts said
     by_tests true e true same = absurd (let clash : Err Empty ≡ Ok said = same in cc)
-    by_tests true e false same = let points = utf8-of_chars bytes e in mode-texts mode o table (chars bytes) said sound points.scalar_values same
+    by_tests true e false same = let points = utf8-of_chars bytes e in mode-texts mode o table (chars bytes) said sound kept points.scalar_values same
     by_tests false e empty same = absurd (let clash : Err NotUtf8 ≡ Ok said = same in cc)
 
 -- ---- counts
@@ -368,17 +409,25 @@ listed-few : (o : Settings) (field : List ℕ → Option Disposition) (vs : List
 listed-few o field [] n stop few = (few, tt)
 listed-few o field (v ∷ vs) n stop few = (tt, listed-few o field vs n stop few)
 
-block-few : (o : Settings) (table : TableValue) (label : List ℕ) → IsCount o.tries → IsKeptToFew o.properties o.registered → AllByRecursion CountsFew (block o table label)
-block-few o table label tries kept =
+block-few : (o : Settings) (table : TableValue) (label : List ℕ) → IsCount o.tries → AllByRecursion CountsFew (block o table label)
+block-few o table label tries =
     let f : Filter = filter_of o.properties table in
     let labels = spelled table label in
     let stop = stop_of f o labels in
     listed-few o (disposition table label) (up_to stop (variants_after f o labels)) (length (up_to stop (variants_after f o labels))) stop
-    (by_kept o.registered refl kept)
-  where
-    by_kept : (r : Option (List (List ℕ))) → o.registered ≡ r → IsKeptToFew o.properties r → length (up_to (stop_of (filter_of o.properties table) o (spelled table label)) (variants_after (filter_of o.properties table) o (spelled table label))) < 2 ^ 64
-    by_kept None e k = omega (arith, within_tries o table label tries.0 e, tries.1)
-    by_kept (Some registered) e k = omega (arith, within_registered o table label registered k.0 e, k.1)
+    (omega (arith, within_tries o table label tries.0, tries.1))
+
+collision-few : (regards : List ℕ → Regards) (vs : List (List ℕ)) (n : ℕ) (stop : Option (List ℕ)) → n < 2 ^ 64 → AllByRecursion CountsFew (map (collision_by regards) vs ++ BlockEnd n stop ∷ [])
+collision-few regards [] n stop few = (few, tt)
+collision-few regards (v ∷ vs) n stop few = (tt, collision-few regards vs n stop few)
+
+among-few : (o : Settings) (table : TableValue) (label : List ℕ) → IsCount o.tries → (registered : Option (List (List ℕ))) → IsKeptToFew o.properties registered → AllByRecursion CountsFew (block_among registered o table label)
+among-few o table label tries None kept = block-few o table label tries
+among-few o table label tries (Some labels) kept =
+    let found = collisions_after o table labels label in
+    let stop = nth_if_given found o.limit in
+    collision-few (regards_of (is_registrable o.properties) table label) (up_to stop found) (length (up_to stop found)) stop
+    (omega (arith, within_registered o table label labels, kept.1))
 
 admitted-few : (o : Settings) (table : TableValue) (label : List ℕ) (told said : List Said) → AllByRecursion CountsFew told → if_admitted table label told ≡ Ok said → AllByRecursion CountsFew said
 admitted-few o table label told said few is = by_tests (is_admitted table label) (is_made_of_sources table label) is
@@ -393,12 +442,12 @@ mode-few Lookup o table points said tries kept is = one-few o LookedUp (λ t. tt
 mode-few Register o table points said tries kept is = one-few o (Registered (u_label_of o.properties points)) (λ t. tt) (register_answer o.properties points) said is
 mode-few Decode o table points said tries kept is = one-few o Decoded (λ t. tt) (in_utf8 (decode_answer o.properties points)) said is
 mode-few Variants o table points said tries kept is =
-    admitted-few o table points (block o table points) said (block-few o table points tries kept) (unless-texts (first_fault o.properties points) (listing_answer o table points) said is)
+    admitted-few o table points (block_among o.registered o table points) said (among-few o table points tries o.registered kept) (unless-texts (first_fault o.properties points) (listing_answer o table points) said is)
 mode-few Jump o table points said tries kept is =
     let label = requested_label points in
     let request = requested_text points in
-    admitted-few o table label (Least (slice_get (candidates_from table label request) 0) ∷ []) said (tt, tt)
-    (unless-texts (first_fault o.properties label) (least_answer table label request) said is)
+    admitted-few o table label (Least (least_near o.properties table label request) ∷ []) said (tt, tt)
+    (unless-texts (first_fault o.properties label) (least_answer o.properties table label request) said is)
 mode-few CheckTable o table points said tries kept is = subst (AllByRecursion CountsFew) (let one : [] ≡ said = cc in one) tt
 
 body-few : (mode : Mode) (o : Settings) (table : TableValue) (body : Option (List ℕ)) (said : List Said) → IsCount o.tries → IsKeptToFew o.properties o.registered → line_answer (mode_answer mode o table) body ≡ Ok said → AllByRecursion CountsFew said
@@ -418,4 +467,4 @@ module _ (line : Numbered) (small : line.number < 2 ^ 64) where
 pub said_read_back : SaidIsReadBack
 said_read_back mode o table line said sound tries kept small is =
     All-from_recursion (λ s. IsReadBack (said_object line.number (told_of line.body) s)) said
-    (all_read_back line small said (body-texts mode o table line.body said sound is) (body-few mode o table line.body said tries kept is))
+    (all_read_back line small said (body-texts mode o table line.body said sound kept is) (body-few mode o table line.body said tries kept is))

@@ -1,7 +1,9 @@
 -- Over a table of version 2 and over the ruleset of the same entries a run says the same.
-use Rattle.std.proofs.Common.{◌≡◌, inl, inr, ℕ, ◌==◌, ◌||◌, List, [], ◌∷◌, ◌++◌, length, Bool, true, false, Option, Some, None, Ok, Err, refl, sym, ap, subst, ◌∙◌, if◌then◌else◌}
+use Rattle.std.proofs.Common.{◌≡◌, inl, inr, ℕ, ◌==◌, ◌||◌, ◌&&◌, not, cond, map, List, [], ◌∷◌, ◌++◌, length, Bool, true, false, Option, Some, None, Ok, Err, refl, sym, ap, subst, ◌∙◌, if◌then◌else◌}
 use Rattle.std.specs.Prelude.{◌≢◌, chars, is_err}
-use Rattle.std.specs.List.{slice_get}
+use Rattle.std.specs.List.{filter, slice_get}
+use Rattle.std.specs.Option.{option_map}
+use Rattle.std.specs.Ordering.{is_gt}
 use Rattle.std.specs.Str.{is_utf8}
 use Rattle.idn_class.specs.declared.properties.Properties.{Properties}
 use Rattle.idn_text.specs.Lines.{Numbered, raw_lines}
@@ -20,13 +22,19 @@ use Rattle.valid_labels.specs.Furthest.{furthest}
 use Rattle.variant_table.specs.Segmentations.{IsMadeOfSources}
 use Rattle.valid_labels.specs.Tests.{asks_nothing, is_admitted, is_made_of_sources}
 use Rattle.valid_labels.specs.Validity.{AsksNothing, IsAdmitted, IsSound}
-use Rattle.valid_labels.proofs.NothingLemmas.{admitted-if_made, older-asks_nothing}
+use Rattle.valid_labels.proofs.NothingLemmas.{admitted-if_made, nothing-is-asked, older-asks_nothing}
+use Rattle.variant_list.proofs.SpellingLemmas.{PartSpells-made}
 use Rattle.valid_labels.proofs.TestLemmas.{tests-agree}
 use Rattle.idn_class.proofs.TestLemmas.{same_test}
 use Rattle.idn_label.specs.Answers.{unless_fault}
 use Rattle.idn_label.specs.FirstFault.{first_fault}
-use Rattle.variant_list.specs.Jumps.{candidates_from}
-use Rattle.idn2_answers.specs.Said.{Said, Least}
+use Rattle.variant_list.specs.Arising.{unasked}
+use Rattle.variant_list.specs.Closure.{near}
+use Rattle.variant_list.specs.Labels.{label_cmp}
+use Rattle.variant_list.specs.Spelled.{spelled}
+use Rattle.variant_list.specs.Jumps.{candidates_among_from}
+use Rattle.variant_list.proofs.SpelledByLemmas.{spelled-Spells}
+use Rattle.idn2_answers.specs.Said.{Said, BlockEnd, Collision, Least}
 use Rattle.idn2_answers.proofs.AdmittedLabels.{admitted-made}
 use Rattle.variant_list.specs.Parts.{Part}
 use Rattle.variant_list.specs.Parts.Part.{Whole, Unblocked, Tagged}
@@ -35,7 +43,13 @@ use Rattle.variant_list.proofs.RulesetLemmas.{PartSpells-as_ruleset}
 use Rattle.idn2_options.specs.Settings.{Settings, tells_causes}
 use Rattle.idn2_options.specs.declared.command_line.mode.Mode.{Mode}
 use Rattle.idn2_options.specs.declared.command_line.mode.Mode.TheVariants.{Lookup, Register, Decode, Variants, Jump, CheckTable}
-use Rattle.idn2_answers.specs.Answers.{IsAllocatable, IsRefusedAs, IsSubTable, LineAnswer, block, filter_if, if_admitted, jump_answer, line_answer, variants_answer}
+use Rattle.idn2_answers.specs.Listings.{IsAllocatable, IsSubTable, block, disposition, filter_if, is_among, is_registrable, nth_if_given, up_to}
+use Rattle.idn2_answers.specs.Collisions.{IsVariantOf, barred_in, collide, collision_block, collision_by, collisions_after, collisions_to, is_barred, is_either, is_good, is_variant_of, regard_by, regard_of, regards_of}
+use Rattle.idn2_answers.proofs.CollisionTests.{variant-told}
+use Rattle.answer_json.specs.declared.collision.Regard.{Regard}
+use Rattle.answer_json.specs.declared.collision.Regard.TheVariants.{NoVariant}
+use Rattle.answer_json.specs.declared.collision.Regards.{Regards}
+use Rattle.idn2_answers.specs.Answers.{IsRefusedAs, LineAnswer, block_among, if_admitted, jump_answer, least_near, line_answer, variants_answer}
 use Rattle.idn2_refusals.specs.Requests.{requested_label, requested_text}
 use Rattle.idn2_refusals.specs.Explained.{Explained, ByRequest, ByTable, bad_byte, body_cause, if_wanted, points_cause, table_cause}
 use Rattle.idn2_answers.specs.Transcript.{explained_in, Refuses, answer_statements, has_refused, lines_statements, mode_statements, mode_status, statements, status_if, status_of}
@@ -131,7 +145,24 @@ module _ (how how_too : Explained) (answer other : List ℕ → LineAnswer) (cau
   refused-same [] = refl
   refused-same (line ∷ lines) = ap (λ a. is_err a || has_refused answer lines) (answers-same answer other line.body answers) ∙ ap (λ b. is_err (line_answer other line.body) || b) (refused-same lines)
 
+-- ---- lists by tests and functions that are the same at each label
+
+filter-alike : (p q : List ℕ → Bool) → ((v : List ℕ) → p v ≡ q v) → (vs : List (List ℕ)) → filter p vs ≡ filter q vs
+filter-alike p q same [] = refl
+filter-alike p q same (v ∷ vs) = ap (λ (b : Bool). cond b (v ∷ filter p vs) (filter p vs)) (same v) ∙ ap (λ (rest : List (List ℕ)). cond (q v) (v ∷ rest) rest) (filter-alike p q same vs)
+
+map-alike : (f g : List ℕ → Said) → ((v : List ℕ) → f v ≡ g v) → (vs : List (List ℕ)) → map f vs ≡ map g vs
+map-alike f g same [] = refl
+map-alike f g same (v ∷ vs) = ap (λ (s : Said). s ∷ map f vs) (same v) ∙ ap (λ (rest : List Said). g v ∷ rest) (map-alike f g same vs)
+
+option-alike : {X : Type 0} (f g : List ℕ → X) → ((v : List ℕ) → f v ≡ g v) → (o : Option (List ℕ)) → option_map f o ≡ option_map g o
+option-alike f g same None = refl
+option-alike f g same (Some v) = ap (λ x. let o = Some x in o) (same v)
+
 module _ (o : Settings) (table : TableValue) (single : IsSingle table) where
+  abbrev in_version : Version → TableValue
+  in_version v = table_of v table.definitions table.entries
+
   abbrev two : TableValue
   two = table_of Two table.definitions table.entries
 
@@ -157,14 +188,76 @@ module _ (o : Settings) (table : TableValue) (single : IsSingle table) where
   block-same label =
       ap (λ b. block_with (filter_if o.properties b two) o two label) (free Two) ∙ sym (ap (λ b. block_with (filter_if o.properties b three) o three label) (free Three))
 
+  -- ---- what two labels are to each other
+
+  variant-version : (m n : Version) (v w : List ℕ) → IsVariantOf o (in_version m) v w → IsVariantOf o (in_version n) v w
+  variant-version m n v w is =
+      let there = (spelled-Spells (in_version m) v w single.of_table.well_formed).1 is.listed.spelled in
+      let spells = (spelled-Spells (in_version n) v w single.of_table.well_formed).0 there in record {
+        good = record { registrable = is.good.registrable; admitted = admitted-version table single m n v is.good.admitted };
+        listed = record {
+          registrable = is.listed.registrable;
+          valid = nothing-is-asked.valid (in_version n) w (nothing_in table single n) (PartSpells-made Whole (in_version n) v w spells);
+          greater = is.listed.greater;
+          spelled = spells;
+        };
+      }
+
+  abbrev registrable : List ℕ → Bool
+  registrable = is_registrable o.properties
+
+  variant-same : (v w : List ℕ) → is_variant_of registrable two v w ≡ is_variant_of registrable three v w
+  variant-same v w =
+      let a = variant-told o two (sound_in table single Two) v w in
+      let b = variant-told o three (sound_in table single Three) v w in
+      same_test (is_variant_of registrable two v w) (is_variant_of registrable three v w) (λ h. b.1 (variant-version Two Three v w (a.0 h))) (λ h. a.1 (variant-version Three Two v w (b.0 h)))
+
+  good-same : (v : List ℕ) → is_good registrable two v ≡ is_good registrable three v
+  good-same v = ap (λ b. registrable v && b) (admitted-same v)
+
+  barred-same : (v w : List ℕ) → is_barred registrable two v w ≡ is_barred registrable three v w
+  barred-same v w =
+      let barred : Bool → Bool → Bool → Bool = λ a b c. not (a && b) && (not c && is_among (spelled (unasked two) v) w) in
+      ap (λ a. barred a (is_good registrable two w) (is_variant_of registrable two v w)) (good-same v)
+      ∙ ap (λ b. barred (is_good registrable three v) b (is_variant_of registrable two v w)) (good-same w)
+      ∙ ap (barred (is_good registrable three v) (is_good registrable three w)) (variant-same v w)
+
+  regard-same : (v w : List ℕ) → regard_of registrable two v w ≡ regard_of registrable three v w
+  regard-same v w =
+      let regard : Bool → Bool → Regard = λ a b. if a then regard_by (disposition two v w) else (if b then barred_in Two else NoVariant) in
+      ap (λ a. regard a (is_barred registrable two v w)) (variant-same v w) ∙ ap (regard (is_variant_of registrable three v w)) (barred-same v w)
+
+  regards-same : (label v : List ℕ) → regards_of registrable two label v ≡ regards_of registrable three label v
+  regards-same label v =
+      let both : Regard → Regard → Regards = λ there back. record { there = there; back = back } in
+      ap (λ there. both there (regard_of registrable two v label)) (regard-same label v) ∙ ap (both (regard_of registrable three label v)) (regard-same v label)
+
+  found-same : (registered : List (List ℕ)) (label : List ℕ) → collisions_after o two registered label ≡ collisions_after o three registered label
+  found-same registered label =
+      filter-alike (λ v. is_gt (label_cmp v o.after) && collide registrable two label v) (λ v. is_gt (label_cmp v o.after) && collide registrable three label v)
+      (λ v. ap (λ r. is_gt (label_cmp v o.after) && is_either r) (regards-same label v)) registered
+
+  collision_block-same : (registered : List (List ℕ)) (label : List ℕ) → collision_block o two registered label ≡ collision_block o three registered label
+  collision_block-same registered label =
+      let found = collisions_after o three registered label in
+      let stop = nth_if_given found o.limit in
+      ap (collisions_to (regards_of registrable two label) o.limit) (found-same registered label)
+      ∙ ap (λ lines. lines ++ BlockEnd (length (up_to stop found)) stop ∷ [])
+      (map-alike (collision_by (regards_of registrable two label)) (collision_by (regards_of registrable three label)) (λ v. ap (λ r. Collision r v) (regards-same label v)) (up_to stop found))
+
+  among-same : (registered : Option (List (List ℕ))) (label : List ℕ) → block_among registered o two label ≡ block_among registered o three label
+  among-same None label = block-same label
+  among-same (Some labels) label = collision_block-same labels label
+
   variants-answer-same : (label : List ℕ) → variants_answer o two label ≡ variants_answer o three label
-  variants-answer-same label = ap (unless_fault (first_fault o.properties label)) (answer-same label (block o two label) (block o three label) (block-same label))
+  variants-answer-same label = ap (unless_fault (first_fault o.properties label)) (answer-same label (block_among o.registered o two label) (block_among o.registered o three label) (among-same o.registered label))
 
   jump-answer-same : (request : List ℕ) → jump_answer o.properties two request ≡ jump_answer o.properties three request
   jump-answer-same request =
       let label = requested_label request in
-      let said : List Said = Least (slice_get (candidates_from two label (requested_text request)) 0) ∷ [] in
-      ap (unless_fault (first_fault o.properties label)) (answer-same label said said refl)
+      let said : Option (List ℕ × Regards) → List Said = λ found. Least found ∷ [] in
+      ap (unless_fault (first_fault o.properties label)) (answer-same label (said (least_near o.properties two label (requested_text request))) (said (least_near o.properties three label (requested_text request)))
+      (ap said (option-alike (λ v. (v, regards_of registrable two label v)) (λ v. (v, regards_of registrable three label v)) (λ v. ap (λ r. (v, r)) (regards-same label v)) (slice_get (candidates_among_from (near two label) (requested_text request)) 0))))
 
   table-cause-same : (label : List ℕ) (refusal : Refusal) → table_cause o.properties two label refusal ≡ table_cause o.properties three label refusal
   unfolding furthest

@@ -5,7 +5,7 @@ use Rattle.valid_labels.specs.Validity.{IsSound}
 use Rattle.variant_list.specs.Closure.{AreNear}
 use Rattle.answer_json.specs.declared.collision.Regard.{Regard}
 use Rattle.idn2_options.specs.Settings.{Settings}
-use Rattle.idn2_answers.specs.Answers.{is_registrable}
+use Rattle.idn2_answers.specs.Listings.{is_registrable}
 use Rattle.idn2_answers.specs.Collisions.{Collides, IsGood, IsRegard, collide, regard_of}
 
 -- two labels collide whichever is asked about; a good label collides with itself; and what collides is near, so that a

@@ -14,7 +14,8 @@ use Rattle.idn2_output.specs.OutputLines.{Output, Message}
 use Rattle.idn2_refusals.specs.Messages.{line_message, table_message}
 use Rattle.idn2_answers.specs.Transcript.{transcript, status_of, no_table}
 use Rattle.idn2_refusals.specs.Reports.{closing_message}
-use Rattle.idn2_answers.specs.Answers.{block, if_admitted, is_allocatable, nth, nth_if_given, lesser_label, up_to, LineAnswer, line_answer}
+use Rattle.idn2_answers.specs.Listings.{block, is_allocatable, nth, nth_if_given, lesser_label, up_to}
+use Rattle.idn2_answers.specs.Answers.{if_admitted, LineAnswer, line_answer}
 use Rattle.idn2_answers.specs.Said.{said_line, table_line, trailer_line}
 use Rattle.idn2_options.specs.declared.command_line.mode.Mode.TheVariants.{Register, Variants}
 use Rattle.idn2_output.specs.declared.status.Status.TheVariants.{Refused}

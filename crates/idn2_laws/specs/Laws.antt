@@ -20,7 +20,7 @@ use Rattle.answer_json.specs.declared.checked.PairFinding.TheVariants.{Missing}
 use Rattle.idn_text.specs.Lines.{Numbered}
 use Rattle.idn2_options.specs.Settings.{Settings}
 use Rattle.idn2_options.specs.declared.command_line.form.Form.TheVariants.{Plain, Json}
-use Rattle.idn2_answers.specs.Answers.{IsAllocatable, disposition}
+use Rattle.idn2_answers.specs.Listings.{IsAllocatable, disposition}
 use Rattle.idn2_refusals.specs.CauseWords.{tail_text}
 use Rattle.idn2_refusals.specs.Explained.{Unexplained, bad_byte, body_cause, table_cause}
 use Rattle.idn2_answers.specs.Said.{Found, Counted}

@@ -19,15 +19,15 @@ use Rattle.variant_list.specs.Labels.{IsListOf}
 use Rattle.variant_list.specs.MutualLaws.{IsMutual}
 use Rattle.variant_list.specs.RulesetLaws.{as_ruleset}
 use Rattle.idn2_options.specs.Settings.{Settings}
-use Rattle.idn2_answers.specs.Answers.{IsAllocatable, IsJumpAnswer, IsKept, IsListed, IsListing, IsRefusedAs}
+use Rattle.idn2_answers.specs.Listings.{IsAllocatable, IsListed}
+use Rattle.idn2_answers.specs.Answers.{IsJumpAnswer, IsListing, IsRefusedAs}
 use Rattle.idn2_answers.specs.Transcript.{statements, status_of}
 
--- a label that may be registered and that the table admits; its listing begins after the empty text, and isn't kept to other labels
+-- a label that may be registered and that the table admits; its listing begins after the empty text
 pub record IsAsked (o : Settings) (table : TableValue) (label : List ℕ) : Type 0 where
   pub registrable : IsRegistrable o.properties label
   pub admitted : IsAdmitted table label
   pub whole : o.after ≡ []
-  pub kept : IsKept o.registered label
 
 -- such a label is among its own variants, and may be allocated
 pub record AdmittedAreListed : Type 0 where
@@ -67,7 +67,7 @@ pub record RulesetsSayTheSame : Type 0 where
 -- where the table asks nothing of its labels, 41 is never answered: not to a label, and not to a request
 pub record NotValidIsNeverTold : Type 0 where
   pub listing : (o : Settings) (table : TableValue) (label : List ℕ) → AsksNothing table → ¬ IsListing o table label (Err NotValid)
-  pub jump : (table : TableValue) (request : List ℕ) → AsksNothing table → ¬ IsJumpAnswer table request (Err NotValid)
+  pub jump : (o : Settings) (table : TableValue) (request : List ℕ) → AsksNothing table → ¬ IsJumpAnswer o table request (Err NotValid)
 
 -- under a table that asks nothing what a label spells is valid
 abbrev pub SpelledAreValid : Type 0

@@ -42,7 +42,7 @@ pub record IsReadBack (answer : Answer) : Type 0 where
   pub one_line : is_clear (text_of (json_of answer)) ≡ true
   pub unicode : IsUtf8 (text_of (json_of answer))
 
--- a listing is whole, or kept to registered labels, of which there are fewer than 2 ^ 64
+-- there are no registered labels, or fewer than 2 ^ 64
 abbrev pub IsKeptToFew : Properties → Option (List (List ℕ)) → Type 0
 IsKeptToFew properties None = Unit {0}
 IsKeptToFew properties (Some labels) = AreRegistered properties labels × (length labels < 2 ^ 64)

@@ -33,6 +33,9 @@ among_name = codes "among"
 abbrev pub jump_name : Text
 jump_name = codes "jump"
 
+abbrev pub old_name : Text
+old_name = codes "old"
+
 abbrev pub check_table_name : Text
 check_table_name = codes "check-table"
 

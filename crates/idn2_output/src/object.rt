@@ -5,9 +5,10 @@ ghost use Rattle.answer_json.specs.Answers.{line_of};
 ghost use Rattle.idn2_output.specs.Objects.{HasSpace, object_told};
 
 use answer_json::{
-    Disposition, Input, ObjectRoom, PairFinding, RefusalMembers, write_checked, write_decoded,
-    write_least, write_looked_up, write_pair, write_refused, write_registered,
-    write_registered_fault, write_table_fault, write_trailer, write_variant,
+    Disposition, Input, ObjectRoom, PairFinding, RefusalMembers, Regards, write_checked,
+    write_collision, write_decoded, write_least, write_looked_up, write_old_label, write_no_least, write_pair,
+    write_refused, write_registered, write_registered_fault, write_table_fault, write_trailer,
+    write_variant,
 };
 use idn_text::Refusal;
 
@@ -21,11 +22,17 @@ pub enum Object<'a> {
     Registered(u64, Input<'a>, &'a [u8], &'a [u8]),
     /// What a name is decoded to.
     Decoded(u64, Input<'a>, &'a [u8]),
-    /// The least label from a text on, if there is one.
-    Least(u64, Input<'a>, Option<&'a [u8]>),
+    /// The old label that a label of a zone stands for.
+    OldLabel(u64, Input<'a>, &'a [u8]),
+    /// The least near label from a text on, and what each of it and the label asked about is to the other.
+    Least(u64, Input<'a>, &'a [u8], Regards),
+    /// There is no near label from a text on.
+    NoLeast(u64, Input<'a>),
     /// A variant, its A-label, and its disposition, if the table has any.
     Variant(u64, &'a [u8], &'a [u8], Option<Disposition>),
-    /// How many variants a block lists, and where it stops if there may be more.
+    /// A registered label that collides, its A-label, and what each of it and the label asked about is to the other.
+    Collision(u64, &'a [u8], &'a [u8], Regards),
+    /// How many labels a block has, and where it stops if there may be more.
     BlockEnd(u64, Input<'a>, u64, Option<&'a [u8]>),
     /// Why a line is refused.
     Refused(u64, Input<'a>, Refusal, &'a RefusalMembers<'a>),
@@ -53,9 +60,16 @@ pub fn write_object<'a>(out: &'a mut ObjectRoom, object: &Object<'_>) -> &'a [u8
             write_registered(out, *line, input, u_label, a_label)
         }
         Object::Decoded(line, input, unicode) => write_decoded(out, *line, input, unicode),
-        Object::Least(line, input, label) => write_least(out, *line, input, *label),
+        Object::OldLabel(line, input, unicode) => write_old_label(out, *line, input, unicode),
+        Object::Least(line, input, label, regards) => {
+            write_least(out, *line, input, label, *regards)
+        }
+        Object::NoLeast(line, input) => write_no_least(out, *line, input),
         Object::Variant(line, u_label, a_label, disposition) => {
             write_variant(out, *line, u_label, a_label, *disposition)
+        }
+        Object::Collision(line, u_label, a_label, regards) => {
+            write_collision(out, *line, u_label, a_label, *regards)
         }
         Object::BlockEnd(line, input, count, stop) => {
             write_trailer(out, *line, input, *count, *stop)

@@ -1,6 +1,6 @@
 //! A table that can't be used.
 
-ghost use Rattle.std.specs.Prelude.{◌≡◌, [], ◌∷◌, Err, IfOk, MatchOption};
+ghost use Rattle.std.specs.Prelude.{◌≡◌, [], ◌∷◌, None, Err, IfOk, MatchOption};
 ghost use Rattle.std.specs.Option.{option_copied};
 ghost use Rattle.idn2_refusals.specs.CauseWords.{tail_text};
 ghost use Rattle.idn2_refusals.specs.TableCauses.{fault_cause, told_if};
@@ -11,6 +11,7 @@ ghost use Rattle.idn2_refusals.specs.TableFaults.{told_of};
 ghost use Rattle.idn_class.specs.declared.properties.Properties.{Properties};
 ghost use Rattle.variant_table.specs.FaultyLines.{IsRefusalOf};
 ghost use Rattle.variant_table.specs.declared.version.Notation.{Notation};
+ghost use Rattle.idn_text.specs.declared.refusal.Refusal.TheVariants as refusals;
 ghost use Rattle.idn2_output.specs.declared.status.Status.TheVariants as statuses;
 ghost use Rattle.idn2_output.specs.declared.stop.Stop.TheVariants as stop;
 
@@ -45,6 +46,19 @@ pub fn refuse_table<W: Sink, E: Sink>(
     };
     let cause = fault_cause_if_wanted(wanted, text, refusal);
     write_fault(form, line, told, cause.as_ref(), console)?;
+    Ok(Status::Unusable)
+}
+
+/// Tells of a table that is past a limit of a search of collisions, at this line, and gives the status of the run.
+pub fn refuse_search<W: Sink, E: Sink>(
+    form: Form,
+    line: u64,
+    console: &mut Console<'_, '_, W, E>,
+) -> Result<Status, Stop>
+    ensures told { Emits console.old console.new (fault_piece form line refusals.Limit None ∷ []) result }
+    ensures status { IfOk result (λ status. status ≡ statuses.Unusable) }
+{
+    write_fault(form, line, Refusal::Limit, None, console)?;
     Ok(Status::Unusable)
 }
 

@@ -318,9 +318,6 @@ module _ (properties : Properties) where
   pub in_zone-short : (label : List ℕ) → IsInZone properties label → length (a_label_of label) ≤ 63
   in_zone-short label is = elim is [ inl registrable ↦ (MeetsRequirements-registrable properties label registrable).octets | inr old ↦ old.short ]
 
-  pub in_zone-within : (label : List ℕ) → IsInZone properties label → is_too_long label ≡ false
-  in_zone-within label is = not_long (length label) (length (a_label_of label)) (in_zone-few label is) (in_zone-short label is)
-
   pub in_zone-scalars : (label : List ℕ) → IsInZone properties label → AreScalarValues label
   in_zone-scalars label is = elim is [ inl registrable ↦ registrable_scalars properties label registrable | inr old ↦ IsOld-scalars label old ]
 

@@ -1,7 +1,9 @@
 -- Lines with the mark of an old label and without it.
-use Rattle.std.proofs.Common.{◌≡◌, inl, inr, ℕ, zero, suc, ◌-◌, ◌≤◌, ◌&&◌, Bool, true, false, cond, Option, Some, None, unwrap_or, List, [], ◌∷◌, ◌++◌, length, take, drop, chars, refl, sym, ap, subst, ◌∙◌, arith, length-take}
+use Rattle.std.proofs.Common.{◌≡◌, inl, inr, ℕ, zero, suc, ◌-◌, ◌≤◌, ◌&&◌, Bool, true, false, cond, bytes_eq, Option, Some, None, unwrap_or, List, [], ◌∷◌, ◌++◌, length, take, drop, chars, refl, sym, ap, subst, ◌∙◌, arith, length-take}
 use Rattle.std.specs.List.{list_all}
-use Rattle.std.proofs.lemmas.Bool.{false_from_ne_true, true≢false}
+use Rattle.std.specs.Str.{IsAscii}
+use Rattle.std.specs.Str.Lines.{strip_carriage_return}
+use Rattle.std.proofs.lemmas.Bool.{cond-true, cond-false, false_from_ne_true, true≢false}
 use Rattle.std.proofs.lemmas.List.{append_cancel_right, take-append-drop, take_min}
 use Rattle.std.proofs.lemmas.List.Elements.{All-append}
 use Rattle.std.proofs.lemmas.List.Folds.{list_all-append}
@@ -102,7 +104,7 @@ module _ (properties : Properties) where
         let label = utf8_fault-none properties body none in
         subst (λ (bytes : List ℕ). IsReadAs properties line (length body) (chars bytes)) front (record {
           within = within;
-          is = inl (is ∙ ap Some (sym (label.0).encoded), label.1);
+          line = inl (is ∙ ap Some (sym (label.0).encoded), label.1);
           right = fault_of_body false marked ∙ none;
           read = subst (λ (bytes : List ℕ). IsUtf8Of bytes (chars body)) front label.0;
         })
@@ -115,7 +117,7 @@ module _ (properties : Properties) where
         let begins : bytes ≡ take len line = part body line len less front (sym (taken body (length body - length mark) len count)) in
         subst (λ (b : List ℕ). IsReadAs properties line len (chars b)) begins (record {
           within = omega (arith, less, within);
-          is = inr (is ∙ ap Some (split_mark body marked ∙ ap (λ (b : List ℕ). b ++ mark) (sym (label.0).encoded)), label.1);
+          line = inr (is ∙ ap Some (split_mark body marked ∙ ap (λ (b : List ℕ). b ++ mark) (sym (label.0).encoded)), label.1);
           right = fault_of_body true marked ∙ none;
           read = subst (λ (b : List ℕ). IsUtf8Of b (chars bytes)) begins label.0;
         })

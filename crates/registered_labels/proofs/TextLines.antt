@@ -1,5 +1,5 @@
 -- The lines of a text, one after another, and the first that is wrong.
-use Rattle.std.proofs.Common.{◌≡◌, ◌≢◌, ◌⊎◌, inl, inr, ℕ, zero, suc, ◌+◌, ◌-◌, ◌<◌, ◌≤◌, ◌^◌, Bool, true, false, cond, Some, None, List, [], ◌∷◌, ◌++◌, length, take, drop, get_or, eqb, refl, sym, ap, subst, ◌∙◌, arith, add-one, append_assoc, length-append, length-take, length-drop, drop-cons}
+use Rattle.std.proofs.Common.{◌≡◌, ◌≢◌, ◌⊎◌, inl, inr, ℕ, zero, suc, ◌+◌, ◌-◌, ◌<◌, ◌≤◌, ◌^◌, Bool, true, false, cond, Option, Some, None, unwrap_or, List, [], ◌∷◌, ◌++◌, length, map, take, drop, get_or, eqb, refl, sym, ap, subst, ◌∙◌, arith, add-one, append_assoc, length-append, length-take, length-drop, drop-cons}
 use Rattle.std.specs.List.{slice_range}
 use Rattle.std.specs.Ordering.{is_lt}
 use Rattle.std.specs.declared.cmp.Ordering.{Ordering}
@@ -7,12 +7,13 @@ use Rattle.std.specs.declared.cmp.Ordering.TheVariants.{Less}
 use Rattle.std.specs.Str.{chars}
 use Rattle.std.specs.Str.Lines.{strip_carriage_return}
 use Rattle.std.proofs.lemmas.Bool.{cases_lt}
-use Rattle.std.proofs.lemmas.List.{append-nil, same_from_push, take-append-drop, take_all, take_min}
-use Rattle.idn_text.specs.Points.{utf8_of}
+use Rattle.std.proofs.lemmas.List.{append-nil, map-append, same_from_push, take-append-drop, take_all, take_min}
+use Rattle.idn_text.specs.Points.{IsUtf8Of, utf8_of}
 use Rattle.idn_text.specs.Lines.{raw_lines, joined_lines, body_of}
 use Rattle.idn_text.specs.declared.refusal.Refusal.{Refusal}
 use Rattle.idn_text.specs.declared.refusal.Refusal.TheVariants as refusals
 use Rattle.idn_text.proofs.TakingLemmas.{is_long_line-short}
+use Rattle.idn_text.proofs.Utf8Lemmas.{points_from_utf8}
 use Rattle.idn_text.proofs.NumberingLemmas.{raw_lines-then, raw_lines-rest}
 use Rattle.idn_label.proofs.OldNameLemmas.{in_zone-some}
 use Rattle.variant_list.specs.Labels.{IsBelow, label_cmp}
@@ -105,7 +106,7 @@ module _ (properties : Properties) where
       record {
         front = h.front ++ line ∷ [];
         split = h.split ∙ ap (λ xs. h.front ++ xs) (raw_lines-next text at end more is) ∙ sym (append_assoc h.front (line ∷ []) (raw_lines (drop (end + 1) text)));
-        read = AreLinesOf-push properties h.front labels line label h.read read.is;
+        read = AreLinesOf-push properties h.front labels line label h.read read.line;
         counted = omega (arith, h.counted, length-append h.front (line ∷ []));
         placed = omega (arith, is.reached, h.placed, length-joined h.front line, length-next text at end is);
       }
@@ -147,10 +148,10 @@ not_lt v w o b e f t below =
 module _ (properties : Properties) where
   pub IsOutOfOrder-seen : (line : List ℕ) (len : ℕ) (labels : List (List ℕ)) (last label : List ℕ) (o : Ordering) (b : Bool) → IsReadAs properties line len label → IsLastOf labels last → o ≡ label_cmp last label → b ≡ is_lt o → b ≡ false → IsOutOfOrder properties labels line
   IsOutOfOrder-seen line len labels last label o b read is e f t = elim is [
-    | inl none ↦ absurd (not_lt last label o b e f t (subst (λ v. IsBelow v label) (sym none.1) (above_nothing label (in_zone-some properties label (in_zone-line properties line label read.is)))))
+    | inl none ↦ absurd (not_lt last label o b e f t (subst (λ v. IsBelow v label) (sym none.1) (above_nothing label (in_zone-some properties label (in_zone-line properties line label read.line)))))
     | inr some ↦ record {
       label = label;
-      is = read.is;
+      is = read.line;
       front = some.0;
       last = last;
       ending = some.1;
@@ -172,7 +173,7 @@ module _ (properties : Properties) where
   ]
     where
       same : out.label ≡ label
-      same = same_label properties line out.label label out.is read.is
+      same = same_label properties line out.label label out.is read.line
 
   pub IsFaultOf-refused : (text : List ℕ) (line : ℕ) (refusal : Refusal) → (refusal ≢ refusals.Memory → IsFirstWrong properties text line (IsWrongBy properties refusal)) → IsFaultOf properties text (fault_of line refusal)
   IsFaultOf-refused text line refusals.Memory h = tt

@@ -1,7 +1,9 @@
 -- The laws of near labels.
-use Rattle.std.proofs.Common.{◌≡◌, inl, inr, ℕ, ◌+◌, List, [], ◌∷◌, ◌++◌, length, refl, sym, ap, ◌∙◌}
+use Rattle.std.proofs.Common.{◌≡◌, inl, inr, ℕ, ◌+◌, List, [], ◌∷◌, ◌++◌, length, map, refl, sym, ap, ◌∙◌}
 use Rattle.std.specs.List.{Contains, AllByRecursion, flat_map}
-use Rattle.variant_table.specs.Entries.{Entry, TableValue}
+use Rattle.variant_table.specs.Entries.{Entry, TableValue, sequences_in}
+use Rattle.variant_table.specs.Segmentations.{IsMadeOfSources}
+use Rattle.variant_table.proofs.MemberLemmas.{Contains-head}
 use Rattle.variant_list.specs.Arising.{Arises}
 use Rattle.variant_list.specs.Closure.{GoTogether, PairUp, AreNear}
 use Rattle.variant_list.specs.Parts.Part.{Whole}
@@ -34,3 +36,19 @@ pairs_turned table (a ∷ parts) (b ∷ others) pairs =
 
 pub AreNear-turned : (table : TableValue) (v w : List ℕ) → AreNear table v w → AreNear table w v
 AreNear-turned table v w n = (n.1, n.0, pairs_turned table n.0 n.1 n.2, n.4, n.3)
+
+-- ---- a label is near itself
+
+paired_up : (table : TableValue) (es : List Entry) → AllByRecursion (Contains table.entries) es → PairUp table (map (λ e. e.source) es) (map (λ e. e.source) es)
+paired_up table [] all = tt
+paired_up table (e ∷ es) all = ((e, all.0, inl (refl, Contains-head e.source (sequences_in e.variants))), paired_up table es all.1)
+
+parts_joined : (es : List Entry) → flat_map (λ a. a) (map (λ (e : Entry). e.source) es) ≡ flat_map (λ (e : Entry). e.source) es
+parts_joined [] = refl
+parts_joined (e ∷ es) = ap (λ l. e.source ++ l) (parts_joined es)
+
+pub AreNear-itself : (table : TableValue) (label : List ℕ) → IsMadeOfSources table label → AreNear table label label
+AreNear-itself table label made =
+    let parts : List (List ℕ) = map (λ (e : Entry). e.source) made.0 in
+    let joined : flat_map (λ a. a) parts ≡ label = parts_joined made.0 ∙ made.1.joined in
+    (parts, parts, paired_up table made.0 made.1.of_table, joined, joined)

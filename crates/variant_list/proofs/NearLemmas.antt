@@ -70,6 +70,32 @@ Contains-near_variants groups label place (suc n) u = step (Contains-near_varian
       ],
     )
 
+module _ (table : TableValue) (formed : IsWellFormed table.entries) where
+  -- both are sequences
+  pub GoTogether-sequences : (a b : List ℕ) → GoTogether table a b → IsSequence a × IsSequence b
+  GoTogether-sequences a b g =
+      let e : Entry = g.0 in
+      let is : IsEntry e = All-contains IsEntry table.entries e formed.entries g.1 in
+      let one : (s : List ℕ) → Contains (replacements e) s → IsSequence s = λ (s : List ℕ) c. All-contains IsSequence (replacements e) s is.sequences c in
+      let source : IsSequence e.source = one e.source (Contains-head e.source (sequences_in e.variants)) in
+      elim g.2 [
+        | inl l ↦ (subst IsSequence l.0 source, one b l.1)
+        | inr r ↦ (one a r.1, subst IsSequence r.0 source)
+      ]
+
+  -- ---- near labels are of scalar values
+
+  pairs_scalar : (parts others : List (List ℕ)) → PairUp table parts others → AllByRecursion IsScalarValue (flat_map (λ b. b) others)
+  pairs_scalar [] [] pairs = tt
+  pairs_scalar [] (b ∷ others) pairs = absurd pairs
+  pairs_scalar (a ∷ parts) [] pairs = absurd pairs
+  pairs_scalar (a ∷ parts) (b ∷ others) pairs =
+      let is : IsSequence b = (GoTogether-sequences a b pairs.0).1 in
+      append_scalar b (flat_map (λ x. x) others) (recursion_from_All IsScalarValue b (λ k d l. (is.points k d l).scalar_value)) (pairs_scalar parts others pairs.1)
+
+  pub AreNear-scalar : (label w : List ℕ) → AreNear table label w → AreScalarValues w
+  AreNear-scalar label w n = subst AreScalarValues n.4 (All-from_recursion IsScalarValue (flat_map (λ b. b) n.1) (pairs_scalar n.0 n.1 n.2))
+
 module _ (table : TableValue) (groups : List Group) (formed : IsWellFormed table.entries) (reversed : AreReversedOf table.entries groups) where
   -- a pair is one of the table or not
   pair_or_not : (a b : List ℕ) → IsPair table.entries a b ⊎ (¬ IsPair table.entries a b)
@@ -86,18 +112,6 @@ module _ (table : TableValue) (groups : List Group) (formed : IsWellFormed table
       by_entry : (o : Option Entry) → entry_with table.entries a ≡ o → IsPair table.entries a b ⊎ (¬ IsPair table.entries a b)
       by_entry None is = inr (λ p. (let found = entry_with-of table.entries a p.0 formed.sources p.1 p.2 in let clash : None ≡ Some p.0 = sym is ∙ found in cc))
       by_entry (Some e) is = let found = entry_with-found table.entries a e is in by_test e found.0 found.1 (has_variant e b) refl
-
-  -- both are sequences
-  pub GoTogether-sequences : (a b : List ℕ) → GoTogether table a b → IsSequence a × IsSequence b
-  GoTogether-sequences a b g =
-      let e : Entry = g.0 in
-      let is : IsEntry e = All-contains IsEntry table.entries e formed.entries g.1 in
-      let one : (s : List ℕ) → Contains (replacements e) s → IsSequence s = λ (s : List ℕ) c. All-contains IsSequence (replacements e) s is.sequences c in
-      let source : IsSequence e.source = one e.source (Contains-head e.source (sequences_in e.variants)) in
-      elim g.2 [
-        | inl l ↦ (subst IsSequence l.0 source, one b l.1)
-        | inr r ↦ (one a r.1, subst IsSequence r.0 source)
-      ]
 
   module _ (label : List ℕ) (place : ℕ) where
     part_length : (a rest : List ℕ) → drop place label ≡ a ++ rest → length a ≤ length label - place
@@ -157,7 +171,7 @@ module _ (table : TableValue) (groups : List Group) (formed : IsWellFormed table
                   by_source e u n.rest there (n.begins ∙ ap (λ s. s ++ n.rest) (sym same)) itself (n.covers ∙ ap length (sym same)) n.plain
               | inr variant ↦ elim (pair_or_not a u.points) [
                 | inl p ↦ by_source p.0 u n.rest p.1 (n.begins ∙ ap (λ s. s ++ n.rest) (sym p.2)) (Contains-later p.0.source (sequences_in p.0.variants) u.points p.3) (n.covers ∙ ap length (sym p.2)) n.plain
-                | inr none ↦ by_variant a n.rest u (GoTogether-sequences a u.points n.together).0 n.begins (record { pair = (e, there, r.0, variant); lacking = none }) n.covers n.plain
+                | inr none ↦ by_variant a n.rest u (GoTogether-sequences table formed a u.points n.together).0 n.begins (record { pair = (e, there, r.0, variant); lacking = none }) n.covers n.plain
               ]
             ]
           ],
@@ -208,11 +222,11 @@ module _ (table : TableValue) (groups : List Group) (formed : IsWellFormed table
     cut_of_near [] (b ∷ others) place n pairs whole joined = absurd pairs
     cut_of_near (a ∷ parts) [] place n pairs whole joined = absurd pairs
     cut_of_near (a ∷ parts) (b ∷ others) place zero pairs whole joined =
-        let some = (GoTogether-sequences a b pairs.0).0.filled in
+        let some = (GoTogether-sequences table formed a b pairs.0).0.filled in
         absurd (omega (arith, whole, some, ap length joined, length-append a (flat_map (λ x. x) parts), length-drop place label))
     cut_of_near (a ∷ parts) (b ∷ others) place (suc n) pairs whole joined =
         let u : Substitution = near (length a) b in
-        let some = (GoTogether-sequences a b pairs.0).0.filled in
+        let some = (GoTogether-sequences table formed a b pairs.0).0.filled in
         let few : length a ≤ suc n = omega (arith, whole, ap length joined, length-append a (flat_map (λ x. x) parts), length-drop place label) in
         let here : Contains (near_at table groups label place) u = (near_at-IsNearAt label place u).1 (record { part = a; together = pairs.0; rest = flat_map (λ x. x) parts; begins = sym joined; covers = refl; plain = refl }) in
         let later = cut_of_near parts others (place + length a) (suc n - length a) pairs.1 (omega (arith, whole, few)) (sym (after_part place a (flat_map (λ x. x) parts) (sym joined))) in
@@ -223,19 +237,6 @@ module _ (table : TableValue) (groups : List Group) (formed : IsWellFormed table
       λ s. (let g = near_of_cut s.0 0 (length label) (omega arith) s.1 in (g.0, g.1, g.2, g.3, g.4 ∙ s.2)),
       λ n. (let g = cut_of_near n.0 n.1 0 (length label) n.2 (omega arith) n.3 in (g.0, g.1, g.2 ∙ n.4)),
     )
-
-    -- ---- near labels are of scalar values
-
-    pairs_scalar : (parts others : List (List ℕ)) → PairUp table parts others → AllByRecursion IsScalarValue (flat_map (λ b. b) others)
-    pairs_scalar [] [] pairs = tt
-    pairs_scalar [] (b ∷ others) pairs = absurd pairs
-    pairs_scalar (a ∷ parts) [] pairs = absurd pairs
-    pairs_scalar (a ∷ parts) (b ∷ others) pairs =
-        let is : IsSequence b = (GoTogether-sequences a b pairs.0).1 in
-        append_scalar b (flat_map (λ x. x) others) (recursion_from_All IsScalarValue b (λ k d l. (is.points k d l).scalar_value)) (pairs_scalar parts others pairs.1)
-
-    pub AreNear-scalar : (w : List ℕ) → AreNear table label w → AreScalarValues w
-    AreNear-scalar w n = subst AreScalarValues n.4 (All-from_recursion IsScalarValue (flat_map (λ b. b) n.1) (pairs_scalar n.0 n.1 n.2))
 
     -- ---- they are few
 
@@ -267,7 +268,7 @@ module _ (table : TableValue) (groups : List Group) (formed : IsWellFormed table
       is_substitution : (place n : ℕ) (u : Substitution) → place + suc n ≡ length label → Contains (near_at table groups label place) u → IsSubstitution (length (near_from table groups label (suc place) n) + 1) u
       is_substitution place n u whole m =
           let is = (near_at-IsNearAt label place u).0 m in
-          let both = GoTogether-sequences is.part u.points is.together in
+          let both = GoTogether-sequences table formed is.part u.points is.together in
           let within = part_length label place is.part is.rest is.begins in
           record {
             some = omega (arith, is.covers, both.0.filled);

@@ -64,6 +64,7 @@ impl Reversed {
     pub fn of_table(alloc: Global, table: &Table) -> Result<Reversed, ReversedFault>
         ensures pairs { IfOk result (AreReversedOf table.now.entries) }
         ensures few { IfOk result AreFew }
+        ensures uncrowded { IfOk result (λ _. (a : List ℕ) → ¬ IsCrowded table.now.entries a) }
         ensures crowded { IfErr result
             (λ fault. fault ≡ TooManySources → (a : List ℕ) × IsCrowded table.now.entries a) }
     {

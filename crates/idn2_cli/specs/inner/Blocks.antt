@@ -4,7 +4,7 @@ use Rattle.idn_class.specs.Known.{AreKnown}
 use Rattle.idn_punycode.specs.Cached.{IsTakenApart}
 use Rattle.idn_label.specs.ALabel.{a_label_of}
 use Rattle.idn2_options.specs.Settings.{Settings}
-use Rattle.idn2_answers.specs.Answers.{Filter}
+use Rattle.idn2_answers.specs.Listings.{Filter}
 use Rattle.idn2_answers.specs.Said.{said_text}
 use Rattle.idn2_output.specs.OutputLines.{OutputLine, outputs}
 use Rattle.idn2_cli.specs.declared.modes.asked.Asked.{Asked}

@@ -5,13 +5,13 @@ use Rattle.variant_table.specs.Entries.{TableValue, unblocked}
 use Rattle.idn2_options.specs.Settings.{Settings}
 use Rattle.answer_json.specs.declared.block.Disposition.{Disposition}
 use Rattle.idn2_answers.specs.Said.{Said}
-use Rattle.idn2_answers.specs.Answers.{Filter, is_allocatable, allocation, block_to, stop_of, variants_after}
+use Rattle.idn2_answers.specs.Listings.{Filter, is_allocatable, allocation, block_to, stop_of, variant_by, variants_after}
 use Rattle.idn2_cli.specs.declared.modes.dispositions.Dispositions.{Dispositions}
 use Rattle.idn2_cli.specs.declared.modes.dispositions.Dispositions.TheVariants.{Unstated, AllAllocatable, ByTest}
 
 -- the block of a label that spells these, by what is asked of them and by the dispositions of its variants
 abbrev pub block_by : Filter → (List ℕ → Option Disposition) → Settings → List (List ℕ) → List Said
-block_by filter field o labels = block_to field (stop_of filter o labels) (variants_after filter o labels)
+block_by filter field o labels = block_to (variant_by field) (stop_of filter o labels) (variants_after filter o labels)
 
 -- what tells the dispositions is that of the table: where it is asked of each variant, the table may have tags or blocked variants
 abbrev pub AreOfTable : TableValue → Dispositions (Unit {0}) → Type 0

@@ -43,8 +43,9 @@ IsULabelOf properties bytes u_label =
     has_ace_prefix (chars bytes) ≡ true → u_label_answer properties (chars bytes) ≡ Ok u_label
 
 -- the answer to a request whose label may be registered
-abbrev pub request_answer : TableValue → List ℕ → LineAnswer
-request_answer table request = least_answer table (requested_label request) (requested_text request)
+abbrev pub request_answer : Properties → TableValue → List ℕ → LineAnswer
+request_answer properties table request =
+    least_answer properties table (requested_label request) (requested_text request)
 
 -- ---- an answer of one text
 

@@ -9,7 +9,7 @@ use Rattle.valid_labels.specs.Tests.{asks_nothing, is_dead_under, is_valid}
 use Rattle.valid_labels.specs.declared.validity.Validity.{Validity}
 use Rattle.valid_labels.specs.declared.validity.Validity.TheVariants.{DeadPrefix, Valid, NotValid}
 use Rattle.variant_list.specs.Beginnings.{has_no_dead_prefix, shortest_hopeless}
-use Rattle.idn2_answers.specs.Answers.{Filter, registrable_labels, ruled_labels}
+use Rattle.idn2_answers.specs.Listings.{Filter, registrable_labels, ruled_labels}
 
 abbrev pub ruling_of : TableValue → Option TableValue
 ruling_of table = if asks_nothing table then None else Some table

@@ -1,5 +1,5 @@
 -- A mode that is run by the table of its text, to its end or to a stop.
-use Rattle.std.specs.Prelude.{ℕ, List, Result}
+use Rattle.std.specs.Prelude.{ℕ, List, Option, Some, None, Result}
 use Rattle.idn_text.specs.Reading.{Reading}
 use Rattle.idn2_options.specs.Settings.{Settings}
 use Rattle.idn2_options.specs.declared.command_line.mode.Mode.{Mode}
@@ -15,14 +15,19 @@ use Rattle.idn2_cli.specs.declared.session.run.TableMode.TheVariants as by_table
 -- the job of the mode, by the table that the text says, is done or stopped
 abbrev pub Serves : Settings → (text : List ℕ) → (start now : Reading) → (old new : Held) → Result Status Stop → Type 0
 Serves o text start now old new result =
-    (given : TableGiven) × IsTableOf o.properties o.mode o.notation text given
+    (given : TableGiven) × IsTableOf o text given
     × Does (mode_job o given) start now old new result
 
 -- and the last message, if it is stopped, is written
 abbrev pub Runs : Settings → (text : List ℕ) → (start now : Reading) → (old new : Held) → Status → Type 0
 Runs o text start now old new status =
-    (given : TableGiven) × IsTableOf o.properties o.mode o.notation text given
+    (given : TableGiven) × IsTableOf o text given
     × Ends (mode_job o given) start now old new status
+
+-- the mode that searches: among registered labels, if there are some
+abbrev pub search_mode : Option (List (List ℕ)) → Mode
+search_mode None = Jump
+search_mode (Some registered) = Variants
 
 -- a mode that works by a table
 abbrev pub mode_of : TableMode → Mode

@@ -4,7 +4,7 @@ ghost use Rattle.std.specs.Prelude.{◌≡◌, ◌≤◌, ◌↔◌, ℕ, length
 ghost use Rattle.std.specs.Int.{bit_at};
 ghost use Rattle.variant_list.specs.Parts.{Part};
 ghost use Rattle.variant_list.specs.Spelling.{PartSpells};
-ghost use Rattle.idn2_answers.specs.Answers.{IsSubTable, is_allocatable};
+ghost use Rattle.idn2_answers.specs.Listings.{IsSubTable, is_allocatable};
 ghost use Rattle.idn2_cli.specs.inner.Dispositions.{IsOfSubTable};
 
 use reading_kinds::{Readings, Words};

@@ -10,7 +10,7 @@ ghost use Rattle.idn_label.specs.Memory.{NeedsNoMemory};
 ghost use Rattle.variant_list.specs.Beginnings.{shortest_hopeless};
 ghost use Rattle.variant_list.specs.Sharing.{IsKeptOf};
 ghost use Rattle.variant_list.specs.Verdicts.{IsVerdict};
-ghost use Rattle.idn2_options.specs.Settings.{IsWithinLimits, keeping};
+ghost use Rattle.idn2_options.specs.Settings.{IsWithinLimits};
 ghost use Rattle.idn2_output.specs.OutputLines.{Output};
 ghost use Rattle.idn2_output.specs.Writing.{Emits, StopsForMemory};
 ghost use Rattle.idn2_answers.specs.Said.{BlockEnd, Listed, disposition_field, variant_line};
@@ -57,9 +57,9 @@ pub(crate) fn write_block<W: Sink, E: Sink>(
     requires new { (v : List ℕ) → KeepsOf v validity }
     ensures written { Emits console.old console.new
         (block_output asked.now (filter_in options.now.properties validity.entry) dispositions.old
-        (keeping None options.now) net.now.spelled) result }
+        options.now net.now.spelled) result }
     ensures begun { StopsForMemory
-        (TestsWithoutMemory (filter_in options.now.properties validity.entry) (keeping None options.now)
+        (TestsWithoutMemory (filter_in options.now.properties validity.entry) options.now
         net.now.spelled)
         console.old console.new result }
 {

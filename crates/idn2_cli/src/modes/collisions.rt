@@ -1,70 +1,198 @@
-//! The block of a label that is kept to registered labels.
+//! The block of a label that is asked among registered ones: those that collide with it.
 
-ghost use Rattle.std.specs.Prelude.{◌≡◌, ◌≤◌, ℕ, List, Some, All, Err, length};
-ghost use Rattle.idn_text.specs.Points.{AreScalarValues};
+ghost use Rattle.std.specs.Prelude.{◌≡◌, ◌≤◌, ◌<◌, ◌++◌, ◌∷◌, [], Err, IfErr, IfOk, IfSome, filter, length};
+ghost use Rattle.idn_class.specs.declared.properties.Properties.{Properties};
+ghost use Rattle.registered_labels.specs.Collisions.{collisions_ahead};
 ghost use Rattle.registered_labels.specs.Registered.{AreRegistered};
-ghost use Rattle.idn2_options.specs.Settings.{IsWithinLimits, keeping};
-ghost use Rattle.idn2_cli.specs.inner.Blocks.{block_output};
-ghost use Rattle.idn2_cli.specs.inner.Ruling.{KeepsOf, filter_in};
+ghost use Rattle.idn2_options.specs.Settings.{IsCount, IsWithinLimits, Settings};
+ghost use Rattle.idn2_answers.specs.Collisions.{IsGood, collision_block};
+ghost use Rattle.idn2_answers.specs.Said.{BlockEnd, regard_columns};
 ghost use Rattle.idn2_output.specs.Writing.{Emits};
+ghost use Rattle.idn2_cli.specs.inner.Asked.{said_to};
+ghost use Rattle.idn2_cli.specs.inner.Decided.{Decides};
+ghost use Rattle.idn2_cli.specs.inner.FoundLabels.{AreWithin, collides_by, collision_line_by, found_block};
+ghost use Rattle.idn2_cli.specs.inner.FoundLabels.{lines_from, lines_to, said_of, stop_at};
+ghost use Rattle.idn2_cli.specs.inner.Searches.{IsNearOf};
 ghost use Rattle.idn2_output.specs.declared.stop.Stop.TheVariants as stop;
 
-use crate::modes::admission::is_valid_by;
-use crate::modes::allocation_test::AllocationTest;
 use crate::modes::asked::Asked;
-use crate::modes::block::{is_reached, write_end, write_stop, write_variant};
+use crate::modes::block::{is_reached, write_end, write_stop};
 use crate::modes::cached_line::CachedLine;
-use crate::modes::dispositions::Dispositions;
+use crate::modes::decided::{Decisions, is_either};
+use crate::modes::search::Near;
+use answer_json::Regards;
+use arrayvec::ArrayVec;
 use idn_label::encode_label;
 use idn_text::{MAX_LINE_LEN, Sink};
-use idn2_options::Options;
-use idn2_output::{Console, Stop};
+use idn2_options::{Form, Options};
+use idn2_output::{Console, Object, Stop, append};
 use registered_labels::{Collisions, RegisteredLabels};
-use std::alloc::Global;
-use valid_labels::ValidityTest;
-use variant_list::Net;
+use std::alloc::{AllocError, Global};
 
-/// Writes the block of a variant graph's label, with those of its variants that are registered. It goes from one of
-/// them to the next and tests no candidate, since what is registered may be.
+/// A registered label that collides with a label, by its number, and what each of the two is to the other.
+#[derive(Clone, Copy, Debug)]
+pub(crate) struct Collision {
+    pub number: usize,
+    pub regards: Regards,
+}
+
+/// Writes the block of a label: the registered labels that collide with it. All of them are found before the first
+/// is written, so that no block breaks off for want of memory.
 pub(crate) fn write_collisions<W: Sink, E: Sink>(
     alloc: Global,
     asked: &Asked<'_>,
     options: &Options,
-    net: &Net,
+    near: Near<'_>,
     registered: &RegisteredLabels<'_>,
-    validity: &mut Option<ValidityTest<'_>>,
-    dispositions: &mut Dispositions<AllocationTest<'_>>,
     console: &mut Console<'_, '_, W, E>,
 ) -> Result<(), Stop>
     requires few { length asked.now.text.now ≤ MAX_LINE_LEN }
     requires limits { IsWithinLimits options.now }
-    requires spelled { All AreScalarValues net.now.spelled }
+    requires near { IsNearOf near.decisions.table.now near.decisions.label.now near }
+    requires good { IsGood options.now near.decisions.table.now near.decisions.label.now }
     requires all { AreRegistered options.now.properties registered.now }
-    requires new { (v : List ℕ) → KeepsOf v validity.old }
-    ensures written { Emits console.old console.new
-        (block_output asked.now (filter_in options.now.properties validity.old) dispositions.old
-        (keeping (Some registered.now) options.now) net.now.spelled) result }
+    ensures written { Emits console.old console.new (lines_to asked.now
+        (collision_block options.now near.entry.decisions.table.now registered.now near.entry.decisions.label.now)) result }
     ensures begun { result ≡ Err stop.Memory → console.new ≡ console.old }
 {
-    // How many there are is more than the count ever is.
-    let total = registered.len();
-    let mut search = Collisions::new(alloc, net, registered, &options.after)?;
-    let mut count = 0;
-    let mut line = CachedLine::new();
-    'collisions: while let Some(shared) = search.advance() {
-        line.keep(shared);
-        let label = search.label();
-        // A label that isn't valid is no variant, even if it is registered.
-        if !is_valid_by(validity, label, shared) {
+    let Near { net, mut decisions } = near;
+    let mut walk = Collisions::new(alloc, &net, registered, &options.after)?;
+    let found = find_collisions(alloc, options.limit, &mut walk, &mut decisions)?;
+    write_found(asked, options.limit, registered, &found, console)
+}
+
+/// The registered labels that collide with the label of the decisions, in label order, up to the limit-th: of those
+/// that a walk comes to.
+fn find_collisions(
+    alloc: Global,
+    limit: Option<u64>,
+    walk: &mut Collisions<'_, '_>,
+    decisions: &mut Decisions<'_>,
+) -> Result<Vec<Collision>, AllocError>
+    requires limit { IfSome limit IsCount }
+    requires decides { Decides decisions.old }
+    requires all { (properties : Properties) × AreRegistered properties walk.old.registered }
+    ensures within { IfOk result (λ found. AreWithin walk.old.registered found.items) }
+    ensures block { IfOk result (λ found. (o : Settings) →
+        IsGood o decisions.old.table.now decisions.old.label.now → AreRegistered o.properties walk.old.registered →
+        found_block limit walk.old.registered found.items ≡
+        lines_from (collision_line_by o decisions.old.table.now decisions.old.label.now) limit 0
+        (filter (collides_by o decisions.old.table.now decisions.old.label.now) (collisions_ahead walk.old))) }
+{
+    let mut found = Vec::new(alloc);
+    'near: while let Some(number) = walk.advance() {
+        let regards = decisions.regards(alloc, walk.label(), true)?;
+        if !is_either(regards) {
             continue;
         }
-        let a_label = encode_label(label);
-        let disposition = dispositions.of_variant(label);
-        write_variant(asked, label, &a_label, disposition, &mut line, console)?;
-        count += 1;
-        if is_reached(options.limit, count) {
-            return write_stop(asked, count, search.label(), &mut line, console);
+        found.push(Collision { number, regards })?;
+        if is_reached(limit, found.len() as u64) {
+            return Ok(found);
         }
     }
-    write_end(asked, count, console)
+    Ok(found)
+}
+
+/// Writes the lines of a block, and its end.
+fn write_found<W: Sink, E: Sink>(
+    asked: &Asked<'_>,
+    limit: Option<u64>,
+    registered: &RegisteredLabels<'_>,
+    found: &[Collision],
+    console: &mut Console<'_, '_, W, E>,
+) -> Result<(), Stop>
+    requires few { length asked.now.text.now ≤ MAX_LINE_LEN }
+    requires all { (properties : Properties) × AreRegistered properties registered.now }
+    requires within { AreWithin registered.now found.now }
+    ensures written { Emits console.old console.new
+        (lines_to asked.now (found_block limit registered.now found.now)) result }
+    ensures why { IfErr result (λ why. why ≡ stop.Output) }
+{
+    'lines: for collision in found {
+        write_collision(asked, registered, collision, console)?;
+    }
+    write_end_of(asked, limit, registered, found, console)
+}
+
+/// Writes a registered label, its A-label, and what each of it and the label asked about is to the other.
+fn write_collision<W: Sink, E: Sink>(
+    asked: &Asked<'_>,
+    registered: &RegisteredLabels<'_>,
+    collision: &Collision,
+    console: &mut Console<'_, '_, W, E>,
+) -> Result<(), Stop>
+    requires all { (properties : Properties) × AreRegistered properties registered.now }
+    requires within { collision.now.number < length registered.now }
+    ensures written { Emits console.old console.new
+        (said_to asked.now (said_of registered.now collision.now) ∷ []) result }
+    ensures why { IfErr result (λ why. why ≡ stop.Output) }
+{
+    let mut points = ArrayVec::new();
+    registered.decode(collision.number, &mut points);
+    let a_label = encode_label(points.as_slice());
+    let u_label = registered.line(collision.number);
+    let a_label = a_label.as_str().as_bytes();
+    let regards = collision.regards;
+    match asked.form {
+        Form::Plain => {
+            let line = collision_line(u_label, a_label, regards);
+            console.output(line.as_slice())
+        }
+        Form::Json => console.object(&Object::Collision(asked.number, u_label, a_label, regards)),
+    }
+}
+
+/// The line of a registered label, whose UTF-8 and A-label are given.
+fn collision_line(u_label: &[u8], a_label: &[u8], regards: Regards) -> ArrayVec<u8, 352>
+    requires u_label { length u_label.now ≤ 252 }
+    requires a_label { length a_label.now ≤ 63 }
+    ensures { result.items ≡ u_label.now ++ 9 ∷ (a_label.now ++ regard_columns regards) ++ 10 ∷ [] }
+{
+    let mut line = ArrayVec::new();
+    append(&mut line, u_label);
+    append(&mut line, b"\t");
+    append(&mut line, a_label);
+    append(&mut line, columns_of(regards).as_slice());
+    append(&mut line, b"\n");
+    line
+}
+
+/// What a label is to another one, and back, each after a tab.
+pub(crate) fn columns_of(regards: Regards) -> ArrayVec<u8, 32>
+    ensures columns { result.items ≡ regard_columns regards }
+    ensures short { length result.items ≤ 24 }
+{
+    let mut columns = ArrayVec::new();
+    append(&mut columns, b"\t");
+    append(&mut columns, regards.there.text().as_bytes());
+    append(&mut columns, b"\t");
+    append(&mut columns, regards.back.text().as_bytes());
+    columns
+}
+
+/// Writes the end of a block: at the limit that it stops at the last label, and else that there is no other.
+fn write_end_of<W: Sink, E: Sink>(
+    asked: &Asked<'_>,
+    limit: Option<u64>,
+    registered: &RegisteredLabels<'_>,
+    found: &[Collision],
+    console: &mut Console<'_, '_, W, E>,
+) -> Result<(), Stop>
+    requires few { length asked.now.text.now ≤ MAX_LINE_LEN }
+    requires all { (properties : Properties) × AreRegistered properties registered.now }
+    requires within { AreWithin registered.now found.now }
+    ensures written { Emits console.old console.new
+        (said_to asked.now (BlockEnd (length found.now) (stop_at limit registered.now found.now)) ∷ []) result }
+    ensures why { IfErr result (λ why. why ≡ stop.Output) }
+{
+    let count = found.len() as u64;
+    match found.last() {
+        Some(last) if is_reached(limit, count) => {
+            let mut points = ArrayVec::<u32, MAX_LINE_LEN>::new();
+            registered.decode(last.number, &mut points);
+            let mut line = CachedLine::new();
+            write_stop(asked, count, points.as_slice(), &mut line, console)
+        }
+        _ => write_end(asked, count, console),
+    }
 }

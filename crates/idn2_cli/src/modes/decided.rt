@@ -8,8 +8,8 @@ ghost use Rattle.valid_labels.specs.Testing.{IsAdmission};
 ghost use Rattle.valid_labels.specs.Validity.{IsSound};
 ghost use Rattle.variant_list.specs.Arising.{Arises};
 ghost use Rattle.idn2_options.specs.Settings.{Settings};
-ghost use Rattle.idn2_answers.specs.Answers.{is_registrable};
-ghost use Rattle.idn2_answers.specs.Collisions.{IsGood, barred_in, regard_of, regards_of};
+ghost use Rattle.idn2_answers.specs.Listings.{is_registrable};
+ghost use Rattle.idn2_answers.specs.Collisions.{IsGood, barred_in, is_either, is_something, regard_of, regards_of};
 ghost use Rattle.idn2_cli.specs.inner.Decided.{Decides, IsOfPair, IsStanding};
 ghost use Rattle.idn2_cli.specs.inner.Dispositions.{AreOfTable};
 ghost use Rattle.idn2_cli.specs.inner.Ruling.{ruling_in, ruling_of};
@@ -175,6 +175,20 @@ impl<'l> Decisions<'l> {
             _ => Ok(Regard::Blocked),
         }
     }
+}
+
+/// Whether one of two labels is something to the other.
+pub(crate) fn is_either(regards: Regards) -> bool
+    ensures { result ≡ is_either regards }
+{
+    is_something(regards.there) || is_something(regards.back)
+}
+
+/// Whether a label is something to another one.
+fn is_something(regard: Regard) -> bool
+    ensures { result ≡ is_something regard }
+{
+    !matches!(regard, Regard::NoVariant)
 }
 
 /// Whether a label arises from another one, both of at most 63 code points.

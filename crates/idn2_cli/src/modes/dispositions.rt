@@ -1,7 +1,7 @@
 //! The dispositions of variants: which may be allocated, and which are blocked (RFC 7940 section 7.3).
 
 ghost use Rattle.std.specs.Prelude.{◌≡◌, ◌≤◌, length, IfOk, Some};
-ghost use Rattle.idn2_answers.specs.Answers.{allocation};
+ghost use Rattle.idn2_answers.specs.Listings.{allocation};
 ghost use Rattle.idn2_cli.specs.inner.Dispositions.{AreOfTable, AreOfLabel, field_by};
 
 use crate::modes::allocation_test::AllocationTest;

@@ -1,52 +1,50 @@
-//! The least label that a label spells from a text on. A database that has its labels in byte order finds by it which
-//! of them are variants of a label.
+//! The least label from a text on that may collide with a label, and what each of the two is to the other. A database
+//! that has its labels in byte order finds by it which of them collide with a label.
 
-ghost use Rattle.std.specs.Prelude.{◌≡◌, ◌≤◌, ◌∷◌, [], true, length, slice_get, All, IfErr, Err, None, Some};
+ghost use Rattle.std.specs.Prelude.{◌≡◌, ◌≤◌, ◌↔◌, ◌∷◌, [], true, length, IfErr, IfOk, Err, IsTrue};
+ghost use Rattle.std.specs.Prelude.{None, Some};
 ghost use Rattle.idn_text.specs.Points.{AreScalarValues};
 ghost use Rattle.idn_label.specs.FirstFault.{IsRegistrable};
-ghost use Rattle.valid_labels.specs.Validity.{IsSound};
-ghost use Rattle.variant_list.specs.Jumps.{candidates_among_from};
-ghost use Rattle.idn2_answers.specs.Answers.{jump_answer};
+ghost use Rattle.valid_labels.specs.Validity.{IsAdmitted, IsSound};
+ghost use Rattle.idn2_answers.specs.Answers.{jump_answer, least_near};
 ghost use Rattle.idn2_answers.specs.Said.{Least};
 ghost use Rattle.idn2_refusals.specs.Requests.{requested_label};
 ghost use Rattle.idn2_output.specs.Writing.{Emits};
 ghost use Rattle.idn2_cli.specs.Memory.{IsRefusedWithoutMemory};
 ghost use Rattle.idn2_cli.specs.inner.Asked.{reply_to, said_to};
 ghost use Rattle.idn2_cli.specs.inner.LineAnswers.{KeepsIfRefused, request_answer};
-ghost use Rattle.idn2_cli.specs.inner.Ruling.{ruling_of};
+ghost use Rattle.idn2_cli.specs.inner.Searches.{IsReady, IsNearOf};
 ghost use Rattle.idn2_cli.specs.inner.ServedLines.{IsServedAs, result_of};
 ghost use Rattle.idn2_cli.specs.declared.modes.answering.Served.TheVariants as served;
 ghost use Rattle.idn2_output.specs.declared.stop.Stop.TheVariants as stop;
 
-use crate::modes::admission::{admitted_net, validity_test_by};
 use crate::modes::answering::{Served, answered, refused};
 use crate::modes::asked::Asked;
 use crate::modes::cached_line::CachedLine;
 use crate::modes::code_points::PointAnswering;
-use answer_json::Input;
+use crate::modes::collisions::columns_of;
+use crate::modes::search::{Near, Search};
+use answer_json::{Input, Regards};
 use idn_class::Properties;
 use idn_label::test_label_by;
-use idn_text::{MAX_LINE_LEN, Sink};
+use idn_text::{MAX_LINE_LEN, Refusal, Sink};
 use idn2_options::Form;
 use idn2_output::{Console, Object, Stop};
 use idn2_refusals::{label_of_request, parts_of};
-use std::alloc::Global;
-use valid_labels::Segments;
-use variant_list::{Cursor, Net};
-use variant_table::Table;
+use std::alloc::{AllocError, Global};
+use variant_list::Cursor;
 
 /// Answers requests by a table: each is a label, or a label, a tab and a text.
 #[derive(Drop)]
-pub(crate) struct Jumps<'t, 'p> {
-    pub table: &'t Table,
-    pub ruling: &'p Option<Segments<'t>>,
+pub(crate) struct Jumps<'t> {
+    pub search: &'t Search<'t>,
     pub properties: Properties,
 }
 
-impl<'t, 'p> PointAnswering for Jumps<'t, 'p> {
-    ghost answer_of = { λ mode line. jump_answer mode.properties mode.table.now line };
+impl<'t> PointAnswering for Jumps<'t> {
+    ghost answer_of = { λ mode line. jump_answer mode.properties mode.search.now.table.now line };
 
-    ghost is_ready = { λ mode. IsSound mode.table.now × (mode.ruling.now ≡ ruling_of mode.table.now) };
+    ghost is_ready = { λ mode. IsReady mode.search.now };
 
     ghost reads_table = { λ _. true };
 
@@ -66,79 +64,102 @@ impl<'t, 'p> PointAnswering for Jumps<'t, 'p> {
     }
 }
 
-/// Answers a request whose label may be registered, by the least label from the text on that it spells.
+/// Answers a request whose label may be registered, by the least label from the text on that is near it.
 fn answer_least<W: Sink, E: Sink>(
     alloc: Global,
-    mode: &Jumps<'_, '_>,
+    mode: &Jumps<'_>,
     asked: &Asked<'_>,
     points: &[u32],
     console: &mut Console<'_, '_, W, E>,
 ) -> Served
-    requires sound { IsSound mode.now.table.now }
-    requires ruling { mode.now.ruling.now ≡ ruling_of mode.now.table.now }
+    requires ready { IsReady mode.now.search.now }
     requires few { length asked.now.text.now ≤ MAX_LINE_LEN }
     requires scalar_values { AreScalarValues points.now }
     requires registrable { IsRegistrable mode.now.properties (requested_label points.now) }
-    ensures written { Emits console.old console.new
-        (reply_to asked.now (request_answer mode.now.table.now points.now)) (result_of result) }
-    ensures refused { IsServedAs (request_answer mode.now.table.now points.now) result }
+    ensures written { Emits console.old console.new (reply_to asked.now
+        (request_answer mode.now.properties mode.now.search.now.table.now points.now)) (result_of result) }
+    ensures refused { IsServedAs
+        (request_answer mode.now.properties mode.now.search.now.table.now points.now) result }
     ensures kept { KeepsIfRefused console.old console.new (result_of result) }
     ensures begun { result ≡ served.Stopped stop.Memory → console.new ≡ console.old }
 {
     let (label, text) = parts_of(points);
-    let Ok(mut validity) = validity_test_by(alloc, mode.ruling) else {
-        return Served::Stopped(Stop::Memory);
-    };
-    match admitted_net(alloc, mode.table, &mut validity, label) {
-        Ok(net) => answered(write_least(alloc, asked, &net, text, console)),
+    match mode.search.near(alloc, label) {
+        Ok(near) => answered(write_least(alloc, mode, asked, near, text, console)),
         Err(refusal) => refused(refusal),
     }
 }
 
-/// Answers by the least candidate of a variant graph that is no less than a text, or by none.
+/// Answers by the least near label that is no less than a text, or by none.
 fn write_least<W: Sink, E: Sink>(
     alloc: Global,
+    mode: &Jumps<'_>,
     asked: &Asked<'_>,
-    net: &Net,
+    near: Near<'_>,
     text: &[u32],
     console: &mut Console<'_, '_, W, E>,
 ) -> Result<(), Stop>
     requires few { length asked.now.text.now ≤ MAX_LINE_LEN }
-    requires spelled { All AreScalarValues net.now.spelled }
+    requires near { IsNearOf near.decisions.table.now near.decisions.label.now near }
+    requires sound { IsSound near.decisions.table.now }
+    requires registrable { IsRegistrable mode.now.properties near.decisions.label.now }
+    requires admitted { IsAdmitted near.decisions.table.now near.decisions.label.now }
     ensures begun { result ≡ Err stop.Memory → console.new ≡ console.old }
-    ensures written { Emits console.old console.new
-        (said_to asked.now (Least (slice_get (candidates_among_from net.now.spelled text.now) 0)) ∷ []) result }
+    ensures written { Emits console.old console.new (said_to asked.now (Least
+        (least_near mode.now.properties near.entry.decisions.table.now near.entry.decisions.label.now text.now)) ∷ [])
+        result }
 {
-    let mut cursor = Cursor::new(alloc, net, text)?;
+    let Near { net, mut decisions } = near;
+    let mut cursor = Cursor::new(alloc, &net, text)?;
     let Some(_shared) = cursor.jump(text) else {
         return write_none(asked, console);
     };
-    write_label(asked, cursor.last(), console)
+    let label = cursor.last();
+    let may_be_registered = may_be_registered(alloc, label, mode.properties)?;
+    let regards = decisions.regards(alloc, label, may_be_registered)?;
+    write_label(asked, label, regards, console)
 }
 
-/// Writes a label of at most 63 code points.
+/// Whether a label may be registered.
+fn may_be_registered(
+    alloc: Global,
+    label: &[u32],
+    properties: Properties,
+) -> Result<bool, AllocError>
+    ensures { IfOk result (λ told. IsTrue told ↔ IsRegistrable properties label.now) }
+{
+    match test_label_by(alloc, label, properties) {
+        Ok(_) => Ok(true),
+        Err(Refusal::Memory) => Err(AllocError),
+        Err(_) => Ok(false),
+    }
+}
+
+/// Writes a label of at most 63 code points, and what each of it and the label asked about is to the other.
 fn write_label<W: Sink, E: Sink>(
     asked: &Asked<'_>,
     label: &[u32],
+    regards: Regards,
     console: &mut Console<'_, '_, W, E>,
 ) -> Result<(), Stop>
     requires few { length asked.now.text.now ≤ MAX_LINE_LEN }
     requires short { length label.now ≤ 63 }
     requires scalar_values { AreScalarValues label.now }
     ensures written { Emits console.old console.new
-        (said_to asked.now (Least (Some label.now)) ∷ []) result }
+        (said_to asked.now (Least (Some (label.now, regards))) ∷ []) result }
     ensures why { IfErr result (λ why. why ≡ stop.Output) }
 {
     let mut line = CachedLine::new();
     line.begin(label);
     match asked.form {
         Form::Plain => {
+            line.append(columns_of(regards).as_slice());
             line.append(b"\n");
             console.output(line.as_slice())
         }
         Form::Json => {
             let input = Input::of(asked.text);
-            console.object(&Object::Least(asked.number, input, Some(line.as_slice())))
+            console.object(&Object::Least(asked.number, input, line.as_slice(), regards))
         }
     }
 }
@@ -157,7 +178,7 @@ fn write_none<W: Sink, E: Sink>(
         Form::Plain => console.output(b"#end\n"),
         Form::Json => {
             let input = Input::of(asked.text);
-            console.object(&Object::Least(asked.number, input, None))
+            console.object(&Object::NoLeast(asked.number, input))
         }
     }
 }

@@ -4,7 +4,7 @@ ghost use Rattle.std.specs.Prelude.{◌≡◌, ◌≤◌, ◌↔◌, ℕ, List, 
 ghost use Rattle.variant_table.specs.Entries.{TableValue};
 ghost use Rattle.variant_table.specs.WellFormed.{IsWellFormed};
 ghost use Rattle.variant_list.specs.Spelling.{Spells};
-ghost use Rattle.idn2_answers.specs.Answers.{disposition};
+ghost use Rattle.idn2_answers.specs.Listings.{disposition};
 ghost use Rattle.idn2_answers.specs.Collisions.{regard_by};
 ghost use Rattle.idn2_cli.specs.inner.Decided.{IsListingOf};
 ghost use Rattle.idn2_cli.specs.inner.Dispositions.{AreOfTable};

@@ -1,26 +1,30 @@
 //! A whole run.
 
-ghost use Rattle.std.specs.Prelude.{◌≡◌, ℕ, List, IfSome};
+ghost use Rattle.std.specs.Prelude.{◌≡◌, ℕ, List, Some, None, IfSome};
 ghost use Rattle.std.specs.Option.{option_copied};
 ghost use Rattle.idn_text.specs.Reading.{IsUnread};
 ghost use Rattle.idn_label.specs.FirstFault.{IsRegistrable};
 ghost use Rattle.registered_labels.specs.Registered.{AreRegistered};
 ghost use Rattle.valid_labels.specs.Validity.{IsSound};
 ghost use Rattle.variant_table.specs.Entries.{TableValue};
+ghost use Rattle.variant_table.specs.Texts.{IsTextOf};
 ghost use Rattle.idn2_options.specs.Settings.{IsWithinLimits, keeping};
 ghost use Rattle.idn2_answers.specs.Answers.{jump_answer, variants_answer, IsJumpAnswer, IsListing};
-ghost use Rattle.idn2_answers.specs.Transcript.{TableGiven, IsCheck, IsReadAs, IsTableOf, check_findings};
+ghost use Rattle.idn2_answers.specs.Transcript.{TableGiven, IsCheck, IsReadAs, IsTableOf};
+ghost use Rattle.idn2_answers.specs.Transcript.{check_findings, last_line};
 ghost use Rattle.idn2_refusals.specs.Requests.{requested_label};
 ghost use Rattle.idn2_refusals.specs.Reports.{closing_status};
 ghost use Rattle.idn2_output.specs.Writing.{held, refusal_of};
 ghost use Rattle.idn2_cli.specs.Ends.{Does, Ends, Closes, mode_job};
 ghost use Rattle.idn2_cli.specs.Headline.{PrintsListings};
-ghost use Rattle.idn2_cli.specs.inner.ServedModes.{Runs, Serves, mode_of};
+ghost use Rattle.idn2_cli.specs.inner.Searches.{IsReady};
+ghost use Rattle.idn2_cli.specs.inner.ServedModes.{Runs, Serves, mode_of, search_mode};
 ghost use Rattle.idn2_options.specs.declared.command_line.mode.Mode.TheVariants as modes;
 
 use crate::modes::code_points::ByPoints;
 use crate::modes::{
-    Decode, Dispositions, Jumps, Lookup, Register, Variants, check_table, ruling_of_table,
+    Among, Decode, DecodeOld, Dispositions, Jumps, Lookup, Register, Search, Variants, check_table,
+    ruling_of_table,
 };
 use crate::session::lines::serve_lines;
 use crate::settings::RunSettings;
@@ -28,9 +32,10 @@ use answer_json::MAX_OBJECT_LEN;
 use idn_text::{Lines, Sink, Source};
 use idn2_options::{Mode, Options};
 use idn2_output::{Console, Status, Stop};
-use idn2_refusals::{Explaining, refuse_table, report};
+use idn2_refusals::{Explaining, refuse_search, refuse_table, report};
 use registered_labels::RegisteredLabels;
 use std::alloc::Global;
+use variant_list::{Reversed, ReversedFault};
 use variant_table::Table;
 
 /// Runs a mode over its input, of which no line was read yet. Where nothing fails, the output lines of the transcript
@@ -47,13 +52,12 @@ pub fn run<R: Source, W: Sink, E: Sink>(
 ) -> Status
     requires limits { IsWithinLimits options.now }
     requires unread { IsUnread input.old }
-    ensures ends { (given : TableGiven)
-        × IsTableOf options.now.properties options.now.mode options.now.notation table.now given
+    ensures ends { (given : TableGiven) × IsTableOf options.now table.now given
         × Ends (mode_job options.now given) input.old input.new
         (held (W.state out.old) (E.state err.old)) (held (W.state out.new) (E.state err.new)) result }
     // The theorem of a listing: these bytes of this output are the lines of these labels.
     ensures headline { (given : TableValue) → options.now.mode ≡ modes.Variants →
-        IsReadAs options.now.properties options.now.notation table.now (Ok given) →
+        IsTableOf options.now table.now (Ok given) →
         PrintsListings options.now given input.old input.new
         (W.state out.old).contents (W.state out.new).contents result }
     // What the transcript has for a label that may be registered, for a request, and for the check of a table.
@@ -64,7 +68,7 @@ pub fn run<R: Source, W: Sink, E: Sink>(
     ensures jump { (given : TableValue) (request : List ℕ) →
         IsReadAs options.now.properties options.now.notation table.now (Ok given) →
         IsRegistrable options.now.properties (requested_label request) →
-        IsJumpAnswer given request (jump_answer options.now.properties given request) }
+        IsJumpAnswer options.now given request (jump_answer options.now.properties given request) }
     ensures check { (given : TableValue) → IsReadAs options.now.properties options.now.notation table.now (Ok given) →
         IsCheck given.entries (check_findings given.entries) }
 {
@@ -88,11 +92,11 @@ pub fn run_among<R: Source, W: Sink, E: Sink>(
     requires registered { IfSome (option_copied registered) (AreRegistered options.now.properties) }
     requires unread { IsUnread input.old }
     ensures ends { (given : TableGiven)
-        × IsTableOf options.now.properties options.now.mode options.now.notation table.now given
+        × IsTableOf (keeping (option_copied registered.entry) options.now) table.now given
         × Ends (mode_job (keeping (option_copied registered.entry) options.now) given) input.old input.new
         (held (W.state out.old) (E.state err.old)) (held (W.state out.new) (E.state err.new)) result }
     ensures headline { (given : TableValue) → options.now.mode ≡ modes.Variants →
-        IsReadAs options.now.properties options.now.notation table.now (Ok given) →
+        IsTableOf (keeping (option_copied registered.entry) options.now) table.now (Ok given) →
         PrintsListings (keeping (option_copied registered.entry) options.now) given input.old input.new
         (W.state out.old).contents (W.state out.new).contents result }
     ensures listing { (given : TableValue) (label : List ℕ) →
@@ -103,7 +107,7 @@ pub fn run_among<R: Source, W: Sink, E: Sink>(
     ensures jump { (given : TableValue) (request : List ℕ) →
         IsReadAs options.now.properties options.now.notation table.now (Ok given) →
         IsRegistrable options.now.properties (requested_label request) →
-        IsJumpAnswer given request (jump_answer options.now.properties given request) }
+        IsJumpAnswer options.now given request (jump_answer options.now.properties given request) }
     ensures check { (given : TableValue) → IsReadAs options.now.properties options.now.notation table.now (Ok given) →
         IsCheck given.entries (check_findings given.entries) }
 {
@@ -172,6 +176,13 @@ fn serve_mode<R: Source, W: Sink, E: Sink>(
             };
             serve_lines(alloc, options.form, &explaining, &mode, input, console)
         }
+        Mode::DecodeOld => {
+            let explaining = Explaining::Label(options.properties).if_wanted(wanted);
+            let mode = DecodeOld {
+                properties: options.properties,
+            };
+            serve_lines(alloc, options.form, &explaining, &mode, input, console)
+        }
         Mode::Variants => {
             serve_by_table(alloc, settings, TableMode::Variants, table, input, console)
         }
@@ -219,8 +230,11 @@ fn serve_by_table<R: Source, W: Sink, E: Sink>(
         }
     };
     match mode {
-        TableMode::Variants => serve_variants(alloc, settings, &table, input, console),
-        TableMode::Jump => serve_jumps(alloc, settings, &table, input, console),
+        TableMode::Variants => match settings.registered {
+            None => serve_variants(alloc, settings, &table, input, console),
+            among => serve_search(alloc, settings, among, text, &table, input, console),
+        },
+        TableMode::Jump => serve_search(alloc, settings, None, text, &table, input, console),
         TableMode::CheckTable => check_table(alloc, options.form, &table, console),
     }
 }
@@ -234,6 +248,7 @@ fn serve_variants<R: Source, W: Sink, E: Sink>(
     console: &mut Console<'_, '_, W, E>,
 ) -> Result<Status, Stop>
     requires mode { settings.now.mode ≡ modes.Variants }
+    requires whole { settings.now.registered ≡ None }
     requires sound { IsSound table.now }
     requires unread { IsUnread input.old }
     ensures { Does (mode_job settings.now (Ok table.now)) input.old input.new console.old console.new result }
@@ -245,36 +260,109 @@ fn serve_variants<R: Source, W: Sink, E: Sink>(
         table,
         ruling: &ruling,
         dispositions: &dispositions,
-        settings,
+        options,
     };
     let explaining = Explaining::Table(options.properties, table).if_wanted(options.tells_causes());
     let by_points = ByPoints { mode: &mode };
     serve_lines(alloc, options.form, &explaining, &by_points, input, console)
 }
 
-/// Answers the request of each line by a table.
-fn serve_jumps<R: Source, W: Sink, E: Sink>(
+/// Searches by a table what each line asks, among registered labels, if there are some; unless a sequence of the table
+/// is a variant of too many sources.
+fn serve_search<R: Source, W: Sink, E: Sink>(
     alloc: Global,
     settings: &RunSettings<'_, '_>,
+    among: Option<&RegisteredLabels<'_>>,
+    text: &[u8],
     table: &Table,
     input: &mut Lines<R>,
     console: &mut Console<'_, '_, W, E>,
 ) -> Result<Status, Stop>
-    requires mode { settings.now.mode ≡ modes.Jump }
-    requires sound { IsSound table.now }
+    requires mode { settings.now.mode ≡ search_mode (option_copied among) }
+    requires among { IfSome (option_copied among) (λ labels. settings.now.registered ≡ Some labels) }
+    requires spelled { IsTextOf settings.now.properties settings.now.notation text.now table.now }
     requires unread { IsUnread input.old }
-    ensures { Does (mode_job settings.now (Ok table.now)) input.old input.new console.old console.new result }
+    ensures { Serves settings.now text.now input.old input.new console.old console.new result }
 {
     let options = settings.options;
+    let reversed = match Reversed::of_table(alloc, table) {
+        Ok(reversed) => reversed,
+        Err(ReversedFault::Memory) => return Err(Stop::Memory),
+        Err(ReversedFault::TooManySources) => {
+            return refuse_search(options.form, last_line(text), console);
+        }
+    };
     let ruling = ruling_of_table(table);
-    let mode = Jumps {
+    let dispositions = Dispositions::of_table(table);
+    let search = Search {
         table,
         ruling: &ruling,
+        dispositions: &dispositions,
+        reversed: &reversed,
+    };
+    match among {
+        Some(registered) => serve_among(alloc, settings, registered, &search, input, console),
+        None => serve_jumps(alloc, settings, &search, input, console),
+    }
+}
+
+/// The line of the last byte of a text, from 1.
+fn last_line(text: &[u8]) -> u64
+    ensures { result ≡ last_line text.now }
+{
+    let before = &text[..text.len().saturating_sub(1)];
+    before.iter().filter(|byte| **byte == b'\n').count() as u64 + 1
+}
+
+/// Answers the label of each line by the registered labels that collide with it.
+fn serve_among<R: Source, W: Sink, E: Sink>(
+    alloc: Global,
+    settings: &RunSettings<'_, '_>,
+    registered: &RegisteredLabels<'_>,
+    search: &Search<'_>,
+    input: &mut Lines<R>,
+    console: &mut Console<'_, '_, W, E>,
+) -> Result<Status, Stop>
+    requires mode { settings.now.mode ≡ modes.Variants }
+    requires among { settings.now.registered ≡ Some registered.now }
+    requires ready { IsReady search.now }
+    requires unread { IsUnread input.old }
+    ensures { Does (mode_job settings.now (Ok search.now.table.now)) input.old input.new
+        console.old console.new result }
+{
+    let options = settings.options;
+    let mode = Among {
+        search,
+        options,
+        registered,
+    };
+    let explaining =
+        Explaining::Table(options.properties, search.table).if_wanted(options.tells_causes());
+    let by_points = ByPoints { mode: &mode };
+    serve_lines(alloc, options.form, &explaining, &by_points, input, console)
+}
+
+/// Answers the request of each line by the least near label.
+fn serve_jumps<R: Source, W: Sink, E: Sink>(
+    alloc: Global,
+    settings: &RunSettings<'_, '_>,
+    search: &Search<'_>,
+    input: &mut Lines<R>,
+    console: &mut Console<'_, '_, W, E>,
+) -> Result<Status, Stop>
+    requires mode { settings.now.mode ≡ modes.Jump }
+    requires ready { IsReady search.now }
+    requires unread { IsUnread input.old }
+    ensures { Does (mode_job settings.now (Ok search.now.table.now)) input.old input.new
+        console.old console.new result }
+{
+    let options = settings.options;
+    let mode = Jumps {
+        search,
         properties: options.properties,
     };
-    let explaining = Explaining::Request(options.properties, table).if_wanted(
-        options.tells_causes(),
-    );
+    let explaining =
+        Explaining::Request(options.properties, search.table).if_wanted(options.tells_causes());
     let by_points = ByPoints { mode: &mode };
     serve_lines(alloc, options.form, &explaining, &by_points, input, console)
 }

@@ -24,6 +24,8 @@ pub(crate) const AMONG: &str = "among";
 
 pub(crate) const JUMP: &str = "jump";
 
+pub(crate) const OLD: &str = "old";
+
 pub(crate) const TR46NT: &str = "tr46nt";
 
 pub(crate) const STD3: &str = "usestd3asciirules";

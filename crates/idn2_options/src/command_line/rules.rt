@@ -3,12 +3,12 @@ ghost use Rattle.std.specs.Prelude.{◌≡◌, count_by, option_map};
 ghost use Rattle.clap.specs.Words.{found_of, rows_of};
 ghost use Rattle.idn2_options.specs.Causes.{broken_rule, listing_option, misfit_of, misfit_of_among, wrong_number};
 ghost use Rattle.idn2_options.specs.Words.{among_of, has_listing_option, listing_options_fit, checked_file, checks};
-ghost use Rattle.idn2_options.specs.Words.{checks_alone, file_of, has_counts, has_short_start, is_allowed};
+ghost use Rattle.idn2_options.specs.Words.{checks_alone, decodes_old, file_of, has_counts, has_short_start, is_allowed};
 ghost use Rattle.idn2_options.specs.Words.{is_bound_if_given, is_count_if_given, jumps_by_table, listing_file, lists};
 ghost use Rattle.idn2_options.specs.Words.{names_one_mode, notation_of, start_of, suits_among};
 
 use crate::command_line::arguments::{
-    AFTER, AMONG, CHECK_RULESET, CHECK_TABLE, DECODE, JUMP, LIMIT, LOOKUP, REGISTER, RULESET,
+    AFTER, AMONG, CHECK_RULESET, CHECK_TABLE, DECODE, JUMP, LIMIT, LOOKUP, OLD, REGISTER, RULESET,
     STEPS, TRIES, VARIANTS, has_flag, has_strings, has_value, value_of,
 };
 use crate::command_line::broken_rule::{BrokenRule, ListingOption};
@@ -24,6 +24,7 @@ pub(crate) fn is_allowed(matches: &ArgMatches<'_>) -> bool
     names_one_mode(matches)
         && listing_options_fit(matches)
         && jumps_by_table(matches)
+        && decodes_old(matches)
         && suits_among(matches)
         && has_counts(matches)
         && has_short_start(matches)
@@ -42,6 +43,9 @@ pub(crate) fn broken_rule(matches: &ArgMatches<'_>) -> Option<BrokenRule>
     }
     if !jumps_by_table(matches) {
         return Some(BrokenRule::JumpWithoutTable);
+    }
+    if !decodes_old(matches) {
+        return Some(BrokenRule::OldWithoutDecode);
     }
     if !suits_among(matches) {
         return Some(misfit_of_among(matches));
@@ -169,6 +173,13 @@ fn jumps_by_table(matches: &ArgMatches<'_>) -> bool
     ensures { result ≡ jumps_by_table (rows_of (found_of matches.now)) }
 {
     lists(matches) || !has_flag(matches, JUMP)
+}
+
+/// Whether `--old` is given only with `--decode`.
+fn decodes_old(matches: &ArgMatches<'_>) -> bool
+    ensures { result ≡ decodes_old (rows_of (found_of matches.now)) }
+{
+    has_flag(matches, DECODE) || !has_flag(matches, OLD)
 }
 
 /// Whether what stands with `--among` suits it: neither `--tries` nor `--steps`, and not the same file twice.

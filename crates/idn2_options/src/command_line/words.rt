@@ -8,7 +8,7 @@ ghost use Rattle.idn2_options.specs.Words.{IsAnswer, IsUsage, count_of, form_of,
 ghost use Rattle.idn2_options.specs.Words.{properties_of, settings_of, start_of, steps_of, strings_of, value_of};
 
 use crate::command_line::arguments::{
-    AMONG, DECODE, EXPLAIN, JSON, JUMP, LIMIT, REGISTER, STANDARD, STD3, STEPS, STRINGS, TRIES,
+    AMONG, DECODE, EXPLAIN, JSON, JUMP, LIMIT, OLD, REGISTER, STANDARD, STD3, STEPS, STRINGS, TRIES,
     has_flag, value_of,
 };
 use crate::command_line::command;
@@ -108,7 +108,11 @@ fn mode_of(matches: &ArgMatches<'_>) -> Mode
     if has_flag(matches, REGISTER) {
         Mode::Register
     } else if has_flag(matches, DECODE) {
-        Mode::Decode
+        if has_flag(matches, OLD) {
+            Mode::DecodeOld
+        } else {
+            Mode::Decode
+        }
     } else if lists(matches) {
         if has_flag(matches, JUMP) {
             Mode::Jump

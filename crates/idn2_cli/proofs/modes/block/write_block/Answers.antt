@@ -17,7 +17,7 @@ use Rattle.idn_label.specs.Memory.{NeedsNoMemory}
 use Rattle.idn2_cli.specs.declared.modes.dispositions.Dispositions.{Dispositions}
 use Rattle.idn2_options.specs.Settings.{Settings}
 use Rattle.answer_json.specs.declared.block.Disposition.{Disposition}
-use Rattle.idn2_answers.specs.Answers.{Filter}
+use Rattle.idn2_answers.specs.Listings.{Filter}
 use Rattle.idn2_cli.specs.inner.Ruling.{filter_by, ruling_in}
 use Rattle.idn2_answers.specs.Said.{Said, Listed, said_text}
 use Rattle.idn2_cli.specs.inner.Asked.{asked_line}

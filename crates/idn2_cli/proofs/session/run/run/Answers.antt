@@ -1,27 +1,32 @@
-use Rattle.std.proofs.Common.{ap, sym, ◌≡◌, ◌∙◌, None}
+use Rattle.std.proofs.Common.{ap, sym, subst, ◌≡◌, ◌∙◌, None}
 use Rattle.idn2_options.specs.Settings.{Settings, keeping}
 use Rattle.idn2_cli.specs.Ends.{mode_job}
 use Rattle.idn2_answers.proofs.AdmittedLabels.{sound_table}
-use Rattle.idn2_cli.proofs.BlockMembers.{variants_answer-IsListing}
+use Rattle.idn2_answers.specs.Transcript.{IsTableOf}
+use Rattle.idn2_cli.proofs.BlockMembers.{HasRising, variants_answer-IsListing}
 use Rattle.idn2_cli.proofs.RunEnds.{ends_as}
 use Rattle.idn2_cli.proofs.HeadlineLemmas.{headline}
 use Rattle.idn2_cli.proofs.session.run.run.Goals as goal
+
+-- options have no registered labels
+whole_rises : (o : Settings) → keeping None o ≡ o → HasRising o.registered
+whole_rises o none = subst HasRising (ap (λ (v : Settings). v.registered) none) tt
 
 pub returns-clause-ends : goal.returns-clause-ends
 returns-clause-ends g c =
     let ended = c.run_among.ensures.ends in
     let none : keeping None c.args.options.now ≡ c.args.options.now = ap (keeping None) (sym c.options.view_is) ∙ c.options.view_is in
-    (ended.0, ended.1, ends_as _ _ _ _ _ _ c.run_among.result (ap (λ (o : Settings). mode_job o ended.0) none) ended.2)
+    (ended.0, subst (λ (o : Settings). IsTableOf o c.args.table.now ended.0) none ended.1, ends_as _ _ _ _ _ _ c.run_among.result (ap (λ (o : Settings). mode_job o ended.0) none) ended.2)
 
 pub returns-clause-headline : goal.returns-clause-headline
 returns-clause-headline g c = λ table is text.
     let ended = c.run_among.ensures.ends in
     let none : keeping None c.args.options.now ≡ c.args.options.now = ap (keeping None) (sym c.options.view_is) ∙ c.options.view_is in
-    headline c.args.options.now _ table ended.0 _ _ _ _ c.run_among.result is text ended.1
+    headline c.args.options.now _ table ended.0 _ _ _ _ c.run_among.result (whole_rises c.args.options.now none) is text (subst (λ (o : Settings). IsTableOf o c.args.table.now ended.0) none ended.1)
     (ends_as _ _ _ _ _ _ c.run_among.result (ap (λ (o : Settings). mode_job o ended.0) none) ended.2)
 
 pub returns-clause-listing : goal.returns-clause-listing
-returns-clause-listing g c = λ table label text registrable. variants_answer-IsListing c.args.options.now table label (sound_table table text.lines.well_formed) registrable
+returns-clause-listing g c = λ table label text registrable. variants_answer-IsListing c.args.options.now table label (sound_table table text.lines.well_formed) (whole_rises c.args.options.now (ap (keeping None) (sym c.options.view_is) ∙ c.options.view_is)) registrable
 
 pub returns-clause-jump : goal.returns-clause-jump
 returns-clause-jump g c = c.run_among.ensures.jump

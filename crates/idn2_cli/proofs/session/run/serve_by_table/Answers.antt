@@ -1,4 +1,4 @@
-use Rattle.std.proofs.Common.{Ok, ap, subst, ◌∙◌}
+use Rattle.std.proofs.Common.{Ok, Some, None, Option, ap, sym, subst, refl, ◌∙◌}
 use Rattle.std.specs.Option.{option_copied}
 use Rattle.variant_table.specs.Texts.{IsTextOf, IsToldOf}
 use Rattle.idn2_options.specs.Settings.{Settings, keeping, tells_causes}
@@ -6,7 +6,7 @@ use Rattle.idn2_options.specs.declared.command_line.form.Form.{Form}
 use Rattle.idn2_answers.specs.Transcript.{check_output}
 use Rattle.idn2_output.specs.Writing.{Emits}
 use Rattle.idn2_cli.specs.inner.ServedModes.{mode_of}
-use Rattle.idn2_cli.proofs.RunEnds.{checked, in_form, refused_lines, table_read, works_by_table}
+use Rattle.idn2_cli.proofs.RunEnds.{checked, checked_read, in_form, listed_read, refused_lines, works_by_table}
 use Rattle.idn2_cli.proofs.session.run.serve_by_table.Goals as goal
 
 pub returns-in-Err : goal.returns-in-Err
@@ -20,30 +20,12 @@ returns-in-Err g c =
     (c.refuse_table.ensures.told _ _ c.in-Err.ensures.line))
     c.refuse_table.ensures.status
 
-pub returns-in-Variants : goal.returns-in-Variants
-returns-in-Variants g c =
-    let o : Settings = c.args.settings.now in
-    let seen = ap (keeping (option_copied c.settings.inside.registered)) c.options.view_is ∙ c.settings.view_is in (
-      Ok c.in-Ok.table,
-      table_read o c.args.mode c.args.text.now (Ok c.in-Ok.table) c.requires.mode (subst (λ (v : Settings). IsTextOf v.properties v.notation c.args.text.now c.in-Ok.table) seen c.in-Ok.ensures.table),
-      c.serve_variants.ensures,
-    )
-
-pub returns-in-Jump : goal.returns-in-Jump
-returns-in-Jump g c =
-    let o : Settings = c.args.settings.now in
-    let seen = ap (keeping (option_copied c.settings.inside.registered)) c.options.view_is ∙ c.settings.view_is in (
-      Ok c.in-Ok.table,
-      table_read o c.args.mode c.args.text.now (Ok c.in-Ok.table) c.requires.mode (subst (λ (v : Settings). IsTextOf v.properties v.notation c.args.text.now c.in-Ok.table) seen c.in-Ok.ensures.table),
-      c.serve_jumps.ensures,
-    )
-
 pub returns : goal.returns
 returns g c =
     let o : Settings = c.args.settings.now in
     let seen = ap (keeping (option_copied c.settings.inside.registered)) c.options.view_is ∙ c.settings.view_is in (
       Ok c.in-Ok.table,
-      table_read o c.args.mode c.args.text.now (Ok c.in-Ok.table) c.requires.mode (subst (λ (v : Settings). IsTextOf v.properties v.notation c.args.text.now c.in-Ok.table) seen c.in-Ok.ensures.table),
+      checked_read o c.args.text.now (Ok c.in-Ok.table) (c.requires.mode ∙ ap mode_of c.in-CheckTable.is) (subst (λ (v : Settings). IsTextOf v.properties v.notation c.args.text.now c.in-Ok.table) seen c.in-Ok.ensures.table),
       checked o c.in-Ok.table _ _ _ c.check_table.result (c.requires.mode ∙ ap mode_of c.in-CheckTable.is) c.requires.unread
           (subst (λ (f : Form). Emits c.args.console.now c.check_table.new.console (check_output f (tells_causes o) (Ok c.in-Ok.table)) c.check_table.result) (ap (λ (v : Settings). v.form) seen) c.check_table.ensures.written)
           c.check_table.ensures.status,

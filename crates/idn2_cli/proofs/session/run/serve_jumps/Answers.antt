@@ -17,7 +17,7 @@ use Rattle.idn2_cli.proofs.session.run.serve_jumps.Goals as goal
 pub returns : goal.returns
 returns g c =
     let o : Settings = c.args.settings.now in
-    let table : TableValue = c.args.table.now in
+    let table : TableValue = c.args.search.now.table.now in
     let seen = ap (keeping (option_copied c.settings.inside.registered)) c.options.view_is ∙ c.settings.view_is in
     let job : Properties → Form → Explained → Job = λ p f e. lines_job f e (jump_answer p table) true (λ line. IsRefusedWithoutMemory p (requested_label (chars line))) (λ line. Unit {0}) in
     let given : Properties = c.options.inside.properties in

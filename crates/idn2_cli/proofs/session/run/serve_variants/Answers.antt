@@ -1,4 +1,4 @@
-use Rattle.std.proofs.Common.{Ok, ap, chars, true, ◌∙◌}
+use Rattle.std.proofs.Common.{Ok, Some, None, Option, List, ℕ, ap, chars, true, sym, ◌≡◌, ◌∙◌}
 use Rattle.std.specs.Option.{option_copied}
 use Rattle.idn_class.specs.declared.properties.Properties.{Properties}
 use Rattle.variant_table.specs.Entries.{TableValue}
@@ -10,18 +10,22 @@ use Rattle.idn2_refusals.specs.Explained.{ByTable, Explained, if_wanted}
 use Rattle.idn2_refusals.specs.Explaining.{explained_by}
 use Rattle.idn2_cli.specs.Ends.{Job, lines_job}
 use Rattle.idn2_cli.specs.Memory.{IsRefusedWithoutMemory, ListsWithoutMemory}
-use Rattle.idn2_cli.proofs.RunEnds.{does_mode}
+use Rattle.idn2_cli.proofs.RunEnds.{does_mode, listed_job, settings_among}
 use Rattle.idn2_cli.proofs.session.run.serve_variants.Goals as goal
 
 pub returns : goal.returns
 returns g c =
     let o : Settings = c.args.settings.now in
     let table : TableValue = c.args.table.now in
+    let given : Settings = c.settings.inside.options.now in
     let seen = ap (keeping (option_copied c.settings.inside.registered)) c.options.view_is ∙ c.settings.view_is in
-    let job : Form → Explained → Job = λ f e. lines_job f e (variants_answer o table) true (λ line. IsRefusedWithoutMemory o.properties (chars line)) (λ line. ListsWithoutMemory o table (chars line)) in
+    let whole : keeping None given ≡ o = settings_among o given (option_copied c.settings.inside.registered) None c.settings.view_is c.requires.whole in
+    let job : Settings → Form → Explained → Job = λ s f e. lines_job f e (variants_answer s table) true (λ line. IsRefusedWithoutMemory s.properties (chars line)) (λ line. ListsWithoutMemory s table (chars line)) in
     does_mode o Variants (Ok table) _ _ _ _ _ c.serve_lines.result c.requires.mode
-    (ap (λ f. job f (explained_by c.if_wanted-explaining.result)) (ap (λ (v : Settings). v.form) seen)
-    ∙ ap (λ e. job o.form e)
+    (ap (λ s. job s c.options.inside.form (explained_by c.if_wanted-explaining.result)) whole
+    ∙ ap (λ f. job o f (explained_by c.if_wanted-explaining.result)) (ap (λ (v : Settings). v.form) seen)
+    ∙ ap (λ e. job o o.form e)
     (c.if_wanted-explaining.ensures ∙ ap (λ (p : Properties). if_wanted c.tells_causes.result (ByTable p table)) (ap (λ (v : Settings). v.properties) seen)
-    ∙ ap (λ x. if_wanted x (ByTable o.properties table)) (c.tells_causes.ensures ∙ ap tells_causes c.settings.view_is)))
+    ∙ ap (λ x. if_wanted x (ByTable o.properties table)) (c.tells_causes.ensures ∙ ap tells_causes c.settings.view_is))
+    ∙ listed_job o table o.form _ c.requires.whole)
     c.serve_lines.ensures

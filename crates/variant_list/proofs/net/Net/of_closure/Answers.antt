@@ -64,4 +64,4 @@ returns-clause-scalar_values c = λ k d l.
     let is : IsNet plan = IsNet-substitutions all plan net c.shortest.result (AreSubstitutions-near table groups formed c.requires.reversed label c.requires.few) short c.shortest.ensures c.if-is_none.ensures in
     let w : List ℕ = get_or (spelled_of plan) k d in
     let own = spelled-substitutions all plan net is w in
-    AreNear-scalar table groups formed c.requires.reversed label w ((SubstitutionsSpell-near table groups formed c.requires.reversed label w).0 (own.0 (Contains-get_or (spelled_of plan) k d l)))
+    AreNear-scalar table formed label w ((SubstitutionsSpell-near table groups formed c.requires.reversed label w).0 (own.0 (Contains-get_or (spelled_of plan) k d l)))

@@ -3,6 +3,7 @@ use Rattle.variant_table.specs.Entries.{Entry}
 use Rattle.variant_list.specs.inner.Turned.{groups_of}
 use Rattle.variant_list.proofs.PlanLemmas.{Contains-at}
 use Rattle.variant_list.proofs.TurnedLemmas.{AreOfFirst-none, AreSound-none, AreOfFirst-next, AreTurned-first, AreReversedOf-all, sound_few}
+use Rattle.variant_list.proofs.CrowdLemmas.{uncrowded}
 use Rattle.variant_list.proofs.reversed.Reversed.of_table.Goals as goal
 
 pub loop-number-init : goal.loop-number-init
@@ -35,3 +36,6 @@ returns-clause-few c = sound_few (groups_of c.loop-number.sources.entries) c.loo
 
 pub invariant_of-result : goal.invariant_of-result
 invariant_of-result c = sound_few (groups_of c.loop-number.sources.entries) c.loop-number.invariant.0
+
+pub returns-clause-uncrowded : goal.returns-clause-uncrowded
+returns-clause-uncrowded c = λ a. uncrowded c.args.table.now.entries (groups_of c.loop-number.sources.entries) (returns-clause-pairs c) (returns-clause-few c) a

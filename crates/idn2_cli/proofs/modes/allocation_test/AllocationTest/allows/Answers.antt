@@ -2,7 +2,7 @@ use Rattle.std.proofs.Common.{◌≡◌, true, false, sym, subst, inl}
 use Rattle.std.specs.Prelude.{bytes_eq}
 use Rattle.std.proofs.lemmas.Slice.Eq.{bytes_eq-Decides}
 use Rattle.variant_table.specs.WellFormed.{IsWellFormed}
-use Rattle.idn2_answers.specs.Answers.{is_allocatable}
+use Rattle.idn2_answers.specs.Listings.{is_allocatable}
 use Rattle.idn2_answers.proofs.AllocatableLabels.{allocatable-test}
 use Rattle.idn2_cli.specs.inner.Dispositions.{Asked}
 use Rattle.idn2_cli.proofs.AllocationLemmas.{told-other}

@@ -1,7 +1,7 @@
 use Rattle.std.proofs.Common.{◌≡◌, ◌↔◌, ℕ, List, Bool, true, false, subst, sym}
 use Rattle.variant_list.specs.Parts.{Part}
 use Rattle.variant_list.specs.Spelling.{PartSpells}
-use Rattle.idn2_answers.specs.Answers.{IsSubTable}
+use Rattle.idn2_answers.specs.Listings.{IsSubTable}
 use Rattle.idn2_cli.specs.inner.Dispositions.{Asked}
 use Rattle.idn2_cli.proofs.AllocationLemmas.{told-none, told-one}
 use Rattle.idn2_cli.proofs.modes.allocation_test.AllocationTest.is_spelled_under_one.Goals as goal

@@ -1,7 +1,7 @@
 use Rattle.std.proofs.Common.{◌≡◌, ◌∙◌, ap}
 use Rattle.answer_json.specs.declared.collision.Regard.{Regard}
 use Rattle.answer_json.specs.declared.collision.Regards.{Regards}
-use Rattle.idn2_answers.specs.Answers.{is_registrable}
+use Rattle.idn2_answers.specs.Listings.{is_registrable}
 use Rattle.idn2_answers.specs.Collisions.{regard_of}
 use Rattle.idn2_cli.proofs.DecisionLemmas.{of_pair, pair_of}
 use Rattle.idn2_cli.proofs.modes.decided.Decisions.regards.Goals as goal

@@ -10,12 +10,12 @@ returns-in-Ok-clause-no_memory g c none = absurd (none.1 (ap (first_fault c.args
 
 pub returns-in-Err-clause-written : goal.returns-in-Err-clause-written
 returns-in-Err-clause-written g c =
-    replies_refusal _ _ _ c.in-Err.refusal _ c.refused.result (λ other. jump-refused c.args.self.now.properties c.args.self.now.table.now c.args.points.now c.in-Err.refusal (ap (first_fault c.args.self.now.properties) (sym c.label_of_request.ensures.label) ∙ c.in-Err.ensures.fault other))
+    replies_refusal _ _ _ c.in-Err.refusal _ c.refused.result (λ other. jump-refused c.args.self.now.properties c.args.self.now.search.now.table.now c.args.points.now c.in-Err.refusal (ap (first_fault c.args.self.now.properties) (sym c.label_of_request.ensures.label) ∙ c.in-Err.ensures.fault other))
     c.refused.ensures.refused c.refused.ensures.memory
 
 pub returns-in-Err-clause-refused : goal.returns-in-Err-clause-refused
 returns-in-Err-clause-refused g c =
-    refused_is c.in-Err.refusal _ c.refused.result (λ other. jump-refused c.args.self.now.properties c.args.self.now.table.now c.args.points.now c.in-Err.refusal (ap (first_fault c.args.self.now.properties) (sym c.label_of_request.ensures.label) ∙ c.in-Err.ensures.fault other))
+    refused_is c.in-Err.refusal _ c.refused.result (λ other. jump-refused c.args.self.now.properties c.args.self.now.search.now.table.now c.args.points.now c.in-Err.refusal (ap (first_fault c.args.self.now.properties) (sym c.label_of_request.ensures.label) ∙ c.in-Err.ensures.fault other))
     c.refused.ensures.refused c.refused.ensures.memory
 
 pub returns-in-Err-clause-kept : goal.returns-in-Err-clause-kept

@@ -1,7 +1,7 @@
 #!/usr/bin/env python3
-"""Runs the built program over registered labels with the mark of old ones: labels that may have been registered under
-other rules. The verdict on drawn labels is compared with that of conformance/old_labels.py. The last line is
-'N passed, M failed', and the exit status is 0 where nothing failed."""
+"""Runs the built program over registered labels with the mark of old ones: labels that may have been registered under other
+rules. The verdict on drawn labels is compared with that of conformance/old_labels.py. The last line is 'N passed, M failed', and
+the exit status is 0 where nothing failed."""
 
 import os
 import random
@@ -36,8 +36,8 @@ FAULTS = (
     ("i" * 1021 + "\told\n", 1, "2 line too long"),
 )
 
-# Files that are read: an old label has a hyphen where none may stand, a code point that is disallowed, or a name that
-# stands for itself; and a label that may be registered may have the mark. The order is that of the labels alone.
+# Files that are read: an old label has a hyphen where none may stand, a code point that is disallowed, or a name that stands for
+# itself; and a label that may be registered may have the mark. The order is that of the labels without their marks.
 READ = (
     "ab--c\told\n", "-\told\n", "xn--\told\n", "xn--abc-\told", "\U0001F4A9\told\r\n", "haus\told\nmaus\n",
     "a\told\na-\told\na-b\nab\told\n", "u\u0308\told\n",
@@ -58,8 +58,7 @@ def reads_labels_with_the_mark(folder):
 def drawn_labels(chance):
     """Labels and names, mostly such as have a fault only now and then."""
     for _ in range(400):
-        alphabet = chance.choice(["ab-", "abß", "aé中", "a\U0001F4A9\u0301", "abAB_ .-"])
-        label = "".join(chance.choices(alphabet, k=chance.randint(0, 12)))
+        label = "".join(chance.choices(chance.choice(["ab-", "abß", "aé中", "a\U0001F4A9\u0301", "abAB_ .-"]), k=chance.randint(0, 12)))
         yield label
         yield old_labels.name_of(label)
         yield "xn--" + "".join(chance.choices("abkz09-", k=chance.randint(0, 9)))
@@ -94,4 +93,4 @@ TESTS = [
 ]
 
 if __name__ == "__main__":
-    sys.exit(run_tests("marked_labels", TESTS))
+    sys.exit(run_tests("old_labels", TESTS))

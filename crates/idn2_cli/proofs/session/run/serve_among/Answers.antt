@@ -1,0 +1,32 @@
+use Rattle.std.proofs.Common.{Ok, Some, None, Option, List, ℕ, ap, chars, true, sym, ◌≡◌, ◌∙◌}
+use Rattle.std.specs.Option.{option_copied}
+use Rattle.idn_class.specs.declared.properties.Properties.{Properties}
+use Rattle.variant_table.specs.Entries.{TableValue}
+use Rattle.idn2_options.specs.Settings.{Settings, keeping, tells_causes}
+use Rattle.idn2_options.specs.declared.command_line.form.Form.{Form}
+use Rattle.idn2_options.specs.declared.command_line.mode.Mode.TheVariants.{Variants}
+use Rattle.idn2_answers.specs.Answers.{variants_answer}
+use Rattle.idn2_refusals.specs.Explained.{ByTable, Explained, if_wanted}
+use Rattle.idn2_refusals.specs.Explaining.{explained_by}
+use Rattle.idn2_cli.specs.Ends.{Job, lines_job}
+use Rattle.idn2_cli.specs.Memory.{IsRefusedWithoutMemory}
+use Rattle.idn2_cli.proofs.RunEnds.{among_job, does_mode, settings_among}
+use Rattle.idn2_cli.proofs.session.run.serve_among.Goals as goal
+
+pub returns : goal.returns
+returns g c =
+    let o : Settings = c.args.settings.now in
+    let table : TableValue = c.args.search.now.table.now in
+    let given : Settings = c.settings.inside.options.now in
+    let labels : List (List ℕ) = c.args.registered.now in
+    let seen = ap (keeping (option_copied c.settings.inside.registered)) c.options.view_is ∙ c.settings.view_is in
+    let among : keeping (Some labels) given ≡ o = settings_among o given (option_copied c.settings.inside.registered) (Some labels) c.settings.view_is c.requires.among in
+    let job : Settings → Form → Explained → Job = λ s f e. lines_job f e (variants_answer s table) true (λ line. IsRefusedWithoutMemory s.properties (chars line)) (λ line. Unit {0}) in
+    does_mode o Variants (Ok table) _ _ _ _ _ c.serve_lines.result c.requires.mode
+    (ap (λ s. job s c.options.inside.form (explained_by c.if_wanted-explaining.result)) among
+    ∙ ap (λ f. job o f (explained_by c.if_wanted-explaining.result)) (ap (λ (v : Settings). v.form) seen)
+    ∙ ap (λ e. job o o.form e)
+    (c.if_wanted-explaining.ensures ∙ ap (λ (p : Properties). if_wanted c.tells_causes.result (ByTable p table)) (ap (λ (v : Settings). v.properties) seen)
+    ∙ ap (λ x. if_wanted x (ByTable o.properties table)) (c.tells_causes.ensures ∙ ap tells_causes c.settings.view_is))
+    ∙ among_job o table o.form _ labels c.requires.among)
+    c.serve_lines.ensures

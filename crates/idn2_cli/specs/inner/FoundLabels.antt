@@ -1,0 +1,57 @@
+-- The registered labels that were found to collide with a label, and their block.
+use Rattle.std.specs.Prelude.{◌≡◌, ◌<◌, ◌+◌, ◌-◌, ℕ, Bool, if◌then◌else◌, List, [], ◌∷◌, ◌++◌, All, length, map}
+use Rattle.std.specs.Prelude.{Option, Some, None, slice_get, slice_index_or}
+use Rattle.std.specs.Option.{option_map}
+use Rattle.variant_table.specs.Entries.{TableValue}
+use Rattle.idn2_options.specs.Settings.{Settings}
+use Rattle.idn2_answers.specs.Collisions.{collide, collision_by, regards_of}
+use Rattle.idn2_answers.specs.Listings.{is_registrable}
+use Rattle.idn2_answers.specs.Said.{Said, BlockEnd, said_text}
+use Rattle.idn2_answers.specs.Said as said
+use Rattle.idn2_output.specs.OutputLines.{OutputLine, outputs}
+use Rattle.idn2_cli.specs.declared.modes.asked.Asked.{Asked}
+use Rattle.idn2_cli.specs.declared.modes.collisions.Collision.{Collision}
+use Rattle.idn2_cli.specs.inner.Asked.{asked_line}
+use Rattle.idn2_cli.specs.inner.LineAnswers.{reaches}
+
+-- the registered label of the number
+abbrev pub label_of : List (List ℕ) → Collision → List ℕ
+label_of registered c = slice_index_or registered c.number []
+
+-- there are such labels
+abbrev pub AreWithin : List (List ℕ) → List Collision → Type 0
+AreWithin registered found = All (λ c. c.number < length registered) found
+
+-- what is said of each
+abbrev pub said_of : List (List ℕ) → Collision → Said
+said_of registered c = said.Collision c.regards (label_of registered c)
+
+-- their block stops at the last label, if as many as may be listed were found
+abbrev pub stop_at : Option ℕ → List (List ℕ) → List Collision → Option (List ℕ)
+stop_at limit registered found =
+    if reaches limit (length found) then option_map (label_of registered) (slice_get found (length found - 1)) else None
+
+-- the block
+abbrev pub found_block : Option ℕ → List (List ℕ) → List Collision → List Said
+found_block limit registered found =
+    map (said_of registered) found ++ BlockEnd (length found) (stop_at limit registered found) ∷ []
+
+-- what is said in reply, as it is written
+abbrev pub lines_to : Asked → List Said → List OutputLine
+lines_to asked lines = outputs (said_text asked.form (asked_line asked)) lines
+
+-- ---- by what decides
+
+-- whether a label collides with this one, and what is said of it then
+abbrev pub collides_by : Settings → TableValue → List ℕ → List ℕ → Bool
+collides_by o table label = collide (is_registrable o.properties) table label
+
+abbrev pub collision_line_by : Settings → TableValue → List ℕ → List ℕ → Said
+collision_line_by o table label = collision_by (regards_of (is_registrable o.properties) table label)
+
+-- ---- the lines of labels of which each is told, where so many were listed before them
+
+abbrev pub lines_from : (List ℕ → Said) → Option ℕ → ℕ → List (List ℕ) → List Said
+lines_from line limit count [] = BlockEnd count None ∷ []
+lines_from line limit count (v ∷ vs) =
+    line v ∷ (if reaches limit (count + 1) then BlockEnd (count + 1) (Some v) ∷ [] else lines_from line limit (count + 1) vs)

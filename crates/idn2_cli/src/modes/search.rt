@@ -1,0 +1,103 @@
+//! The labels that a label may collide with under a table.
+
+ghost use Rattle.std.specs.Prelude.{◌≡◌, ◌≢◌, ◌≤◌, ◌↔◌, ℕ, List, length, All, Contains, IfOk, IfErr};
+ghost use Rattle.idn_text.specs.Points.{AreScalarValues};
+ghost use Rattle.idn_text.specs.declared.refusal.Refusal.TheVariants as refusals;
+ghost use Rattle.valid_labels.specs.Validity.{IsAdmitted};
+ghost use Rattle.variant_list.specs.Closure.{AreNear};
+ghost use Rattle.idn2_answers.specs.Answers.{IsRefusedAs};
+ghost use Rattle.idn2_cli.specs.inner.Ruling.{ruling_in, ruling_of};
+ghost use Rattle.idn2_cli.specs.inner.Searches.{IsNearOf, IsReady};
+
+use crate::modes::admission::{admission_by, validity_test_by};
+use crate::modes::decided::Decisions;
+use crate::modes::dispositions::Dispositions;
+use idn_text::Refusal;
+use std::alloc::Global;
+use valid_labels::{Admission, Segments, ValidityTest};
+use variant_list::{Net, NetFault, Reversed};
+use variant_table::Table;
+
+/// A table by which collisions are searched, and what is found of it once.
+#[derive(Drop)]
+pub(crate) struct Search<'t> {
+    pub table: &'t Table,
+    pub ruling: &'t Option<Segments<'t>>,
+    pub dispositions: &'t Dispositions<()>,
+    pub reversed: &'t Reversed,
+}
+
+/// The labels that are near a label, as a variant graph, and what decides what each of them is to it.
+#[derive(Drop)]
+pub(crate) struct Near<'l> {
+    pub net: Net,
+    pub decisions: Decisions<'l>,
+}
+
+impl<'t> Search<'t> {
+    /// What is near a label of 1 to 63 code points, where the table admits it; else why it doesn't, or that memory was
+    /// refused.
+    pub fn near<'l>(&'l self, alloc: Global, label: &'l [u32]) -> Result<Near<'l>, Refusal>
+        requires ready { IsReady self.now }
+        requires some { 1 ≤ length label.now }
+        requires short { length label.now ≤ 63 }
+        ensures near { IfOk result (IsNearOf self.now.table.now label.now) }
+        ensures admitted { IfOk result (λ _. IsAdmitted self.now.table.now label.now) }
+        ensures refused { IfErr result (λ refusal. refusal ≢ refusals.Memory →
+            IsRefusedAs self.now.table.now label.now refusal) }
+    {
+        let Ok(mut validity) = validity_test_by(alloc, self.ruling) else {
+            return Err(Refusal::Memory);
+        };
+        match admission_by(&mut validity, self.table, label) {
+            Admission::NotCut => return Err(Refusal::NotInTable),
+            Admission::NotAdmitted => return Err(Refusal::NotValid),
+            Admission::Admitted => {}
+        }
+        match self.net(alloc, label) {
+            Ok(net) => self.decided(alloc, label, net, validity),
+            Err(refusal) => Err(refusal),
+        }
+    }
+
+    /// The variant graph of the labels that are near a label which the table admits.
+    fn net(&self, alloc: Global, label: &[u32]) -> Result<Net, Refusal>
+        requires ready { IsReady self.now }
+        requires some { 1 ≤ length label.now }
+        requires short { length label.now ≤ 63 }
+        requires admitted { IsAdmitted self.now.table.now label.now }
+        ensures near { IfOk result (λ net. (w : List ℕ) →
+            Contains net.spelled w ↔ AreNear self.now.table.now label.now w) }
+        ensures scalar_values { IfOk result (λ net. All AreScalarValues net.spelled) }
+        ensures memory { IfErr result (λ refusal. refusal ≡ refusals.Memory) }
+    {
+        match Net::of_closure(alloc, self.table, self.reversed, label) {
+            Ok(net) => Ok(net),
+            // Such a label is near itself.
+            Err(NetFault::NothingSpelled) => unreachable!(),
+            Err(NetFault::Memory) => Err(Refusal::Memory),
+        }
+    }
+
+    /// The same with what decides.
+    fn decided<'l>(
+        &'l self,
+        alloc: Global,
+        label: &'l [u32],
+        net: Net,
+        validity: Option<ValidityTest<'l>>,
+    ) -> Result<Near<'l>, Refusal>
+        requires ready { IsReady self.now }
+        requires short { length label.now ≤ 63 }
+        requires ruling { ruling_in validity ≡ ruling_of self.now.table.now }
+        requires near { (w : List ℕ) → Contains net.spelled w ↔ AreNear self.now.table.now label.now w }
+        requires scalar_values { All AreScalarValues net.spelled }
+        ensures near { IfOk result (IsNearOf self.now.table.now label.now) }
+        ensures memory { IfErr result (λ refusal. refusal ≡ refusals.Memory) }
+    {
+        match Decisions::of_label(alloc, self.table, self.dispositions, label, validity) {
+            Ok(decisions) => Ok(Near { net, decisions }),
+            Err(_) => Err(Refusal::Memory),
+        }
+    }
+}
