@@ -10,7 +10,6 @@ text on, and a database of SQLite its first label from there on. Status 1 where 
 
 import argparse
 import collections
-import pathlib
 import random
 import re
 import sqlite3
@@ -18,7 +17,7 @@ import subprocess
 import sys
 import tempfile
 
-from compare import PROGRAM
+from compare import options_of
 
 from fuzz import ALPHABETS, Fuzz, listing_of
 from collisions import NONE, VARIANT
@@ -170,12 +169,9 @@ class Cases(Fuzz):
 
 def main():
     words = argparse.ArgumentParser(description="Compares collisions with whole listings from both sides.")
-    words.add_argument("--program", default=PROGRAM, type=pathlib.Path, help="our program")
     words.add_argument("--cases", default=20_000, type=int, help="how many pairs of a label and a registered one")
     words.add_argument("--seed", default=random.randrange(10**9), type=int, help="where the random input begins")
-    options = words.parse_args()
-    if not options.program.exists():
-        raise SystemExit(f"{options.program} is not there: run make first, or name our program by --program")
+    options = options_of(words)
     print(f"seed {options.seed}", flush=True)
     counts = collections.Counter()
     with tempfile.TemporaryDirectory() as folder:

@@ -8,13 +8,12 @@ here, so the texts have no code point that is newer.
 """
 
 import argparse
-import pathlib
 import random
 import subprocess
 import sys
 import tempfile
 
-from compare import HERE, PROGRAM
+from compare import HERE, options_of
 
 import check
 from idn2_registry.unicode_data import Classes
@@ -108,11 +107,8 @@ def expected(text, classes):
 
 def main():
     words = argparse.ArgumentParser(description="Compares --check-table with a reference implementation of the notation.")
-    words.add_argument("--program", default=PROGRAM, type=pathlib.Path, help="our program")
     words.add_argument("--random", default=500, type=int, help="random tables")
-    options = words.parse_args()
-    if not options.program.exists():
-        raise SystemExit(f"{options.program} is not there: run make first, or name our program by --program")
+    options = options_of(words)
 
     classes, chance = Classes(), random.Random(SEED)
     examples = {path.name: path.read_bytes() for path in sorted(TABLES.glob("*.txt"))}

@@ -34,6 +34,15 @@ MESSAGE = re.compile(r"idn2: line (\d+): (\d+) .+")
 SHOWN = 5
 
 
+def options_of(words):
+    """What a script's words say, of which one may name our program. It has to be there."""
+    words.add_argument("--program", default=PROGRAM, type=pathlib.Path, help="our program")
+    options = words.parse_args()
+    if not options.program.exists():
+        raise SystemExit(f"{options.program} is not there: run make first, or name our program by --program")
+    return options
+
+
 def our_answers(program, options, lines):
     """(text, None) or (None, number) for each line, from one run of our program."""
     sent = "".join(line + "\n" for line in lines).encode()
@@ -100,12 +109,9 @@ def verify(lines, our, ask, registration):
 
 def main():
     words = argparse.ArgumentParser(description="Compares our idn2 with libidn2.")
-    words.add_argument("--program", default=PROGRAM, type=pathlib.Path, help="our program")
     words.add_argument("--names", default=20_000, type=int, help="random names for each mode")
     words.add_argument("--every-code-point", action="store_true", help="register and look up each code point, too")
-    options = words.parse_args()
-    if not options.program.exists():
-        raise SystemExit(f"{options.program} is not there: run make first, or name our program by --program")
+    options = options_of(words)
 
     library, classes, known = LibIdn2(), Classes(), UnicodeProperties()
     facts, points = kinds.Facts(classes, known, library), names.Points(classes, known)

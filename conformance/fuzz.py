@@ -22,7 +22,7 @@ import tempfile
 import time
 import unicodedata
 
-from compare import PROGRAM, our_answers
+from compare import options_of, our_answers
 
 import drawn_rulesets
 import kinds
@@ -440,12 +440,9 @@ def cut(answer):
 
 def main():
     words = argparse.ArgumentParser(description="Compares the program with a reference implementation of its rules.")
-    words.add_argument("--program", default=PROGRAM, type=pathlib.Path, help="our program")
     words.add_argument("--seconds", default=60, type=int, help="how long")
     words.add_argument("--seed", default=random.randrange(10**9), type=int, help="where the random input begins")
-    options = words.parse_args()
-    if not options.program.exists():
-        raise SystemExit(f"{options.program} is not there: run make first, or name our program by --program")
+    options = options_of(words)
     print(f"seed {options.seed}, Unicode data {version()}", flush=True)
     differences, end = 0, time.monotonic() + options.seconds
     with tempfile.TemporaryDirectory() as folder:

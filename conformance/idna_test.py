@@ -27,7 +27,7 @@ import re
 import subprocess
 import sys
 
-from compare import PROGRAM, our_answers, shown
+from compare import options_of, our_answers, shown
 
 HYPHEN_TESTS = {"V2", "V3"}
 BIDI_TESTS = {"B1", "B2", "B3", "B4", "B5", "B6"}
@@ -97,13 +97,10 @@ def unicode_version(text, what):
 def main():
     words = argparse.ArgumentParser(description="Runs lookup on Unicode's IDNA test file.")
     words.add_argument("file", nargs="?", default=os.environ.get("IDNA_TEST_FILE"), help="IdnaTestV2.txt")
-    words.add_argument("--program", default=PROGRAM, type=pathlib.Path, help="our program")
-    options = words.parse_args()
+    options = options_of(words)
     if not options.file:
         print("no IDNA test file: name IdnaTestV2.txt as FILE or in IDNA_TEST_FILE")
         return 0
-    if not options.program.exists():
-        raise SystemExit(f"{options.program} is not there: run make first, or name our program by --program")
 
     lines = pathlib.Path(options.file).read_text(encoding="utf-8").splitlines()
     its_version = unicode_version("\n".join(lines[:20]), options.file)
