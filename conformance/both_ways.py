@@ -24,7 +24,7 @@ from collisions import NONE, VARIANT
 from idn2_registry.notation.faults import TableFault
 from ruleset_labels import Unknown
 
-ASKED, REGISTERED, MOST_SOURCES, SHOWN = 30, 100, 4, 5
+ASKED, REGISTERED, MOST_PARTS, SHOWN = 30, 100, 4, 5
 
 
 class Program:
@@ -132,7 +132,7 @@ class Cases(Fuzz):
     """Cases are drawn as those of the other comparisons are, of labels with short listings."""
 
     def sources_of_any_length(self, entries):
-        return self.sources(entries, MOST_SOURCES)
+        return self.sources(entries, MOST_PARTS)
 
     def case(self):
         """How many labels were asked under one table, how many collisions there are, and what differs."""

@@ -17,7 +17,7 @@ def sources_of(entries):
     found = collections.defaultdict(set)
     for source, entry in entries.items():
         for variant in entry.variants:
-            found[variant.points].add(source)
+            found[text_of(variant.points)].add(source)
     return found
 
 

@@ -2,7 +2,7 @@
 
 Given the words, standard input and the files, it tells what stands on the output, on the messages and as the status.
 Where it does not know, since a code point is newer than the data here, or since a name is to be looked up, it says so by
-`Unknown`. It holds all labels that a label spells in a set, so it is for small tables and short labels.
+`Unknown`. It holds all labels that a label spells, or that are near it, in a set, so it is for small tables and short labels.
 """
 
 import functools
@@ -150,6 +150,15 @@ class Options:
         return int(text)
 
 
+def check_sources(entries, text):
+    """Refuses, at its last line, a text without any other fault by which too many sources have one of their variants
+    one way alone."""
+    found = sources_of(entries)
+    for variant, sources in found.items():
+        if sum(variant not in found.get(source, ()) for source in sources) > MOST_SOURCES:
+            raise TableFault(text[:-1].count(b"\n") + 1, LIMIT)
+
+
 class Reference:
     """Answers by the profile or, with `--standard`, by the standards alone."""
 
@@ -240,7 +249,7 @@ class Run:
             text = files[options.given[options.mode]]
             table = self.table(options.mode, text)
             if {"--among", "jump"} & options.given.keys():
-                self.check_sources(options.mode, text)
+                check_sources(table[0].entries, text)
         return registered, table
 
     def table(self, mode, text):
@@ -249,16 +258,6 @@ class Run:
             return RulesetLabels(reading.read(text, self.classes.may_stand)), True
         table = check.read(text, self.classes)
         return RulesetLabels(as_ruleset(table), cuts_anyway=True), table.version == 2
-
-    def check_sources(self, mode, text):
-        """Refuses, at its last line, a text without any other fault by which too many sources have one of their variants
-        one way alone."""
-        labels, _ = self.table(mode, text)
-        for variant, sources in sources_of(labels.entries).items():
-            entry = labels.entries.get("".join(map(chr, variant)))
-            back = {"".join(map(chr, each.points)) for each in entry.variants} if entry else set()
-            if len(sources - back) > MOST_SOURCES:
-                raise TableFault(text[:-1].count(b"\n") + 1, LIMIT)
 
     def registered_labels(self, text):
         """The labels of a file of less than 4 GiB: one on each line, each greater than the one before."""

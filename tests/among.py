@@ -16,7 +16,7 @@ from program import LIMIT, PROGRAM, TABLES, expect, is_registrable, run, run_tes
 
 GERMAN = os.path.join(TABLES, "german.txt")
 ALIKE = "%version 2\n0030\n006F|!0030\n0073\n0074\n0073-0073|00DF\n"
-LETTERS = "0061|0062\n0062|0061\n" + "".join(f"{point:04X}\n" for point in range(0x63, 0x7B))
+SWAPPED = "0061|0062\n0062|0061\n" + "".join(f"{point:04X}\n" for point in range(0x63, 0x7B))
 
 # (registered labels, number of the line, number and text of its fault): files that are refused.
 FAULTS = (
@@ -63,7 +63,7 @@ JUMPS = (
     # What begins with a candidate is greater.
     (GERMAN, "sss\tss\nsss\tsssa\nsss\t\U0010ffff\n", both("sss", "sß") + "#end\n", ""),
     # Texts of 63 code points, of 64, and of a whole line.
-    (LETTERS, "".join("a" * 63 + "\t" + text + "\n" for text in
+    (SWAPPED, "".join("a" * 63 + "\t" + text + "\n" for text in
                       ("a" * 63, "a" * 64, "a" * 62 + "b", "a" * 62 + "bb", "b" * 63, "b" * 64, "a" * 960)),
      "".join(each + "\tvariant\tvariant" * (each != "#end") + "\n" for each in
              ("a" * 63, "a" * 62 + "b", "a" * 62 + "b", "a" * 61 + "ba", "b" * 63, "#end", "a" * 62 + "b")), ""),
@@ -366,7 +366,7 @@ def drawn_labels(chance, table):
     return labels, sorted(chance.sample(short, min(chance.choice((5, 20, 100)), len(short))))
 
 
-def both_ways(table):
+def partners_of(table):
     """Each source or variant with all that goes together with it: by this, a label spells what is near it."""
     pairs = {(source, each) for source, variants in table.items() for each in variants}
     pairs |= {(each, source) for source, each in pairs} | {(source, source) for source in table}
@@ -375,7 +375,7 @@ def both_ways(table):
 
 def near_of(table, label):
     """All labels that may collide with a label, in order. What is only a variant doesn't stand for itself."""
-    partners = both_ways(table)
+    partners = partners_of(table)
 
     @functools.cache
     def joined(rest):

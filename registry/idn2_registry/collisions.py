@@ -1,4 +1,5 @@
-"""Which registered labels collide with a label. All that asks the program for collisions is here."""
+"""Which registered labels collide with a label. All that asks the program for collisions is here, and
+why a table refuses a label, which the same process tells."""
 
 import json
 import re

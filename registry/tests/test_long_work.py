@@ -194,10 +194,6 @@ def test_change_wants_a_table_of_the_zone(place: Place) -> None:
         assert done.returncode == 75 and not done.stdout and len(done.stderr.splitlines()) == 1, done
 
 
-class Stopped(Exception):
-    """As if the work were stopped."""
-
-
 @pytest.mark.parametrize("job", ["audit", "load"])
 def test_goes_on_where_it_was_stopped(place: Place, monkeypatch: pytest.MonkeyPatch, job: str) -> None:
     labels = sorted({f"strasse{number}" for number in range(40)} | {f"straße{number}" for number in range(0, 40, 7)})
