@@ -4,7 +4,7 @@ use idn2_options::Options;
 use registered_labels::RegisteredLabels;
 use std::marker::Model;
 
-/// The options of a run, within its limits, and the registered labels to which its listings are kept, if there are
+/// The options of a run, within its limits, and the registered labels among which its labels are asked, if there are
 /// some. Contracts see both as one value.
 #[derive(Drop)]
 pub(crate) struct RunSettings<'r, 'b> {

@@ -9,8 +9,8 @@ use Rattle.variant_table.specs.declared.version.Notation.TheVariants.{Table}
 use Rattle.idn2_options.specs.declared.command_line.mode.Mode.{Mode}
 use Rattle.idn2_options.specs.declared.command_line.mode.Mode.TheVariants.{Variants, Jump, CheckTable}
 
--- an `Options`, with the bytes of each text; and the registered labels to which listings are kept, if there are some. An
--- `Options` has only the name of their file: they are given to a run beside it
+-- an `Options`, with the bytes of each text; and the registered labels among which labels are asked, if there are
+-- some. An `Options` has only the name of their file: they are given to a run beside it
 pub record Settings : Type 0 where
   pub mode : Mode
   pub std3 : Bool

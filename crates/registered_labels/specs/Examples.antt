@@ -61,7 +61,7 @@ abbrev pub three : List (List ℕ)
 three = codes "sss" ∷ (115 ∷ sharp) ∷ (223 ∷ codes "s") ∷ []
 
 -- a label finds its variants and itself, as far as they are registered, in order; sß and ßs are variants of sss and not of each
--- other; a text cuts off what is not greater; blocked variants count; and through a gap a collision is seen from one side alone
+-- other; a text cuts off what is not greater; blocked variants count; and through a gap a label is spelled from one side alone
 pub record ExamplesOfCollisions : Type 0 where
   pub variant : found german strasze (codes "haus" ∷ strasse ∷ []) [] ≡ strasse ∷ []
   pub both : found german strasse (strasse ∷ strasze ∷ []) [] ≡ strasse ∷ strasze ∷ []

@@ -8,8 +8,8 @@ pub fn utf8_keeps_order()
     ensures { Utf8KeepsOrder }
 {}
 
-/// The collisions of a label are the one rising list of the registered labels that it spells, and exactly those of its
-/// variants that are registered.
+/// What a search meets is the one rising list of the registered labels that are spelled, and exactly those of the
+/// registrable ones that are registered.
 pub fn collisions_are_listed()
     ensures { CollisionsAreListed }
 {}

@@ -1,4 +1,4 @@
-//! The registered labels of a registry, and those of them that a label spells under a variant table.
+//! The registered labels of a registry, and those of them that a variant graph spells.
 #![tactic(auto)]
 
 mod collisions;

@@ -26,7 +26,7 @@ AreReversedOf entries groups = (a b : List ℕ) → Contains (sources_of groups 
 abbrev pub AreFew : List Group → Type 0
 AreFew groups = (a : List ℕ) → length (sources_of groups a) ≤ 64
 
--- the sequence is a variant of more than 64 sources
+-- the sequence is a variant of more than 64 sources that aren't variants of it
 pub record IsCrowded (entries : List Entry) (a : List ℕ) : Type 0 where
   pub sources : List (List ℕ)
   pub reversed : All (IsReversed entries a) sources

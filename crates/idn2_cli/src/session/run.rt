@@ -40,7 +40,7 @@ use variant_table::Table;
 
 /// Runs a mode over its input, of which no line was read yet. Where nothing fails, the output lines of the transcript
 /// are written, and the status says whether something was refused. A fault of a reader, of a writer or of memory ends
-/// the run at once with a last message. Listings have all variants: for options that name a file of registered labels
+/// the run at once with a last message. Nothing is asked among registered labels: for options that name a file of them
 /// there is `run_among`. Only tests call this: the program calls `run_among` in each mode.
 pub fn run<R: Source, W: Sink, E: Sink>(
     alloc: Global,
@@ -77,8 +77,8 @@ pub fn run<R: Source, W: Sink, E: Sink>(
     run_among(alloc, options, table, None, input, out, err)
 }
 
-/// Runs a mode over its input, as `run` does, with each listing kept to the registered labels, if there are some: its
-/// lines are those of the whole listing whose label is registered.
+/// Runs a mode over its input, as `run` does. Where there are registered labels, a label is answered by those of them
+/// that collide with it, in place of its variants.
 pub fn run_among<R: Source, W: Sink, E: Sink>(
     alloc: Global,
     options: &Options,

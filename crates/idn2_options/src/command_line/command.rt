@@ -30,7 +30,7 @@ Examples:
   idn2 --variants german.txt --limit 100 strasse
       lists the first 100 variants of strasse
   idn2 --variants german.txt --among registered.txt strasse
-      lists those of them that are registered
+      lists the labels in registered.txt that collide with strasse
 
 Status:
   0  every line was answered

@@ -11,8 +11,8 @@ pub enum Mode {
     Decode,
     /// Each line is a label, answered by its variants under a table.
     Variants,
-    /// Each line is a label and a text, answered by the least label that the label spells under a table and that is no
-    /// less than the text.
+    /// Each line is a label and a text, answered by the least label, no less than the text, that is near the label
+    /// under a table, and by what each of the two is to the other.
     Jump,
     /// A table is checked for the pairs that it lacks.
     CheckTable,

@@ -36,7 +36,7 @@ pub struct Options {
     pub tries: u64,
     /// At most how many steps the search for a line's variants takes: 2 to 10^18, or no limit.
     pub steps: Option<u64>,
-    /// The name of the file of registered labels to which listings are kept, if they are.
+    /// The name of the file of registered labels among which labels are asked, if there is one.
     pub among: Option<String>,
 }
 
