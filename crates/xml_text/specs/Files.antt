@@ -156,9 +156,14 @@ pub record IsStopAt (text : List ℕ) (place : ℕ) : Type 0 where
 abbrev pub IsLineOf : List ℕ → Place → Type 0
 IsLineOf text place = place.line ≡ line_after 1 (line_feeds (take place.byte text))
 
+-- the text isn't too long, and all of it is characters
+abbrev pub IsReadable : List ℕ → Type 0
+IsReadable text = (length text ≤ max_bytes) × AreCharacters text
+
+-- the first of these that is so: each is said only where none before it is
 abbrev pub IsFault : List ℕ → DocumentError → Type 0
 IsFault text TooLong = max_bytes < length text
-IsFault text (NoCharacter place) = IsWrongAt text place.byte × IsLineOf text place
-IsFault text Declaration = HasWrongDeclaration (without_mark text)
-IsFault text (Stop place) = IsStopAt text place.byte × IsLineOf text place
+IsFault text (NoCharacter place) = (length text ≤ max_bytes) × (IsWrongAt text place.byte × IsLineOf text place)
+IsFault text Declaration = IsReadable text × HasWrongDeclaration (without_mark text)
+IsFault text (Stop place) = IsReadable text × (IsStopAt text place.byte × IsLineOf text place)
 IsFault text Memory = Unit {0}

@@ -1,6 +1,6 @@
 //! Reading a document.
 ghost use Rattle.std.specs.Prelude.{◌≡◌, ◌≤◌, length, take, IfOk, IfErr};
-ghost use Rattle.xml_text.specs.Files.{IsDocument, IsFault, IsFront, HasWrongDeclaration, max_bytes, mark_of};
+ghost use Rattle.xml_text.specs.Files.{IsDocument, IsFault, IsFront, IsReadable, HasWrongDeclaration, mark_of};
 
 use crate::body::read_body;
 use crate::characters::first_wrong_character;
@@ -36,7 +36,7 @@ pub fn read_document(alloc: Global, text: &[u8]) -> Result<Vec<Token>, DocumentE
 
 /// How many bytes the mark and the declaration have with which a text begins.
 fn front_length(alloc: Global, text: &[u8]) -> Result<usize, DocumentError>
-    requires { length text.now ≤ max_bytes }
+    requires { IsReadable text.now }
     ensures within { IfOk result (λ n. n ≤ length text.now) }
     ensures front { IfOk result (λ n. IsFront text.now (take n text.now)) }
     ensures wrong { IfErr result (IsFault text.now) }
