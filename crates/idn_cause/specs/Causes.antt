@@ -1,5 +1,7 @@
--- Why a label has its first fault: what breaks the rule, and the first place at which it does. Places are counted from 0.
-use Rattle.std.specs.Prelude.{◌≡◌, ◌≢◌, ◌⊎◌, ℕ, suc, ◌+◌, ◌<◌, ◌≤◌, take, [], ◌∷◌, nat_lt, Bool, ◌&&◌, ◌||◌, not, ◌==◌, List, length, Option, Some, None, slice_index, slice_get, if◌then◌else◌}
+-- Why a label has its first fault: what breaks the rule, and the first place at which it does.
+-- Places are counted from 0.
+use Rattle.std.specs.Prelude.{◌≡◌, ◌≢◌, ◌⊎◌, ℕ, suc, ◌+◌, ◌<◌, ◌≤◌, take, [], ◌∷◌, nat_lt, Bool, ◌&&◌, ◌||◌, not, ◌==◌}
+use Rattle.std.specs.Prelude.{List, length, Option, Some, None, slice_index, slice_get, if◌then◌else◌}
 use Rattle.std.specs.Option.{is_none}
 use Rattle.unicode_normalization.specs.Forms.{nfc, is_nfc}
 use Rattle.idn_text.specs.declared.refusal.Refusal.{Refusal}
@@ -15,7 +17,8 @@ use Rattle.idn_class.specs.ContextO.{OtherPasses}
 use Rattle.idn_class.specs.LeadingMark.{BeginsWithMark}
 use Rattle.idn_class.specs.Shared.{IsLongestShared}
 use Rattle.idn_class.specs.Tests.{leading_mark}
-use Rattle.idn_class.specs.Causes.{IsFirstFailing, IsFirstBroken, failing_in, misplaced_joiner, misplaced_other, broken_condition}
+use Rattle.idn_class.specs.Causes.{IsFirstFailing, IsFirstBroken, failing_in, misplaced_joiner, misplaced_other}
+use Rattle.idn_class.specs.Causes.{broken_condition}
 use Rattle.idn_label.specs.ALabel.{a_label_of}
 use Rattle.idn_label.specs.FirstFault.{fault_of_class}
 use Rattle.idn_cause.specs.declared.cause.Cause.{Cause}
@@ -26,7 +29,8 @@ use Rattle.idn_class.specs.declared.properties.Properties.{Properties}
 
 -- the first place whose code point is DISALLOWED or UNASSIGNED (RFC 5891, section 4.2.2)
 abbrev pub barred_place : Properties → List ℕ → Option ℕ
-barred_place properties label = failing_in label (λ place. is_none (fault_of_class (class_of properties (slice_index label place))))
+barred_place properties label =
+    failing_in label (λ place. is_none (fault_of_class (class_of properties (slice_index label place))))
 
 -- the code point at a place, with the line that bars it
 abbrev pub barred_by : List ℕ → ℕ → Option BarringLine → Option Cause
@@ -78,7 +82,8 @@ abbrev pub point_at : List ℕ → Option ℕ → Option Cause
 point_at label None = None
 point_at label (Some place) = Some (Point place (slice_index label place))
 
--- the condition of the Bidi rule that is broken, with the code point that breaks it and its Bidi_Class (RFC 5893, section 2)
+-- the condition of the Bidi rule that is broken, with the code point that breaks it and its Bidi_Class
+-- (RFC 5893, section 2)
 abbrev pub condition_at : Properties → List ℕ → Option Broken → Option Cause
 condition_at properties label None = None
 condition_at properties label (Some broken) =
@@ -164,7 +169,8 @@ IsCause properties label refusals.ContextO cause = IsFirstPoint label (OtherPass
 -- section 4.2.3.4: the first condition of the Bidi rule that is broken, and the code point that breaks it
 IsCause properties label refusals.Bidi cause =
     (condition : BidiCondition) × (place : ℕ)
-    × (cause ≡ Condition (record { condition = condition; place = place }) (slice_index label place) (bidi_class properties (slice_index label place)))
+    × (cause ≡ Condition (record { condition = condition; place = place }) (slice_index label place)
+    (bidi_class properties (slice_index label place)))
     × IsFirstBroken properties label condition place
 -- section 4.4, and a limit of this program: the code points, or the octets of the A-label
 IsCause properties label refusals.LabelTooLong cause =

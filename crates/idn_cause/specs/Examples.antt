@@ -1,7 +1,8 @@
 -- Causes of labels that are refused, computed from the definitions.
 use Rattle.std.specs.Prelude.{◌≡◌, ℕ, List, [], ◌∷◌, ◌++◌, codes, Option, Some, None}
 use Rattle.idn_text.specs.declared.refusal.Refusal.{Refusal}
-use Rattle.idn_text.specs.declared.refusal.Refusal.TheVariants.{Hyphen, LeadingMark, ContextJ, ContextO, Bidi, BadALabel}
+use Rattle.idn_text.specs.declared.refusal.Refusal.TheVariants.{Hyphen, LeadingMark, ContextJ, ContextO, Bidi}
+use Rattle.idn_text.specs.declared.refusal.Refusal.TheVariants.{BadALabel}
 use Rattle.idn_class.specs.declared.bidi_class.BidiClass.TheVariants.{L, R, EN, AN, ES, BN}
 use Rattle.idn_class.specs.declared.broken.BidiCondition.TheVariants.{First, RtlHolds, RtlEnds, RtlNumbers, LtrHolds}
 use Rattle.idn_cause.specs.declared.cause.Cause.{Cause}
@@ -45,16 +46,56 @@ causes =
     record { label = 0x61 ∷ 0x30FB ∷ []; refusal = ContextO; cause = Some (Point 1 0x30FB) } ∷
     record { label = 0x627 ∷ 0x660 ∷ 0x6F0 ∷ []; refusal = ContextO; cause = Some (Point 1 0x660) } ∷
     record { label = 0x627 ∷ 0x6F0 ∷ 0x660 ∷ []; refusal = ContextO; cause = Some (Point 1 0x6F0) } ∷
-    record { label = 0x30 ∷ 0x5D0 ∷ []; refusal = Bidi; cause = Some (Condition (record { condition = First; place = 0 }) 0x30 EN) } ∷
-    record { label = 0x660 ∷ 0x5D0 ∷ []; refusal = Bidi; cause = Some (Condition (record { condition = First; place = 0 }) 0x660 AN) } ∷
-    record { label = 0x5D0 ∷ 0x61 ∷ []; refusal = Bidi; cause = Some (Condition (record { condition = RtlHolds; place = 1 }) 0x61 L) } ∷
-    record { label = 0x5D0 ∷ 0x5D1 ∷ 0x61 ∷ 0x62 ∷ []; refusal = Bidi; cause = Some (Condition (record { condition = RtlHolds; place = 2 }) 0x61 L) } ∷
-    record { label = 0x5D0 ∷ 0x2D ∷ 0x5B0 ∷ []; refusal = Bidi; cause = Some (Condition (record { condition = RtlEnds; place = 1 }) 0x2D ES) } ∷
-    record { label = 0x5D0 ∷ 0x94D ∷ 0x200D ∷ []; refusal = Bidi; cause = Some (Condition (record { condition = RtlEnds; place = 2 }) 0x200D BN) } ∷
-    record { label = 0x5D0 ∷ 0x30 ∷ 0x660 ∷ []; refusal = Bidi; cause = Some (Condition (record { condition = RtlNumbers; place = 2 }) 0x660 AN) } ∷
-    record { label = 0x627 ∷ 0x660 ∷ 0x5D0 ∷ 0x31 ∷ []; refusal = Bidi; cause = Some (Condition (record { condition = RtlNumbers; place = 3 }) 0x31 EN) } ∷
-    record { label = 0x61 ∷ 0x5D0 ∷ []; refusal = Bidi; cause = Some (Condition (record { condition = LtrHolds; place = 1 }) 0x5D0 R) } ∷
-    record { label = 0x61 ∷ 0x62 ∷ 0x660 ∷ []; refusal = Bidi; cause = Some (Condition (record { condition = LtrHolds; place = 2 }) 0x660 AN) } ∷
+    record {
+      label = 0x30 ∷ 0x5D0 ∷ [];
+      refusal = Bidi;
+      cause = Some (Condition (record { condition = First; place = 0 }) 0x30 EN);
+    } ∷
+    record {
+      label = 0x660 ∷ 0x5D0 ∷ [];
+      refusal = Bidi;
+      cause = Some (Condition (record { condition = First; place = 0 }) 0x660 AN);
+    } ∷
+    record {
+      label = 0x5D0 ∷ 0x61 ∷ [];
+      refusal = Bidi;
+      cause = Some (Condition (record { condition = RtlHolds; place = 1 }) 0x61 L);
+    } ∷
+    record {
+      label = 0x5D0 ∷ 0x5D1 ∷ 0x61 ∷ 0x62 ∷ [];
+      refusal = Bidi;
+      cause = Some (Condition (record { condition = RtlHolds; place = 2 }) 0x61 L);
+    } ∷
+    record {
+      label = 0x5D0 ∷ 0x2D ∷ 0x5B0 ∷ [];
+      refusal = Bidi;
+      cause = Some (Condition (record { condition = RtlEnds; place = 1 }) 0x2D ES);
+    } ∷
+    record {
+      label = 0x5D0 ∷ 0x94D ∷ 0x200D ∷ [];
+      refusal = Bidi;
+      cause = Some (Condition (record { condition = RtlEnds; place = 2 }) 0x200D BN);
+    } ∷
+    record {
+      label = 0x5D0 ∷ 0x30 ∷ 0x660 ∷ [];
+      refusal = Bidi;
+      cause = Some (Condition (record { condition = RtlNumbers; place = 2 }) 0x660 AN);
+    } ∷
+    record {
+      label = 0x627 ∷ 0x660 ∷ 0x5D0 ∷ 0x31 ∷ [];
+      refusal = Bidi;
+      cause = Some (Condition (record { condition = RtlNumbers; place = 3 }) 0x31 EN);
+    } ∷
+    record {
+      label = 0x61 ∷ 0x5D0 ∷ [];
+      refusal = Bidi;
+      cause = Some (Condition (record { condition = LtrHolds; place = 1 }) 0x5D0 R);
+    } ∷
+    record {
+      label = 0x61 ∷ 0x62 ∷ 0x660 ∷ [];
+      refusal = Bidi;
+      cause = Some (Condition (record { condition = LtrHolds; place = 2 }) 0x660 AN);
+    } ∷
     []
 
 -- what begins with "xn--" and stands for no label

@@ -9,7 +9,8 @@ first_failing_label passes number (label ∷ labels) =
     if passes label then first_failing_label passes (suc number) labels else Some (number, label)
 
 -- the same by what it has to be: what is asked fails for the label of this number, and holds for each label before
-pub record IsFirstFailingLabel (labels : List (List ℕ)) (Passes : List ℕ → Type 0) (number : ℕ) (label : List ℕ) : Type 0 where
+pub record IsFirstFailingLabel (labels : List (List ℕ)) (Passes : List ℕ → Type 0) (number : ℕ)
+    (label : List ℕ) : Type 0 where
   pub before : List (List ℕ)
   pub after : List (List ℕ)
   pub split : labels ≡ before ++ label ∷ after

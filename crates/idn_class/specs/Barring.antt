@@ -1,5 +1,6 @@
 -- Why a code point may not be registered: the line of RFC 5892, section 3, or of this profile, that bars it.
-use Rattle.std.specs.Prelude.{◌≡◌, ℕ, Bool, true, false, not, IsTrue, List, [], ◌∷◌, ◌++◌, All, Option, None, if◌then◌else◌}
+use Rattle.std.specs.Prelude.{◌≡◌, ℕ, Bool, true, false, not, IsTrue, List, [], ◌∷◌, ◌++◌, All, Option, None}
+use Rattle.std.specs.Prelude.{if◌then◌else◌}
 use Rattle.std.specs.List.{find}
 use Rattle.unicode.specs.GeneralCategory.{general_category}
 use Rattle.idn_class.specs.declared.barring.BarringLine.{BarringLine}
@@ -7,7 +8,9 @@ use Rattle.idn_class.specs.declared.barring.BarringLine.TheVariants as lines
 use Rattle.idn_class.specs.declared.class.Class.{Class}
 use Rattle.idn_class.specs.declared.class.Class.TheVariants as classes
 use Rattle.idn_class.specs.declared.properties.Properties.{Properties}
-use Rattle.idn_class.specs.Class.{is_scalar, is_left_out, is_disallowed_exception, is_unassigned, is_unstable, has_ignorable_property, is_in_ignorable_block, is_old_hangul_jamo, is_letter_or_digit, class_of}
+use Rattle.idn_class.specs.Class.{is_scalar, is_left_out, is_disallowed_exception, is_unassigned, is_unstable}
+use Rattle.idn_class.specs.Class.{has_ignorable_property, is_in_ignorable_block, is_old_hangul_jamo, is_letter_or_digit}
+use Rattle.idn_class.specs.Class.{class_of}
 
 -- the class may not be registered: DISALLOWED or UNASSIGNED
 abbrev pub is_barred : Class → Bool
@@ -41,10 +44,11 @@ lines_of_properties = lines.Unstable ∷ lines_by_look_up
 abbrev pub barring_lines : List BarringLine
 barring_lines = lines.NoScalarValue ∷ lines.OutsideProfile ∷ lines.Exceptions ∷ lines.Unassigned ∷ lines_of_properties
 
--- the first line that applies to a code point whose class may not be registered. No line that permits one stands before it, since
--- that would have decided
+-- the first line that applies to a code point whose class may not be registered. No line that permits one stands before
+-- it, since that would have decided
 unfoldable pub barring_line : Properties → ℕ → Option BarringLine
-barring_line properties c = if is_barred (class_of properties c) then find (applies properties c) barring_lines else None
+barring_line properties c =
+    if is_barred (class_of properties c) then find (applies properties c) barring_lines else None
 
 -- the same by what it has to be: the class may not be registered, the line applies, and none of those before it does
 pub record IsBarredBy (properties : Properties) (c : ℕ) (line : BarringLine) : Type 0 where

@@ -1,5 +1,6 @@
 -- The Bidi rule (RFC 5893, section 2), on the list of the Bidi classes of a label.
-use Rattle.std.specs.Prelude.{◌≡◌, ℕ, ◌<◌, ◌⊎◌, Bool, true, false, IsTrue, List, length, map, All, Any, Contains, Some, IsSomeAnd, slice_get}
+use Rattle.std.specs.Prelude.{◌≡◌, ℕ, ◌<◌, ◌⊎◌, Bool, true, false, IsTrue, List, length, map, All, Any, Contains, Some}
+use Rattle.std.specs.Prelude.{IsSomeAnd, slice_get}
 use Rattle.idn_class.specs.declared.bidi_class.BidiClass.{BidiClass}
 use Rattle.idn_class.specs.declared.bidi_class.BidiClass.TheVariants.{L, R, AL, AN, EN, ES, CS, ET, ON, BN, NSM, Other}
 use Rattle.idn_class.specs.declared.properties.Properties.{Properties}

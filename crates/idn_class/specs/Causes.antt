@@ -1,14 +1,17 @@
 -- Where a rule is broken: the first place of a label at which its test fails. Places are counted from 0.
-use Rattle.std.specs.Prelude.{◌≡◌, ◌≢◌, ◌⊎◌, ℕ, zero, suc, ◌<◌, ◌≤◌, Bool, true, false, ◌&&◌, ◌||◌, not, IsTrue, List, [], ◌∷◌, length, map, Any, Option, Some, None, slice_index, if◌then◌else◌}
+use Rattle.std.specs.Prelude.{◌≡◌, ◌≢◌, ◌⊎◌, ℕ, zero, suc, ◌<◌, ◌≤◌, Bool, true, false, ◌&&◌, ◌||◌, not, IsTrue, List}
+use Rattle.std.specs.Prelude.{[], ◌∷◌, length, map, Any, Option, Some, None, slice_index, if◌then◌else◌}
 use Rattle.std.specs.List.{list_any}
 use Rattle.idn_class.specs.declared.bidi_class.BidiClass.{BidiClass}
 use Rattle.idn_class.specs.declared.bidi_class.BidiClass.TheVariants.{EN, AN, NSM}
 use Rattle.idn_class.specs.declared.broken.Broken.{Broken}
 use Rattle.idn_class.specs.declared.broken.BidiCondition.{BidiCondition}
-use Rattle.idn_class.specs.declared.broken.BidiCondition.TheVariants.{First, RtlHolds, RtlEnds, RtlNumbers, LtrHolds, LtrEnds}
+use Rattle.idn_class.specs.declared.broken.BidiCondition.TheVariants.{First, RtlHolds, RtlEnds, RtlNumbers, LtrHolds}
+use Rattle.idn_class.specs.declared.broken.BidiCondition.TheVariants.{LtrEnds}
 use Rattle.idn_class.specs.declared.properties.Properties.{Properties}
 use Rattle.idn_class.specs.BidiClass.{bidi_class}
-use Rattle.idn_class.specs.BidiRule.{is_rtl_class, is_allowed_in_rtl, is_end_of_rtl, is_allowed_in_ltr, is_end_of_ltr, IsRtl, IsLtr}
+use Rattle.idn_class.specs.BidiRule.{is_rtl_class, is_allowed_in_rtl, is_end_of_rtl, is_allowed_in_ltr, is_end_of_ltr}
+use Rattle.idn_class.specs.BidiRule.{IsRtl, IsLtr}
 use Rattle.idn_class.specs.Tests.{joiner_at, other_at, is_en, is_an, is_nsm, is_rtl, is_ltr}
 
 -- ---- the first place
@@ -53,7 +56,8 @@ class_at properties label place = bidi_class properties (slice_index label place
 -- the last of so many places at which no NSM stands
 abbrev pub last_base : Properties → List ℕ → ℕ → Option ℕ
 last_base properties label zero = None
-last_base properties label (suc place) = if is_nsm (class_at properties label place) then last_base properties label place else Some place
+last_base properties label (suc place) =
+    if is_nsm (class_at properties label place) then last_base properties label place else Some place
 
 -- this place, where what stands there may not end the label
 abbrev pub unless_end : Properties → (BidiClass → Bool) → List ℕ → Option ℕ → Option ℕ
@@ -72,7 +76,8 @@ some_place (suc place) holds = holds place || some_place place holds
 -- up to a place, that included, not both EN and AN occur
 abbrev pub numbers_agree_to : Properties → List ℕ → ℕ → Bool
 numbers_agree_to properties label place =
-    not (some_place (suc place) (λ k. is_en (class_at properties label k)) && some_place (suc place) (λ k. is_an (class_at properties label k)))
+    not (some_place (suc place) (λ k. is_en (class_at properties label k))
+    && some_place (suc place) (λ k. is_an (class_at properties label k)))
 
 -- the number of a condition in the standard
 abbrev pub condition_number : BidiCondition → ℕ
@@ -135,31 +140,41 @@ StandsUpTo properties label class place = (k : ℕ) × (k ≤ place) × (class_a
 -- the code point at the place breaks the condition
 abbrev pub Breaks : Properties → List ℕ → BidiCondition → ℕ → Type 0
 -- 1: it is the first, and neither L, R nor AL
-Breaks properties label First place = (place ≡ 0) × ¬ (IsLtr (map (bidi_class properties) label) ⊎ IsRtl (map (bidi_class properties) label))
+Breaks properties label First place =
+    (place ≡ 0) × ¬ (IsLtr (map (bidi_class properties) label) ⊎ IsRtl (map (bidi_class properties) label))
 -- 2: it is the first in an RTL label that is none of R, AL, AN, EN, ES, CS, ET, ON, BN and NSM
 Breaks properties label RtlHolds place =
-    IsRtl (map (bidi_class properties) label) × IsFirstFailing label (λ k. IsTrue (is_allowed_in_rtl (class_at properties label k))) place
+    IsRtl (map (bidi_class properties) label) × IsFirstFailing label
+    (λ k. IsTrue (is_allowed_in_rtl (class_at properties label k))) place
 -- 3: it is the last in an RTL label but for NSM, and none of R, AL, EN and AN
 Breaks properties label RtlEnds place =
-    IsRtl (map (bidi_class properties) label) × IsLastBase properties label place × ¬ IsTrue (is_end_of_rtl (class_at properties label place))
+    IsRtl (map (bidi_class properties) label) × IsLastBase properties label place
+    × ¬ IsTrue (is_end_of_rtl (class_at properties label place))
 -- 4: with it an RTL label has both EN and AN
 Breaks properties label RtlNumbers place =
-    IsRtl (map (bidi_class properties) label) × IsFirstFailing label (λ k. ¬ (StandsUpTo properties label EN k × StandsUpTo properties label AN k)) place
+    IsRtl (map (bidi_class properties) label) × IsFirstFailing label
+    (λ k. ¬ (StandsUpTo properties label EN k × StandsUpTo properties label AN k)) place
 -- 5: it is the first in an LTR label that is none of L, EN, ES, CS, ET, ON, BN and NSM
 Breaks properties label LtrHolds place =
-    IsLtr (map (bidi_class properties) label) × IsFirstFailing label (λ k. IsTrue (is_allowed_in_ltr (class_at properties label k))) place
+    IsLtr (map (bidi_class properties) label) × IsFirstFailing label
+    (λ k. IsTrue (is_allowed_in_ltr (class_at properties label k))) place
 -- 6: it is the last in an LTR label but for NSM, and neither L nor EN
 Breaks properties label LtrEnds place =
-    IsLtr (map (bidi_class properties) label) × IsLastBase properties label place × ¬ IsTrue (is_end_of_ltr (class_at properties label place))
+    IsLtr (map (bidi_class properties) label) × IsLastBase properties label place
+    × ¬ IsTrue (is_end_of_ltr (class_at properties label place))
 
 -- the condition is broken at the place of a label, and no earlier condition is broken anywhere
-pub record IsFirstBrokenInName (properties : Properties) (label : List ℕ) (condition : BidiCondition) (place : ℕ) : Type 0 where
+pub record IsFirstBrokenInName (properties : Properties) (label : List ℕ) (condition : BidiCondition)
+    (place : ℕ) : Type 0 where
   pub within : place < length label
   pub breaks : Breaks properties label condition place
-  pub earlier : (other : BidiCondition) (k : ℕ) → condition_number other < condition_number condition → ¬ Breaks properties label other k
+  pub earlier : (other : BidiCondition) (k : ℕ) → condition_number other < condition_number condition
+      → ¬ Breaks properties label other k
 
 -- the rule applies, the condition is broken at the place, and no earlier condition is broken anywhere
-pub record IsFirstBroken (properties : Properties) (label : List ℕ) (condition : BidiCondition) (place : ℕ) : Type 0 where
+pub record IsFirstBroken (properties : Properties) (label : List ℕ) (condition : BidiCondition)
+    (place : ℕ) : Type 0 where
   pub applies : Any (λ class. IsTrue (is_rtl_class class)) (map (bidi_class properties) label)
   pub breaks : Breaks properties label condition place
-  pub earlier : (other : BidiCondition) (k : ℕ) → condition_number other < condition_number condition → ¬ Breaks properties label other k
+  pub earlier : (other : BidiCondition) (k : ℕ) → condition_number other < condition_number condition
+      → ¬ Breaks properties label other k

@@ -2,7 +2,10 @@
 use Rattle.std.specs.Prelude.{ℕ, Bool, true, false, ◌&&◌, ◌||◌, not, [], ◌∷◌, length, nat_lt, bytes_eq, if◌then◌else◌}
 use Rattle.ucd_table.specs.Rows.{in_ranges}
 use Rattle.ucd_category.specs.declared.GeneralCategory.{GeneralCategory}
-use Rattle.ucd_category.specs.declared.GeneralCategory.TheVariants.{UppercaseLetter as Lu, LowercaseLetter as Ll, ModifierLetter as Lm, OtherLetter as Lo, NonspacingMark as Mn, SpacingMark as Mc, DecimalNumber as Nd, Unassigned as Cn}
+use Rattle.ucd_category.specs.declared.GeneralCategory.TheVariants.{UppercaseLetter as Lu, LowercaseLetter as Ll}
+use Rattle.ucd_category.specs.declared.GeneralCategory.TheVariants.{ModifierLetter as Lm, OtherLetter as Lo}
+use Rattle.ucd_category.specs.declared.GeneralCategory.TheVariants.{NonspacingMark as Mn, SpacingMark as Mc}
+use Rattle.ucd_category.specs.declared.GeneralCategory.TheVariants.{DecimalNumber as Nd, Unassigned as Cn}
 use Rattle.unicode.specs.Binary.{is_default_ignorable_code_point, is_white_space, is_noncharacter_code_point}
 use Rattle.unicode.specs.CaseFolding.{full_folding}
 use Rattle.unicode.specs.GeneralCategory.{general_category, general_category_eq}
@@ -32,15 +35,18 @@ is_left_out Unicode = λ _. false
 
 -- Exceptions (F, 2.6) that are PVALID
 unfoldable pub is_pvalid_exception : ℕ → Bool
-is_pvalid_exception = in_ranges ((0xDF, 0xDF) ∷ (0x3C2, 0x3C2) ∷ (0x6FD, 0x6FE) ∷ (0xF0B, 0xF0B) ∷ (0x3007, 0x3007) ∷ [])
+is_pvalid_exception =
+    in_ranges ((0xDF, 0xDF) ∷ (0x3C2, 0x3C2) ∷ (0x6FD, 0x6FE) ∷ (0xF0B, 0xF0B) ∷ (0x3007, 0x3007) ∷ [])
 
 -- Exceptions (F, 2.6) that are CONTEXTO
 unfoldable pub is_contexto_exception : ℕ → Bool
-is_contexto_exception = in_ranges ((0xB7, 0xB7) ∷ (0x375, 0x375) ∷ (0x5F3, 0x5F4) ∷ (0x660, 0x669) ∷ (0x6F0, 0x6F9) ∷ (0x30FB, 0x30FB) ∷ [])
+is_contexto_exception =
+    in_ranges ((0xB7, 0xB7) ∷ (0x375, 0x375) ∷ (0x5F3, 0x5F4) ∷ (0x660, 0x669) ∷ (0x6F0, 0x6F9) ∷ (0x30FB, 0x30FB) ∷ [])
 
 -- Exceptions (F, 2.6) that are DISALLOWED
 unfoldable pub is_disallowed_exception : ℕ → Bool
-is_disallowed_exception = in_ranges ((0x640, 0x640) ∷ (0x7FA, 0x7FA) ∷ (0x302E, 0x302F) ∷ (0x3031, 0x3035) ∷ (0x303B, 0x303B) ∷ [])
+is_disallowed_exception =
+    in_ranges ((0x640, 0x640) ∷ (0x7FA, 0x7FA) ∷ (0x302E, 0x302F) ∷ (0x3031, 0x3035) ∷ (0x303B, 0x303B) ∷ [])
 
 -- Unassigned (J, 2.10)
 unfoldable pub is_unassigned : ℕ → Bool
@@ -91,8 +97,8 @@ class_by_properties c =
     else (if is_letter_or_digit (general_category c) then Pvalid
     else Disallowed))))
 
--- section 3, after no scalar value and what the properties leave out: the first line that applies decides. BackwardCompatible (G,
--- 2.7) is empty.
+-- section 3, after no scalar value and what the properties leave out: the first line that applies decides.
+-- BackwardCompatible (G, 2.7) is empty.
 unfoldable pub class_of : Properties → ℕ → Class
 class_of properties c =
     if not (is_scalar c) then Disallowed

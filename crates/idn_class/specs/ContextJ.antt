@@ -32,7 +32,8 @@ FollowsVirama properties label place = IsSomeAnd (before label place) (λ c. IsT
 -- the rule of the joiner at a place, where one stands there
 pub record JoinerPasses (properties : Properties) (label : List ℕ) (place : ℕ) : Type 0 where
   -- A.1, ZERO WIDTH NON-JOINER
-  pub non_joiner : slice_index label place ≡ 0x200C → FollowsVirama properties label place ⊎ (JoinsBefore properties label place × JoinsAfter properties label place)
+  pub non_joiner : slice_index label place ≡ 0x200C
+      → FollowsVirama properties label place ⊎ (JoinsBefore properties label place × JoinsAfter properties label place)
   -- A.2, ZERO WIDTH JOINER
   pub joiner : slice_index label place ≡ 0x200D → FollowsVirama properties label place
 

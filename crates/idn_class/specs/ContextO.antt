@@ -1,5 +1,6 @@
 -- The rules for the other code points that need a context (RFC 5892, appendix A.3 to A.9), at each place of a label.
-use Rattle.std.specs.Prelude.{◌≡◌, ℕ, Bool, true, false, ◌&&◌, nat_le, IsTrue, List, Any, Some, IsSomeAnd, slice_index, EachIndex}
+use Rattle.std.specs.Prelude.{◌≡◌, ℕ, Bool, true, false, ◌&&◌, nat_le, IsTrue, List, Any, Some, IsSomeAnd, slice_index}
+use Rattle.std.specs.Prelude.{EachIndex}
 use Rattle.ucd_script.specs.declared.Script.{Script}
 use Rattle.ucd_script.specs.declared.Script.TheVariants.{Greek, Hebrew, Hiragana, Katakana, Han}
 use Rattle.unicode.specs.Script.{script}
@@ -37,9 +38,11 @@ pub record OtherPasses (label : List ℕ) (place : ℕ) : Type 0 where
   -- A.7, KATAKANA MIDDLE DOT
   pub katakana_middle_dot : slice_index label place ≡ 0x30FB → Any (λ c. IsTrue (is_japanese c)) label
   -- A.8, ARABIC-INDIC DIGITS
-  pub arabic_digit : IsTrue (is_arabic_digit (slice_index label place)) → ¬ (Any (λ c. IsTrue (is_extended_arabic_digit c)) label)
+  pub arabic_digit : IsTrue (is_arabic_digit (slice_index label place))
+      → ¬ (Any (λ c. IsTrue (is_extended_arabic_digit c)) label)
   -- A.9, EXTENDED ARABIC-INDIC DIGITS
-  pub extended_arabic_digit : IsTrue (is_extended_arabic_digit (slice_index label place)) → ¬ (Any (λ c. IsTrue (is_arabic_digit c)) label)
+  pub extended_arabic_digit : IsTrue (is_extended_arabic_digit (slice_index label place))
+      → ¬ (Any (λ c. IsTrue (is_arabic_digit c)) label)
 
 -- each code point of the label that has a rule meets it
 abbrev pub PassesContextO : List ℕ → Type 0

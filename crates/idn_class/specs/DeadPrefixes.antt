@@ -1,5 +1,6 @@
 -- Dead prefixes: no label that begins so may be registered (RFC 5891, section 4.2), whatever follows.
-use Rattle.std.specs.Prelude.{◌≡◌, ℕ, ◌≤◌, ◌<◌, Bool, true, false, not, ◌&&◌, ◌||◌, ◌==◌, IsTrue, List, length, map, take, Any, Contains, Option, Some, MatchOption, slice_get, slice_index}
+use Rattle.std.specs.Prelude.{◌≡◌, ℕ, ◌≤◌, ◌<◌, Bool, true, false, not, ◌&&◌, ◌||◌, ◌==◌, IsTrue, List, length, map}
+use Rattle.std.specs.Prelude.{take, Any, Contains, Option, Some, MatchOption, slice_get, slice_index}
 use Rattle.std.specs.List.{list_any}
 use Rattle.idn_class.specs.declared.bidi_class.BidiClass.{BidiClass}
 use Rattle.idn_class.specs.declared.bidi_class.BidiClass.TheVariants.{EN, AN}
@@ -22,13 +23,17 @@ pub data IsDeadPrefix (properties : Properties) (w : List ℕ) : Type 0 where
   -- a combining mark first (section 4.2.3.2)
   Mark_first : BeginsWithMark w → IsDeadPrefix properties w
   -- R, AL or AN where the first is neither R nor AL (RFC 5893, section 2, rules 1 and 5)
-  Rtl_in_ltr : Any (λ class. IsTrue (is_rtl_class class)) (map (bidi_class properties) w) → ¬ IsRtl (map (bidi_class properties) w) → IsDeadPrefix properties w
+  Rtl_in_ltr : Any (λ class. IsTrue (is_rtl_class class)) (map (bidi_class properties) w)
+      → ¬ IsRtl (map (bidi_class properties) w) → IsDeadPrefix properties w
   -- a class that is not allowed in an RTL label, where the first is R or AL (rule 2)
-  Ltr_in_rtl : IsRtl (map (bidi_class properties) w) → Any (λ class. IsTrue (is_barred_in_rtl class)) (map (bidi_class properties) w) → IsDeadPrefix properties w
+  Ltr_in_rtl : IsRtl (map (bidi_class properties) w)
+      → Any (λ class. IsTrue (is_barred_in_rtl class)) (map (bidi_class properties) w) → IsDeadPrefix properties w
   -- both EN and AN where the first is R or AL (rule 4)
-  Both_numbers_in_rtl : IsRtl (map (bidi_class properties) w) → Contains (map (bidi_class properties) w) EN → Contains (map (bidi_class properties) w) AN → IsDeadPrefix properties w
+  Both_numbers_in_rtl : IsRtl (map (bidi_class properties) w) → Contains (map (bidi_class properties) w) EN
+      → Contains (map (bidi_class properties) w) AN → IsDeadPrefix properties w
   -- ARABIC-INDIC and EXTENDED ARABIC-INDIC digits (RFC 5892, appendix A.8 and A.9)
-  Both_kinds_of_digits : Any (λ c. IsTrue (is_arabic_digit c)) w → Any (λ c. IsTrue (is_extended_arabic_digit c)) w → IsDeadPrefix properties w
+  Both_kinds_of_digits : Any (λ c. IsTrue (is_arabic_digit c)) w → Any (λ c. IsTrue (is_extended_arabic_digit c)) w
+      → IsDeadPrefix properties w
 
 -- the first n code points are dead, and no fewer are
 pub record IsShortestDeadPrefix (properties : Properties) (label : List ℕ) (n : ℕ) : Type 0 where
@@ -42,7 +47,8 @@ HasNoDeadPrefix properties label = (k : ℕ) → ¬ IsDeadPrefix properties (tak
 
 -- the length of the shortest dead prefix of the label, if it has one
 abbrev pub TellsDeadPrefix : Properties → List ℕ → Option ℕ → Type 0
-TellsDeadPrefix properties label found = MatchOption found (HasNoDeadPrefix properties label) (IsShortestDeadPrefix properties label)
+TellsDeadPrefix properties label found =
+    MatchOption found (HasNoDeadPrefix properties label) (IsShortestDeadPrefix properties label)
 
 -- ---- dead, as a test that computes. Digits of both kinds need no test of their own: one kind is AN and
 -- the other EN
@@ -60,4 +66,5 @@ breaks_bidi false classes = list_any is_rtl_class classes
 
 unfoldable pub hopeless : Properties → List ℕ → Bool
 hopeless properties w =
-    begins_with_hyphen w || leading_mark w || breaks_bidi (is_rtl (map (bidi_class properties) w)) (map (bidi_class properties) w) || has_hyphens_third_and_fourth w
+    begins_with_hyphen w || leading_mark w || breaks_bidi (is_rtl (map (bidi_class properties) w))
+    (map (bidi_class properties) w) || has_hyphens_third_and_fourth w

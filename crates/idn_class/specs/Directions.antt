@@ -1,5 +1,6 @@
 -- How far a label goes before it is dead, code point by code point.
-use Rattle.std.specs.Prelude.{◌≡◌, ℕ, ◌≤◌, ◌<◌, Bool, true, false, ◌||◌, ◌==◌, List, length, map, take, Option, Some, None, MatchOption, if◌then◌else◌}
+use Rattle.std.specs.Prelude.{◌≡◌, ℕ, ◌≤◌, ◌<◌, Bool, true, false, ◌||◌, ◌==◌, List, length, map, take, Option, Some}
+use Rattle.std.specs.Prelude.{None, MatchOption, if◌then◌else◌}
 use Rattle.std.specs.List.{list_any}
 use Rattle.idn_class.specs.declared.bidi_class.BidiClass.{BidiClass}
 use Rattle.idn_class.specs.declared.bidi_class.BidiClass.TheVariants.{L, R, AL, AN, EN, Other}
@@ -28,14 +29,18 @@ TellsShortest test label found = MatchOption found (HasNone test label) (IsShort
 
 -- a list is dead by its first code point or by the Bidi rule
 abbrev pub breaks_at_first : Properties → List ℕ → Bool
-breaks_at_first properties w = begins_with_hyphen w || leading_mark w || breaks_bidi (is_rtl (map (bidi_class properties) w)) (map (bidi_class properties) w)
+breaks_at_first properties w =
+    begins_with_hyphen w || leading_mark w || breaks_bidi (is_rtl (map (bidi_class properties) w))
+    (map (bidi_class properties) w)
 
 -- after code points of this direction, a list breaks the Bidi rule for good
 abbrev pub breaks_after : Properties → Direction → List ℕ → Bool
 breaks_after properties Ltr w = list_any is_rtl_class (map (bidi_class properties) w)
 breaks_after properties Rtl w = breaks_bidi true (map (bidi_class properties) w)
-breaks_after properties RtlEuropean w = list_any is_barred_in_rtl (map (bidi_class properties) w) || list_any is_an (map (bidi_class properties) w)
-breaks_after properties RtlArabic w = list_any is_barred_in_rtl (map (bidi_class properties) w) || list_any is_en (map (bidi_class properties) w)
+breaks_after properties RtlEuropean w =
+    list_any is_barred_in_rtl (map (bidi_class properties) w) || list_any is_an (map (bidi_class properties) w)
+breaks_after properties RtlArabic w =
+    list_any is_barred_in_rtl (map (bidi_class properties) w) || list_any is_en (map (bidi_class properties) w)
 
 -- the direction of a first class, where a label may begin with it
 abbrev pub begun_by : BidiClass → Option Direction

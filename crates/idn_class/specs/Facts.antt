@@ -14,7 +14,8 @@ use Rattle.ucd_normal.specs.QuickCheck.{quick_check}
 use Rattle.idn_class.specs.declared.class.Class.{Class}
 use Rattle.idn_class.specs.declared.class.Class.TheVariants as classes
 use Rattle.idn_class.specs.declared.facts.Fact.{Fact}
-use Rattle.idn_class.specs.declared.facts.Fact.TheVariants.{MayBeBarred, Contextj, Contexto, MayCompose, Mark, RightToLeft, NotKept}
+use Rattle.idn_class.specs.declared.facts.Fact.TheVariants.{MayBeBarred, Contextj, Contexto, MayCompose, Mark}
+use Rattle.idn_class.specs.declared.facts.Fact.TheVariants.{RightToLeft, NotKept}
 use Rattle.idn_class.specs.declared.facts.Facts.{Facts}
 use Rattle.idn_class.specs.Barring.{is_barred}
 use Rattle.idn_class.specs.BidiClass.{bidi_class}

@@ -1,7 +1,8 @@
 -- A label must not begin with a combining mark (RFC 5891, section 4.2.3.2).
 use Rattle.std.specs.Prelude.{ℕ, Bool, true, false, IsTrue, List, IsSomeAnd, slice_get}
 use Rattle.ucd_category.specs.declared.GeneralCategory.{GeneralCategory}
-use Rattle.ucd_category.specs.declared.GeneralCategory.TheVariants.{NonspacingMark as Mn, SpacingMark as Mc, EnclosingMark as Me}
+use Rattle.ucd_category.specs.declared.GeneralCategory.TheVariants.{NonspacingMark as Mn, SpacingMark as Mc}
+use Rattle.ucd_category.specs.declared.GeneralCategory.TheVariants.{EnclosingMark as Me}
 use Rattle.unicode.specs.GeneralCategory.{general_category}
 
 abbrev pub is_mark_category : GeneralCategory → Bool

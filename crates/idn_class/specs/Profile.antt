@@ -1,5 +1,5 @@
--- What docs/PROFILE.md says of this profile's lists: which code points have each Bidi class and joining type, and which are
--- viramas.
+-- What docs/PROFILE.md says of this profile's lists: which code points have each Bidi class and joining type, and which
+-- are viramas.
 use Rattle.std.specs.Prelude.{◌≡◌, ◌≢◌, ◌≤◌, ◌⊎◌, ◌↔◌, ℕ, Bool, IsTrue, List, [], ◌∷◌, map, Any}
 use Rattle.ucd_table.specs.Rows.{in_ranges}
 use Rattle.ucd_category.specs.declared.GeneralCategory.TheVariants.{NonspacingMark, EnclosingMark}
@@ -33,7 +33,8 @@ arabic_digits = (0x660, 0x669) ∷ []
 abbrev pub european_digits : List (ℕ × ℕ)
 european_digits = (0x30, 0x39) ∷ (0x6F0, 0x6F9) ∷ []
 
--- the nonspacing marks that are L in Unicode. The profile has them as NSM, and so lets them into RTL labels, where RFC 5893 bars them
+-- the nonspacing marks that are L in Unicode. The profile has them as NSM, and so lets them into RTL labels,
+-- where RFC 5893 bars them
 abbrev pub left_to_right_marks : List ℕ
 left_to_right_marks = 0xCBF ∷ 0xCC6 ∷ 0x1B3A ∷ 0x1B3C ∷ 0x1B42 ∷ 0x1_1A07 ∷ 0x1_1A08 ∷ 0x1_1C3F ∷ []
 
@@ -52,7 +53,8 @@ IsNonspacing c = (general_category c ≡ NonspacingMark) ⊎ (general_category c
 -- each class, and the code points that have it
 pub record BidiClassesOfTheProfile : Type 0 where
   pub right_to_left : (c : ℕ) → (profile_bidi_class c ≡ R) ↔ (IsIn right_to_left_blocks c × ¬ IsNonspacing c)
-  pub arabic_letter : (c : ℕ) → (profile_bidi_class c ≡ AL) ↔ (IsIn arabic_blocks c × (¬ IsNonspacing c) × (¬ IsIn arabic_digits c) × (¬ IsIn european_digits c))
+  pub arabic_letter : (c : ℕ) → (profile_bidi_class c ≡ AL)
+      ↔ (IsIn arabic_blocks c × (¬ IsNonspacing c) × (¬ IsIn arabic_digits c) × (¬ IsIn european_digits c))
   pub arabic_number : (c : ℕ) → (profile_bidi_class c ≡ AN) ↔ IsIn arabic_digits c
   pub european_number : (c : ℕ) → (profile_bidi_class c ≡ EN) ↔ IsIn european_digits c
   pub european_separator : (c : ℕ) → (profile_bidi_class c ≡ ES) ↔ (c ≡ 0x2D)
@@ -62,7 +64,8 @@ pub record BidiClassesOfTheProfile : Type 0 where
 
 -- ---- the joining type, and the viramas
 
--- R and D are types of letters of the Arabic block; T is that of the nonspacing marks outside of these; no code point has L
+-- R and D are types of letters of the Arabic block; T is that of the nonspacing marks outside of these;
+-- no code point has L
 pub record JoiningTypesOfTheProfile : Type 0 where
   pub right : (c : ℕ) → profile_joining_type c ≡ Right → IsIn ((0x600, 0x6FF) ∷ []) c
   pub dual : (c : ℕ) → profile_joining_type c ≡ Dual → IsIn ((0x600, 0x6FF) ∷ []) c

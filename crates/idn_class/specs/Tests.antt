@@ -1,5 +1,7 @@
--- The rules again, as tests that compute, so that a proof can try them on a label. The laws in `laws.rt` say that each is its rule.
-use Rattle.std.specs.Prelude.{ℕ, zero, suc, ◌+◌, Bool, true, false, ◌&&◌, ◌||◌, ◌==◌, not, List, [], ◌∷◌, length, map, drop, Option, Some, None, slice_index}
+-- The rules again, as tests that compute, so that a proof can try them on a label.
+-- The laws in `laws.rt` say that each is its rule.
+use Rattle.std.specs.Prelude.{ℕ, zero, suc, ◌+◌, Bool, true, false, ◌&&◌, ◌||◌, ◌==◌, not, List, [], ◌∷◌, length, map}
+use Rattle.std.specs.Prelude.{drop, Option, Some, None, slice_index}
 use Rattle.std.specs.List.{list_any, list_all}
 use Rattle.ucd_script.specs.declared.Script.{Script}
 use Rattle.ucd_script.specs.declared.Script.TheVariants.{Greek, Hebrew}
@@ -39,18 +41,21 @@ first_other joins type farther = joins type
 
 abbrev pub joins_before : Properties → List ℕ → ℕ → Bool
 joins_before properties label zero = false
-joins_before properties label (suc place) = first_other joins_next (type_at properties label place) (joins_before properties label place)
+joins_before properties label (suc place) =
+    first_other joins_next (type_at properties label place) (joins_before properties label place)
 
 abbrev pub joins_after : Properties → List ℕ → Bool
 joins_after properties [] = false
-joins_after properties (c ∷ label) = first_other joins_previous (joining_type properties c) (joins_after properties label)
+joins_after properties (c ∷ label) =
+    first_other joins_previous (joining_type properties c) (joins_after properties label)
 
 abbrev pub follows_virama : Properties → List ℕ → ℕ → Bool
 follows_virama properties label place = is_some_and (before label place) (is_virama properties)
 
 abbrev pub non_joiner_passes : Properties → Bool → List ℕ → ℕ → Bool
 non_joiner_passes properties true label place =
-    follows_virama properties label place || joins_before properties label place && joins_after properties (drop (place + 1) label)
+    follows_virama properties label place || joins_before properties label place
+    && joins_after properties (drop (place + 1) label)
 non_joiner_passes properties false label place = true
 
 abbrev pub joiner_passes : Properties → Bool → List ℕ → ℕ → Bool
@@ -77,7 +82,8 @@ is_hebrew Hebrew = true
 is_hebrew _ = false
 
 abbrev pub middle_dot_passes : Bool → List ℕ → ℕ → Bool
-middle_dot_passes true label place = is_some_and (before label place) (λ c. c == 0x6C) && is_some_and (after label place) (λ c. c == 0x6C)
+middle_dot_passes true label place =
+    is_some_and (before label place) (λ c. c == 0x6C) && is_some_and (after label place) (λ c. c == 0x6C)
 middle_dot_passes false label place = true
 
 abbrev pub keraia_passes : Bool → List ℕ → ℕ → Bool
@@ -101,7 +107,8 @@ digit_passes is_other false label = true
 abbrev pub other_at : List ℕ → ℕ → Bool
 other_at label place =
     let c = slice_index label place in
-    middle_dot_passes (c == 0xB7) label place && keraia_passes (c == 0x375) label place && geresh_passes (c == 0x5F3) label place
+    middle_dot_passes (c == 0xB7) label place && keraia_passes (c == 0x375) label place
+    && geresh_passes (c == 0x5F3) label place
     && geresh_passes (c == 0x5F4) label place && katakana_middle_dot_passes (c == 0x30FB) label
     && digit_passes is_extended_arabic_digit (is_arabic_digit c) label
     && digit_passes is_arabic_digit (is_extended_arabic_digit c) label
@@ -158,4 +165,5 @@ bidi_rule true classes = meets_six_conditions classes
 bidi_rule false classes = true
 
 unfoldable pub bidi_ok : Properties → List ℕ → Bool
-bidi_ok properties label = let classes = map (bidi_class properties) label in bidi_rule (list_any is_rtl_class classes) classes
+bidi_ok properties label =
+    let classes = map (bidi_class properties) label in bidi_rule (list_any is_rtl_class classes) classes

@@ -1,4 +1,5 @@
--- Worked rows that the definitions meet: classes as RFC 5892 prints them, and for each rule labels that just meet it and labels that just break it.
+-- Worked rows that the definitions meet: classes as RFC 5892 prints them, and for each rule labels that just meet it
+-- and labels that just break it.
 use Rattle.std.specs.Prelude.{◌≡◌, ℕ, ◌≤◌, List, [], ◌∷◌}
 use Rattle.idn_class.specs.declared.bidi_class.BidiClass.{BidiClass}
 use Rattle.idn_class.specs.declared.bidi_class.BidiClass.TheVariants.{L, R, AL, EN, AN, ES, CS, ET, ON, BN, NSM}
@@ -11,32 +12,39 @@ use Rattle.idn_class.specs.Class.{class_of}
 
 abbrev pub HasClasses : Properties → List (ℕ × ℕ × Class) → Type 0
 HasClasses properties [] = Unit {0}
-HasClasses properties (row ∷ rows) = ((c : ℕ) → row.0 ≤ c → c ≤ row.1 → class_of properties c ≡ row.2) × HasClasses properties rows
+HasClasses properties (row ∷ rows) =
+    ((c : ℕ) → row.0 ≤ c → c ≤ row.1 → class_of properties c ≡ row.2) × HasClasses properties rows
 
 -- RFC 5892, appendix B.1, from its first line to the end of Latin-1
 abbrev pub latin_1 : List (ℕ × ℕ × Class)
 latin_1 =
-    (0x00, 0x2C, Disallowed) ∷ (0x2D, 0x2D, Pvalid) ∷ (0x2E, 0x2F, Disallowed) ∷ (0x30, 0x39, Pvalid) ∷ (0x3A, 0x60, Disallowed)
-    ∷ (0x61, 0x7A, Pvalid) ∷ (0x7B, 0xB6, Disallowed) ∷ (0xB7, 0xB7, Contexto) ∷ (0xB8, 0xDE, Disallowed) ∷ (0xDF, 0xF6, Pvalid)
+    (0x00, 0x2C, Disallowed) ∷ (0x2D, 0x2D, Pvalid) ∷ (0x2E, 0x2F, Disallowed) ∷ (0x30, 0x39, Pvalid)
+    ∷ (0x3A, 0x60, Disallowed)
+    ∷ (0x61, 0x7A, Pvalid) ∷ (0x7B, 0xB6, Disallowed) ∷ (0xB7, 0xB7, Contexto) ∷ (0xB8, 0xDE, Disallowed)
+    ∷ (0xDF, 0xF6, Pvalid)
     ∷ (0xF7, 0xF7, Disallowed) ∷ (0xF8, 0xFF, Pvalid) ∷ []
 
 -- RFC 5892, section 2.6, in its order
 abbrev pub exceptions : List (ℕ × ℕ × Class)
 exceptions =
-    (0xDF, 0xDF, Pvalid) ∷ (0x3C2, 0x3C2, Pvalid) ∷ (0x6FD, 0x6FD, Pvalid) ∷ (0x6FE, 0x6FE, Pvalid) ∷ (0xF0B, 0xF0B, Pvalid)
+    (0xDF, 0xDF, Pvalid) ∷ (0x3C2, 0x3C2, Pvalid) ∷ (0x6FD, 0x6FD, Pvalid) ∷ (0x6FE, 0x6FE, Pvalid)
+    ∷ (0xF0B, 0xF0B, Pvalid)
     ∷ (0x3007, 0x3007, Pvalid) ∷ (0xB7, 0xB7, Contexto) ∷ (0x375, 0x375, Contexto) ∷ (0x5F3, 0x5F3, Contexto)
     ∷ (0x5F4, 0x5F4, Contexto) ∷ (0x30FB, 0x30FB, Contexto) ∷ (0x660, 0x669, Contexto) ∷ (0x6F0, 0x6F9, Contexto)
-    ∷ (0x640, 0x640, Disallowed) ∷ (0x7FA, 0x7FA, Disallowed) ∷ (0x302E, 0x302F, Disallowed) ∷ (0x3031, 0x3035, Disallowed)
+    ∷ (0x640, 0x640, Disallowed) ∷ (0x7FA, 0x7FA, Disallowed) ∷ (0x302E, 0x302F, Disallowed)
+    ∷ (0x3031, 0x3035, Disallowed)
     ∷ (0x303B, 0x303B, Disallowed) ∷ []
 
 -- code points of the other parts of RFC 5892, section 2, and of the two lines of this profile
 abbrev pub examples : List (ℕ × ℕ × Class)
 examples =
     -- LetterDigits (A): Cyrillic, Devanagari with a vowel sign and a digit, Han, a combining acute accent
-    (0x430, 0x44F, Pvalid) ∷ (0x915, 0x915, Pvalid) ∷ (0x93E, 0x93E, Pvalid) ∷ (0x966, 0x966, Pvalid) ∷ (0x4E2D, 0x4E2D, Pvalid)
+    (0x430, 0x44F, Pvalid) ∷ (0x915, 0x915, Pvalid) ∷ (0x93E, 0x93E, Pvalid) ∷ (0x966, 0x966, Pvalid)
+    ∷ (0x4E2D, 0x4E2D, Pvalid)
     ∷ (0x301, 0x301, Pvalid)
     -- Unstable (B): an upper-case letter, a ligature, a fullwidth letter, KELVIN SIGN
-    ∷ (0x410, 0x42F, Disallowed) ∷ (0xFB00, 0xFB00, Disallowed) ∷ (0xFF41, 0xFF41, Disallowed) ∷ (0x212A, 0x212A, Disallowed)
+    ∷ (0x410, 0x42F, Disallowed) ∷ (0xFB00, 0xFB00, Disallowed) ∷ (0xFF41, 0xFF41, Disallowed)
+    ∷ (0x212A, 0x212A, Disallowed)
     -- IgnorableProperties (C): COMBINING GRAPHEME JOINER, EN QUAD, a noncharacter
     ∷ (0x34F, 0x34F, Disallowed) ∷ (0x2000, 0x2000, Disallowed) ∷ (0xFDD0, 0xFDD0, Disallowed)
     -- IgnorableBlocks (D)
@@ -52,7 +60,8 @@ examples =
     -- no scalar value
     ∷ (0xD800, 0xD800, Disallowed) ∷ (0xDFFF, 0xDFFF, Disallowed) ∷ (0x11_0000, 0x11_0000, Disallowed)
     -- outside the profile, letters and unassigned code points alike
-    ∷ (0xFB1E, 0xFB1E, Disallowed) ∷ (0xFE73, 0xFE73, Disallowed) ∷ (0x1_0800, 0x1_0800, Disallowed) ∷ (0x1_0806, 0x1_0806, Disallowed)
+    ∷ (0xFB1E, 0xFB1E, Disallowed) ∷ (0xFE73, 0xFE73, Disallowed) ∷ (0x1_0800, 0x1_0800, Disallowed)
+    ∷ (0x1_0806, 0x1_0806, Disallowed)
     ∷ (0x1_E900, 0x1_E900, Disallowed) ∷ []
 
 -- ---- joiners (appendix A.1 and A.2)
@@ -136,14 +145,16 @@ broken_by_classes =
 
 abbrev pub met_by_labels : List (List ℕ)
 met_by_labels =
-    (0x5D0 ∷ 0x31 ∷ []) ∷ (0x5D0 ∷ 0x2D ∷ 0x5D1 ∷ []) ∷ (0x5D0 ∷ 0x5B0 ∷ []) ∷ (0x627 ∷ 0x660 ∷ []) ∷ (0x627 ∷ 0x6F0 ∷ 0x64E ∷ [])
+    (0x5D0 ∷ 0x31 ∷ []) ∷ (0x5D0 ∷ 0x2D ∷ 0x5D1 ∷ []) ∷ (0x5D0 ∷ 0x5B0 ∷ []) ∷ (0x627 ∷ 0x660 ∷ [])
+    ∷ (0x627 ∷ 0x6F0 ∷ 0x64E ∷ [])
     -- without R, AL and AN the rule does not apply
     ∷ (0x61 ∷ 0x31 ∷ []) ∷ (0x31 ∷ 0x61 ∷ []) ∷ (0x61 ∷ 0x2D ∷ []) ∷ []
     ∷ []
 
 abbrev pub broken_by_labels : List (List ℕ)
 broken_by_labels =
-    (0x31 ∷ 0x5D0 ∷ []) ∷ (0x5D0 ∷ 0x61 ∷ 0x5D1 ∷ []) ∷ (0x5D0 ∷ 0x2D ∷ []) ∷ (0x5D0 ∷ 0x2D ∷ 0x5B0 ∷ []) ∷ (0x627 ∷ 0x31 ∷ 0x660 ∷ [])
+    (0x31 ∷ 0x5D0 ∷ []) ∷ (0x5D0 ∷ 0x61 ∷ 0x5D1 ∷ []) ∷ (0x5D0 ∷ 0x2D ∷ []) ∷ (0x5D0 ∷ 0x2D ∷ 0x5B0 ∷ [])
+    ∷ (0x627 ∷ 0x31 ∷ 0x660 ∷ [])
     ∷ (0x61 ∷ 0x5D0 ∷ []) ∷ (0x61 ∷ 0x5D0 ∷ 0x61 ∷ [])
     ∷ []
 
@@ -151,8 +162,10 @@ broken_by_labels =
 
 abbrev pub dead_lists : List (List ℕ)
 dead_lists =
-    (0x2D ∷ []) ∷ (0x61 ∷ 0x62 ∷ 0x2D ∷ 0x2D ∷ []) ∷ (0x301 ∷ []) ∷ (0x903 ∷ []) ∷ (0x61 ∷ 0x5D0 ∷ []) ∷ (0x31 ∷ 0x5D0 ∷ [])
-    ∷ (0x5D0 ∷ 0x61 ∷ []) ∷ (0x627 ∷ 0x31 ∷ 0x660 ∷ []) ∷ (0x627 ∷ 0x660 ∷ 0x6F0 ∷ []) ∷ (0x660 ∷ 0x6F0 ∷ []) ∷ (0x660 ∷ [])
+    (0x2D ∷ []) ∷ (0x61 ∷ 0x62 ∷ 0x2D ∷ 0x2D ∷ []) ∷ (0x301 ∷ []) ∷ (0x903 ∷ []) ∷ (0x61 ∷ 0x5D0 ∷ [])
+    ∷ (0x31 ∷ 0x5D0 ∷ [])
+    ∷ (0x5D0 ∷ 0x61 ∷ []) ∷ (0x627 ∷ 0x31 ∷ 0x660 ∷ []) ∷ (0x627 ∷ 0x660 ∷ 0x6F0 ∷ []) ∷ (0x660 ∷ 0x6F0 ∷ [])
+    ∷ (0x660 ∷ [])
     -- whatever follows
     ∷ (0x61 ∷ 0x62 ∷ 0x2D ∷ 0x2D ∷ 0x63 ∷ []) ∷ (0x5D0 ∷ 0x61 ∷ 0x5D1 ∷ [])
     -- a sign is L; by Unicode the first of these has no dead prefix
@@ -162,8 +175,10 @@ dead_lists =
 -- also lists that end in what no label may end in, or in what needs a context
 abbrev pub alive_lists : List (List ℕ)
 alive_lists =
-    [] ∷ (0x61 ∷ 0x2D ∷ 0x2D ∷ []) ∷ (0x61 ∷ 0x62 ∷ 0x2D ∷ []) ∷ (0x61 ∷ 0x62 ∷ 0x63 ∷ 0x2D ∷ 0x2D ∷ []) ∷ (0x5D0 ∷ 0x2D ∷ [])
-    ∷ (0x5D0 ∷ 0x5B0 ∷ []) ∷ (0x627 ∷ 0x660 ∷ []) ∷ (0x627 ∷ 0x31 ∷ []) ∷ (0x61 ∷ 0x301 ∷ []) ∷ (0xD800 ∷ []) ∷ (0x11_0000 ∷ 0x61 ∷ [])
+    [] ∷ (0x61 ∷ 0x2D ∷ 0x2D ∷ []) ∷ (0x61 ∷ 0x62 ∷ 0x2D ∷ []) ∷ (0x61 ∷ 0x62 ∷ 0x63 ∷ 0x2D ∷ 0x2D ∷ [])
+    ∷ (0x5D0 ∷ 0x2D ∷ [])
+    ∷ (0x5D0 ∷ 0x5B0 ∷ []) ∷ (0x627 ∷ 0x660 ∷ []) ∷ (0x627 ∷ 0x31 ∷ []) ∷ (0x61 ∷ 0x301 ∷ []) ∷ (0xD800 ∷ [])
+    ∷ (0x11_0000 ∷ 0x61 ∷ [])
     -- by Unicode neither of these has no dead prefix
     ∷ (0x5D0 ∷ 0xCBF ∷ []) ∷ (0x1_E922 ∷ 0x61 ∷ [])
     ∷ []

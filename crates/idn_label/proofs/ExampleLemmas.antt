@@ -13,10 +13,11 @@ use Rattle.idn_class.specs.Class.{class_of}
 use Rattle.idn_class.specs.Tests.{leading_mark, contextj_ok, contexto_ok, bidi_ok}
 use Rattle.idn_class.proofs.ComputedLabels.{rules, in_table, map-class_of-in_table}
 use Rattle.idn_label.specs.ALabel.{a_label_of}
-use Rattle.idn_label.specs.Examples.{HaveALabels, HaveFirstFaults, HaveRegisterAnswers, HaveDecodeAnswers, HaveLookupAnswers, a_labels, first_faults, first_faults_of_two, register_answers, decode_answers, lookup_answers}
+use Rattle.idn_label.specs.Examples.{HaveALabels, HaveFirstFaults, HaveRegisterAnswers, HaveDecodeAnswers, HaveLookupAnswers, HaveLabelsNamed, HaveOldFaults, labels_named, old_faults, a_labels, first_faults, first_faults_of_two, register_answers, decode_answers, lookup_answers}
 use Rattle.idn_label.specs.Answers.{Answer, and_then}
 use Rattle.idn_label.specs.Decode.{decoded_label, decoded_labels, decode_answer, with_others}
 use Rattle.idn_label.specs.Lookup.{query_name}
+use Rattle.idn_label.specs.OldNames.{old_fault, stands_for}
 use Rattle.idn_label.specs.Register.{decoded_code, u_label_answer, register_answer}
 use Rattle.idn_label.proofs.AnswerLemmas.{u_label_answer-of, register_answer-prefixed}
 use Rattle.idn_label.proofs.DecodeLemmas.{joined}
@@ -120,3 +121,11 @@ HaveDecodeAnswers-decode_answers = (
 pub HaveLookupAnswers-lookup_answers : HaveLookupAnswers lookup_answers
 unfolding idna query_name
 HaveLookupAnswers-lookup_answers = (refl, (refl, (refl, (refl, (refl, (refl, (refl, (refl, tt))))))))
+
+pub HaveLabelsNamed-labels_named : HaveLabelsNamed labels_named
+unfolding stands_for has_ace_prefix a_label_of idna
+HaveLabelsNamed-labels_named = (refl, (refl, (refl, (refl, tt))))
+
+pub HaveOldFaults-old_faults : HaveOldFaults old_faults
+unfolding old_fault stands_for has_ace_prefix a_label_of idna
+HaveOldFaults-old_faults = (refl, (refl, (refl, (refl, (refl, (refl, (refl, (refl, tt))))))))

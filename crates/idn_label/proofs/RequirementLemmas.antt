@@ -16,7 +16,7 @@ use Rattle.idn_label.proofs.FaultLemmas.{permitted, no_fault}
 use Rattle.idn_label.proofs.FaultParts.{faultless}
 use Rattle.idn_class.specs.declared.properties.Properties.{Properties}
 
-short : (n m : ℕ) → (nat_lt 63 n || nat_lt 63 m) ≡ false → (n ≤ 63) × (m ≤ 63)
+pub short : (n m : ℕ) → (nat_lt 63 n || nat_lt 63 m) ≡ false → (n ≤ 63) × (m ≤ 63)
 short n m h = (grind (arith, nat_tests), grind (arith, nat_tests))
 
 pub not_long : (n m : ℕ) → n ≤ 63 → m ≤ 63 → (nat_lt 63 n || nat_lt 63 m) ≡ false

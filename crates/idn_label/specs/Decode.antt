@@ -1,5 +1,6 @@
 -- The answer of decoding a name (RFC 5891 section 5.3).
-use Rattle.std.specs.Prelude.{◌≢◌, ℕ, IsTrue, List, [], ◌∷◌, map, All, Any, chars, Option, Some, None, Result, Ok, Err, if◌then◌else◌}
+use Rattle.std.specs.Prelude.{◌≢◌, ℕ, IsTrue, List, [], ◌∷◌, map, All, Any, chars, Option, Some, None, Result, Ok, Err}
+use Rattle.std.specs.Prelude.{if◌then◌else◌}
 use Rattle.std.specs.Str.{is_utf8}
 use Rattle.idna.specs.Labels.{labels_of, join_labels}
 use Rattle.idna.specs.Validity.{has_ace_prefix, passes_bidi}
@@ -28,15 +29,17 @@ with_others (Ok label) (Ok others) = Ok (label ∷ others)
 -- each label decoded, or the first refusal
 unfoldable pub decoded_labels : Properties → List (List ℕ) → Result (List (List ℕ)) Refusal
 decoded_labels properties [] = Ok []
-decoded_labels properties (label ∷ labels) = with_others (decoded_label properties label) (decoded_labels properties labels)
+decoded_labels properties (label ∷ labels) =
+    with_others (decoded_label properties label) (decoded_labels properties labels)
 
--- the Bidi rule of a whole name (RFC 5893, section 2): if one label holds R, AL or AN, all labels meet it. The profile applies the
--- rule to each label alone, and so asks nothing more of the name
+-- the Bidi rule of a whole name (RFC 5893, section 2): if one label holds R, AL or AN, all labels meet it. The profile
+-- applies the rule to each label alone, and so asks nothing more of the name
 abbrev pub name_fault : Properties → List (List ℕ) → Option Refusal
 name_fault Profile labels = None
 name_fault Unicode labels = if passes_bidi labels then None else Some Bidi
 
--- the same in the words of the standard: if one label holds R, AL or AN, each label but an empty one meets the six conditions
+-- the same in the words of the standard: if one label holds R, AL or AN,
+-- each label but an empty one meets the six conditions
 abbrev pub PassesBidiRuleAsName : List (List ℕ) → Type 0
 PassesBidiRuleAsName labels =
     Any (λ label. Any (λ class. IsTrue (is_rtl_class class)) (map standard_bidi_class label)) labels →
@@ -49,8 +52,10 @@ decoded_name properties name = and_then (decoded_labels properties (labels_of na
 -- the labels of the name, decoded and joined again, unless the name as a whole has a fault
 unfoldable pub decode_answer : Properties → List ℕ → Answer
 decode_answer properties name =
-    and_then (decoded_labels properties (labels_of name)) (λ labels. unless_fault (name_fault properties labels) (Ok (join_labels labels)))
+    and_then (decoded_labels properties (labels_of name))
+    (λ labels. unless_fault (name_fault properties labels) (Ok (join_labels labels)))
 
 -- the same of bytes, which may be no UTF-8, as UTF-8
 unfoldable pub decode_utf8_answer : Properties → List ℕ → Answer
-decode_utf8_answer properties bytes = if is_utf8 bytes then in_utf8 (decode_answer properties (chars bytes)) else Err NotUtf8
+decode_utf8_answer properties bytes =
+    if is_utf8 bytes then in_utf8 (decode_answer properties (chars bytes)) else Err NotUtf8

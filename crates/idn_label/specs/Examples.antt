@@ -1,12 +1,16 @@
 -- Examples, computed from the definitions.
-use Rattle.std.specs.Prelude.{◌≡◌, ℕ, List, [], ◌∷◌, ◌++◌, codes, Bool, true, false, replicate, Option, Some, None, Ok, Err}
+use Rattle.std.specs.Prelude.{◌≡◌, ℕ, List, [], ◌∷◌, ◌++◌, codes, Bool, true, false, replicate, Option, Some, None, Ok}
+use Rattle.std.specs.Prelude.{Err}
 use Rattle.idn_text.specs.declared.refusal.Refusal.{Refusal}
-use Rattle.idn_text.specs.declared.refusal.Refusal.TheVariants.{Empty, Disallowed, Unassigned, NotNfc, Hyphen, LeadingMark, ContextJ, ContextO, Bidi, BadALabel, LabelTooLong, LookupInvalid, LookupLength}
+use Rattle.idn_text.specs.declared.refusal.Refusal.TheVariants.{Empty, Disallowed, Unassigned, NotNfc, Hyphen}
+use Rattle.idn_text.specs.declared.refusal.Refusal.TheVariants.{LeadingMark, ContextJ, ContextO, Bidi, BadALabel}
+use Rattle.idn_text.specs.declared.refusal.Refusal.TheVariants.{LabelTooLong, LookupInvalid, LookupLength}
 use Rattle.idn_label.specs.ALabel.{a_label_of}
 use Rattle.idn_label.specs.Answers.{Answer}
 use Rattle.idn_label.specs.Decode.{decode_answer}
 use Rattle.idn_label.specs.FirstFault.{first_fault}
 use Rattle.idn_label.specs.Lookup.{lookup_answer}
+use Rattle.idn_label.specs.OldNames.{old_fault, stands_for}
 use Rattle.idn_label.specs.Register.{register_answer}
 use Rattle.idn_class.specs.declared.properties.Properties.TheVariants.{Profile}
 
@@ -94,6 +98,37 @@ decode_answers =
     (codes "XN--FA-HIA.de", Ok (0x66 ∷ 0x61 ∷ 0xDF ∷ codes ".de")) ∷
     (codes "xn--fiqs8s.example", Ok (0x4E2D ∷ 0x56FD ∷ codes ".example")) ∷
     (codes "a.xn--a.xn--", Err Disallowed) ∷
+    []
+
+-- each name stands for the label beside it
+abbrev pub HaveLabelsNamed : List (List ℕ × List ℕ) → Type 0
+HaveLabelsNamed [] = Unit {0}
+HaveLabelsNamed (row ∷ rows) = (stands_for row.0 ≡ row.1) × HaveLabelsNamed rows
+
+-- the second is decoded to ASCII, which has another name
+abbrev pub labels_named : List (List ℕ × List ℕ)
+labels_named =
+    (codes "xn--fa-hia", 0x66 ∷ 0x61 ∷ 0xDF ∷ []) ∷
+    (codes "xn--abc-", codes "xn--abc-") ∷
+    (codes "xn--ls8h", 0x1F4A9 ∷ []) ∷
+    (codes "ab--cd", codes "ab--cd") ∷
+    []
+
+-- each label that is to be an old one has the first fault beside it, or none
+abbrev pub HaveOldFaults : List (List ℕ × Option Refusal) → Type 0
+HaveOldFaults [] = Unit {0}
+HaveOldFaults (row ∷ rows) = (old_fault row.0 ≡ row.1) × HaveOldFaults rows
+
+abbrev pub old_faults : List (List ℕ × Option Refusal)
+old_faults =
+    ([], Some Empty) ∷
+    (codes "Strasse", Some Disallowed) ∷
+    (codes "xn--fa-hia", Some Hyphen) ∷
+    (codes "xn--abc-", None) ∷
+    (codes "ab--c", None) ∷
+    (0x31 ∷ 0x967 ∷ [], None) ∷
+    (0x1F4A9 ∷ [], None) ∷
+    (replicate 64 0x61, Some LabelTooLong) ∷
     []
 
 -- each name, with the flag of the ASCII rules, is looked up with the answer beside it

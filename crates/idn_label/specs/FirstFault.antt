@@ -1,10 +1,13 @@
--- The tests of a label that is to be registered (RFC 5891 section 4.2), in the order in which their faults are reported.
-use Rattle.std.specs.Prelude.{◌≡◌, ℕ, Bool, not, ◌||◌, ◌==◌, nat_lt, List, [], ◌∷◌, length, map, chars, Option, Some, None, if◌then◌else◌}
+-- The tests of a label that is to be registered (RFC 5891 section 4.2),
+-- in the order in which their faults are reported.
+use Rattle.std.specs.Prelude.{◌≡◌, ℕ, Bool, not, ◌||◌, ◌==◌, nat_lt, List, [], ◌∷◌, length, map, chars, Option, Some}
+use Rattle.std.specs.Prelude.{None, if◌then◌else◌}
 use Rattle.std.specs.Str.{is_utf8}
 use Rattle.unicode_normalization.specs.Forms.{is_nfc}
 use Rattle.idna.specs.Validity.{has_hyphen_first_or_last, has_hyphens_third_and_fourth}
 use Rattle.idn_text.specs.declared.refusal.Refusal.{Refusal}
-use Rattle.idn_text.specs.declared.refusal.Refusal.TheVariants.{NotUtf8, Empty, NotNfc, Hyphen, LeadingMark, ContextJ, ContextO, Bidi, LabelTooLong}
+use Rattle.idn_text.specs.declared.refusal.Refusal.TheVariants.{NotUtf8, Empty, NotNfc, Hyphen, LeadingMark, ContextJ}
+use Rattle.idn_text.specs.declared.refusal.Refusal.TheVariants.{ContextO, Bidi, LabelTooLong}
 use Rattle.idn_text.specs.declared.refusal.Refusal.TheVariants as refusals
 use Rattle.idn_class.specs.declared.class.Class.{Class}
 use Rattle.idn_class.specs.declared.class.Class.TheVariants as classes

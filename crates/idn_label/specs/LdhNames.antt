@@ -1,5 +1,6 @@
 -- Names of ASCII letters, digits and hyphens.
-use Rattle.std.specs.Prelude.{◌≡◌, ℕ, ◌-◌, ◌≤◌, List, length, All, Bool, true, false, not, ◌&&◌, ◌||◌, ◌==◌, nat_le, if◌then◌else◌}
+use Rattle.std.specs.Prelude.{◌≡◌, ℕ, ◌-◌, ◌≤◌, List, length, All, Bool, true, false, not, ◌&&◌, ◌||◌, ◌==◌, nat_le}
+use Rattle.std.specs.Prelude.{if◌then◌else◌}
 use Rattle.std.specs.Char.{to_ascii_lowercase}
 use Rattle.std.specs.Int.{is_in_range}
 use Rattle.std.specs.List.{list_any}
@@ -17,6 +18,9 @@ pub record IsLdhName (name : List ℕ) : Type 0 where
   pub points : All (λ c. is_name_point (to_ascii_lowercase c) ≡ true) name
   pub no_a_label : list_any has_ace_prefix (labels_of (lowercase name)) ≡ false
 
--- a name of so many octets may end in the label that begins at this place: a full stop after another label, which is put aside, or 1 to 63 octets; and it has at most 253 octets (RFC 1035 section 2.3.4)
+-- a name of so many octets may end in the label that begins at this place: a full stop after another label, which is
+-- put aside, or 1 to 63 octets; and it has at most 253 octets (RFC 1035 section 2.3.4)
 abbrev pub may_end : ℕ → ℕ → Bool
-may_end start count = if start == count then not (start == 0) && nat_le count 254 else is_in_range 1 63 (count - start) && nat_le count 253
+may_end start count =
+    if start == count then not (start == 0) && nat_le count 254
+    else is_in_range 1 63 (count - start) && nat_le count 253

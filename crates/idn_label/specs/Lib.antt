@@ -5,6 +5,7 @@ pub mod Memory
 pub mod Answers
 pub mod Register
 pub mod Decode
+pub mod OldNames
 pub mod Lookup
 pub mod LabelEnds
 pub mod LdhNames

@@ -14,12 +14,14 @@ use Rattle.idn_label.specs.Answers.{Answer}
 abbrev pub deny_list : Bool → AsciiDenyList
 deny_list std3 = if std3 then STD3 else EMPTY
 
--- a name has 1 to 253 octets and each of its labels 1 to 63, a full stop at its end put aside (UTS 46 section 4.2, step 4; RFC 1035 section 2.3.4)
+-- a name has 1 to 253 octets and each of its labels 1 to 63, a full stop at its end put aside (UTS 46 section 4.2, step
+-- 4; RFC 1035 section 2.3.4)
 abbrev pub measured_answer : Option (List ℕ) → Answer
 measured_answer None = Err LookupInvalid
 measured_answer (Some ascii) = if verify_dns_length ascii true then Ok ascii else Err LookupLength
 
--- ToASCII (UTS 46 section 4.2) of a name in UTF-8: nontransitional, CheckBidi and CheckJoiners true, CheckHyphens and VerifyDnsLength false, and then the lengths
+-- ToASCII (UTS 46 section 4.2) of a name in UTF-8: nontransitional, CheckBidi and CheckJoiners true, CheckHyphens and
+-- VerifyDnsLength false, and then the lengths
 unfoldable pub query_name : List ℕ → Bool → Answer
 query_name utf8 std3 = measured_answer (to_ascii (deny_list std3) Allow Ignore utf8)
 

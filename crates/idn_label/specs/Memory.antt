@@ -16,15 +16,15 @@ use Rattle.idn_label.specs.LdhNames.{IsLdhName}
 use Rattle.idn_label.specs.Lookup.{deny_list}
 use Rattle.idn_label.specs.Steps.{begins_with_prefix, lowercase}
 
--- look-ups give the class of each code point, and either none may compose, or there are at most 63 and the quick check of NFC
--- (UAX 15 section 9) is not Maybe
+-- look-ups give the class of each code point, and either none may compose, or there are at most 63 and the quick check
+-- of NFC (UAX 15 section 9) is not Maybe
 abbrev pub NeedsNoMemory : List ℕ → Type 0
 NeedsNoMemory label =
     (list_any is_left_open label ≡ false)
     × ((list_any (has_fact MayCompose) label ≡ false) ⊎ ((length label ≤ 63) × (quick_check_text Nfc label ≢ Maybe)))
 
--- an A-label in lower case of at most 63 octets, of which the code stands for a label that is not all ASCII and needs none, or
--- for no label
+-- an A-label in lower case of at most 63 octets, of which the code stands for a label that is not all ASCII and needs
+-- none, or for no label
 abbrev pub NeedsNoMemoryDecoded : List ℕ → Type 0
 NeedsNoMemoryDecoded given =
     (length given ≤ 63)
@@ -39,8 +39,10 @@ DecodesWithoutMemory label =
 abbrev pub RegistersWithoutMemory : List ℕ → Type 0
 RegistersWithoutMemory label =
     (has_ace_prefix label ≡ false → NeedsNoMemory label)
-    × (has_ace_prefix label ≡ true → (list_all (λ c. not (is_ascii_uppercase c)) label ≡ true) × NeedsNoMemoryDecoded label)
+    × (has_ace_prefix label ≡ true → (list_all (λ c. not (is_ascii_uppercase c)) label ≡ true)
+    × NeedsNoMemoryDecoded label)
 
--- a name in UTF-8: lower-case ASCII that UTS 46 allows and that has no A-label, or letters, digits and hyphens in any ASCII case
+-- a name in UTF-8: lower-case ASCII that UTS 46 allows and that has no A-label, or letters,
+-- digits and hyphens in any ASCII case
 abbrev pub LooksUpWithoutMemory : Bool → List ℕ → Type 0
 LooksUpWithoutMemory std3 name = IsPlain (deny_list std3) Allow name ⊎ IsLdhName name

@@ -109,7 +109,7 @@ pub(crate) fn tested_u_label<U: Unit>(
 /// What stands after the prefix of an A-label.
 #[inline]
 #[tactic(auto, using(crate::proofs::LowerCase::past_prefix))]
-fn code_of<U: Unit>(given: &[U]) -> &[U]
+pub(crate) fn code_of<U: Unit>(given: &[U]) -> &[U]
     requires { begins_with_prefix (U.codes given.now) ≡ true }
     ensures codes { U.codes result.now ≡ drop 4 (U.codes given.now) }
     ensures shorter { length result.now + 4 ≡ length given.now }

@@ -26,7 +26,8 @@ calls_of reader = reader.calls
 -- whether the call of this number fails: the one at which to fail, from 1, and all later ones unless once
 abbrev pub fails_at : StopReader → ℕ → Bool
 fails_at reader call =
-    if fails_once reader then call == fail_at_of reader else nat_lt 0 (fail_at_of reader) && nat_le (fail_at_of reader) call
+    if fails_once reader then call == fail_at_of reader
+    else nat_lt 0 (fail_at_of reader) && nat_le (fail_at_of reader) call
 
 -- how many bytes it gives into room for so many
 abbrev pub given_into : StopReader → ℕ → ℕ

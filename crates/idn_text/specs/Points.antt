@@ -1,5 +1,6 @@
 -- Code points and their UTF-8 (RFC 3629).
-use Rattle.std.specs.Prelude.{◌≡◌, ℕ, ◌+◌, ◌/◌, ◌%◌, Bool, true, ◌&&◌, nat_lt, nat_le, IsTrue, List, [], ◌∷◌, length, Option, Some, None, if◌then◌else◌, All, encode_utf8_all}
+use Rattle.std.specs.Prelude.{◌≡◌, ℕ, ◌+◌, ◌/◌, ◌%◌, Bool, true, ◌&&◌, nat_lt, nat_le, IsTrue, List, [], ◌∷◌, length}
+use Rattle.std.specs.Prelude.{Option, Some, None, if◌then◌else◌, All, encode_utf8_all}
 use Rattle.std.specs.Char.{is_digit}
 use Rattle.std.specs.List.{list_all}
 use Rattle.std.specs.Str.Parse.{digits_value}
@@ -35,7 +36,8 @@ is_hex_text digits = nat_le 4 (length digits) && nat_le (length digits) 6 && lis
 
 -- the scalar value that such digits write
 unfoldable pub point_of_hex : List ℕ → Option ℕ
-point_of_hex digits = if is_hex_text digits && is_scalar_value (digits_value 16 digits) then Some (digits_value 16 digits) else None
+point_of_hex digits =
+    if is_hex_text digits && is_scalar_value (digits_value 16 digits) then Some (digits_value 16 digits) else None
 
 -- the digit of a number below 16, in upper case (RFC 4648, section 8): 0 to 9, A to F
 abbrev pub hex_digit : ℕ → ℕ

@@ -4,8 +4,8 @@ use Rattle.std.specs.Option.{option_map}
 use Rattle.std.specs.Io.KnownBytes.{ReadConsumes}
 use Rattle.idn_text.specs.Devices.{get_fails, faults_after}
 
--- the bytes that it will give from here on, where they are known; whether its last read failed; how many reads were made; and
--- how many failed, where it counts them
+-- the bytes that it will give from here on, where they are known; whether its last read failed; how many reads were
+-- made; and how many failed, where it counts them
 pub record Reader : Type 0 where
   pub remaining : Option (List ℕ)
   pub has_failed : Bool

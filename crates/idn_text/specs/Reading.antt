@@ -1,5 +1,6 @@
 -- The numbered lines of what a reader gave.
-use Rattle.std.specs.Prelude.{◌≡◌, ◌≢◌, ℕ, ◌+◌, ◌^◌, ◌⊎◌, ◌<◌, ◌≤◌, List, [], ◌∷◌, ◌++◌, length, take, Option, Some, None, Bool, true, false, Result, Ok, Err}
+use Rattle.std.specs.Prelude.{◌≡◌, ◌≢◌, ℕ, ◌+◌, ◌^◌, ◌⊎◌, ◌<◌, ◌≤◌, List, [], ◌∷◌, ◌++◌, length, take, Option, Some}
+use Rattle.std.specs.Prelude.{None, Bool, true, false, Result, Ok, Err}
 use Rattle.std.specs.Io.KnownBytes.{Consumes}
 use Rattle.std.specs.Option.{option_map}
 use Rattle.std.specs.Str.Lines.{strip_carriage_return}
@@ -20,7 +21,8 @@ pub record Reading : Type 0 where
 
 -- the lines of a reader of which none was read yet
 abbrev pub unread : Reader → Reading
-unread reader = record { input = record { held = []; line = Some []; reader = reader; reads = 0 }; number = 0; state = Open }
+unread reader =
+    record { input = record { held = []; line = Some []; reader = reader; reads = 0 }; number = 0; state = Open }
 
 -- none was read yet
 pub record IsUnread (reading : Reading) : Type 0 where
@@ -32,9 +34,9 @@ pub record IsUnread (reading : Reading) : Type 0 where
 -- these are the lines of the bytes that were given:
 --   while more may come, all of them, each ended by a line feed;
 --   at the end of the reader, all of them;
---   at a fault, those that a line feed ends, the first 4,294,967,296 of them, and either a read failed or the reader was
---   called as often as it may be, and it gave no more than these bytes, or no read failed and these bytes have more lines
---   than may be
+--   at a fault, those that a line feed ends, the first 4,294,967,296 of them, and either a read failed or the reader
+--   was called as often as it may be, and it gave no more than these bytes, or no read failed and these bytes have more
+--   lines than may be
 abbrev pub AreLines : State → BufferedReader → BufferedReader → List ℕ → List Numbered → Type 0
 AreLines Open start now given lines = (lines ≡ lines_of given) × EndsInFeed given
 AreLines Ended start now given lines = (lines ≡ lines_of given) × HasEnded now
@@ -48,11 +50,12 @@ idle_reads Open = 0
 idle_reads Ended = 1
 idle_reads Stopped = 1
 
--- from the start to now these bytes were given and these lines of them were read, and each read call but the idle ones gave a byte or more; none is
--- uncounted, and none failed but one that stopped the reading
+-- from the start to now these bytes were given and these lines of them were read, and each read call but the idle ones
+-- gave a byte or more; none is uncounted, and none failed but one that stopped the reading
 pub record HasRead (start now : Reading) (given : List ℕ) (lines : List Numbered) : Type 0 where
   pub taken : Consumes (left start.input) (left now.input) given
-  pub asked : now.input.reads + length start.input.held ≤ start.input.reads + length given + length now.input.held + idle_reads now.state
+  pub asked : now.input.reads + length start.input.held ≤ start.input.reads + length given + length
+      now.input.held + idle_reads now.state
   pub called : now.input.reader.calls + start.input.reads ≤ start.input.reader.calls + now.input.reads
   pub no_fault : now.state ≢ Stopped → now.input.reader.faults ≡ start.input.reader.faults
   pub counted : now.number ≡ length lines

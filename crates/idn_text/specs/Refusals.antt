@@ -1,9 +1,16 @@
 -- The numbers and the texts of refusals.
 use Rattle.std.specs.Prelude.{ℕ, List, codes}
 use Rattle.idn_text.specs.declared.refusal.Refusal.{Refusal}
-use Rattle.idn_text.specs.declared.refusal.Refusal.TheVariants.{NotUtf8, LineTooLong, Empty, OutOfOrder, FileTooLong, Disallowed, Unassigned, NotNfc, Hyphen, LeadingMark, ContextJ, ContextO, Bidi, LabelTooLong, BadALabel, LookupInvalid, LookupLength, Syntax, SameSource, SameVariant, BadClass, Limit, NoSuchName, SameName, NotInTable, NotValid, Usage, ReadFault, WriteFault, Memory}
+use Rattle.idn_text.specs.declared.refusal.Refusal.TheVariants.{NotUtf8, LineTooLong, Empty, OutOfOrder, FileTooLong}
+use Rattle.idn_text.specs.declared.refusal.Refusal.TheVariants.{Disallowed, Unassigned, NotNfc, Hyphen, LeadingMark}
+use Rattle.idn_text.specs.declared.refusal.Refusal.TheVariants.{ContextJ, ContextO, Bidi, LabelTooLong, BadALabel}
+use Rattle.idn_text.specs.declared.refusal.Refusal.TheVariants.{LookupInvalid, LookupLength, Syntax, SameSource}
+use Rattle.idn_text.specs.declared.refusal.Refusal.TheVariants.{SameVariant, BadClass, Limit, NoSuchName, SameName}
+use Rattle.idn_text.specs.declared.refusal.Refusal.TheVariants.{NotInTable, NotValid, Usage, ReadFault, WriteFault}
+use Rattle.idn_text.specs.declared.refusal.Refusal.TheVariants.{Memory}
 
--- 1 to 5 are of a line, 10 to 21 of a label or a name, 30 to 36 of a table, 40 and 41 of a label under a table, 50 to 70 of a run
+-- 1 to 5 are of a line, 10 to 21 of a label or a name, 30 to 36 of a table, 40 and 41 of a label under a table,
+-- 50 to 70 of a run
 abbrev pub refusal_number : Refusal → ℕ
 refusal_number NotUtf8 = 1
 refusal_number LineTooLong = 2

@@ -3,8 +3,8 @@ use Rattle.std.specs.Prelude.{◌≡◌, ℕ, ◌^◌, ◌⊎◌, List, [], Opti
 use Rattle.std.specs.Io.KnownBytes.{IsAtEnd, prepend_known}
 use Rattle.idn_text.specs.Readers.{Reader, Fails}
 
--- a reader, with the bytes that it gave and that no line has taken yet, and the line that was taken last, none where that is
--- too long
+-- a reader, with the bytes that it gave and that no line has taken yet, and the line that was taken last, none where
+-- that is too long
 pub record BufferedReader : Type 0 where
   pub held : List ℕ
   pub line : Option (List ℕ)
@@ -20,8 +20,8 @@ pub record HasEnded (input : BufferedReader) : Type 0 where
   pub held : input.held ≡ []
   pub coming : IsAtEnd input.reader.remaining
 
--- between these two a read failed, the last, or none did and the reader was called as often as it may be; and all that it gave
--- is taken
+-- between these two a read failed, the last, or none did and the reader was called as often as it may be; and all that
+-- it gave is taken
 pub record HasFailed (old new : BufferedReader) : Type 0 where
   pub held : new.held ≡ []
   pub cause : Fails old.reader new.reader ⊎ ((new.reads ≡ 2 ^ 40) × (new.reader.faults ≡ old.reader.faults))

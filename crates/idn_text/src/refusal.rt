@@ -53,15 +53,14 @@ pub enum Refusal {
     BadClass,
     /// A table over one of its limits.
     Limit,
-    /// A name of a set, rule or tag that no earlier line of a ruleset defines.
+    /// A name of a type, set or rule that no earlier line of a ruleset defines.
     NoSuchName,
-    /// A name that an earlier line of a ruleset defines.
+    /// A name that an earlier line of a ruleset defines, or that is predefined.
     SameName,
-    /// A label that can't be cut into sources of the table, whatever their conditions; outside sources don't count (RFC
-    /// 7940 section 8.1).
+    /// A label that can't be cut into sources of the table, whatever their conditions (RFC 7940 section 8.1).
     NotInTable,
-    /// A label that can be cut into sources of a ruleset, but not so that their conditions hold (RFC 7940 section 5.2),
-    /// or that breaks a demand (section 7).
+    /// A label that can be cut into sources of a ruleset, but that isn't eligible, breaks a demand, is unclear, or is
+    /// invalid by an action (RFC 7940 sections 7 and 8).
     NotValid,
     /// Words of the command line that are refused.
     Usage,

@@ -20,3 +20,5 @@ mod reading;
 mod registration;
 #[cfg(test)]
 mod utf8;
+#[cfg(test)]
+mod zone_labels;

@@ -1,5 +1,5 @@
--- Documents of XML 1.0 without a document type. The numbers in brackets are productions. Each text here is characters of
--- XML [2] in UTF-8, and its lines end in line feeds.
+-- Documents of XML 1.0 without a document type. The numbers in brackets are productions. Each text here is characters
+-- of XML [2] in UTF-8, and its lines end in line feeds.
 use Rattle.std.specs.Prelude.{◌≡◌, ◌⊎◌, ℕ, zero, suc, Bool, true, false, List, [], ◌∷◌, ◌++◌, map, codes}
 use Rattle.std.specs.List.{flat_map, list_all}
 use Rattle.xml_text.specs.declared.attribute.TagKind.{TagKind}

@@ -11,13 +11,17 @@ quoted bytes = 34 ∷ bytes ++ 34 ∷ []
 
 -- a start tag (section 3.1)
 abbrev pub IsStartExample : Type 0
-IsStartExample = IsTag (codes "<termdef id=" ++ quoted (codes "dt-dog") ++ codes " term=" ++ quoted (codes "dog") ++ codes ">") (record {
-  name = codes "termdef";
-  attributes = record { name = codes "id"; value = codes "dt-dog" } ∷ record { name = codes "term"; value = codes "dog" } ∷ [];
-  kind = Start;
-})
+IsStartExample =
+    IsTag (codes "<termdef id=" ++ quoted (codes "dt-dog") ++ codes " term=" ++ quoted (codes "dog") ++ codes ">")
+    (record {
+      name = codes "termdef";
+      attributes = record { name = codes "id"; value = codes "dt-dog" }
+          ∷ record { name = codes "term"; value = codes "dog" } ∷ [];
+      kind = Start;
+    })
 
--- the tag of an empty element (section 3.1), with the value of the last row of section 3.3.3: a blank that a reference numbers stays
+-- the tag of an empty element (section 3.1), with the value of the last row of section 3.3.3:
+-- a blank that a reference numbers stays
 abbrev pub IsEmptyExample : Type 0
 IsEmptyExample = IsTag (codes "<br a=" ++ quoted (codes "&#xd;A&#xa;") ++ codes " />") (record {
   name = codes "br";

@@ -118,8 +118,8 @@ pub record IsDocument (text : List ℕ) (tokens : List Token) : Type 0 where
 abbrev pub IsABody : ℕ → List ℕ → Type 0
 IsABody line text = (tokens : List Token) × IsBody line text tokens
 
--- some document begins with the bytes before the place, and none goes on with the next one; or there is no next one, and
--- they are none. The first of these bytes stands on this line
+-- some document begins with the bytes before the place, and none goes on with the next one; or there is no next one,
+-- and they are none. The first of these bytes stands on this line
 pub record IsStopOf (line : ℕ) (before after : List ℕ) : Type 0 where
   pub begun : IsBegun (IsABody line) (line_feeds before)
   pub stuck : IsStuck (IsABody line) (line_feeds before) (line_feeds_after (return_after false before) after)

@@ -4,8 +4,8 @@ use Rattle.std.specs.Str.{str_eq_ignore_ascii_case}
 use Rattle.xml_text.specs.Names.{is_blank, AreBlanks, is_name}
 use Rattle.xml_text.specs.Tags.{Tag, IsTag, Part, part_text, is_part}
 
--- a byte of character data or a reference; a section, with what it says; a comment; a processing instruction; a start tag or
--- the tag of an empty element; an end tag, with its name
+-- a byte of character data or a reference; a section, with what it says; a comment; a processing instruction; a start
+-- tag or the tag of an empty element; an end tag, with its name
 pub data Piece : Type 0 where
   Character : Part → Piece
   Section : List ℕ → Piece

@@ -1,5 +1,6 @@
 -- References of XML 1.0, and the characters for which they stand. The numbers in brackets are its productions.
-use Rattle.std.specs.Prelude.{ℕ, Bool, true, false, ◌==◌, ◌||◌, Option, Some, None, List, [], ◌∷◌, bytes_eq, codes, drop, slice_index, if◌then◌else◌}
+use Rattle.std.specs.Prelude.{ℕ, Bool, true, false, ◌==◌, ◌||◌, Option, Some, None, List, [], ◌∷◌, bytes_eq, codes}
+use Rattle.std.specs.Prelude.{drop, slice_index, if◌then◌else◌}
 use Rattle.std.specs.Char.{is_digit}
 use Rattle.std.specs.List.{list_all}
 use Rattle.std.specs.Str.Parse.{digits_value}
@@ -7,7 +8,9 @@ use Rattle.xml_text.specs.Names.{is_between}
 
 -- [2] Char
 abbrev pub is_character : ℕ → Bool
-is_character c = c == 9 || c == 10 || c == 13 || is_between 0x20 0xD7FF c || is_between 0xE000 0xFFFD c || is_between 0x10000 0x10FFFF c
+is_character c =
+    c == 9 || c == 10 || c == 13 || is_between 0x20 0xD7FF c || is_between 0xE000 0xFFFD c
+    || is_between 0x10000 0x10FFFF c
 
 abbrev pub is_number : ℕ → List ℕ → Bool
 is_number radix [] = false
@@ -25,7 +28,8 @@ abbrev pub numbered_by : List ℕ → Bool → Option ℕ
 numbered_by name true = numbered 16 (drop 2 name)
 numbered_by name false = numbered 10 (drop 1 name)
 
--- the character for which the text between '&' and ';' stands: [66] CharRef, [68] EntityRef of the entities of section 4.6
+-- the character for which the text between '&' and ';' stands: [66] CharRef,
+-- [68] EntityRef of the entities of section 4.6
 unfoldable pub referenced : List ℕ → Option ℕ
 referenced name =
     if bytes_eq name (codes "lt") then Some 60 else

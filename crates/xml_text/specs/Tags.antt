@@ -1,5 +1,6 @@
 -- Start tags and tags of empty elements, as XML 1.0 has them. The numbers in brackets are its productions.
-use Rattle.std.specs.Prelude.{◌≡◌, ◌≢◌, ℕ, Bool, true, false, ◌==◌, ◌&&◌, not, Option, unwrap_or, is_some, List, [], ◌∷◌, ◌++◌, map, encode_utf8, if◌then◌else◌}
+use Rattle.std.specs.Prelude.{◌≡◌, ◌≢◌, ℕ, Bool, true, false, ◌==◌, ◌&&◌, not, Option, unwrap_or, is_some, List, []}
+use Rattle.std.specs.Prelude.{◌∷◌, ◌++◌, map, encode_utf8, if◌then◌else◌}
 use Rattle.std.specs.List.{flat_map, list_all}
 use Rattle.std.specs.Option.{option_map}
 use Rattle.xml_text.specs.declared.attribute.Tag as read
@@ -65,7 +66,9 @@ pub record Written : Type 0 where
 
 -- S [41] Attribute, with [25] Eq: S Name S? '=' S? and a value between quotes
 abbrev pub written_text : Written → List ℕ
-written_text w = w.before ++ w.name ++ w.left ++ 61 ∷ [] ++ w.right ++ quote_byte w.quote ∷ [] ++ flat_map part_text w.parts ++ quote_byte w.quote ∷ []
+written_text w =
+    w.before ++ w.name ++ w.left ++ 61 ∷ [] ++ w.right ++ quote_byte w.quote ∷ [] ++ flat_map part_text w.parts
+    ++ quote_byte w.quote ∷ []
 
 pub record IsWritten (w : Written) : Type 0 where
   pub separated : w.before ≢ []

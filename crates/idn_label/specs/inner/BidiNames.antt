@@ -1,5 +1,6 @@
 -- The Bidi rule of a name: numbers as characters, and labels that are known to meet it.
-use Rattle.std.specs.Prelude.{◌≡◌, ◌≤◌, ℕ, Bool, true, false, ◌&&◌, ◌+◌, ◌-◌, ◌*◌, nat_le, All, List, [], ◌∷◌, chars, length, if◌then◌else◌}
+use Rattle.std.specs.Prelude.{◌≡◌, ◌≤◌, ℕ, Bool, true, false, ◌&&◌, ◌+◌, ◌-◌, ◌*◌, nat_le, All, List, [], ◌∷◌, chars}
+use Rattle.std.specs.Prelude.{length, if◌then◌else◌}
 use Rattle.std.specs.Int.{bit_at}
 use Rattle.std.specs.List.{AllByRecursion, slice_range}
 use Rattle.ucd_bidi.specs.BidiClass.{bidi_class}
@@ -60,8 +61,11 @@ is_rtl_letter_or_mark class = is_rtl_letter class
 
 -- two octets are a character in UTF-8, of such a class
 abbrev pub are_character : (BidiClass → Bool) → ℕ → ℕ → Bool
-are_character is_such first second = nat_le 0xC2 first && nat_le first 0xDF && is_tail second && is_such (bidi_class ((first - 0xC0) * 0x40 + (second - 0x80)))
+are_character is_such first second =
+    nat_le 0xC2 first && nat_le first 0xDF && is_tail second
+    && is_such (bidi_class ((first - 0xC0) * 0x40 + (second - 0x80)))
 
 -- of the characters of two octets that begin with this one, those that have a bit are of such a class
 abbrev pub TellsCharacters : (BidiClass → Bool) → ℕ → ℕ → Type 0
-TellsCharacters is_such first bits = (second : ℕ) → is_tail second ≡ true → bit_at bits (second - 0x80) ≡ 1 → are_character is_such first second ≡ true
+TellsCharacters is_such first bits =
+    (second : ℕ) → is_tail second ≡ true → bit_at bits (second - 0x80) ≡ 1 → are_character is_such first second ≡ true

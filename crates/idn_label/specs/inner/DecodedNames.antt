@@ -18,7 +18,8 @@ decoded_utf8 properties bytes = if is_utf8 bytes then in_utf8 (decoded_name prop
 -- where no label holds R, AL or AN, none does once it is decoded
 abbrev pub KeepsLeftToRight : Properties → List (List ℕ) → Type 0
 KeepsLeftToRight properties labels =
-    is_bidi_domain labels ≡ false → (decoded : List (List ℕ)) → decoded_labels properties labels ≡ Ok decoded → is_bidi_domain decoded ≡ false
+    is_bidi_domain labels ≡ false → (decoded : List (List ℕ)) → decoded_labels properties labels ≡ Ok decoded
+    → is_bidi_domain decoded ≡ false
 
 -- these facts say so, if RightToLeft is none of them
 abbrev pub TellsLeftToRight : Properties → Facts → List (List ℕ) → Type 0

@@ -2,7 +2,8 @@
 use Rattle.std.specs.Prelude.{ℕ, not, ◌==◌, List, [], ◌∷◌, length, Option}
 use Rattle.unicode_normalization.specs.Forms.{is_nfc}
 use Rattle.idn_text.specs.declared.refusal.Refusal.{Refusal}
-use Rattle.idn_text.specs.declared.refusal.Refusal.TheVariants.{Empty, NotNfc, Hyphen, LeadingMark, ContextJ, ContextO, Bidi}
+use Rattle.idn_text.specs.declared.refusal.Refusal.TheVariants.{Empty, NotNfc, Hyphen, LeadingMark, ContextJ, ContextO}
+use Rattle.idn_text.specs.declared.refusal.Refusal.TheVariants.{Bidi}
 use Rattle.idn_class.specs.Tests.{leading_mark, contextj_ok, contexto_ok, bidi_ok}
 use Rattle.idn_label.specs.FirstFault.{first_of, fault_if, code_point_fault, has_hyphen_out_of_place}
 use Rattle.idn_class.specs.declared.properties.Properties.{Properties}
@@ -23,4 +24,5 @@ rule_fault properties label = first_of (rule_faults properties label)
 
 -- the first fault but for the length
 unfoldable pub fault_but_length : Properties → List ℕ → Option Refusal
-fault_but_length properties label = first_of (fault_if (length label == 0) Empty ∷ code_point_fault properties label ∷ rule_fault properties label ∷ [])
+fault_but_length properties label =
+    first_of (fault_if (length label == 0) Empty ∷ code_point_fault properties label ∷ rule_fault properties label ∷ [])

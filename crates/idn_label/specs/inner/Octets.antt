@@ -1,5 +1,6 @@
 -- What the octets of a text tell of its characters, in UTF-8 (RFC 3629).
-use Rattle.std.specs.Prelude.{◌≡◌, ◌<◌, ◌≤◌, ◌+◌, ◌-◌, ◌*◌, ◌==◌, ◌&&◌, ℕ, Bool, true, false, not, nat_le, List, ◌++◌, chars, encode_utf8, length, slice_index, take}
+use Rattle.std.specs.Prelude.{◌≡◌, ◌<◌, ◌≤◌, ◌+◌, ◌-◌, ◌*◌, ◌==◌, ◌&&◌, ℕ, Bool, true, false, not, nat_le, List, ◌++◌}
+use Rattle.std.specs.Prelude.{chars, encode_utf8, length, slice_index, take}
 use Rattle.std.specs.List.{list_any, slice_range}
 use Rattle.std.specs.Str.{IsAscii}
 use Rattle.ucd_bidi.specs.BidiClass.{bidi_class}
@@ -49,7 +50,8 @@ is_tail octet = nat_le 0x80 octet && nat_le octet 0xBF
 
 -- two octets that are a character past ASCII and before Hebrew, which begins at U+0590
 abbrev pub are_left_to_right_two : ℕ → ℕ → Bool
-are_left_to_right_two first second = nat_le 0xC2 first && is_tail second && nat_le ((first - 0xC0) * 0x40 + (second - 0x80)) 0x58F
+are_left_to_right_two first second =
+    nat_le 0xC2 first && is_tail second && nat_le ((first - 0xC0) * 0x40 + (second - 0x80)) 0x58F
 
 -- three octets that are a character from Devanagari on and before the surrogates, but not the right-to-left mark
 abbrev pub are_left_to_right_three : ℕ → ℕ → ℕ → Bool

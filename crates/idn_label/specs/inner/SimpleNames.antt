@@ -11,7 +11,8 @@ use Rattle.idna.specs.BidiRule.{passes_bidi_rule}
 use Rattle.idna.specs.ContextJ.{zero_width_non_joiner, zero_width_joiner}
 use Rattle.idna.specs.Validity.{begins_with_mark, has_ace_prefix, is_valid_status}
 
--- what UTS 46, section 4.1, asks of a single code point, by any list of denied ones, and no joiner, which would need a context
+-- what UTS 46, section 4.1, asks of a single code point, by any list of denied ones, and no joiner,
+-- which would need a context
 pub record PassesInName (c : ℕ) : Type 0 where
   pub valid : is_valid_status (idna_status c) ≡ true
   pub no_non_joiner : (c == zero_width_non_joiner) ≡ false

@@ -1,5 +1,6 @@
 -- The digits of the keys of a label without a code point of ASCII, one key after the other.
-use Rattle.std.specs.Prelude.{◌≡◌, ℕ, ◌+◌, ◌<◌, ◌≤◌, List, [], ◌∷◌, ◌++◌, codes, length, take, slice_index, slice_index_or, IsAscii}
+use Rattle.std.specs.Prelude.{◌≡◌, ℕ, ◌+◌, ◌<◌, ◌≤◌, List, [], ◌∷◌, ◌++◌, codes, length, take, slice_index}
+use Rattle.std.specs.Prelude.{slice_index_or, IsAscii}
 use Rattle.idn_punycode.specs.declared.encoding.Progress.{Progress}
 use Rattle.idn_punycode.specs.inner.Progress.{after_basic, after_key, digits_of_key, IsNextKey}
 

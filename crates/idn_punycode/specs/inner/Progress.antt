@@ -21,7 +21,8 @@ digits_of_key p key = write_integer (delta_to p key) p.bias 36 (delta_to p key)
 
 -- after a key, where so many were handled before it, and its digits leave this bias
 abbrev pub after : ℕ → ℕ → ℕ → Progress
-after handled key bias = record { handled = handled + 1; code_point = key / 64 / 64; position = key % 64 + 1; bias = bias }
+after handled key bias =
+    record { handled = handled + 1; code_point = key / 64 / 64; position = key % 64 + 1; bias = bias }
 
 -- after one key more, where so many code points are of ASCII
 abbrev pub after_key : ℕ → Progress → ℕ → Progress

@@ -1,12 +1,14 @@
 -- A line taken from what a reader gave, what is kept of it, and where that stands.
-use Rattle.std.specs.Prelude.{ℕ, ◌+◌, ◌≤◌, Bool, List, [], ◌∷◌, ◌++◌, length, slice_range, Option, Some, None, if◌then◌else◌}
+use Rattle.std.specs.Prelude.{ℕ, ◌+◌, ◌≤◌, Bool, List, [], ◌∷◌, ◌++◌, length, slice_range, Option, Some, None}
+use Rattle.std.specs.Prelude.{if◌then◌else◌}
 use Rattle.std.specs.Io.KnownBytes.{Consumes}
 use Rattle.idn_text.specs.Lines.{HasNoFeed, is_long_line}
 use Rattle.idn_text.specs.Taking.{BufferedReader, HasFailed, left}
 use Rattle.idn_text.specs.declared.buffered_reader.LinePlace.{LinePlace}
 use Rattle.idn_text.specs.declared.buffered_reader.LinePlace.TheVariants.{Text, TooLong}
 
--- these bytes without a line feed, and then these, were taken; of the read calls between, none uncounted, all but so many gave a byte
+-- these bytes without a line feed, and then these, were taken; of the read calls between, none uncounted,
+-- all but so many gave a byte
 pub record TakesLine (old new : BufferedReader) (line feed : List ℕ) (idle : ℕ) : Type 0 where
   pub no_feed : HasNoFeed line
   pub taken : Consumes (left old) (left new) (line ++ feed)
@@ -15,7 +17,8 @@ pub record TakesLine (old new : BufferedReader) (line feed : List ℕ) (idle : �
 
 -- a line was taken through its line feed, or else through the end of what the reader gives
 abbrev pub TakesThrough : BufferedReader → BufferedReader → List ℕ → Bool → Type 0
-TakesThrough old new line has_feed = TakesLine old new line (if has_feed then 10 ∷ [] else []) (if has_feed then 0 else 1)
+TakesThrough old new line has_feed =
+    TakesLine old new line (if has_feed then 10 ∷ [] else []) (if has_feed then 0 else 1)
 
 -- a read failed before the line had ended, and what came of it is taken
 abbrev pub FailsInLine : BufferedReader → BufferedReader → Type 0

@@ -127,7 +127,8 @@ with_tag s t = record s { tag = t; part = part.Tag }
 
 abbrev pub begin_tag_step : State → ℕ → Option State
 begin_tag_step s b =
-    if may_open s.rooted s.names then option_map (with_tag s) (tag.step (tag.with_phase tag.start phase.Begin) b) else None
+    if may_open s.rooted s.names then option_map (with_tag s) (tag.step (tag.with_phase tag.start phase.Begin) b)
+    else None
 
 abbrev pub markup_step : State → ℕ → Option State
 markup_step s b =

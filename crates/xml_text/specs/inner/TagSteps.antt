@@ -14,8 +14,8 @@ use Rattle.xml_text.specs.Names.{is_blank, is_name_start, is_name_byte, is_refer
 use Rattle.xml_text.specs.References.{referenced}
 use Rattle.xml_text.specs.Tags.{Tag, quote_byte, spaced}
 
--- what was read: the name of the tag and its attributes; of the attribute that isn't complete its name and its value, and of the
--- reference that isn't what stands after its '&'; and what was read last
+-- what was read: the name of the tag and its attributes; of the attribute that isn't complete its name and its value,
+-- and of the reference that isn't what stands after its '&'; and what was read last
 pub record State : Type 0 where
   pub name : List ℕ
   pub attributes : List Attribute
@@ -26,7 +26,14 @@ pub record State : Type 0 where
 
 -- what the state in memory is seen as
 abbrev pub state : reading.TagState → State
-state s = record { name = s.name.items; attributes = s.attributes.items; attribute = s.attribute.items; value = s.value.items; reference = s.reference.items; phase = s.phase }
+state s = record {
+  name = s.name.items;
+  attributes = s.attributes.items;
+  attribute = s.attribute.items;
+  value = s.value.items;
+  reference = s.reference.items;
+  phase = s.phase;
+}
 
 abbrev pub start : State
 start = record { name = []; attributes = []; attribute = []; value = []; reference = []; phase = phase.Open }
@@ -89,7 +96,13 @@ abbrev pub with_value : State → List ℕ → State
 with_value s bytes = record s { value = s.value ++ bytes }
 
 abbrev pub closed : State → State
-closed s = record s { attributes = s.attributes ++ record { name = s.attribute; value = s.value } ∷ []; attribute = []; value = []; phase = phase.After }
+closed s =
+    record s {
+      attributes = s.attributes ++ record { name = s.attribute; value = s.value } ∷ [];
+      attribute = [];
+      value = [];
+      phase = phase.After;
+    }
 
 abbrev pub value_step : Quote → State → ℕ → Option State
 value_step q s b =
