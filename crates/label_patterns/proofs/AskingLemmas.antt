@@ -3,7 +3,7 @@ use Rattle.std.proofs.Common.{◌≡◌, ◌∙◌, ℕ, zero, suc, ◌<◌, ◌
 use Rattle.std.specs.List.{AllByRecursion}
 use Rattle.label_patterns.specs.declared.pattern_tree.PatternTree.{PatternTree}
 use Rattle.label_patterns.specs.Conditions.{rule_at}
-use Rattle.label_patterns.specs.Patterns.{Pattern, Any}
+use Rattle.label_patterns.specs.Patterns.{Pattern, Anchor, Group}
 use Rattle.label_patterns.specs.Trees.{pattern}
 
 pub mapped-at : (trees : List PatternTree) (n : ℕ) (d : PatternTree) → n < length trees → rule_at (map pattern trees) n ≡ pattern (get_or trees n d)
@@ -15,7 +15,7 @@ mapped-at (tree ∷ trees) (suc n) d l = mapped-at trees n d (omega (arith, l))
 pub rule-read : (trees : List PatternTree) (n : ℕ) (tree : PatternTree) → n < length trees → tree ≡ get_or trees n tree → rule_at (map pattern trees) n ≡ pattern tree
 rule-read trees n tree l is = mapped-at trees n tree l ∙ ap pattern (sym is)
 
-pub none-at : (trees : List PatternTree) (n : ℕ) → length trees ≤ n → rule_at (map pattern trees) n ≡ Any
+pub none-at : (trees : List PatternTree) (n : ℕ) → length trees ≤ n → rule_at (map pattern trees) n ≡ Group Anchor
 none-at [] n l = refl
 none-at (tree ∷ trees) zero l = absurd (omega (arith, l))
 none-at (tree ∷ trees) (suc n) l = none-at trees n (omega (arith, l))

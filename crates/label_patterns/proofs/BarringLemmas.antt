@@ -1,5 +1,5 @@
 -- What is barred stays so.
-use Rattle.std.proofs.Common.{◌≡◌, ℕ, zero, suc, ◌≤◌, inl, inr, Bool, true, false, not, cond, List, [], ◌∷◌, ◌++◌, length, refl}
+use Rattle.std.proofs.Common.{◌≡◌, ℕ, zero, suc, ◌≤◌, inl, inr, Bool, true, false, not, cond, List, [], ◌∷◌, ◌++◌, length, refl, subst}
 use Rattle.std.specs.Prelude.{◌↔◌, IsTrue, Some, None}
 use Rattle.std.specs.List.{AllByRecursion}
 use Rattle.label_patterns.specs.declared.condition.ConditionKind.{ConditionKind}
@@ -7,11 +7,11 @@ use Rattle.label_patterns.specs.declared.condition.ConditionKind.TheVariants.{Wh
 use Rattle.label_patterns.specs.declared.span.Span.{Span}
 use Rattle.label_patterns.specs.Barring.{ends_in_anchor, OneEndsBefore, OneIsDone, IsBarredBy}
 use Rattle.label_patterns.specs.Conditions.{rule_at, IsAsked}
-use Rattle.label_patterns.specs.Laws.{seen, IgnoresEndBefore}
+use Rattle.label_patterns.specs.Laws.{seen, ContextsIgnoreEnd, IgnoresEndBefore}
 use Rattle.label_patterns.specs.TestLaws.{BarredForGood, BarringStays}
 use Rattle.label_patterns.specs.Matches.{Seen}
 use Rattle.label_patterns.specs.Patterns.{Pattern, Point, Set, Any, Start, End, Anchor, Group, Optional, Many, Then, Either}
-use Rattle.label_patterns.specs.Rules.{branches, is_anchor, BeginsAfter, HoldsInOne, Holds}
+use Rattle.label_patterns.specs.Rules.{branches, is_anchor, is_context_rule, BeginsAfter, HoldsAs, HoldsInOne, Holds}
 use Rattle.label_patterns.proofs.ContextLemmas.{stays-before}
 
 -- a context in which nothing stands after '_' asks nothing of what follows
@@ -47,19 +47,24 @@ module _ (sets : List (List Span)) (label more : List ℕ) (i : ℕ) (l : i ≤ 
     | inr later ↦ inr (done-later others j none.1 later)
   ]
 
-  by_kind : (kind : ConditionKind) (rule : Pattern) (j : ℕ) → AllByRecursion IgnoresEndBefore (branches rule) → IsBarredBy kind (seen sets label) rule i → IsAsked kind (Holds (seen sets (label ++ more)) rule i j) → ⊥
+  by_kind : (kind : ConditionKind) (rule : Pattern) (j : ℕ) → AllByRecursion IgnoresEndBefore (branches rule) → IsBarredBy kind (seen sets label) rule i → IsAsked kind (HoldsInOne (seen sets (label ++ more)) (branches rule) i j) → ⊥
   by_kind When rule j none barred holds = none-later (branches rule) j none barred holds
   by_kind Unless rule j none barred fails = fails (done-later (branches rule) j none barred)
 
+  by_rule : (kind : ConditionKind) (rule : Pattern) (j : ℕ) → ContextsIgnoreEnd rule → (is_context_rule rule ≡ true) → IsBarredBy kind (seen sets label) rule i → IsAsked kind (Holds (seen sets (label ++ more)) rule i j) → ⊥
+  by_rule kind rule j none is barred asked =
+      by_kind kind rule j (none is) barred (subst (λ b. IsAsked kind (HoldsAs b (seen sets (label ++ more)) rule i j)) is asked)
+
 -- the rule of a number is one of them, or one without contexts
-rule-at : (rules : List Pattern) (n : ℕ) → AllByRecursion (λ rule. AllByRecursion IgnoresEndBefore (branches rule)) rules → AllByRecursion IgnoresEndBefore (branches (rule_at rules n))
-rule-at [] n all = (tt, tt)
+rule-at : (rules : List Pattern) (n : ℕ) → AllByRecursion ContextsIgnoreEnd rules → ContextsIgnoreEnd (rule_at rules n)
+rule-at [] n all = λ is. (tt, tt)
 rule-at (rule ∷ rules) zero all = all.0
 rule-at (rule ∷ rules) (suc n) all = rule-at rules n all.1
 
 pub barred-for-good : BarredForGood
 barred-for-good rules sets label more None i j none l barred holds = barred
-barred-for-good rules sets label more (Some c) i j none l barred holds = by_kind sets label more i l c.kind (rule_at rules c.rule) j (rule-at rules c.rule none) barred holds
+barred-for-good rules sets label more (Some c) i j none l barred holds =
+    by_rule sets label more i l c.kind (rule_at rules c.rule) j (rule-at rules c.rule none) barred.0 barred.1 holds
 
 -- ---- whether it is barred depends on what stands before alone
 
@@ -90,4 +95,7 @@ module _ (sets : List (List Span)) (label more : List ℕ) (i : ℕ) (l : i ≤ 
 
 pub barring-stays : BarringStays
 barring-stays rules sets label more None i none l = (λ h. h, λ h. h)
-barring-stays rules sets label more (Some c) i none l = kind-stays sets label more i l c.kind (rule_at rules c.rule) (rule-at rules c.rule none)
+barring-stays rules sets label more (Some c) i none l = (
+  λ h. (h.0, (kind-stays sets label more i l c.kind (rule_at rules c.rule) (rule-at rules c.rule none h.0)).0 h.1),
+  λ h. (h.0, (kind-stays sets label more i l c.kind (rule_at rules c.rule) (rule-at rules c.rule none h.0)).1 h.1),
+)

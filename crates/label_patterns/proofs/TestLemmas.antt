@@ -15,7 +15,7 @@ use Rattle.label_patterns.specs.TestLaws.{TestsAgree}
 use Rattle.label_patterns.specs.Matches.{Seen, Matches, MatchesOne, MatchesAt}
 use Rattle.label_patterns.specs.Patterns.{Pattern, Point, Set, Any, Start, End, Anchor, Group, Optional, Many, Then, Either}
 use Rattle.label_patterns.specs.Places.{Has, AreEnds, StandsAt, AreThePlaces}
-use Rattle.label_patterns.specs.Rules.{branches, is_anchor, Before, EndsBefore, BeginsAfter, HoldsInOne, Holds, Occurs}
+use Rattle.label_patterns.specs.Rules.{branches, is_anchor, is_context_rule, Before, EndsBefore, BeginsAfter, HoldsAs, HoldsInOne, Holds, Occurs}
 use Rattle.label_patterns.specs.Sets.{is_in}
 use Rattle.label_patterns.specs.Tests.{has_place, places_of, every_place, ends_from, occurs_in, before_from, ends_before, begins_after, rule_holds, is_asked, condition_holds, is_barred_by, condition_barred, ignores_end}
 use Rattle.label_patterns.proofs.ContextLemmas.{from-all, item-before, anchor-alone}
@@ -232,7 +232,11 @@ one-holds s (context ∷ others) i j l m =
     )
 
 pub holds-agrees : (s : Seen) (rule : Pattern) (i j : ℕ) → i ≤ length s.label → j ≤ length s.label → IsTrue (rule_holds s rule i j) ↔ Holds s rule i j
-holds-agrees s rule i j l m = one-holds s (branches rule) i j l m
+holds-agrees s rule i j l m = by (is_context_rule rule)
+  where
+    by : (b : Bool) → IsTrue (cond b (list_any (λ context. ends_before s context i && begins_after s context j) (branches rule)) (occurs_in s rule)) ↔ HoldsAs b s rule i j
+    by true = one-holds s (branches rule) i j l m
+    by false = occurs-agrees s rule
 
 asked-agrees : (kind : ConditionKind) (holds : Bool) (P : Type 0) → IsTrue holds ↔ P → IsTrue (is_asked kind holds) ↔ IsAsked kind P
 asked-agrees When holds P e = e
@@ -273,7 +277,11 @@ barred-by-agrees Unless s rule i l = one-done s (branches rule) i l
 
 pub barred-agrees : (rules : List Pattern) (s : Seen) (c : Option Condition) (i : ℕ) → i ≤ length s.label → IsTrue (condition_barred rules s c i) ↔ IsBarred rules s c i
 barred-agrees rules s None i l = (λ h. absurd (let f : false ≡ true = h in cc), λ h. absurd h)
-barred-agrees rules s (Some c) i l = barred-by-agrees c.kind s (rule_at rules c.rule) i l
+barred-agrees rules s (Some c) i l =
+    let rule = rule_at rules c.rule in
+    let both = and-both (is_context_rule rule) (is_barred_by c.kind s rule i) in
+    let barred = barred-by-agrees c.kind s rule i l in
+    (λ h. (let b = both.0 h in (b.0, barred.0 b.1)), λ h. both.1 (h.0, barred.1 h.1))
 
 pub no-end-agrees : (p : Pattern) → IsTrue (ignores_end p) ↔ IgnoresEnd p
 no-end-agrees (Point c) = (λ h. tt, λ h. refl)

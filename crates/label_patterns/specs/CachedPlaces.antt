@@ -10,4 +10,5 @@ AreThePlacesBelow n test label places = (i : ℕ) → i < n → Has places i ↔
 
 -- the same for each set
 abbrev pub AreMasksBelow : ℕ → List (List Span) → List ℕ → List ℕ → Type 0
-AreMasksBelow n sets label masks = (m : ℕ) → m < length sets → AreThePlacesBelow n (is_in (slice_index_or sets m [])) label (slice_index masks m)
+AreMasksBelow n sets label masks =
+    (m : ℕ) → m < length sets → AreThePlacesBelow n (is_in (slice_index_or sets m [])) label (slice_index masks m)

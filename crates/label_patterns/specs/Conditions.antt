@@ -3,13 +3,13 @@ use Rattle.std.specs.Prelude.{ℕ, List, Option, Some, None, slice_index_or}
 use Rattle.label_patterns.specs.declared.condition.Condition.{Condition}
 use Rattle.label_patterns.specs.declared.condition.ConditionKind.{ConditionKind}
 use Rattle.label_patterns.specs.declared.condition.ConditionKind.TheVariants.{When, Unless}
-use Rattle.label_patterns.specs.Patterns.{Pattern, Any}
+use Rattle.label_patterns.specs.Patterns.{Pattern, Anchor, Group}
 use Rattle.label_patterns.specs.Matches.{Seen}
 use Rattle.label_patterns.specs.Rules.{Holds}
 
--- the rule of this number; one without '_', which never holds, where there is none
+-- the rule of this number; where there is none, '_' in a group, which never holds
 abbrev pub rule_at : List Pattern → ℕ → Pattern
-rule_at rules number = slice_index_or rules number Any
+rule_at rules number = slice_index_or rules number (Group Anchor)
 
 -- what is asked of a rule
 abbrev pub IsAsked : ConditionKind → Type 0 → Type 0

@@ -1,14 +1,16 @@
 -- The definitions as tests that compute. A set of places is a number, as in Places.
-use Rattle.std.specs.Prelude.{ℕ, zero, suc, ◌+◌, ◌-◌, ◌*◌, ◌^◌, ◌==◌, ◌&&◌, Bool, true, false, not, List, [], ◌∷◌, Option, Some, None, length, slice_index_or, if◌then◌else◌}
+use Rattle.std.specs.Prelude.{ℕ, zero, suc, ◌+◌, ◌-◌, ◌*◌, ◌^◌, ◌==◌, ◌&&◌, Bool, true, false, not, List, [], ◌∷◌}
+use Rattle.std.specs.Prelude.{Option, Some, None, length, slice_index_or, if◌then◌else◌}
 use Rattle.std.specs.Int.{bit_at}
 use Rattle.std.specs.Int.RustNames.{bit_and, bit_or}
 use Rattle.std.specs.List.{list_any}
 use Rattle.label_patterns.specs.declared.condition.Condition.{Condition}
 use Rattle.label_patterns.specs.declared.condition.ConditionKind.{ConditionKind}
 use Rattle.label_patterns.specs.declared.condition.ConditionKind.TheVariants.{When, Unless}
-use Rattle.label_patterns.specs.Patterns.{Pattern, Point, Set, Any, Start, End, Anchor, Group, Optional, Many, Then, Either}
+use Rattle.label_patterns.specs.Patterns.{Pattern, Point, Set, Any, Start, End, Anchor, Group, Optional, Many, Then}
+use Rattle.label_patterns.specs.Patterns.{Either}
 use Rattle.label_patterns.specs.Matches.{Seen}
-use Rattle.label_patterns.specs.Rules.{branches, is_anchor}
+use Rattle.label_patterns.specs.Rules.{branches, is_anchor, is_context_rule}
 use Rattle.label_patterns.specs.Sets.{is_in}
 use Rattle.label_patterns.specs.Conditions.{rule_at}
 use Rattle.label_patterns.specs.Barring.{ends_in_anchor}
@@ -67,7 +69,9 @@ begins_after seen p j = false
 
 -- the rule holds for the part from i to j
 abbrev pub rule_holds : Seen → Pattern → ℕ → ℕ → Bool
-rule_holds seen rule i j = list_any (λ context. ends_before seen context i && begins_after seen context j) (branches rule)
+rule_holds seen rule i j =
+    if is_context_rule rule then list_any (λ context. ends_before seen context i && begins_after seen context j)
+    (branches rule) else occurs_in seen rule
 
 abbrev pub is_asked : ConditionKind → Bool → Bool
 is_asked When holds = holds
@@ -80,12 +84,14 @@ condition_holds rules seen (Some c) i j = is_asked c.kind (rule_holds seen (rule
 
 abbrev pub is_barred_by : ConditionKind → Seen → Pattern → ℕ → Bool
 is_barred_by When seen rule i = not (list_any (λ context. ends_before seen context i) (branches rule))
-is_barred_by Unless seen rule i = list_any (λ context. ends_in_anchor context && ends_before seen context i) (branches rule)
+is_barred_by Unless seen rule i =
+    list_any (λ context. ends_in_anchor context && ends_before seen context i) (branches rule)
 
 -- the condition fails for each part that begins at i, by what stands before i alone
 abbrev pub condition_barred : List Pattern → Seen → Option Condition → ℕ → Bool
 condition_barred rules seen None i = false
-condition_barred rules seen (Some c) i = is_barred_by c.kind seen (rule_at rules c.rule) i
+condition_barred rules seen (Some c) i =
+    is_context_rule (rule_at rules c.rule) && is_barred_by c.kind seen (rule_at rules c.rule) i
 
 -- the pattern doesn't ask for the end of the label
 abbrev pub ignores_end : Pattern → Bool

@@ -2,7 +2,8 @@
 -- the program: contracts speak of patterns.
 use Rattle.label_patterns.specs.declared.pattern_tree.PatternTree.{PatternTree}
 use Rattle.label_patterns.specs.declared.pattern_tree.PatternTree.TheVariants as tree
-use Rattle.label_patterns.specs.Patterns.{Pattern, Point, Set, Any, Start, End, Anchor, Group, Optional, Many, Then, Either}
+use Rattle.label_patterns.specs.Patterns.{Pattern, Point, Set, Any, Start, End, Anchor, Group, Optional, Many, Then}
+use Rattle.label_patterns.specs.Patterns.{Either}
 
 abbrev pub pattern : PatternTree → Pattern
 pattern (tree.Point c) = Point c

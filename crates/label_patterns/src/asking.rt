@@ -1,15 +1,15 @@
 //! Asking the condition of a source or of a variant in a label.
 ghost use Rattle.std.specs.Prelude.{◌↔◌, ◌≤◌, length, map, IsTrue};
 ghost use Rattle.std.specs.List.{AllByRecursion};
-ghost use Rattle.label_patterns.specs.Barring.{IsBarred, OneEndsBefore, OneIsDone};
+ghost use Rattle.label_patterns.specs.Barring.{IsBarred, IsBarredBy};
 ghost use Rattle.label_patterns.specs.Conditions.{ConditionHolds, rule_at};
 ghost use Rattle.label_patterns.specs.Matches.{HasItsSets};
-ghost use Rattle.label_patterns.specs.Rules.{branches, Holds};
+ghost use Rattle.label_patterns.specs.Rules.{is_context_rule as is_context_rule_pattern, Holds};
 ghost use Rattle.label_patterns.specs.Trees.{pattern};
 
 use crate::barring::{one_ends_before, one_is_done};
 use crate::condition::{Condition, ConditionKind};
-use crate::contexts::holds;
+use crate::contexts::{holds, is_context_rule};
 use crate::pattern_tree::PatternTree;
 use crate::seen_label::SeenLabel;
 
@@ -53,7 +53,8 @@ fn rule_holds(
     number < rules.len() && holds(&rules[number], seen, start, end)
 }
 
-/// Whether a condition fails for each part that begins at `start`, by what stands before that place alone.
+/// Whether a condition fails for each part that begins at `start`, by what stands before that place alone. Of a
+/// whole-label rule that is never told.
 pub fn is_barred(
     condition: Option<Condition>,
     rules: &[PatternTree],
@@ -68,27 +69,21 @@ pub fn is_barred(
         return false;
     };
     let number = condition.rule as usize;
-    match condition.kind {
-        ConditionKind::When => !may_hold(number, rules, seen, start),
-        ConditionKind::Unless => is_done(number, rules, seen, start),
+    number < rules.len() && is_barred_by(condition.kind, &rules[number], seen, start)
+}
+
+/// Whether no part that begins at `start` may stand there by this rule, by what stands before that place alone.
+fn is_barred_by(kind: ConditionKind, rule: &PatternTree, seen: &SeenLabel, start: usize) -> bool
+    requires known { HasItsSets (length seen.now.sets) (pattern rule.now) }
+    requires start { start ≤ length seen.now.label }
+    ensures { IsTrue result ↔ (IsTrue (is_context_rule_pattern (pattern rule.now)) ×
+        IsBarredBy kind seen.now (pattern rule.now) start) }
+{
+    if !is_context_rule(rule) {
+        return false;
     }
-}
-
-/// Whether what stands before `_` in a context of the rule of this number is found before a place.
-fn may_hold(number: usize, rules: &[PatternTree], seen: &SeenLabel, start: usize) -> bool
-    requires known { AllByRecursion (HasItsSets (length seen.now.sets)) (map pattern rules.now) }
-    requires start { start ≤ length seen.now.label }
-    ensures { IsTrue result ↔ OneEndsBefore seen.now (branches (rule_at (map pattern rules.now) number)) start }
-{
-    number < rules.len() && one_ends_before(&rules[number], seen, start)
-}
-
-/// Whether what stands before `_` is found before a place, in a context of the rule of this number in which nothing
-/// stands after `_`.
-fn is_done(number: usize, rules: &[PatternTree], seen: &SeenLabel, start: usize) -> bool
-    requires known { AllByRecursion (HasItsSets (length seen.now.sets)) (map pattern rules.now) }
-    requires start { start ≤ length seen.now.label }
-    ensures { IsTrue result ↔ OneIsDone seen.now (branches (rule_at (map pattern rules.now) number)) start }
-{
-    number < rules.len() && one_is_done(&rules[number], seen, start)
+    match kind {
+        ConditionKind::When => !one_ends_before(rule, seen, start),
+        ConditionKind::Unless => one_is_done(rule, seen, start),
+    }
 }

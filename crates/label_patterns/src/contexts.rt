@@ -1,10 +1,13 @@
-//! The contexts of a rule, and where they hold.
+//! The contexts of a rule, and where rules hold.
 ghost use Rattle.std.specs.Prelude.{◌≡◌, ◌↔◌, ◌+◌, ◌<◌, ◌≤◌, length, IsTrue};
 ghost use Rattle.label_patterns.specs.Matches.{HasItsSets};
 ghost use Rattle.label_patterns.specs.Places.{Has};
 ghost use Rattle.label_patterns.specs.Rules.{is_anchor as is_anchor_pattern, Before, EndsBefore, BeginsAfter, Holds};
+ghost use Rattle.label_patterns.specs.Rules.{branches, HoldsInOne};
+ghost use Rattle.label_patterns.specs.Rules as rules;
 ghost use Rattle.label_patterns.specs.Trees.{pattern};
 
+use crate::demands::occurs;
 use crate::ends::ends;
 use crate::pattern_tree::PatternTree;
 use crate::places::{all_places, before, either, has};
@@ -61,6 +64,28 @@ pub(crate) fn is_anchor(tree: &PatternTree) -> bool
     matches!(tree, PatternTree::Anchor)
 }
 
+/// Whether the pattern is that of a context rule: `_` stands in its first branch (RFC 7940, section 6.4). Any other is
+/// that of a whole-label rule.
+pub fn is_context_rule(rule: &PatternTree) -> bool
+    ensures { result ≡ rules.is_context_rule (pattern rule.now) }
+{
+    match rule {
+        PatternTree::Either(context, _) => is_context(context),
+        _ => is_context(rule),
+    }
+}
+
+/// Whether `_` is one of the items.
+fn is_context(branch: &PatternTree) -> bool
+    ensures { result ≡ rules.is_context (pattern branch.now) }
+{
+    match branch {
+        PatternTree::Anchor => true,
+        PatternTree::Then(item, rest) => is_anchor(item) || is_context(rest),
+        _ => false,
+    }
+}
+
 /// Whether one context holds for the part of the label from `start` to `end`.
 fn context_holds(context: &PatternTree, seen: &SeenLabel, start: usize, end: usize) -> bool
     requires known { HasItsSets (length seen.now.sets) (pattern context.now) }
@@ -79,9 +104,23 @@ pub fn holds(rule: &PatternTree, seen: &SeenLabel, start: usize, end: usize) -> 
     requires end { end ≤ length seen.now.label }
     ensures { IsTrue result ↔ Holds seen.now (pattern rule.now) start end }
 {
+    if is_context_rule(rule) {
+        holds_in_one(rule, seen, start, end)
+    } else {
+        occurs(rule, seen)
+    }
+}
+
+/// Whether one of the contexts holds for the part of the label from `start` to `end`.
+fn holds_in_one(rule: &PatternTree, seen: &SeenLabel, start: usize, end: usize) -> bool
+    requires known { HasItsSets (length seen.now.sets) (pattern rule.now) }
+    requires start { start ≤ length seen.now.label }
+    requires end { end ≤ length seen.now.label }
+    ensures { IsTrue result ↔ HoldsInOne seen.now (branches (pattern rule.now)) start end }
+{
     match rule {
         PatternTree::Either(context, others) => {
-            context_holds(context, seen, start, end) || holds(others, seen, start, end)
+            context_holds(context, seen, start, end) || holds_in_one(others, seen, start, end)
         }
         PatternTree::Then(_, _) => context_holds(rule, seen, start, end),
         PatternTree::Anchor => true,
@@ -104,10 +143,25 @@ pub fn holding_points(rule: &PatternTree, seen: &SeenLabel) -> u64
     requires { HasItsSets (length seen.now.sets) (pattern rule.now) }
     ensures { (i : _) → Has result i ↔ ((i < length seen.now.label) × Holds seen.now (pattern rule.now) i (i + 1)) }
 {
+    if is_context_rule(rule) {
+        points_in_one(rule, seen)
+    } else if occurs(rule, seen) {
+        seen.places_of_all()
+    } else {
+        0
+    }
+}
+
+/// The places of a label such that one of the contexts holds for the code point that stands there.
+fn points_in_one(rule: &PatternTree, seen: &SeenLabel) -> u64
+    requires { HasItsSets (length seen.now.sets) (pattern rule.now) }
+    ensures { (i : _) → Has result i ↔
+        ((i < length seen.now.label) × HoldsInOne seen.now (branches (pattern rule.now)) i (i + 1)) }
+{
     match rule {
         PatternTree::Either(context, others) => either(
             points_in_context(context, seen),
-            holding_points(others, seen),
+            points_in_one(others, seen),
         ),
         PatternTree::Then(_, _) => points_in_context(rule, seen),
         PatternTree::Anchor => seen.places_of_all(),

@@ -1,12 +1,11 @@
 //! Sets of code points.
-ghost use Rattle.std.specs.Prelude.{◌≡◌, ◌≤◌, nat_lt, length, IfOk};
+ghost use Rattle.std.specs.Prelude.{◌≡◌, ◌≤◌, nat_lt, length};
 ghost use Rattle.label_patterns.specs.Sets.{is_in, Rise};
 ghost use Rattle.label_patterns.specs.Places.{AreThePlaces};
 ghost use Rattle.label_patterns.specs.CachedPlaces.{AreThePlacesBelow};
 
 use crate::places::{both, point_places, with_place_if};
 use crate::span::Span;
-use std::alloc::{AllocError, Global};
 use std::marker::Model;
 
 /// A set of code points, as spans that rise.
@@ -34,15 +33,6 @@ impl PointSet {
         ensures { result ≡ spans.items }
     {
         PointSet { spans }
-    }
-
-    /// This set as a value of its own. It is an `Err` only where memory was refused.
-    pub fn copied(&self, alloc: Global) -> Result<Self, AllocError>
-        ensures { IfOk result (λ set. set ≡ self.now) }
-    {
-        Ok(PointSet {
-            spans: Vec::from_slice(alloc, &self.spans)?,
-        })
     }
 
     /// The spans, which rise.

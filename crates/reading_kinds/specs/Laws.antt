@@ -9,4 +9,6 @@ lacking k substitutions = map (filter (λ u. not (bit_at u.kinds k == 1))) subst
 
 -- some reading lacks a kind exactly if the substitutions that lack it spell the label
 abbrev pub LackingSpell : Type 0
-LackingSpell = (substitutions : List (List Substitution)) (v : List ℕ) (k : ℕ) → SomeLacks substitutions v k ↔ SubstitutionsSpell (lacking k substitutions) v
+LackingSpell =
+    (substitutions : List (List Substitution)) (v : List ℕ) (k : ℕ) → SomeLacks substitutions v k
+    ↔ SubstitutionsSpell (lacking k substitutions) v

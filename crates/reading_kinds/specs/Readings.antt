@@ -4,7 +4,8 @@ use Rattle.std.specs.Int.{bit_at}
 use Rattle.std.specs.Prelude.{◌≡◌, ℕ, ◌+◌, ◌≤◌, ◌⊎◌, List, [], ◌∷◌, length, drop, slice_index_or, Contains, All}
 use Rattle.std.specs.List.{flat_map}
 
--- these code points may stand in the place of so many code points of a label; what a reading records then are these kinds, each a bit
+-- these code points may stand in the place of so many code points of a label;
+-- what a reading records then are these kinds, each a bit
 pub record Substitution : Type 0 where
   pub covers : ℕ
   pub kinds : ℕ
@@ -19,7 +20,8 @@ abbrev pub IsCut : List (List Substitution) → List Substitution → Type 0
 IsCut [] [] = Unit {0}
 IsCut [] (u ∷ cut) = ⊥
 IsCut (here ∷ later) [] = ⊥
-IsCut (here ∷ later) (u ∷ cut) = Contains here u × (u.covers ≤ length later + 1) × IsCut (drop u.covers (here ∷ later)) cut
+IsCut (here ∷ later) (u ∷ cut) =
+    Contains here u × (u.covers ≤ length later + 1) × IsCut (drop u.covers (here ∷ later)) cut
 
 -- what they put in the place of the label
 abbrev pub points_of : List Substitution → List ℕ
@@ -56,4 +58,5 @@ pub record IsSubstitution (room : ℕ) (u : Substitution) : Type 0 where
 -- substitutions that end within the label, at most 648 at each place
 abbrev pub AreSubstitutions : List (List Substitution) → Type 0
 AreSubstitutions [] = Unit {0}
-AreSubstitutions (here ∷ later) = All (IsSubstitution (length later + 1)) here × (length here ≤ 648) × AreSubstitutions later
+AreSubstitutions (here ∷ later) =
+    All (IsSubstitution (length later + 1)) here × (length here ≤ 648) × AreSubstitutions later

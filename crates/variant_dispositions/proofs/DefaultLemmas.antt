@@ -10,10 +10,10 @@ use Rattle.reading_kinds.proofs.ListMembers.{Contains-filter}
 use Rattle.variant_dispositions.specs.declared.action.Action.{Action}
 use Rattle.variant_dispositions.specs.declared.disposition.Disposition.{Disposition}
 use Rattle.variant_dispositions.specs.declared.disposition.Disposition.TheVariants.{Valid}
-use Rattle.variant_dispositions.specs.Kinds.{kind_at, kinds_in}
+use Rattle.variant_dispositions.specs.Kinds.{bit_of, kind_at, kinds_in}
 use Rattle.variant_dispositions.specs.Actions.{default_actions, default_disposition, disposition, first_triggered, is_predefined}
 use Rattle.variant_dispositions.specs.Laws.{AreTheSame}
-use Rattle.variant_dispositions.proofs.KindLemmas.{bit_of, both-bits, Contains-kinds_in, kind_at-bit_of}
+use Rattle.variant_dispositions.proofs.KindLemmas.{both-bits, Contains-kinds_in, kind_at-bit_of}
 use Rattle.variant_dispositions.proofs.SetLemmas.{same_first}
 
 -- the bits of the kinds that the default actions see

@@ -10,15 +10,9 @@ use Rattle.std.proofs.lemmas.Nat.{and_le_l}
 use Rattle.std.proofs.lemmas.Nat.Bits.{bit_at-lt, bit_at-trailing_zeros, bit_at-zero, bit_at_and, bit_at_not}
 use Rattle.reading_kinds.specs.Readings.{Substitution, HasKind}
 use Rattle.reading_kinds.proofs.ListMembers.{Contains-filter, Contains-none}
-use Rattle.variant_dispositions.specs.Kinds.{Kind, kind_at, kinds_in, recorded}
+use Rattle.variant_dispositions.specs.Kinds.{Kind, bit_of, kind_at, kinds_in, recorded}
 use Rattle.variant_dispositions.specs.Kinds.Kind.{Unmapped, Untyped, Typed}
 use Rattle.variant_dispositions.proofs.MemberLemmas.{Contains-map, Contains-range}
-
--- the bit of a kind
-abbrev pub bit_of : Kind → ℕ
-bit_of Unmapped = 0
-bit_of Untyped = 1
-bit_of (Typed number) = suc (suc number)
 
 pub kind_at-bit_of : (kind : Kind) → kind_at (bit_of kind) ≡ kind
 kind_at-bit_of Unmapped = refl

@@ -12,3 +12,5 @@ pub mod SetLemmas
 pub mod WordLemmas
 -- Laws of dispositions.
 pub mod LawLemmas
+-- The word of one kind.
+pub mod OneKindLemmas

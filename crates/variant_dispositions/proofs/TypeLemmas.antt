@@ -8,10 +8,10 @@ use Rattle.std.proofs.lemmas.Bool.{eq-eqb, eqb-false, ne_eqb, not-true}
 use Rattle.std.proofs.lemmas.Nat.{and_le_l, and_le_r}
 use Rattle.std.proofs.lemmas.Nat.Bits.{bit_at_mask_inside}
 use Rattle.reading_kinds.proofs.ListMembers.{Contains-filter}
-use Rattle.variant_dispositions.specs.Kinds.{Kind, is_mapped, kind_at, kinds_in}
+use Rattle.variant_dispositions.specs.Kinds.{Kind, bit_of, is_mapped, kind_at, kinds_in}
 use Rattle.variant_dispositions.specs.Actions.{is_of}
 use Rattle.variant_dispositions.proofs.MemberLemmas.{all-told, any-told, bool_same}
-use Rattle.variant_dispositions.proofs.KindLemmas.{bit-none, bit-some, bit_of, both-bits, Contains-kinds_in, kind_at-bit_of, left-none}
+use Rattle.variant_dispositions.proofs.KindLemmas.{bit-none, bit-some, both-bits, Contains-kinds_in, kind_at-bit_of, left-none}
 
 -- a word isn't 0
 some-told : (word : ℕ) → (not (word == 0) ≡ true) ↔ (word ≡ 0 → ⊥)

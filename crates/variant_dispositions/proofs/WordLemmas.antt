@@ -4,12 +4,12 @@ use Rattle.std.specs.List.{Contains}
 use Rattle.std.specs.Int.{bit_at}
 use Rattle.reading_kinds.specs.Readings.{Substitution, HasKind, IsReading, SubstitutionsSpell}
 use Rattle.variant_dispositions.specs.declared.action.Action.{Action}
-use Rattle.variant_dispositions.specs.Kinds.{Kind, kind_at, kinds_in, recorded}
+use Rattle.variant_dispositions.specs.Kinds.{Kind, bit_of, kind_at, kinds_in, recorded}
 use Rattle.variant_dispositions.specs.Kinds.Kind.{Typed}
 use Rattle.variant_dispositions.specs.Actions.{disposition, is_allocatable}
 use Rattle.variant_dispositions.specs.Readings.{AreWordsOf, HasNoTypeButBlocked, IsAllocatableInSome, IsClear, IsDisposition}
 use Rattle.variant_dispositions.specs.Laws.{AreTheSame}
-use Rattle.variant_dispositions.proofs.KindLemmas.{bit_of, Contains-kinds_in, Contains-recorded, HasKind-or_not, kind_at-bit_of}
+use Rattle.variant_dispositions.proofs.KindLemmas.{Contains-kinds_in, Contains-recorded, HasKind-or_not, kind_at-bit_of}
 use Rattle.variant_dispositions.proofs.SetLemmas.{KindsAreASet-holds}
 use Rattle.variant_dispositions.proofs.LawLemmas.{BlockedBlocks-holds, ByRulesAlone-holds}
 

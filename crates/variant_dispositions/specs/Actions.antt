@@ -1,5 +1,6 @@
 -- Actions, and the disposition of a label (RFC 7940, sections 7 and 8.3).
-use Rattle.std.specs.Prelude.{ℕ, ◌+◌, ◌==◌, Bool, true, false, not, ◌&&◌, List, [], ◌∷◌, filter, Option, Some, None, option_map, unwrap_or, nat_lt}
+use Rattle.std.specs.Prelude.{ℕ, ◌+◌, ◌==◌, Bool, true, false, not, ◌&&◌, List, [], ◌∷◌, filter, Option, Some, None}
+use Rattle.std.specs.Prelude.{option_map, unwrap_or, nat_lt}
 use Rattle.std.specs.List.{find, list_all, list_any}
 use Rattle.std.specs.Int.{bit_at}
 use Rattle.label_patterns.specs.declared.condition.Condition.{Condition}
@@ -9,7 +10,8 @@ use Rattle.variant_dispositions.specs.declared.action.Action.{Action}
 use Rattle.variant_dispositions.specs.declared.action.TypeTrigger.{TypeTrigger}
 use Rattle.variant_dispositions.specs.declared.action.TypeTrigger.TheVariants.{Any, All, Only}
 use Rattle.variant_dispositions.specs.declared.disposition.Disposition.{Disposition}
-use Rattle.variant_dispositions.specs.declared.disposition.Disposition.TheVariants.{Invalid, Blocked, Allocatable, Activated, Valid}
+use Rattle.variant_dispositions.specs.declared.disposition.Disposition.TheVariants.{Invalid, Blocked, Allocatable}
+use Rattle.variant_dispositions.specs.declared.disposition.Disposition.TheVariants.{Activated, Valid}
 use Rattle.variant_dispositions.specs.Kinds.{Kind, is_mapped}
 use Rattle.variant_dispositions.specs.Kinds.Kind.{Unmapped, Untyped, Typed}
 
@@ -19,8 +21,8 @@ is_of types Unmapped = false
 is_of types Untyped = false
 is_of types (Typed number) = bit_at types (number + 2) == 1
 
--- the types that an action asks for are recorded (7.2): some of any-variant; of all-variants something, where sources that stay without a
--- type don't count, and nothing else; and nothing else than those of only-variants
+-- the types that an action asks for are recorded (7.2): some of any-variant; of all-variants something, where sources
+-- that stay without a type don't count, and nothing else; and nothing else than those of only-variants
 abbrev pub has_types : Option TypeTrigger → List Kind → Bool
 has_types None kinds = true
 has_types (Some (Any types)) kinds = list_any (is_of types) kinds
@@ -41,7 +43,8 @@ is_triggered matched kinds action = has_types action.types kinds && meets matche
 
 -- the disposition of the first of these actions that is triggered
 abbrev pub first_triggered : (ℕ → Bool) → List Kind → List Action → Option Disposition
-first_triggered matched kinds actions = option_map (λ action. action.disposition) (find (is_triggered matched kinds) actions)
+first_triggered matched kinds actions =
+    option_map (λ action. action.disposition) (find (is_triggered matched kinds) actions)
 
 -- ---- the default actions (7.6)
 
@@ -67,10 +70,11 @@ is_predefined (Typed number) = nat_lt number 5
 abbrev pub default_disposition : (ℕ → Bool) → List Kind → Option Disposition
 default_disposition matched kinds = first_triggered matched (filter is_predefined kinds) default_actions
 
--- the disposition of a label of which a reading records these kinds: that of the first action that is triggered, and else of the first
--- default action, of which the last is always triggered (8.3)
+-- the disposition of a label of which a reading records these kinds: that of the first action that is triggered, and
+-- else of the first default action, of which the last is always triggered (8.3)
 abbrev pub disposition : (ℕ → Bool) → List Action → List Kind → Disposition
-disposition matched actions kinds = unwrap_or (first_triggered matched kinds actions) (unwrap_or (default_disposition matched kinds) Valid)
+disposition matched actions kinds =
+    unwrap_or (first_triggered matched kinds actions) (unwrap_or (default_disposition matched kinds) Valid)
 
 -- the holder may have it
 abbrev pub is_allocatable : Disposition → Bool

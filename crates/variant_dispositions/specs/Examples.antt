@@ -3,7 +3,8 @@ use Rattle.std.specs.Prelude.{◌≡◌, ℕ, Bool, true, false, List, [], ◌�
 use Rattle.label_patterns.specs.declared.condition.ConditionKind.TheVariants.{When, Unless}
 use Rattle.variant_dispositions.specs.declared.action.Action.{Action}
 use Rattle.variant_dispositions.specs.declared.action.TypeTrigger.TheVariants.{Any, All, Only}
-use Rattle.variant_dispositions.specs.declared.disposition.Disposition.TheVariants.{Invalid, Blocked, Allocatable, Activated, Valid}
+use Rattle.variant_dispositions.specs.declared.disposition.Disposition.TheVariants.{Invalid, Blocked, Allocatable}
+use Rattle.variant_dispositions.specs.declared.disposition.Disposition.TheVariants.{Activated, Valid}
 use Rattle.variant_dispositions.specs.Kinds.Kind.{Unmapped, Untyped, Typed}
 use Rattle.variant_dispositions.specs.Actions.{by_types, disposition}
 
@@ -77,7 +78,8 @@ pub record Chinese : Type 0 where
   pub blocked : disposition no_rules chinese (Typed 1 ∷ Typed 6 ∷ []) ≡ Blocked
   pub outside : disposition no_rules chinese (Typed 1 ∷ Typed 11 ∷ []) ≡ Invalid
 
--- actions with a rule, number 0, that a label matches or doesn't; the first that is triggered counts, before the default actions
+-- actions with a rule, number 0, that a label matches or doesn't; the first that is triggered counts,
+-- before the default actions
 abbrev pub matches : Bool → ℕ → Bool
 matches it rule = it
 
@@ -85,7 +87,8 @@ abbrev pub when_first : Action
 when_first = record { disposition = Valid; condition = Some (record { kind = When; rule = 0 }); types = None }
 
 abbrev pub unless_first : Action
-unless_first = record { disposition = Invalid; condition = Some (record { kind = Unless; rule = 0 }); types = Some (Any 128) }
+unless_first =
+    record { disposition = Invalid; condition = Some (record { kind = Unless; rule = 0 }); types = Some (Any 128) }
 
 pub record WithRules : Type 0 where
   pub matched : disposition (matches true) (when_first ∷ []) (Typed 1 ∷ []) ≡ Valid
@@ -93,8 +96,10 @@ pub record WithRules : Type 0 where
   pub unless : disposition (matches false) (unless_first ∷ []) (Typed 5 ∷ []) ≡ Invalid
   pub unless_matched : disposition (matches true) (unless_first ∷ []) (Typed 5 ∷ []) ≡ Valid
   pub unless_without_type : disposition (matches false) (unless_first ∷ []) (Untyped ∷ []) ≡ Valid
-  pub first : disposition no_rules (by_types Allocatable (Some (Any 8)) ∷ by_types Blocked (Some (Any 16)) ∷ []) (Typed 1 ∷ Typed 2 ∷ []) ≡ Allocatable
-  pub catch_all : disposition no_rules (by_types Valid None ∷ by_types Blocked (Some (Any 8)) ∷ []) (Typed 1 ∷ []) ≡ Valid
+  pub first : disposition no_rules (by_types Allocatable (Some (Any 8)) ∷ by_types Blocked (Some (Any 16)) ∷ [])
+      (Typed 1 ∷ Typed 2 ∷ []) ≡ Allocatable
+  pub catch_all : disposition no_rules (by_types Valid None ∷ by_types Blocked (Some (Any 8)) ∷ [])
+      (Typed 1 ∷ []) ≡ Valid
 
 pub record TypesOfExamples : Type 0 where
   pub one_type : OneType

@@ -47,7 +47,7 @@ impl TypeTrigger {
 
 impl Action {
     /// Whether a label of which a reading records these kinds triggers the action. The rule is asked last.
-    pub(crate) fn is_triggered<R: LabelRules>(&self, kinds: u64, rules: &R) -> bool
+    pub fn is_triggered<R: LabelRules>(&self, kinds: u64, rules: &R) -> bool
         ensures { result ≡ is_triggered (R.matched rules.now) (kinds_in kinds) self.now }
     {
         if let Some(types) = self.types

@@ -13,7 +13,10 @@ mod variant;
 pub use action::{Action, TypeTrigger};
 pub use disposition::Disposition;
 pub use fold::disposition_of;
-pub use kinds::{ACTIVATED, ALLOCATABLE, BLOCKED, INVALID, UNMAPPED, UNTYPED, VALID};
+pub use kinds::{
+    ACTIVATED, ALLOCATABLE, BLOCKED, INVALID, UNMAPPED, UNTYPED, VALID, kind_of_source,
+    kind_of_variant,
+};
 pub use label_rules::LabelRules;
 pub use variant::{
     VariantDisposition, disposition_of_variant, disposition_of_words, is_allocatable_in_some,

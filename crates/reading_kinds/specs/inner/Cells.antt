@@ -1,4 +1,5 @@
--- What the cells of a board say of the readings of a label: a column for each length of what is spelled, a cell in it for each place of the label.
+-- What the cells of a board say of the readings of a label: a column for each length of what is spelled, a cell in it
+-- for each place of the label.
 use Rattle.std.specs.Prelude.{◌≡◌, ℕ, ◌+◌, ◌*◌, ◌<◌, ◌≤◌, ◌↔◌, List, [], ◌∷◌, ◌++◌, take, slice_index, Contains}
 use Rattle.std.specs.Int.{bit_at}
 use Rattle.reading_kinds.specs.Readings.{Substitution, substitutions_at, HasKind}
@@ -33,7 +34,8 @@ pub record Tells (cells : Cells) (column place : ℕ) (m : Mark) : Type 0 where
 abbrev pub LeadsTo : List (List Substitution) → ℕ → List ℕ → List Substitution → Type 0
 LeadsTo substitutions place p [] = (place ≡ 0) × (p ≡ [])
 LeadsTo substitutions place p (u ∷ before) =
-    (a : ℕ) × (q : List ℕ) × Contains (substitutions_at substitutions a) u × (place ≡ a + u.covers) × (p ≡ q ++ u.points) × LeadsTo substitutions a q before
+    (a : ℕ) × (q : List ℕ) × Contains (substitutions_at substitutions a) u × (place ≡ a + u.covers)
+    × (p ≡ q ++ u.points) × LeadsTo substitutions a q before
 
 abbrev pub Shows : List Substitution → Mark → Type 0
 Shows cut Reached = Unit {0}
@@ -45,7 +47,8 @@ SomeLeads substitutions place p m = (cut : List Substitution) × LeadsTo substit
 
 -- a column tells exactly what beginnings show
 abbrev pub IsRightAt : List (List Substitution) → List ℕ → Cells → ℕ → Type 0
-IsRightAt substitutions w cells column = (p : ℕ) (m : Mark) → Tells cells column p m ↔ SomeLeads substitutions p (take column w) m
+IsRightAt substitutions w cells column =
+    (p : ℕ) (m : Mark) → Tells cells column p m ↔ SomeLeads substitutions p (take column w) m
 
 -- so do the columns up to this one
 abbrev pub IsRight : List (List Substitution) → List ℕ → Cells → ℕ → Type 0

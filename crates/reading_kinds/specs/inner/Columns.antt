@@ -16,7 +16,8 @@ Adds old new column place has lacks =
 
 -- a column tells nothing that no beginning shows
 abbrev pub IsSoundAt : List (List Substitution) → List ℕ → Cells → ℕ → Type 0
-IsSoundAt substitutions w cells column = (p : ℕ) (m : Mark) → Tells cells column p m → SomeLeads substitutions p (take column w) m
+IsSoundAt substitutions w cells column =
+    (p : ℕ) (m : Mark) → Tells cells column p m → SomeLeads substitutions p (take column w) m
 
 -- new has in this column what old has, and perhaps more; the other columns are the same
 pub record Grows (old new : Cells) (column : ℕ) : Type 0 where
@@ -43,4 +44,5 @@ HasTaken w cells column place u =
 -- old with what a substitution adds to a cell
 abbrev pub AddsAfter : Cells → Cells → ℕ → ℕ → ℕ → ℕ → ℕ → Type 0
 AddsAfter old new from_column from_place kinds column place =
-    (c p : ℕ) (m : Mark) → Tells new c p m ↔ (Tells old c p m ⊎ ((c ≡ column) × (p ≡ place) × TellsAfter old from_column from_place kinds m))
+    (c p : ℕ) (m : Mark) → Tells new c p m ↔ (Tells old c p m
+    ⊎ ((c ≡ column) × (p ≡ place) × TellsAfter old from_column from_place kinds m))

@@ -7,7 +7,8 @@ use Rattle.reading_kinds.specs.declared.label_substitutions.StoredSubstitution.{
 
 -- a substitution with its code points
 abbrev pub substitution_of : List ℕ → StoredSubstitution → Substitution
-substitution_of points u = record { covers = u.covers; kinds = u.kinds; points = take (u.end - u.start) (drop u.start points) }
+substitution_of points u =
+    record { covers = u.covers; kinds = u.kinds; points = take (u.end - u.start) (drop u.start points) }
 
 -- the substitutions of a place
 abbrev pub place_of : List Substitution → Part → List Substitution
@@ -21,7 +22,8 @@ pub record IsPart (start end limit : ℕ) : Type 0 where
   pub in_order : start ≤ end
   pub within : end ≤ limit
 
-pub record IsKept (points : List ℕ) (substitutions : List StoredSubstitution) (places : List Part) (longest : ℕ) : Type 0 where
+pub record IsKept (points : List ℕ) (substitutions : List StoredSubstitution) (places : List Part)
+    (longest : ℕ) : Type 0 where
   pub of_substitutions : (part : Part) → Contains places part → IsPart part.start part.end (length substitutions)
   pub of_points : (u : StoredSubstitution) → Contains substitutions u → IsPart u.start u.end (length points)
   pub short : (u : StoredSubstitution) → Contains substitutions u → u.end - u.start ≤ longest
