@@ -23,8 +23,8 @@ use Rattle.ruleset_text.specs.Canonical.{definition_text}
 use Rattle.ruleset_text.specs.Definition as definition
 use Rattle.ruleset_text.specs.Definition.{Definition, definition_of}
 use Rattle.ruleset_text.specs.DefinitionPlaces.{AreFaultsOf, definition_faults, faults_after, without_first}
-use Rattle.ruleset_text.specs.DefinitionReading.{after_name, definition_read, named, pattern_read, rule_read, set_read, spans_read, tag_read}
-use Rattle.ruleset_text.specs.Definitions.{Definitions, all_atoms, defined, definition_atoms, has_most, has_same_name}
+use Rattle.ruleset_text.specs.DefinitionReading.{action_read, after_name, definition_read, named, pattern_read, rule_read, set_read, spans_read, type_read}
+use Rattle.ruleset_text.specs.Definitions.{Definitions, all_atoms, defined, definition_atoms, has_most, has_same_name, rule_lines, type_names, whole_rules}
 use Rattle.ruleset_text.specs.Definitions.{is_line_over_limit, is_pattern_over_limit, with_definition}
 use Rattle.ruleset_text.specs.DefinitionTrees as trees
 use Rattle.ruleset_text.specs.inner.DefinitionSteps.{HasForm, IsEarlier, IsReadDefinition, Leaves, Refuses}
@@ -35,6 +35,8 @@ use Rattle.ruleset_text.specs.Names.{is_name}
 use Rattle.ruleset_text.specs.PatternLimits.{limit_place}
 use Rattle.ruleset_text.specs.PlacedLexemes.{Placed, unplaced}
 use Rattle.ruleset_text.specs.WellFormed.{AreDefinitions}
+use Rattle.ruleset_text.proofs.ActionNameLemmas.{action_known}
+use Rattle.ruleset_text.proofs.ActionReadLemmas.{action_found}
 use Rattle.ruleset_text.proofs.DefinedLemmas.{form as form_of}
 use Rattle.ruleset_text.proofs.DefineLemmas.{by_tests, formless, told_by}
 use Rattle.ruleset_text.proofs.DefinitionStopLemmas.{definition_as_read}
@@ -44,10 +46,11 @@ use Rattle.ruleset_text.proofs.PatternLimitLemmas.{limit_refused}
 -- ---- the spans or the pattern that was read
 
 abbrev HasRead : List (List ℕ) → ℕ → List Placed → Definition → Type 0
-HasRead names end ws (definition.Tag name) = Unit {0}
+HasRead names end ws (definition.VariantType name) = Unit {0}
 HasRead names end ws (definition.Set name spans) = spans_read end (without_first ws) ≡ Ok spans
-HasRead names end ws (definition.Rule name contexts) = pattern_read true names end (without_first ws) ≡ Ok contexts
+HasRead names end ws (definition.Rule name contexts) = (r : Bool) × (pattern_read r names end (without_first ws) ≡ Ok contexts)
 HasRead names end ws (definition.Demand kind p) = (r : Bool) × (pattern_read r names end ws ≡ Ok p)
+HasRead names end ws (definition.Action a) = action_read end ws ≡ Ok a
 
 mapped : {X : Type 0} (f : X → Definition) (read : Result X FaultPlace) (x : Definition) → map_read f read ≡ Ok x → (y : X) × (read ≡ Ok y) × (f y ≡ x)
 mapped {X} f (Ok y) x e = (y, refl, cc)
@@ -66,25 +69,27 @@ module _ (names : List (List ℕ)) (end : ℕ) where
       by true k = reads w.lexeme k
       by false k = no_ok (lexeme_place w) x k
 
-  tag_reads : (name : List ℕ) (ws rest : List Placed) (x : Definition) → tag_read end name rest ≡ Ok x → HasRead names end ws x
-  tag_reads name ws [] x e = let same : definition.Tag name ≡ x = cc in subst (HasRead names end ws) same tt
-  tag_reads name ws (w ∷ rest) x e = no_ok (lexeme_place w) x e
+  type_reads : (name : List ℕ) (ws rest : List Placed) (x : Definition) → type_read end name rest ≡ Ok x → HasRead names end ws x
+  type_reads name ws [] x e = let same : definition.VariantType name ≡ x = cc in subst (HasRead names end ws) same tt
+  type_reads name ws (w ∷ rest) x e = no_ok (lexeme_place w) x e
 
   set_reads : (name : List ℕ) (ws : List Placed) (x : Definition) → set_read end name (without_first ws) ≡ Ok x → HasRead names end ws x
   set_reads name ws x e = let y = mapped (definition.Set name) (spans_read end (without_first ws)) x e in subst (HasRead names end ws) y.2 y.1
 
-  rule_reads : (name : List ℕ) (ws : List Placed) (x : Definition) → rule_read names end name (without_first ws) ≡ Ok x → HasRead names end ws x
-  rule_reads name ws x e = let y = mapped (definition.Rule name) (pattern_read true names end (without_first ws)) x e in subst (HasRead names end ws) y.2 y.1
+  rule_reads : (r : Bool) (name : List ℕ) (ws : List Placed) (x : Definition) → rule_read r names end name (without_first ws) ≡ Ok x → HasRead names end ws x
+  rule_reads r name ws x e = let y = mapped (definition.Rule name) (pattern_read r names end (without_first ws)) x e in subst (HasRead names end ws) y.2 (r, y.1)
 
   demand_reads : (kind : DemandKind) (ws : List Placed) (x : Definition) → map_read (definition.Demand kind) (pattern_read false names end ws) ≡ Ok x → HasRead names end ws x
   demand_reads kind ws x e = let y = mapped (definition.Demand kind) (pattern_read false names end ws) x e in subst (HasRead names end ws) y.2 (false, y.1)
 
   has_read : (k : Keyword) (ws : List Placed) (x : Definition) → definition_read names k end ws ≡ Ok x → HasRead names end ws x
-  has_read keyword.Tag ws x e = named_reads (tag_read end) ws x (λ name. tag_reads name ws (without_first ws) x) e
+  has_read keyword.VariantType ws x e = named_reads (type_read end) ws x (λ name. type_reads name ws (without_first ws) x) e
   has_read keyword.Set ws x e = named_reads (set_read end) ws x (λ name. set_reads name ws x) e
-  has_read keyword.Rule ws x e = named_reads (rule_read names end) ws x (λ name. rule_reads name ws x) e
+  has_read keyword.Rule ws x e = named_reads (rule_read true names end) ws x (λ name. rule_reads true name ws x) e
+  has_read keyword.Whole ws x e = named_reads (rule_read false names end) ws x (λ name. rule_reads false name ws x) e
   has_read keyword.Never ws x e = demand_reads demand.Never ws x e
   has_read keyword.Always ws x e = demand_reads demand.Always ws x e
+  has_read keyword.Action ws x e = let y = mapped definition.Action (action_read end ws) x e in subst (HasRead names end ws) y.2 y.1
 
 -- ---- what is wrong with it
 
@@ -105,9 +110,9 @@ module _ (d : Definitions) (are : AreDefinitions d) (end : ℕ) where
   swapped false b e = ap not (sym e)
 
   pattern_limit : (r : Bool) (ws : List Placed) (p : Pattern) → pattern_read r d.set_names end ws ≡ Ok p
-      → is_pattern_over_limit d p ≡ (nat_le 256 (length d.rules + length d.demands) || is_some (limit_place (4096 - all_atoms d) p ws))
+      → is_pattern_over_limit d p ≡ (nat_le 256 (rule_lines d) || is_some (limit_place (4096 - all_atoms d) p ws))
   pattern_limit r ws p read =
-      let many = nat_le 256 (length d.rules + length d.demands) in
+      let many = nat_le 256 (rule_lines d) in
       ap (λ b. ((many || nat_lt 8 (groups p)) || nat_lt 2 (stars p)) || b) (fewer (all_atoms d) (atoms p) are.few_atoms)
       ∙ regroup many (nat_lt 8 (groups p)) (nat_lt 2 (stars p)) (nat_lt (4096 - all_atoms d) (atoms p))
       ∙ ap (λ b. many || b) (sym (limit_refused r d.set_names end ws p (4096 - all_atoms d) read))
@@ -120,17 +125,22 @@ module _ (d : Definitions) (are : AreDefinitions d) (end : ℕ) where
   or_none false = refl
 
   faults_so : (ws : List Placed) (x : Definition) → HasRead d.set_names end ws x → AreFaultsOf d x (faults_after d x ws)
-  faults_so ws (definition.Tag name) read = record { limit = or_none (nat_le 8 (length d.tags)); name = refl; class = refl }
+  faults_so ws (definition.VariantType name) read = record { limit = or_none (nat_le 57 (length d.types)); name = refl; class = refl }
   faults_so ws (definition.Set name spans) read = record { limit = or_none (nat_le 256 (length d.sets)); name = refl; class = sym (span_refused d.properties end (without_first ws) spans read) }
   faults_so ws (definition.Rule name p) read = record {
-    limit = pattern_limit true (without_first ws) p read;
-    name = pattern_known true (without_first ws) p read;
-    class = sym (bad_refused d.properties true d.set_names end (without_first ws) p read);
+    limit = pattern_limit read.0 (without_first ws) p read.1;
+    name = pattern_known read.0 (without_first ws) p read.1;
+    class = sym (bad_refused d.properties read.0 d.set_names end (without_first ws) p read.1);
   }
   faults_so ws (definition.Demand kind p) read = record {
     limit = pattern_limit read.0 ws p read.1;
     name = pattern_known read.0 ws p read.1;
     class = sym (bad_refused d.properties read.0 d.set_names end ws p read.1);
+  }
+  faults_so ws (definition.Action a) read = record {
+    limit = or_none (nat_le 256 (rule_lines d));
+    name = action_known (type_names d) (whole_rules d) a ws (action_found end ws a read).1;
+    class = refl;
   }
 
 pub faults_told : (d : Definitions) (k : Keyword) (end : ℕ) (ws : List Placed) (x : Definition) → AreDefinitions d → definition_read d.set_names k end ws ≡ Ok x → AreFaultsOf d x (faults_after d x ws)
@@ -153,7 +163,7 @@ pub read_after : {e : Earlier} {d : Definitions} (line : DefinitionLine) {r : Re
 read_after {e} {d} line {r} is given = record {
   read = read;
   spelled = spelled;
-  atoms = given.atoms ∙ ap (λ n. n - definition_atoms x) is.atoms;
+  atoms = given.atoms ∙ ap (λ k. k.left - definition_atoms x) is.known;
   faults = faults;
   told = subst (AreFaultsOf d x) (sym faults) (faults_told d k end ws x is.without_fault read);
   form = form_of d.set_names k (unplaced ws) x spelled;
@@ -172,15 +182,13 @@ read_after {e} {d} line {r} is given = record {
     x = trees.definition r.definition
 
     read : definition_read d.set_names k end ws ≡ Ok x
-    read = ap (λ names. definition_read names k end ws) (sym is.sets) ∙ given.read
+    read = ap (λ o. definition_read o.sets k end ws) (sym is.known) ∙ given.read
 
     spelled : definition_of d.set_names k (unplaced ws) ≡ Some x
     spelled = sym (definition_as_read d.set_names k end ws) ∙ ap result_ok read
 
     faults : r.faults ≡ faults_after d x ws
-    faults =
-        given.faults ∙ ap (λ names. definition_faults names e.atoms_left e.properties x ws) is.sets ∙ ap (λ n. definition_faults d.set_names n e.properties x ws) is.atoms
-        ∙ ap (λ p. definition_faults d.set_names (4096 - all_atoms d) p x ws) is.properties
+    faults = given.faults ∙ ap (λ o. definition_faults o x ws) is.known
 
 -- a definition is refused, or added, by what reading told of it
 module _ (limit : ℕ) {d : Definitions} {x : Definition} {faults : LineFaults} {len : ℕ} (told : AreFaultsOf d x faults)

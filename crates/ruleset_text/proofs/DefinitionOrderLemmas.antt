@@ -1,5 +1,5 @@
 -- Reading a definition is exact, and what is told of one is the first thing that is wrong with it.
-use Rattle.std.proofs.Common.{◌≡◌, ℕ, ◌+◌, ◌<◌, ◌==◌, nat_lt, Bool, true, false, not, cond, List, [], ◌∷◌, length, Option, Some, None, Ok, Err, refl, sym, ap, subst, ◌∙◌, arith}
+use Rattle.std.proofs.Common.{◌≡◌, ℕ, ◌+◌, ◌<◌, ◌==◌, nat_lt, Bool, true, false, not, cond, List, [], ◌∷◌, Option, Some, None, Ok, Err, refl, sym, ap, subst, ◌∙◌, arith}
 use Rattle.std.specs.Option.{option_map}
 use Rattle.std.proofs.lemmas.Bool.{false_from_ne_true, ltb-false, ltb-true, not-true}
 use Rattle.label_patterns.specs.Patterns.{Pattern}
@@ -11,9 +11,10 @@ use Rattle.ruleset_text.specs.declared.keyword.Keyword.TheVariants as keyword
 use Rattle.ruleset_text.specs.Signs as sign
 use Rattle.ruleset_text.specs.declared.token.Token.{Token}
 use Rattle.ruleset_text.specs.Definition as definition
-use Rattle.ruleset_text.specs.Definition.{Definition, if_such, tag_in, set_in, rule_in, contexts_in, demand_in, definition_of}
-use Rattle.ruleset_text.specs.Definitions.{Definitions, has_known_sets, added, defined}
-use Rattle.ruleset_text.specs.DefinitionOrder.{SpellsDefinition, DefinitionCondition, no_form, one_too_many, no_such_name, long_line, bad_class, same_name, order_of, fault_of, test_of, Holds, IsDefinitionFault}
+use Rattle.ruleset_text.specs.ActionSteps.{action_in}
+use Rattle.ruleset_text.specs.Definition.{Definition, if_such, type_in, set_in, rule_in, whole_in, contexts_in, demand_in, definition_of}
+use Rattle.ruleset_text.specs.Definitions.{Definitions, has_known_names, added, defined}
+use Rattle.ruleset_text.specs.DefinitionOrder.{IsOfKeyword, SpellsDefinition, DefinitionCondition, no_form, one_too_many, no_such_name, long_line, bad_class, same_name, order_of, fault_of, test_of, Holds, IsDefinitionFault}
 use Rattle.ruleset_text.specs.Grammar.{SpellsPattern}
 use Rattle.ruleset_text.specs.Names.{is_name}
 use Rattle.ruleset_text.specs.Reading.{pattern_of}
@@ -23,6 +24,7 @@ use Rattle.ruleset_text.specs.Tokens.{tokens_in}
 use Rattle.ruleset_text.proofs.DefineLemmas.{Answer, by_tests, formed, formless, told_by}
 use Rattle.ruleset_text.proofs.DefinedLemmas.{mapped, if_true}
 use Rattle.ruleset_text.proofs.FormLemmas.{if_such_some}
+use Rattle.ruleset_text.proofs.ActionReadLemmas.{action_spelled, spelled_action}
 use Rattle.ruleset_text.proofs.PatternLemmas.{spelled_read, read_spelled}
 use Rattle.ruleset_text.proofs.SpanExactLemmas.{set_read, set_spelled}
 
@@ -35,28 +37,41 @@ demand_read : (names words : List (List ℕ)) (p : Pattern) → SpellsPattern (t
 demand_read names words p s none = if_such-true (λ q. not (has sign.Anchor q)) (tokens_in names words) p s (ap not none)
 
 pub definition_read : (names : List (List ℕ)) (k : Keyword) (words : List (List ℕ)) (x : Definition) → SpellsDefinition names k words x → definition_of names k words ≡ Some x
-definition_read names k words (definition.Tag name) (e, n, w) =
-    ap (λ j. definition_of names j words) e ∙ ap tag_in w ∙ ap (λ b. cond b (Some (definition.Tag name)) None) n
+definition_read names k words (definition.VariantType name) (e, n, w) =
+    ap (λ j. definition_of names j words) e ∙ ap type_in w ∙ ap (λ b. cond b (Some (definition.VariantType name)) None) n
 definition_read names k words (definition.Set name spans) (e, n, after, w, s) =
     ap (λ j. definition_of names j words) e ∙ ap set_in w ∙ ap (λ b. cond b (option_map (definition.Set name) (spans_in after)) None) n
     ∙ ap (option_map (definition.Set name)) (set_read after spans s)
-definition_read names k words (definition.Rule name contexts) (e, n, after, w, s, r) =
-    ap (λ j. definition_of names j words) e ∙ ap (rule_in names) w ∙ ap (λ b. cond b (option_map (definition.Rule name) (contexts_in names after)) None) n
-    ∙ ap (option_map (definition.Rule name)) (if_such-true is_rule (tokens_in names after) contexts s r)
+definition_read names k words (definition.Rule name p) (r, n, after, w, s) = rule_of k r
+  where
+    rule_of : (k : Keyword) → IsOfKeyword k p → definition_of names k words ≡ Some (definition.Rule name p)
+    rule_of keyword.Rule r =
+        ap (rule_in names) w ∙ ap (λ b. cond b (option_map (definition.Rule name) (contexts_in names after)) None) n
+        ∙ ap (option_map (definition.Rule name)) (if_such-true is_rule (tokens_in names after) p s r)
+    rule_of keyword.Whole r =
+        ap (whole_in names) w ∙ ap (λ b. cond b (option_map (definition.Rule name) (demand_in names after)) None) n
+        ∙ ap (option_map (definition.Rule name)) (demand_read names after p s r)
+    rule_of keyword.VariantType r = absurd r
+    rule_of keyword.Set r = absurd r
+    rule_of keyword.Never r = absurd r
+    rule_of keyword.Always r = absurd r
+    rule_of keyword.Action r = absurd r
 definition_read names k words (definition.Demand demand.Never p) (e, s, none) =
     ap (λ j. definition_of names j words) e ∙ ap (option_map (definition.Demand demand.Never)) (demand_read names words p s none)
 definition_read names k words (definition.Demand demand.Always p) (e, s, none) =
     ap (λ j. definition_of names j words) e ∙ ap (option_map (definition.Demand demand.Always)) (demand_read names words p s none)
+definition_read names k words (definition.Action a) (e, is, w) =
+    ap (λ j. definition_of names j words) e ∙ ap (option_map definition.Action) (spelled_action words a is w)
 
 -- ---- what is read is spelled
 
-tag_spelled : (names words : List (List ℕ)) (x : Definition) → tag_in words ≡ Some x → SpellsDefinition names keyword.Tag words x
-tag_spelled names [] x e = absurd cc
-tag_spelled names (name ∷ []) x e =
-    let parts = if_true (is_name name) (Some (definition.Tag name)) x e in
-    let same : definition.Tag name ≡ x = let some = parts.1 in cc in
-    subst (SpellsDefinition names keyword.Tag (name ∷ [])) same (refl, parts.0, refl)
-tag_spelled names (name ∷ word ∷ words) x e = absurd cc
+type_spelled : (names words : List (List ℕ)) (x : Definition) → type_in words ≡ Some x → SpellsDefinition names keyword.VariantType words x
+type_spelled names [] x e = absurd cc
+type_spelled names (name ∷ []) x e =
+    let parts = if_true (is_name name) (Some (definition.VariantType name)) x e in
+    let same : definition.VariantType name ≡ x = let some = parts.1 in cc in
+    subst (SpellsDefinition names keyword.VariantType (name ∷ [])) same (refl, parts.0, refl)
+type_spelled names (name ∷ word ∷ words) x e = absurd cc
 
 set_is_spelled : (names words : List (List ℕ)) (x : Definition) → set_in words ≡ Some x → SpellsDefinition names keyword.Set words x
 set_is_spelled names [] x e = absurd cc
@@ -71,17 +86,26 @@ rule_spelled names (name ∷ words) x e =
     let parts = if_true (is_name name) (option_map (definition.Rule name) (contexts_in names words)) x e in
     let read = mapped (definition.Rule name) (contexts_in names words) x parts.1 in
     let such = if_such_some is_rule (pattern_of (tokens_in names words)) read.0 read.1 in
-    subst (SpellsDefinition names keyword.Rule (name ∷ words)) read.2 (refl, parts.0, words, refl, read_spelled (tokens_in names words) read.0 such.0, such.1)
+    subst (SpellsDefinition names keyword.Rule (name ∷ words)) read.2 (such.1, parts.0, words, refl, read_spelled (tokens_in names words) read.0 such.0)
 
 demand_spelled : (names words : List (List ℕ)) (p : Pattern) → demand_in names words ≡ Some p → SpellsPattern (tokens_in names words) p × (has sign.Anchor p ≡ false)
 demand_spelled names words p e =
     let such = if_such_some (λ q. not (has sign.Anchor q)) (pattern_of (tokens_in names words)) p e in
     (read_spelled (tokens_in names words) p such.0, not-true (has sign.Anchor p) such.1)
 
+whole_spelled : (names words : List (List ℕ)) (x : Definition) → whole_in names words ≡ Some x → SpellsDefinition names keyword.Whole words x
+whole_spelled names [] x e = absurd cc
+whole_spelled names (name ∷ words) x e =
+    let parts = if_true (is_name name) (option_map (definition.Rule name) (demand_in names words)) x e in
+    let read = mapped (definition.Rule name) (demand_in names words) x parts.1 in
+    let such = demand_spelled names words read.0 read.1 in
+    subst (SpellsDefinition names keyword.Whole (name ∷ words)) read.2 (such.1, parts.0, words, refl, such.0)
+
 pub definition_spelled : (names : List (List ℕ)) (k : Keyword) (words : List (List ℕ)) (x : Definition) → definition_of names k words ≡ Some x → SpellsDefinition names k words x
-definition_spelled names keyword.Tag words x e = tag_spelled names words x e
+definition_spelled names keyword.VariantType words x e = type_spelled names words x e
 definition_spelled names keyword.Set words x e = set_is_spelled names words x e
 definition_spelled names keyword.Rule words x e = rule_spelled names words x e
+definition_spelled names keyword.Whole words x e = whole_spelled names words x e
 definition_spelled names keyword.Never words x e =
     let read = mapped (definition.Demand demand.Never) (demand_in names words) x e in
     let parts = demand_spelled names words read.0 read.1 in
@@ -90,6 +114,10 @@ definition_spelled names keyword.Always words x e =
     let read = mapped (definition.Demand demand.Always) (demand_in names words) x e in
     let parts = demand_spelled names words read.0 read.1 in
     subst (SpellsDefinition names keyword.Always words) read.2 (refl, parts.0, parts.1)
+definition_spelled names keyword.Action words x e =
+    let read = mapped definition.Action (action_in words) x e in
+    let is = action_spelled words read.0 read.1 in
+    subst (SpellsDefinition names keyword.Action words) read.2 (refl, is.0, is.1)
 
 pub one_definition : (names : List (List ℕ)) (k : Keyword) (words : List (List ℕ)) (x y : Definition) → SpellsDefinition names k words x → SpellsDefinition names k words y → x ≡ y
 one_definition names k words x y s t = let e = definition_read names k words x s in let f = definition_read names k words y t in cc
@@ -159,7 +187,7 @@ module _ (limit : ℕ) (d : Definitions) (k : Keyword) (words : List (List ℕ))
     none_before n are bad_class l h = never bad_class (are bad_class (omega arith) l) h
     none_before n are same_name l h = never same_name (are same_name (omega arith) l) h
 
-    first_of_tests : (f : DefinitionFault) (m n l b s : Bool) → test one_too_many x ≡ m → has_known_sets (length d.sets) x ≡ n → test long_line x ≡ l → test bad_class x ≡ b → test same_name x ≡ s
+    first_of_tests : (f : DefinitionFault) (m n l b s : Bool) → test one_too_many x ≡ m → has_known_names d x ≡ n → test long_line x ≡ l → test bad_class x ≡ b → test same_name x ≡ s
         → told_by d x m n l b s ≡ Err f → IsDefinitionFault limit d k words f
     first_of_tests f true n l b s im in_ il ib is e = (one_too_many, err_is Limit f (Err Limit) refl e, (x, spelled, im), none_before 2 no_test)
     first_of_tests f false false l b s im in_ il ib is e =
@@ -215,18 +243,18 @@ module _ (limit : ℕ) (d : Definitions) (k : Keyword) (words : List (List ℕ))
     untrue : (c : DefinitionCondition) → (Such c → ⊥) → test c x ≡ false
     untrue c never_so = false_from_ne_true (test c x) (λ is_true. never_so (x, spelled, is_true))
 
-    told : (m n l b s : Bool) → test one_too_many x ≡ m → has_known_sets (length d.sets) x ≡ n → test long_line x ≡ l → test bad_class x ≡ b → test same_name x ≡ s
+    told : (m n l b s : Bool) → test one_too_many x ≡ m → has_known_names d x ≡ n → test long_line x ≡ l → test bad_class x ≡ b → test same_name x ≡ s
         → defined limit d k words ≡ told_by d x m n l b s
     told m n l b s = by_tests limit d (definition_of d.set_names k words) x m n l b s (definition_read d.set_names k words x spelled)
 
-    known_if : (Such no_such_name → ⊥) → has_known_sets (length d.sets) x ≡ true
-    known_if never_so = true_of (has_known_sets (length d.sets) x) (untrue no_such_name never_so)
+    known_if : (Such no_such_name → ⊥) → has_known_names d x ≡ true
+    known_if never_so = true_of (has_known_names d x) (untrue no_such_name never_so)
 
   first_told : (c : DefinitionCondition) → Holds limit d k words c → None_before c → defined limit d k words ≡ Err (fault_of c)
   first_told no_form h first = formless limit d (definition_of d.set_names k words) (nothing_read h)
   first_told one_too_many (x, spelled, is_true) first = told x spelled true _ _ _ _ is_true refl refl refl refl
   first_told no_such_name (x, spelled, is_true) first =
-      told x spelled false false _ _ _ (untrue x spelled one_too_many (first one_too_many (omega arith))) (not-true (has_known_sets (length d.sets) x) is_true) refl refl refl
+      told x spelled false false _ _ _ (untrue x spelled one_too_many (first one_too_many (omega arith))) (not-true (has_known_names d x) is_true) refl refl refl
   first_told long_line (x, spelled, is_true) first =
       told x spelled false true true _ _ (untrue x spelled one_too_many (first one_too_many (omega arith))) (known_if x spelled (first no_such_name (omega arith))) is_true refl refl
   first_told bad_class (x, spelled, is_true) first =

@@ -3,20 +3,21 @@ use Rattle.std.proofs.Common.{◌≡◌, ℕ, ◌<◌, Bool, true, false, List, 
 use Rattle.std.specs.Prelude.{IsTrue}
 use Rattle.std.specs.List.{AllByRecursion}
 use Rattle.idn_text.specs.Points.{is_scalar_value, point_of_hex}
-use Rattle.ruleset_text.specs.declared.entry_form.NamedCondition.{NamedCondition}
+use Rattle.ruleset_text.specs.declared.named_condition.NamedCondition.{NamedCondition}
 use Rattle.label_patterns.specs.declared.condition.ConditionKind.{ConditionKind}
 use Rattle.label_patterns.specs.declared.condition.ConditionKind.TheVariants as condition
 use Rattle.ruleset_text.specs.Canonical.{point_text}
 use Rattle.ruleset_text.specs.Entries.{Mapped}
-use Rattle.ruleset_text.specs.EntryText.{mark_text, sequence_text, last_text, names_text, tags_text, condition_word, condition_text, mapped_text, variants_text, entry_text, IsSequence, MayHaveTags, HasRule, IsMapped, IsForm}
+use Rattle.ruleset_text.specs.EntryText.{mark_text, sequence_text, last_text, type_text, mapped_text, variants_text, entry_text, IsSequence, MayHaveType, IsMapped, IsForm}
+use Rattle.ruleset_text.specs.NamedConditions.{HasRule, condition_text, condition_word}
 use Rattle.ruleset_text.specs.EntryWords as words
-use Rattle.ruleset_text.specs.EntryWords.{Word, IsWord, AreWords, point_of, mark_words, sequence_words, last_words, names_words, tags_words, kind_word, condition_words, mapped_words, variants_words, entry_words}
+use Rattle.ruleset_text.specs.EntryWords.{Word, IsWord, AreWords, point_of, mark_words, sequence_words, last_words, type_words, kind_word, condition_words, mapped_words, variants_words, entry_words}
 use Rattle.ruleset_text.specs.EntrySteps.{entry_in}
 use Rattle.ruleset_text.specs.Lexemes.{is_word_byte, begins_in_word, lexemes}
-use Rattle.ruleset_text.specs.Names.{is_name, AreNames}
+use Rattle.ruleset_text.specs.Names.{is_name}
 use Rattle.ruleset_text.proofs.EntryReadLemmas.{words_read}
 use Rattle.ruleset_text.proofs.HexLemmas.{hex_facts, point_of_hex-text}
-use Rattle.ruleset_text.proofs.LineBackLemmas.{name_word}
+use Rattle.ruleset_text.proofs.NameWordLemmas.{name_word}
 use Rattle.ruleset_text.proofs.PointLemmas.{point_word, without_prefix-hex}
 use Rattle.ruleset_text.proofs.SpanBackLemmas.{word_first, no_stops, stops_go}
 
@@ -57,24 +58,15 @@ last_has (Some c) scalar others rest e are =
 
 -- ---- names
 
-one_tag : (name : List ℕ) → is_name name ≡ true → Has name (words.Tag name ∷ [])
-one_tag name is = let word = name_word name is in one_word (words.Tag name) name word.some word.word refl
+one_type : (name : List ℕ) → is_name name ≡ true → Has name (words.TypeName name ∷ [])
+one_type name is = let word = name_word name is in one_word (words.TypeName name) name word.some word.word refl
 
 one_rule : (name : List ℕ) → is_name name ≡ true → Has name (words.Rule name ∷ [])
 one_rule name is = let word = name_word name is in one_word (words.Rule name) name word.some word.word refl
 
-names_have : (names : List (List ℕ)) (name : List ℕ) → AreNames (name ∷ names) → Has (names_text (name ∷ names)) (names_words (name ∷ names))
-names_have [] name are others rest e further = one_tag name are.0 others rest e further
-names_have (other ∷ names) name are others rest e further =
-    let more = names_words (other ∷ names) ++ others in
-    let text = names_text (other ∷ names) ++ rest in
-    let comma : AreWords (words.Comma ∷ more) (lexemes (44 ∷ text)) = (refl, names_have names other are.2 others rest e further) in
-    subst (λ l. AreWords (words.Tag name ∷ words.Comma ∷ more) (lexemes l)) (sym (append_assoc name (44 ∷ names_text (other ∷ names)) rest))
-    (one_tag name are.0 (words.Comma ∷ more) (44 ∷ text) refl comma)
-
-tags_have : (marked : Bool) (tags : List (List ℕ)) → MayHaveTags marked tags → Has (tags_text tags) (tags_words tags)
-tags_have marked [] may others rest e are = are
-tags_have marked (tag ∷ tags) may others rest e are = (refl, names_have tags tag may.1 others rest e are)
+type_has : (marked : Bool) (type_name : Option (List ℕ)) → MayHaveType marked type_name → Has (type_text type_name) (type_words type_name)
+type_has marked None may others rest e are = are
+type_has marked (Some name) may others rest e are = (refl, one_type name may.1 others rest e are)
 
 condition_has : (condition : Option NamedCondition) → HasRule condition → Has (condition_text condition) (condition_words condition)
 condition_has None has others rest e are = are
@@ -101,9 +93,9 @@ condition_begins (Some c) rest e = by_kind c.kind
     by_kind condition.When = refl
     by_kind condition.Unless = refl
 
-tags_begin : (tags : List (List ℕ)) (text : List ℕ) → begins_in_word text ≡ false → begins_in_word (tags_text tags ++ text) ≡ false
-tags_begin [] text e = e
-tags_begin (tag ∷ tags) text e = refl
+type_begins : (type_name : Option (List ℕ)) (text : List ℕ) → begins_in_word text ≡ false → begins_in_word (type_text type_name ++ text) ≡ false
+type_begins None text e = e
+type_begins (Some name) text e = refl
 
 last_begins : (last : Option ℕ) (text : List ℕ) → begins_in_word text ≡ false → begins_in_word (last_text last ++ text) ≡ false
 last_begins None text e = e
@@ -122,18 +114,18 @@ mapped_has m last is scalar others rest e are =
     let b3 = condition_begins m.condition rest e in
     let words3 : List Word = condition_words m.condition ++ others in
     let text3 : List ℕ = condition_text m.condition ++ rest in
-    let from_tags = tags_have m.marked m.tags is.tags words3 text3 b3 from_condition in
-    let b2 = tags_begin m.tags text3 b3 in
-    let words2 : List Word = tags_words m.tags ++ words3 in
-    let text2 : List ℕ = tags_text m.tags ++ text3 in
-    let from_last = last_has last scalar words2 text2 b2 from_tags in
+    let from_type = type_has m.marked m.type_name is.type_name words3 text3 b3 from_condition in
+    let b2 = type_begins m.type_name text3 b3 in
+    let words2 : List Word = type_words m.type_name ++ words3 in
+    let text2 : List ℕ = type_text m.type_name ++ text3 in
+    let from_last = last_has last scalar words2 text2 b2 from_type in
     let b1 = last_begins last text2 b2 in
     let words1 : List Word = last_words last ++ words2 in
     let text1 : List ℕ = last_text last ++ text2 in
     let from_points = sequence_of m.points is.sequence words1 text1 b1 from_last in
     let all = mark_has m.marked (sequence_words m.points ++ words1) (sequence_text m.points ++ text1) from_points in
-    let same_words = regroup (mark_words m.marked) (sequence_words m.points) (last_words last) (tags_words m.tags) (condition_words m.condition) others in
-    let same_text = regroup (mark_text m.marked) (sequence_text m.points) (last_text last) (tags_text m.tags) (condition_text m.condition) rest in
+    let same_words = regroup (mark_words m.marked) (sequence_words m.points) (last_words last) (type_words m.type_name) (condition_words m.condition) others in
+    let same_text = regroup (mark_text m.marked) (sequence_text m.points) (last_text last) (type_text m.type_name) (condition_text m.condition) rest in
     subst (λ l. AreWords (mapped_words m last ++ others) (lexemes l)) (sym same_text)
     (subst (λ l. AreWords l (lexemes (mark_text m.marked ++ (sequence_text m.points ++ text1)))) (sym same_words) all)
 

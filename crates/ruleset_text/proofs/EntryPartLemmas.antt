@@ -4,19 +4,20 @@ use Rattle.std.specs.Prelude.{is_some, codes}
 use Rattle.std.specs.List.{AllByRecursion, list_all}
 use Rattle.std.proofs.lemmas.Bool.{and_parts, not-false}
 use Rattle.idn_text.specs.Points.{point_of_hex}
-use Rattle.ruleset_text.specs.declared.entry_form.NamedCondition.{NamedCondition}
+use Rattle.ruleset_text.specs.declared.named_condition.NamedCondition.{NamedCondition}
 use Rattle.label_patterns.specs.declared.condition.ConditionKind.{ConditionKind}
 use Rattle.label_patterns.specs.declared.condition.ConditionKind.TheVariants as condition
 use Rattle.ruleset_text.specs.declared.entry_parts.EntryParts.{EntryParts}
 use Rattle.ruleset_text.specs.declared.entry_reading.EntryWord.{EntryWord}
 use Rattle.ruleset_text.specs.declared.entry_reading.EntryWord.TheVariants as word
 use Rattle.ruleset_text.specs.Entries.{Mapped, EntryForm}
-use Rattle.ruleset_text.specs.EntryParts.{has_tags, is_within, has_parts}
-use Rattle.ruleset_text.specs.EntryText.{HasRule, IsSequence, IsMapped, IsForm, MayHaveTags}
+use Rattle.ruleset_text.specs.EntryParts.{is_within, has_parts}
+use Rattle.ruleset_text.specs.EntryText.{IsSequence, IsMapped, IsForm, MayHaveType}
+use Rattle.ruleset_text.specs.NamedConditions.{HasRule}
 use Rattle.ruleset_text.specs.EntryWords as words
-use Rattle.ruleset_text.specs.EntryWords.{Word, IsWord, AreWords, point_of, mark_words, sequence_words, last_words, names_words, tags_words, kind_word, condition_words, mapped_words, variants_words, entry_words}
+use Rattle.ruleset_text.specs.EntryWords.{Word, IsWord, AreWords, point_of, mark_words, sequence_words, last_words, type_words, kind_word, condition_words, mapped_words, variants_words, entry_words}
 use Rattle.ruleset_text.specs.EntrySteps.{word_of, is_lacking}
-use Rattle.ruleset_text.specs.Names.{AreNames, is_name}
+use Rattle.ruleset_text.specs.Names.{is_name}
 use Rattle.ruleset_text.proofs.EntryStateLemmas.{IsSpelled, spelled}
 
 -- no lexeme is one of a part that is lacking
@@ -27,7 +28,7 @@ AllHad parts first (w ∷ ws) = (is_lacking parts first (word_of w) ≡ false) �
 -- ---- the same of words; of a name it is said whether it counts
 
 abbrev marked_may : EntryParts → Bool → Bool
-marked_may parts true = parts.outside
+marked_may parts true = parts.invalid
 marked_may parts false = parts.blocked
 
 abbrev has_word : Bool → EntryParts → Bool → Word → Bool
@@ -36,7 +37,7 @@ has_word names parts first words.Range = parts.ranges
 has_word names parts first words.As = parts.named
 has_word names parts first words.When = parts.named
 has_word names parts first words.Unless = parts.named
-has_word names parts first (words.Tag name) = names || (parts.named && is_name name)
+has_word names parts first (words.TypeName name) = names || (parts.named && is_name name)
 has_word names parts first (words.Rule name) = names || (parts.named && is_name name)
 has_word names parts first x = true
 
@@ -58,7 +59,6 @@ point_word w c word.Mark is e = no_point (codes "!") w c refl is e
 point_word w c word.Hyphen is e = no_point (codes "-") w c refl is e
 point_word w c word.Bar is e = no_point (codes "|") w c refl is e
 point_word w c word.Colon is e = no_point (codes ":") w c refl is e
-point_word w c word.Comma is e = no_point (codes ",") w c refl is e
 point_word w c word.Range is e = no_point (codes "..") w c refl is e
 point_word w c word.As is e = no_point (codes "as") w c refl is e
 point_word w c word.When is e = no_point (codes "when") w c refl is e
@@ -72,7 +72,6 @@ no_word_lacking parts first word.Mark is = absurd is
 no_word_lacking parts first word.Hyphen is = absurd is
 no_word_lacking parts first word.Bar is = absurd is
 no_word_lacking parts first word.Colon is = absurd is
-no_word_lacking parts first word.Comma is = absurd is
 no_word_lacking parts first word.Range is = absurd is
 no_word_lacking parts first word.As is = absurd is
 no_word_lacking parts first word.When is = absurd is
@@ -102,14 +101,12 @@ name_kept parts true w word.Bar named name is = refl
 name_kept parts false w word.Bar named name is = refl
 name_kept parts true w word.Colon named name is = refl
 name_kept parts false w word.Colon named name is = refl
-name_kept parts true w word.Comma named name is = refl
-name_kept parts false w word.Comma named name is = refl
 name_kept parts true w word.Other named name is = refl
 name_kept parts false w word.Other named name is = refl
 
 word_kept : (parts : EntryParts) (first : Bool) (x : Word) (w : List ℕ) → has_word false parts first x ≡ true → IsWord x w → is_lacking parts first (word_of w) ≡ false
 word_kept parts first (words.Point c) w had is = no_word_lacking parts first (word_of w) (point_word w c (word_of w) (spelled w) is)
-word_kept parts first (words.Tag name) w had is =
+word_kept parts first (words.TypeName name) w had is =
     let h = and_parts parts.named (is_name name) had in
     name_kept parts first w (word_of w) h.0 (ap is_name is ∙ h.1) (spelled w)
 word_kept parts first (words.Rule name) w had is =
@@ -123,8 +120,6 @@ word_kept parts true words.Bar w had is = spelled_as parts true (codes "|") w fa
 word_kept parts false words.Bar w had is = spelled_as parts false (codes "|") w false refl is
 word_kept parts true words.Colon w had is = spelled_as parts true (codes ":") w false refl is
 word_kept parts false words.Colon w had is = spelled_as parts false (codes ":") w false refl is
-word_kept parts true words.Comma w had is = spelled_as parts true (codes ",") w false refl is
-word_kept parts false words.Comma w had is = spelled_as parts false (codes ",") w false refl is
 word_kept parts true words.Range w had is = spelled_as parts true (codes "..") w false (ap not had) is
 word_kept parts false words.Range w had is = spelled_as parts false (codes "..") w false (ap not had) is
 word_kept parts true words.As w had is = spelled_as parts true (codes "as") w false (ap not had) is
@@ -148,7 +143,7 @@ lacking_of : (parts : EntryParts) (first : Bool) (text w : List ℕ) (b : Bool) 
 lacking_of parts first text w b e is had = sym (spelled_as parts first text w b e is) ∙ had
 
 word_had : (parts : EntryParts) (first : Bool) (x : Word) (w : List ℕ) → is_lacking parts first (word_of w) ≡ false → IsWord x w → has_word true parts first x ≡ true
-word_had parts true words.Mark w had is = not-false parts.outside (lacking_of parts true (codes "!") w (not parts.outside) refl is had)
+word_had parts true words.Mark w had is = not-false parts.invalid (lacking_of parts true (codes "!") w (not parts.invalid) refl is had)
 word_had parts false words.Mark w had is = not-false parts.blocked (lacking_of parts false (codes "!") w (not parts.blocked) refl is had)
 word_had parts true words.Range w had is = not-false parts.ranges (lacking_of parts true (codes "..") w (not parts.ranges) refl is had)
 word_had parts false words.Range w had is = not-false parts.ranges (lacking_of parts false (codes "..") w (not parts.ranges) refl is had)
@@ -158,13 +153,12 @@ word_had parts true words.When w had is = not-false parts.named (lacking_of part
 word_had parts false words.When w had is = not-false parts.named (lacking_of parts false (codes "when") w (not parts.named) refl is had)
 word_had parts true words.Unless w had is = not-false parts.named (lacking_of parts true (codes "unless") w (not parts.named) refl is had)
 word_had parts false words.Unless w had is = not-false parts.named (lacking_of parts false (codes "unless") w (not parts.named) refl is had)
-word_had parts first (words.Tag name) w had is = refl
+word_had parts first (words.TypeName name) w had is = refl
 word_had parts first (words.Rule name) w had is = refl
 word_had parts first (words.Point c) w had is = refl
 word_had parts first words.Hyphen w had is = refl
 word_had parts first words.Bar w had is = refl
 word_had parts first words.Colon w had is = refl
-word_had parts first words.Comma w had is = refl
 
 words_had : (parts : EntryParts) (xs : List Word) (ws : List (List ℕ)) (first : Bool) → AllHad parts first ws → AreWords xs ws → have_words true parts first xs ≡ true
 words_had parts [] ws first had are = refl
@@ -198,20 +192,15 @@ module _ (n : Bool) (parts : EntryParts) where
       or_false false = refl
 
   -- a name counts where names may stand
-  name_have : (name : List ℕ) (rest : List Word) → parts.named ≡ true → is_name name ≡ true → have false (words.Tag name ∷ rest) ≡ have false rest
+  name_have : (name : List ℕ) (rest : List Word) → parts.named ≡ true → is_name name ≡ true → have false (words.TypeName name ∷ rest) ≡ have false rest
   name_have name rest named is = ap (λ b. (n || b) && have false rest) (ap (λ b. b && is_name name) named ∙ is) ∙ true_after n (have false rest)
 
-  names_have : (names : List (List ℕ)) (name : List ℕ) (rest : List Word) → parts.named ≡ true → AreNames (name ∷ names) → have false (names_words (name ∷ names) ++ rest) ≡ have false rest
-  names_have [] name rest named are = name_have name rest named are.0
-  names_have (other ∷ names) name rest named are =
-      name_have name (words.Comma ∷ (names_words (other ∷ names) ++ rest)) named are.0 ∙ names_have names other rest named are.2
-
-  tags_have : (tags : List (List ℕ)) (marked : Bool) (rest : List Word) → MayHaveTags marked tags → have false (tags_words tags ++ rest) ≡ ((parts.named || not (has_tags tags)) && have false rest)
-  tags_have [] marked rest may = sym (true_after parts.named (have false rest))
-  tags_have (tag ∷ tags) marked rest may = by parts.named refl
+  type_have : (type_name : Option (List ℕ)) (marked : Bool) (rest : List Word) → MayHaveType marked type_name → have false (type_words type_name ++ rest) ≡ ((parts.named || not (is_some type_name)) && have false rest)
+  type_have None marked rest may = sym (true_after parts.named (have false rest))
+  type_have (Some name) marked rest may = by parts.named refl
     where
-      by : (named : Bool) → parts.named ≡ named → (named && have false (names_words (tag ∷ tags) ++ rest)) ≡ ((named || false) && have false rest)
-      by true e = names_have tags tag rest e may.1
+      by : (named : Bool) → parts.named ≡ named → (named && have false (words.TypeName name ∷ rest)) ≡ ((named || false) && have false rest)
+      by true e = name_have name rest e may.1
       by false e = refl
 
   condition_have : (o : Option NamedCondition) (rest : List Word) → HasRule o → have false (condition_words o ++ rest) ≡ ((parts.named || not (is_some o)) && have false rest)
@@ -266,12 +255,12 @@ module _ (n : Bool) (parts : EntryParts) where
   mapped_have m last first rest is =
       let marks : Bool = marked_may parts first || not m.marked in
       let ranges : Bool = parts.ranges || not (is_some last) in
-      ap (have first) (regroup (mark_words m.marked) (sequence_words m.points) (last_words last) (tags_words m.tags) (condition_words m.condition) rest)
-      ∙ marks_have m.marked first m.points (last_words last ++ (tags_words m.tags ++ (condition_words m.condition ++ rest))) is.sequence
-      ∙ ap (λ b. marks && b) (last_have last (tags_words m.tags ++ (condition_words m.condition ++ rest)))
-      ∙ ap (λ b. marks && (ranges && b)) (tags_have m.tags m.marked (condition_words m.condition ++ rest) is.tags)
-      ∙ ap (λ b. marks && (ranges && ((parts.named || not (has_tags m.tags)) && b))) (condition_have m.condition rest is.condition)
-      ∙ shuffle marks ranges (parts.named || not (has_tags m.tags)) (parts.named || not (is_some m.condition)) (have false rest)
+      ap (have first) (regroup (mark_words m.marked) (sequence_words m.points) (last_words last) (type_words m.type_name) (condition_words m.condition) rest)
+      ∙ marks_have m.marked first m.points (last_words last ++ (type_words m.type_name ++ (condition_words m.condition ++ rest))) is.sequence
+      ∙ ap (λ b. marks && b) (last_have last (type_words m.type_name ++ (condition_words m.condition ++ rest)))
+      ∙ ap (λ b. marks && (ranges && b)) (type_have m.type_name m.marked (condition_words m.condition ++ rest) is.type_name)
+      ∙ ap (λ b. marks && (ranges && ((parts.named || not (is_some m.type_name)) && b))) (condition_have m.condition rest is.condition)
+      ∙ shuffle marks ranges (parts.named || not (is_some m.type_name)) (parts.named || not (is_some m.condition)) (have false rest)
 
   variants_have : (variants : List Mapped) (m : Mapped) → AllByRecursion IsMapped (m ∷ variants) → have false (variants_words (m ∷ variants)) ≡ list_all (is_within parts.named parts.blocked) (m ∷ variants)
   variants_have [] m are =
@@ -293,9 +282,9 @@ module _ (n : Bool) (parts : EntryParts) where
       false_right false = refl
   moved false b v = refl
 
-  alone : (m : Mapped) (last : Option ℕ) → IsMapped m → have true (mapped_words m last) ≡ ((is_within parts.named parts.outside m && true) && (parts.ranges || not (is_some last)))
+  alone : (m : Mapped) (last : Option ℕ) → IsMapped m → have true (mapped_words m last) ≡ ((is_within parts.named parts.invalid m && true) && (parts.ranges || not (is_some last)))
   alone m last is =
-      ap (have true) (sym (append-nil (mapped_words m last))) ∙ mapped_have m last true [] is ∙ moved (is_within parts.named parts.outside m) (parts.ranges || not (is_some last)) true
+      ap (have true) (sym (append-nil (mapped_words m last))) ∙ mapped_have m last true [] is ∙ moved (is_within parts.named parts.invalid m) (parts.ranges || not (is_some last)) true
 
   form_have : (mapped : List Mapped) (last : Option ℕ) → IsForm mapped last → have true (entry_words mapped last) ≡ has_parts parts (record { mapped = mapped; last = last })
   form_have [] last is = absurd is
@@ -303,8 +292,8 @@ module _ (n : Bool) (parts : EntryParts) where
   form_have (m ∷ []) (Some c) is = alone m (Some c) is.0
   form_have (m ∷ v ∷ variants) None is =
       mapped_have m None true (words.Bar ∷ variants_words (v ∷ variants)) is.0
-      ∙ ap (λ b. is_within parts.named parts.outside m && ((parts.ranges || true) && b)) (variants_have variants v is.1)
-      ∙ moved (is_within parts.named parts.outside m) (parts.ranges || true) (list_all (is_within parts.named parts.blocked) (v ∷ variants))
+      ∙ ap (λ b. is_within parts.named parts.invalid m && ((parts.ranges || true) && b)) (variants_have variants v is.1)
+      ∙ moved (is_within parts.named parts.invalid m) (parts.ranges || true) (list_all (is_within parts.named parts.blocked) (v ∷ variants))
   form_have (m ∷ v ∷ variants) (Some c) is = absurd is
 
 -- ---- its lexemes

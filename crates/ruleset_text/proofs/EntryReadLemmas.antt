@@ -1,10 +1,10 @@
 -- What the grammar says of a line is read as it.
-use Rattle.std.proofs.Common.{◌≡◌, ℕ, ◌≤◌, Bool, true, false, ◌&&◌, not, cond, List, [], ◌∷◌, ◌++◌, Option, Some, None, refl, sym, ap, subst, ◌∙◌, append_assoc}
+use Rattle.std.proofs.Common.{◌≡◌, ℕ, ◌≤◌, Bool, true, false, cond, List, [], ◌∷◌, ◌++◌, Option, Some, None, refl, sym, ap, subst, ◌∙◌, append_assoc}
 use Rattle.std.specs.Prelude.{codes}
 use Rattle.std.specs.List.{AllByRecursion}
 use Rattle.std.proofs.lemmas.Bool.{le-leb}
 use Rattle.idn_text.specs.Points.{point_of_hex}
-use Rattle.ruleset_text.specs.declared.entry_form.NamedCondition.{NamedCondition}
+use Rattle.ruleset_text.specs.declared.named_condition.NamedCondition.{NamedCondition}
 use Rattle.label_patterns.specs.declared.condition.ConditionKind.{ConditionKind}
 use Rattle.label_patterns.specs.declared.condition.ConditionKind.TheVariants as condition
 use Rattle.ruleset_text.specs.declared.entry_reading.EntryWord.{EntryWord}
@@ -12,15 +12,14 @@ use Rattle.ruleset_text.specs.declared.entry_reading.EntryWord.TheVariants as wo
 use Rattle.ruleset_text.specs.declared.entry_reading.Phase.{Phase}
 use Rattle.ruleset_text.specs.declared.entry_reading.Phase.TheVariants as phase
 use Rattle.ruleset_text.specs.Entries.{Mapped, EntryForm}
-use Rattle.ruleset_text.specs.EntryText.{MayHaveTags, HasRule, IsSequence, IsMapped, IsForm}
+use Rattle.ruleset_text.specs.EntryText.{MayHaveType, IsSequence, IsMapped, IsForm}
+use Rattle.ruleset_text.specs.NamedConditions.{HasRule}
 use Rattle.ruleset_text.specs.EntryWords as words
-use Rattle.ruleset_text.specs.EntryWords.{Word, IsWord, AreWords, IsEntryLine, point_of, mark_words, sequence_words, last_words, names_words, tags_words, kind_word, condition_words, mapped_words, variants_words, entry_words}
+use Rattle.ruleset_text.specs.EntryWords.{Word, IsWord, AreWords, IsEntryLine, point_of, mark_words, sequence_words, last_words, type_words, kind_word, condition_words, mapped_words, variants_words, entry_words}
 use Rattle.ruleset_text.specs.EntrySteps.{State, start, word_of, at_point, at_last, begin_by, step_by, step, state_after, ended, entry_at, entry_in}
 use Rattle.ruleset_text.specs.Lexemes.{lexemes}
-use Rattle.ruleset_text.specs.Names.{is_name, is_one_of, AreNames}
-use Rattle.ruleset_text.proofs.AddedLemmas.{IsNew}
+use Rattle.ruleset_text.specs.Names.{is_name}
 use Rattle.ruleset_text.proofs.EntryStateLemmas.{part, at, before, after, phase_of, kind_phase, MayEnd, form_at, IsSpelled, spelled}
-use Rattle.ruleset_text.proofs.LineBackLemmas.{new_to}
 
 -- ---- from state to state
 
@@ -87,78 +86,45 @@ sequence_goes (d ∷ points) s c t =
 
 -- ---- the last code point of a range
 
-last_goes : (first c : ℕ) (marked : Bool) → first ≤ c → Goes (at [] None marked (first ∷ []) [] None) (last_words (Some c)) (at [] (Some c) marked (first ∷ []) [] None)
+last_goes : (first c : ℕ) (marked : Bool) → first ≤ c → Goes (at [] None marked (first ∷ []) None None) (last_words (Some c)) (at [] (Some c) marked (first ∷ []) None None)
 last_goes first c marked l =
-    let s = at [] None marked (first ∷ []) [] None in
-    let t = at [] (Some c) marked (first ∷ []) [] None in
+    let s = at [] None marked (first ∷ []) None None in
+    let t = at [] (Some c) marked (first ∷ []) None None in
     let range : State = record s { phase = phase.Range } in
     (range, taken (codes "..") s range refl, (t, λ lexeme is. ap (at_last range) is ∙ ap (λ b. cond b (Some t) None) (le-leb first c l), refl))
 
-last_goes_if : (done : List Mapped) (last : Option ℕ) (marked : Bool) (points : List ℕ) → MayEnd done last points → Goes (at done None marked points [] None) (last_words last) (at done last marked points [] None)
+last_goes_if : (done : List Mapped) (last : Option ℕ) (marked : Bool) (points : List ℕ) → MayEnd done last points → Goes (at done None marked points None None) (last_words last) (at done last marked points None None)
 last_goes_if done None marked points may = refl
 last_goes_if done (Some c) marked points may =
-    let P : List Mapped → List ℕ → Type 0 = λ d p. Goes (at d None marked p [] None) (last_words (Some c)) (at d (Some c) marked p [] None) in
+    let P : List Mapped → List ℕ → Type 0 = λ d p. Goes (at d None marked p None None) (last_words (Some c)) (at d (Some c) marked p None None) in
     let single : P [] (may.2.0 ∷ []) = last_goes may.2.0 c marked may.2.2 in
     subst (λ d. P d points) (sym may.0) (subst (P []) (sym may.2.1) single)
 
--- ---- tags
+-- ---- types
 
-abbrev with_tags : State → List (List ℕ) → State
-with_tags s tags = record s { current = record s.current { tags = s.current.tags ++ tags }; phase = phase.Tag }
-
-one_tag : (s : State) (tag : List ℕ) → is_name tag ≡ true → is_one_of s.current.tags tag ≡ false → step (record s { phase = phase.As }) tag ≡ Some (with_tags s (tag ∷ []))
-one_tag s tag name new =
-    let t : Option State = Some (with_tags s (tag ∷ [])) in
-    ap (λ b. cond (b && not (is_one_of s.current.tags tag)) t None) name ∙ ap (λ b. cond (not b) t None) new
-
--- a name that is none of some, and none of others, is none of both
-new_of_both : (xs ys : List (List ℕ)) (name : List ℕ) → IsNew name xs → IsNew name ys → IsNew name (xs ++ ys)
-new_of_both [] ys name a b = b
-new_of_both (x ∷ xs) ys name a b = (a.0, new_of_both xs ys name a.1 b)
-
--- none of the tags is one of those before
-abbrev AreNew : List (List ℕ) → List (List ℕ) → Type 0
-AreNew others tags = AllByRecursion (λ tag. IsNew tag others) tags
-
-still_new : (others tags : List (List ℕ)) (tag : List ℕ) → AreNew others tags → AllByRecursion (λ other. tag ≡ other → ⊥) tags → AreNew (others ++ tag ∷ []) tags
-still_new others [] tag new other = tt
-still_new others (t ∷ tags) tag new other = (new_of_both others (tag ∷ []) t new.0 (λ e. other.0 (sym e), tt), still_new others tags tag new.1 other.1)
-
-nothing_before : (tags : List (List ℕ)) → AreNew [] tags
-nothing_before [] = tt
-nothing_before (tag ∷ tags) = (tt, nothing_before tags)
-
-names_go : (tags : List (List ℕ)) (s : State) (tag : List ℕ) → AreNames (tag ∷ tags) → AreNew s.current.tags (tag ∷ tags) → Goes (record s { phase = phase.As }) (names_words (tag ∷ tags)) (with_tags s (tag ∷ tags))
-names_go [] s tag are new = (with_tags s (tag ∷ []), taken tag (record s { phase = phase.As }) (with_tags s (tag ∷ [])) (one_tag s tag are.0 (new_to s.current.tags tag new.0)), refl)
-names_go (other ∷ tags) s tag are new =
-    let first = with_tags s (tag ∷ []) in
-    let comma : State = record first { phase = phase.As } in
-    let rest = names_go tags first other are.2 (still_new s.current.tags (other ∷ tags) tag new.1 are.1) in
-    let all = subst (λ l. Goes comma (names_words (other ∷ tags)) (record s { current = record s.current { tags = l }; phase = phase.Tag })) (append_assoc s.current.tags (tag ∷ []) (other ∷ tags)) rest in
-    (first, taken tag (record s { phase = phase.As }) first (one_tag s tag are.0 (new_to s.current.tags tag new.0)), (comma, taken (codes ",") first comma refl, all))
-
-as_read : (last : Option ℕ) (s : State) → s.current.marked ≡ false → step_by (phase_of last [] None) s (codes "as") ≡ Some (record s { phase = phase.As })
+as_read : (last : Option ℕ) (s : State) → s.current.marked ≡ false → step_by (phase_of last None None) s (codes "as") ≡ Some (record s { phase = phase.As })
 as_read None s e = ap (λ m. cond m None (Some (record s { phase = phase.As }))) e
 as_read (Some c) s e = ap (λ m. cond m None (Some (record s { phase = phase.As }))) e
 
-tags_go : (done : List Mapped) (last : Option ℕ) (marked : Bool) (points : List ℕ) (tags : List (List ℕ)) → MayHaveTags marked tags
-    → Goes (at done last marked points [] None) (tags_words tags) (at done last marked points tags None)
-tags_go done last marked points [] may = refl
-tags_go done last marked points (tag ∷ tags) may =
-    let s = at done last marked points [] None in
+type_goes : (done : List Mapped) (last : Option ℕ) (marked : Bool) (points : List ℕ) (type_name : Option (List ℕ)) → MayHaveType marked type_name
+    → Goes (at done last marked points None None) (type_words type_name) (at done last marked points type_name None)
+type_goes done last marked points None may = refl
+type_goes done last marked points (Some name) may =
+    let s = at done last marked points None None in
+    let t = at done last marked points (Some name) None in
     let named : State = record s { phase = phase.As } in
-    (named, taken (codes "as") s named (as_read last s may.0), names_go tags s tag may.1 (nothing_before (tag ∷ tags)))
+    (named, taken (codes "as") s named (as_read last s may.0), (t, taken name named t (ap (λ b. cond b (Some t) None) may.1), refl))
 
 -- ---- conditions
 
-kind_read : (last : Option ℕ) (tags : List (List ℕ)) (s : State) → (step_by (phase_of last tags None) s (codes "when") ≡ Some (record s { phase = phase.When })) × (step_by (phase_of last tags None) s (codes "unless") ≡ Some (record s { phase = phase.Unless }))
-kind_read None [] s = (refl, refl)
-kind_read (Some c) [] s = (refl, refl)
-kind_read last (tag ∷ tags) s = (refl, refl)
+kind_read : (last : Option ℕ) (type_name : Option (List ℕ)) (s : State) → (step_by (phase_of last type_name None) s (codes "when") ≡ Some (record s { phase = phase.When })) × (step_by (phase_of last type_name None) s (codes "unless") ≡ Some (record s { phase = phase.Unless }))
+kind_read None None s = (refl, refl)
+kind_read (Some c) None s = (refl, refl)
+kind_read last (Some name) s = (refl, refl)
 
-kind_taken : (kind : ConditionKind) (last : Option ℕ) (tags : List (List ℕ)) (s : State) → s.phase ≡ phase_of last tags None → Takes s (kind_word kind) (record s { phase = kind_phase kind })
-kind_taken condition.When last tags s e lexeme is = ap (λ p. step_by p s lexeme) e ∙ ap (step_by (phase_of last tags None) s) is ∙ (kind_read last tags s).0
-kind_taken condition.Unless last tags s e lexeme is = ap (λ p. step_by p s lexeme) e ∙ ap (step_by (phase_of last tags None) s) is ∙ (kind_read last tags s).1
+kind_taken : (kind : ConditionKind) (last : Option ℕ) (type_name : Option (List ℕ)) (s : State) → s.phase ≡ phase_of last type_name None → Takes s (kind_word kind) (record s { phase = kind_phase kind })
+kind_taken condition.When last type_name s e lexeme is = ap (λ p. step_by p s lexeme) e ∙ ap (step_by (phase_of last type_name None) s) is ∙ (kind_read last type_name s).0
+kind_taken condition.Unless last type_name s e lexeme is = ap (λ p. step_by p s lexeme) e ∙ ap (step_by (phase_of last type_name None) s) is ∙ (kind_read last type_name s).1
 
 rule_taken : (kind : ConditionKind) (s : State) (rule : List ℕ) → is_name rule ≡ true
     → Takes (record s { phase = kind_phase kind }) (words.Rule rule) (record s { current = record s.current { condition = Some (record { kind = kind; rule = rule }) }; phase = phase.Rule })
@@ -169,12 +135,12 @@ rule_taken condition.Unless s rule name lexeme is =
     let t : State = record s { current = record s.current { condition = Some (record { kind = condition.Unless; rule = rule }) }; phase = phase.Rule } in
     ap (step_by phase.Unless s) is ∙ ap (λ b. cond b (Some t) None) name
 
-condition_goes : (done : List Mapped) (last : Option ℕ) (marked : Bool) (points : List ℕ) (tags : List (List ℕ)) (condition : Option NamedCondition) → HasRule condition
-    → Goes (at done last marked points tags None) (condition_words condition) (at done last marked points tags condition)
-condition_goes done last marked points tags None has = refl
-condition_goes done last marked points tags (Some c) has =
-    let s = at done last marked points tags None in
-    (record s { phase = kind_phase c.kind }, kind_taken c.kind last tags s refl, (at done last marked points tags (Some c), rule_taken c.kind s c.rule has, refl))
+condition_goes : (done : List Mapped) (last : Option ℕ) (marked : Bool) (points : List ℕ) (type_name : Option (List ℕ)) (condition : Option NamedCondition) → HasRule condition
+    → Goes (at done last marked points type_name None) (condition_words condition) (at done last marked points type_name condition)
+condition_goes done last marked points type_name None has = refl
+condition_goes done last marked points type_name (Some c) has =
+    let s = at done last marked points type_name None in
+    (record s { phase = kind_phase c.kind }, kind_taken c.kind last type_name s refl, (at done last marked points type_name (Some c), rule_taken c.kind s c.rule has, refl))
 
 -- ---- a source or a variant
 
@@ -183,7 +149,7 @@ phase_after_mark true = phase.Mark
 phase_after_mark false = phase.Begin
 
 abbrev after_mark : List Mapped → Bool → State
-after_mark done marked = record { done = done; current = part marked [] [] None; last = None; phase = phase_after_mark marked }
+after_mark done marked = record { done = done; current = part marked [] None None; last = None; phase = phase_after_mark marked }
 
 mark_goes : (done : List Mapped) (marked : Bool) → Goes (before done) (mark_words marked) (after_mark done marked)
 mark_goes done true = (after_mark done true, taken (codes "!") (before done) (after_mark done true) refl, refl)
@@ -193,26 +159,26 @@ mark_takes_point : (marked : Bool) → TakesPoint (phase_after_mark marked)
 mark_takes_point true = tt
 mark_takes_point false = tt
 
-parts_go : (done : List Mapped) (last : Option ℕ) (marked : Bool) (c : ℕ) (points : List ℕ) (tags : List (List ℕ)) (condition : Option NamedCondition)
-    → MayHaveTags marked tags → HasRule condition → MayEnd done last (c ∷ points)
-    → Goes (before done) (mapped_words (part marked (c ∷ points) tags condition) last) (at done last marked (c ∷ points) tags condition)
-parts_go done last marked c points tags condition may has ends =
+parts_go : (done : List Mapped) (last : Option ℕ) (marked : Bool) (c : ℕ) (points : List ℕ) (type_name : Option (List ℕ)) (condition : Option NamedCondition)
+    → MayHaveType marked type_name → HasRule condition → MayEnd done last (c ∷ points)
+    → Goes (before done) (mapped_words (part marked (c ∷ points) type_name condition) last) (at done last marked (c ∷ points) type_name condition)
+parts_go done last marked c points type_name condition may has ends =
     let sequence = c ∷ points in
-    let t = at done last marked sequence tags condition in
-    let tagged = at done last marked sequence tags None in
-    let ended = at done last marked sequence [] None in
-    let single = at done None marked sequence [] None in
-    let from_tags = go_on (tags_words tags) (condition_words condition) ended tagged t (tags_go done last marked sequence tags may) (condition_goes done last marked sequence tags condition has) in
-    let from_last = go_on (last_words last) (tags_words tags ++ condition_words condition) single ended t (last_goes_if done last marked sequence ends) from_tags in
-    let from_points = go_on (sequence_words sequence) (last_words last ++ (tags_words tags ++ condition_words condition)) (after_mark done marked) single t (sequence_goes points (after_mark done marked) c (mark_takes_point marked)) from_last in
-    go_on (mark_words marked) (sequence_words sequence ++ (last_words last ++ (tags_words tags ++ condition_words condition))) (before done) (after_mark done marked) t (mark_goes done marked) from_points
+    let t = at done last marked sequence type_name condition in
+    let typed = at done last marked sequence type_name None in
+    let ended = at done last marked sequence None None in
+    let single = at done None marked sequence None None in
+    let from_type = go_on (type_words type_name) (condition_words condition) ended typed t (type_goes done last marked sequence type_name may) (condition_goes done last marked sequence type_name condition has) in
+    let from_last = go_on (last_words last) (type_words type_name ++ condition_words condition) single ended t (last_goes_if done last marked sequence ends) from_type in
+    let from_points = go_on (sequence_words sequence) (last_words last ++ (type_words type_name ++ condition_words condition)) (after_mark done marked) single t (sequence_goes points (after_mark done marked) c (mark_takes_point marked)) from_last in
+    go_on (mark_words marked) (sequence_words sequence ++ (last_words last ++ (type_words type_name ++ condition_words condition))) (before done) (after_mark done marked) t (mark_goes done marked) from_points
 
 mapped_goes : (done : List Mapped) (last : Option ℕ) (m : Mapped) → IsMapped m → MayEnd done last m.points → Goes (before done) (mapped_words m last) (after done last m)
 mapped_goes done last m is ends = by_points m.points is.sequence ends
   where
-    by_points : (points : List ℕ) → IsSequence points → MayEnd done last points → Goes (before done) (mapped_words (part m.marked points m.tags m.condition) last) (at done last m.marked points m.tags m.condition)
+    by_points : (points : List ℕ) → IsSequence points → MayEnd done last points → Goes (before done) (mapped_words (part m.marked points m.type_name m.condition) last) (at done last m.marked points m.type_name m.condition)
     by_points [] none ends = absurd none
-    by_points (c ∷ points) scalars ends = parts_go done last m.marked c points m.tags m.condition is.tags is.condition ends
+    by_points (c ∷ points) scalars ends = parts_go done last m.marked c points m.type_name m.condition is.type_name is.condition ends
 
 -- ---- the source and its variants
 
@@ -224,20 +190,20 @@ last_ends : (done : List Mapped) (last : Option ℕ) (m : Mapped) → IsMapped m
 last_ends done last m is ends = (after done last m, mapped_goes done last m is ends, form_at done last m)
 
 bar_read : (m : Mapped) → step (after [] None m) (codes "|") ≡ Some (before (m ∷ []))
-bar_read m = by_parts m.tags m.condition
+bar_read m = by_parts m.type_name m.condition
   where
-    by_parts : (tags : List (List ℕ)) (condition : Option NamedCondition) → step_by (phase_of None tags condition) (after [] None m) (codes "|") ≡ Some (before (m ∷ []))
-    by_parts tags (Some c) = refl
-    by_parts (tag ∷ tags) None = refl
-    by_parts [] None = refl
+    by_parts : (type_name : Option (List ℕ)) (condition : Option NamedCondition) → step_by (phase_of None type_name condition) (after [] None m) (codes "|") ≡ Some (before (m ∷ []))
+    by_parts type_name (Some c) = refl
+    by_parts (Some name) None = refl
+    by_parts None None = refl
 
 colon_read : (first : Mapped) (done : List Mapped) (m : Mapped) → step (after (first ∷ done) None m) (codes ":") ≡ Some (before ((first ∷ done) ++ m ∷ []))
-colon_read first done m = by_parts m.tags m.condition
+colon_read first done m = by_parts m.type_name m.condition
   where
-    by_parts : (tags : List (List ℕ)) (condition : Option NamedCondition) → step_by (phase_of None tags condition) (after (first ∷ done) None m) (codes ":") ≡ Some (before ((first ∷ done) ++ m ∷ []))
-    by_parts tags (Some c) = refl
-    by_parts (tag ∷ tags) None = refl
-    by_parts [] None = refl
+    by_parts : (type_name : Option (List ℕ)) (condition : Option NamedCondition) → step_by (phase_of None type_name condition) (after (first ∷ done) None m) (codes ":") ≡ Some (before ((first ∷ done) ++ m ∷ []))
+    by_parts type_name (Some c) = refl
+    by_parts (Some name) None = refl
+    by_parts None None = refl
 
 -- a source or a variant, a separator, and what ends a form
 then_ends : (xs ys : List Word) (x : Word) (s t u : State) (form : EntryForm) → Goes s xs t → Takes t x u → Ends u ys form → Ends s (xs ++ x ∷ ys) form

@@ -1,11 +1,11 @@
 -- The grammar says of a line what is read of it.
-use Rattle.std.proofs.Common.{◌≡◌, ℕ, ◌+◌, Bool, true, false, ◌&&◌, not, cond, eqb, List, [], ◌∷◌, ◌++◌, length, map, filter, length-append, Option, Some, None, refl, sym, ap, subst, ◌∙◌, append_assoc, append-nil, arith}
+use Rattle.std.proofs.Common.{◌≡◌, ℕ, ◌+◌, Bool, true, false, cond, eqb, List, [], ◌∷◌, ◌++◌, length, map, filter, length-append, Option, Some, None, refl, sym, ap, subst, ◌∙◌, append_assoc, append-nil, arith}
 use Rattle.std.specs.Prelude.{IsTrue, codes, nat_le}
 use Rattle.std.specs.List.{AllByRecursion}
-use Rattle.std.proofs.lemmas.Bool.{eqb-true, leb-true, not-true, and_parts}
+use Rattle.std.proofs.lemmas.Bool.{eqb-true, leb-true}
 use Rattle.std.specs.Option.{option_map, option_or}
 use Rattle.idn_text.specs.Points.{is_scalar_value, point_of_hex}
-use Rattle.ruleset_text.specs.declared.entry_form.NamedCondition.{NamedCondition}
+use Rattle.ruleset_text.specs.declared.named_condition.NamedCondition.{NamedCondition}
 use Rattle.label_patterns.specs.declared.condition.ConditionKind.{ConditionKind}
 use Rattle.label_patterns.specs.declared.condition.ConditionKind.TheVariants as condition
 use Rattle.ruleset_text.specs.declared.entry_reading.EntryWord.{EntryWord}
@@ -16,13 +16,12 @@ use Rattle.ruleset_text.specs.declared.fault.FaultPlace.{FaultPlace}
 use Rattle.ruleset_text.specs.Definitions.{Definitions}
 use Rattle.ruleset_text.specs.Entries.{Mapped, EntryForm}
 use Rattle.ruleset_text.specs.EntryFaults.{Notes, PlacedWord, begin_places, faults_of, notes_of, placed_words, points_from}
-use Rattle.ruleset_text.specs.EntryText.{MayHaveTags, IsMapped, IsForm}
+use Rattle.ruleset_text.specs.EntryText.{IsMapped, IsForm}
 use Rattle.ruleset_text.specs.EntryWords as words
-use Rattle.ruleset_text.specs.EntryWords.{Word, IsWord, AreWords, point_of, mark_words, sequence_words, last_words, names_words, tags_words, kind_word, condition_words, mapped_words, variants_words, entry_words}
-use Rattle.ruleset_text.specs.EntrySteps.{State, start, word_of, marked, at_point, at_last, at_tag, at_rule, begin_by, after_rule, after_tags, after_tag, after_points, after_point, step_by, step, state_after, ended, entry_at, entry_in}
+use Rattle.ruleset_text.specs.EntryWords.{Word, IsWord, AreWords, point_of, mark_words, sequence_words, last_words, type_words, kind_word, condition_words, mapped_words, variants_words, entry_words}
+use Rattle.ruleset_text.specs.EntrySteps.{State, start, word_of, marked, at_point, at_last, at_type, at_rule, begin_by, after_rule, after_type, after_points, after_point, step_by, step, state_after, ended, entry_at, entry_in}
 use Rattle.ruleset_text.specs.Tokens.{without_prefix}
-use Rattle.ruleset_text.specs.Names.{is_name, is_one_of, AreNames}
-use Rattle.ruleset_text.proofs.AddedLemmas.{IsNew, new_from}
+use Rattle.ruleset_text.specs.Names.{is_name}
 use Rattle.ruleset_text.proofs.EntryLemmas.{none_after}
 use Rattle.ruleset_text.proofs.EntryStateLemmas.{part, at, before, after, phase_of, kind_phase, MayEnd, form_at, IsSpelled, spelled}
 use Rattle.ruleset_text.specs.Lexemes.{lexemes}
@@ -44,19 +43,19 @@ data Reached : Type 0 where
   AtBegin : (done : List Mapped) → AllByRecursion IsMapped done → Reached
   AtMark : (done : List Mapped) → AllByRecursion IsMapped done → Reached
   AtEnd : (done : List Mapped) (last : Option ℕ) (m : Mapped) → IsKnown done last m → Reached
-  AtHyphen : (done : List Mapped) (marked : Bool) (c : ℕ) (points : List ℕ) → IsKnown done None (part marked (c ∷ points) [] None) → Reached
-  AtRange : (marked : Bool) (c : ℕ) → IsKnown [] None (part marked (c ∷ []) [] None) → Reached
-  AtAs : (done : List Mapped) (last : Option ℕ) (points : List ℕ) (tags : List (List ℕ)) → IsKnown done last (part false points tags None) → Reached
-  AtKind : (kind : ConditionKind) (done : List Mapped) (last : Option ℕ) (marked : Bool) (points : List ℕ) (tags : List (List ℕ)) → IsKnown done last (part marked points tags None) → Reached
+  AtHyphen : (done : List Mapped) (marked : Bool) (c : ℕ) (points : List ℕ) → IsKnown done None (part marked (c ∷ points) None None) → Reached
+  AtRange : (marked : Bool) (c : ℕ) → IsKnown [] None (part marked (c ∷ []) None None) → Reached
+  AtAs : (done : List Mapped) (last : Option ℕ) (points : List ℕ) → IsKnown done last (part false points None None) → Reached
+  AtKind : (kind : ConditionKind) (done : List Mapped) (last : Option ℕ) (marked : Bool) (points : List ℕ) (type_name : Option (List ℕ)) → IsKnown done last (part marked points type_name None) → Reached
 
 abbrev state_at : Reached → State
 state_at (AtBegin done all) = before done
-state_at (AtMark done all) = record { done = done; current = part true [] [] None; last = None; phase = phase.Mark }
+state_at (AtMark done all) = record { done = done; current = part true [] None None; last = None; phase = phase.Mark }
 state_at (AtEnd done last m known) = after done last m
-state_at (AtHyphen done marked c points known) = record { done = done; current = part marked (c ∷ points) [] None; last = None; phase = phase.Hyphen }
-state_at (AtRange marked c known) = record { done = []; current = part marked (c ∷ []) [] None; last = None; phase = phase.Range }
-state_at (AtAs done last points tags known) = record { done = done; current = part false points tags None; last = last; phase = phase.As }
-state_at (AtKind kind done last marked points tags known) = record { done = done; current = part marked points tags None; last = last; phase = kind_phase kind }
+state_at (AtHyphen done marked c points known) = record { done = done; current = part marked (c ∷ points) None None; last = None; phase = phase.Hyphen }
+state_at (AtRange marked c known) = record { done = []; current = part marked (c ∷ []) None None; last = None; phase = phase.Range }
+state_at (AtAs done last points known) = record { done = done; current = part false points None None; last = last; phase = phase.As }
+state_at (AtKind kind done last marked points type_name known) = record { done = done; current = part marked points type_name None; last = last; phase = kind_phase kind }
 
 -- the words of a source and variants, each with the separator after it
 abbrev each_words : List Mapped → List Word
@@ -67,19 +66,14 @@ abbrev done_words : List Mapped → List Word
 done_words [] = []
 done_words (source ∷ variants) = mapped_words source None ++ words.Bar ∷ each_words variants
 
--- the word before a further tag
-abbrev tag_word : List (List ℕ) → Word
-tag_word [] = words.As
-tag_word (tag ∷ tags) = words.Comma
-
 abbrev words_at : Reached → List Word
 words_at (AtBegin done all) = done_words done
 words_at (AtMark done all) = done_words done ++ words.Mark ∷ []
 words_at (AtEnd done last m known) = done_words done ++ mapped_words m last
-words_at (AtHyphen done marked c points known) = (done_words done ++ mapped_words (part marked (c ∷ points) [] None) None) ++ words.Hyphen ∷ []
-words_at (AtRange marked c known) = mapped_words (part marked (c ∷ []) [] None) None ++ words.Range ∷ []
-words_at (AtAs done last points tags known) = (done_words done ++ mapped_words (part false points tags None) last) ++ tag_word tags ∷ []
-words_at (AtKind kind done last marked points tags known) = (done_words done ++ mapped_words (part marked points tags None) last) ++ kind_word kind ∷ []
+words_at (AtHyphen done marked c points known) = (done_words done ++ mapped_words (part marked (c ∷ points) None None) None) ++ words.Hyphen ∷ []
+words_at (AtRange marked c known) = mapped_words (part marked (c ∷ []) None None) None ++ words.Range ∷ []
+words_at (AtAs done last points known) = (done_words done ++ mapped_words (part false points None None) last) ++ words.As ∷ []
+words_at (AtKind kind done last marked points type_name known) = (done_words done ++ mapped_words (part marked points type_name None) last) ++ kind_word kind ∷ []
 
 -- ---- what is noted
 
@@ -151,11 +145,11 @@ kind_noted : (kind : ConditionKind) (w : List ℕ) → noted_word (kind_phase ki
 kind_noted condition.When w = refl
 kind_noted condition.Unless w = refl
 
-ended_word : (last : Option ℕ) (tags : List (List ℕ)) (condition : Option NamedCondition) (w : List ℕ) → noted_word (phase_of last tags condition) w ≡ None
-ended_word last tags (Some c) w = refl
-ended_word last (tag ∷ tags) None w = refl
-ended_word (Some c) [] None w = refl
-ended_word None [] None w = refl
+ended_word : (last : Option ℕ) (type_name : Option (List ℕ)) (condition : Option NamedCondition) (w : List ℕ) → noted_word (phase_of last type_name condition) w ≡ None
+ended_word last type_name (Some c) w = refl
+ended_word last (Some name) None w = refl
+ended_word (Some c) None None w = refl
+ended_word None None None w = refl
 
 one_more : {X : Type 0} (xs : List X) (x : X) → length (xs ++ x ∷ []) ≡ length xs + 1
 one_more xs x = length-append xs (x ∷ [])
@@ -203,51 +197,45 @@ colon_words first done m =
 
 rule_next : (done : List Mapped) (last : Option ℕ) (m : Mapped) (known : IsKnown done last m) (w : List ℕ) (t : State) (e : EntryWord) → IsSpelled e w → after_rule (after done last m) e ≡ Some t → Next (AtEnd done last m known) w t
 rule_next done (Some c) m known w t e is h = no_state t h
-rule_next [] None m known w t word.Bar is h = next (AtEnd [] None m known) (AtBegin (m ∷ []) (known.mapped, tt)) words.Bar w t h is refl (quiet (ended_word None m.tags m.condition w) (λ d s i p. refl) refl refl)
+rule_next [] None m known w t word.Bar is h = next (AtEnd [] None m known) (AtBegin (m ∷ []) (known.mapped, tt)) words.Bar w t h is refl (quiet (ended_word None m.type_name m.condition w) (λ d s i p. refl) refl refl)
 rule_next (first ∷ done) None m known w t word.Bar is h = no_state t h
 rule_next [] None m known w t word.Colon is h = no_state t h
 rule_next (first ∷ done) None m known w t word.Colon is h =
-    next (AtEnd (first ∷ done) None m known) (AtBegin ((first ∷ done) ++ m ∷ []) (all_more (first ∷ done) m known.all known.mapped)) words.Colon w t h is (colon_words first done m) (quiet (ended_word None m.tags m.condition w) (λ d s i p. refl) (one_more (first ∷ done) m) refl)
+    next (AtEnd (first ∷ done) None m known) (AtBegin ((first ∷ done) ++ m ∷ []) (all_more (first ∷ done) m known.all known.mapped)) words.Colon w t h is (colon_words first done m) (quiet (ended_word None m.type_name m.condition w) (λ d s i p. refl) (one_more (first ∷ done) m) refl)
 rule_next done None m known w t e is h = no_state t h
 
-tags_next : (done : List Mapped) (last : Option ℕ) (marked : Bool) (points : List ℕ) (tags : List (List ℕ)) (known : IsKnown done last (part marked points tags None)) (w : List ℕ) (t : State) (e : EntryWord) → IsSpelled e w
-    → after_tags (after done last (part marked points tags None)) e ≡ Some t → Next (AtEnd done last (part marked points tags None) known) w t
-tags_next done last marked points tags known w t word.When is h = next (AtEnd done last (part marked points tags None) known) (AtKind condition.When done last marked points tags known) words.When w t h is refl (quiet (ended_word last tags None w) (λ d s i p. refl) refl refl)
-tags_next done last marked points tags known w t word.Unless is h = next (AtEnd done last (part marked points tags None) known) (AtKind condition.Unless done last marked points tags known) words.Unless w t h is refl (quiet (ended_word last tags None w) (λ d s i p. refl) refl refl)
-tags_next done last marked points tags known w t e is h = rule_next done last (part marked points tags None) known w t e is h
+type_next : (done : List Mapped) (last : Option ℕ) (marked : Bool) (points : List ℕ) (type_name : Option (List ℕ)) (known : IsKnown done last (part marked points type_name None)) (w : List ℕ) (t : State) (e : EntryWord) → IsSpelled e w
+    → after_type (after done last (part marked points type_name None)) e ≡ Some t → Next (AtEnd done last (part marked points type_name None) known) w t
+type_next done last marked points type_name known w t word.When is h = next (AtEnd done last (part marked points type_name None) known) (AtKind condition.When done last marked points type_name known) words.When w t h is refl (quiet (ended_word last type_name None w) (λ d s i p. refl) refl refl)
+type_next done last marked points type_name known w t word.Unless is h = next (AtEnd done last (part marked points type_name None) known) (AtKind condition.Unless done last marked points type_name known) words.Unless w t h is refl (quiet (ended_word last type_name None w) (λ d s i p. refl) refl refl)
+type_next done last marked points type_name known w t e is h = rule_next done last (part marked points type_name None) known w t e is h
 
-tag_next : (done : List Mapped) (last : Option ℕ) (marked : Bool) (points : List ℕ) (tag : List ℕ) (tags : List (List ℕ)) (known : IsKnown done last (part marked points (tag ∷ tags) None)) (w : List ℕ) (t : State) (e : EntryWord) → IsSpelled e w
-    → after_tag (after done last (part marked points (tag ∷ tags) None)) e ≡ Some t → Next (AtEnd done last (part marked points (tag ∷ tags) None) known) w t
-tag_next done last false points tag tags known w t word.Comma is h = next (AtEnd done last (part false points (tag ∷ tags) None) known) (AtAs done last points (tag ∷ tags) known) words.Comma w t h is refl (quiet (ended_word last (tag ∷ tags) None w) (λ d s i p. refl) refl refl)
-tag_next done last true points tag tags known w t word.Comma is h = absurd (let bad : true ≡ false = known.mapped.tags.0 in cc)
-tag_next done last marked points tag tags known w t e is h = tags_next done last marked points (tag ∷ tags) known w t e is h
-
-points_next : (done : List Mapped) (last : Option ℕ) (marked : Bool) (points : List ℕ) (known : IsKnown done last (part marked points [] None)) (w : List ℕ) (t : State) (e : EntryWord) → IsSpelled e w
-    → after_points (after done last (part marked points [] None)) e ≡ Some t → Next (AtEnd done last (part marked points [] None) known) w t
-points_next done last false points known w t word.As is h = next (AtEnd done last (part false points [] None) known) (AtAs done last points [] known) words.As w t h is refl (quiet (ended_word last [] None w) (λ d s i p. refl) refl refl)
+points_next : (done : List Mapped) (last : Option ℕ) (marked : Bool) (points : List ℕ) (known : IsKnown done last (part marked points None None)) (w : List ℕ) (t : State) (e : EntryWord) → IsSpelled e w
+    → after_points (after done last (part marked points None None)) e ≡ Some t → Next (AtEnd done last (part marked points None None) known) w t
+points_next done last false points known w t word.As is h = next (AtEnd done last (part false points None None) known) (AtAs done last points known) words.As w t h is refl (quiet (ended_word last None None w) (λ d s i p. refl) refl refl)
 points_next done last true points known w t word.As is h = no_state t h
-points_next done last marked points known w t e is h = tags_next done last marked points [] known w t e is h
+points_next done last marked points known w t e is h = type_next done last marked points None known w t e is h
 
 not_one : (c d : ℕ) (points : List ℕ) → eqb (length (c ∷ d ∷ points)) 1 ≡ true → ⊥
 not_one c d points e = let same : length (c ∷ d ∷ points) ≡ 1 = eqb-true (length (c ∷ d ∷ points)) 1 e in omega (arith, same)
 
-point_next : (done : List Mapped) (marked : Bool) (points : List ℕ) (known : IsKnown done None (part marked points [] None)) (w : List ℕ) (t : State) (e : EntryWord) → IsSpelled e w
-    → after_point (after done None (part marked points [] None)) e ≡ Some t → Next (AtEnd done None (part marked points [] None) known) w t
+point_next : (done : List Mapped) (marked : Bool) (points : List ℕ) (known : IsKnown done None (part marked points None None)) (w : List ℕ) (t : State) (e : EntryWord) → IsSpelled e w
+    → after_point (after done None (part marked points None None)) e ≡ Some t → Next (AtEnd done None (part marked points None None) known) w t
 point_next done marked [] known w t e is h = absurd known.mapped.sequence
-point_next done marked (c ∷ points) known w t word.Hyphen is h = next (AtEnd done None (part marked (c ∷ points) [] None) known) (AtHyphen done marked c points known) words.Hyphen w t h is refl (quiet refl (λ d s i p. refl) refl refl)
-point_next [] marked (c ∷ []) known w t word.Range is h = next (AtEnd [] None (part marked (c ∷ []) [] None) known) (AtRange marked c known) words.Range w t h is refl (quiet refl (λ d s i p. refl) refl refl)
+point_next done marked (c ∷ points) known w t word.Hyphen is h = next (AtEnd done None (part marked (c ∷ points) None None) known) (AtHyphen done marked c points known) words.Hyphen w t h is refl (quiet refl (λ d s i p. refl) refl refl)
+point_next [] marked (c ∷ []) known w t word.Range is h = next (AtEnd [] None (part marked (c ∷ []) None None) known) (AtRange marked c known) words.Range w t h is refl (quiet refl (λ d s i p. refl) refl refl)
 point_next [] marked (c ∷ d ∷ points) known w t word.Range is h =
-    let s : State = record (after [] None (part marked (c ∷ d ∷ points) [] None)) { phase = phase.Range } in
+    let s : State = record (after [] None (part marked (c ∷ d ∷ points) None None)) { phase = phase.Range } in
     absurd (not_one c d points (state_if (eqb (length (c ∷ d ∷ points)) 1) s t h).0)
 point_next (first ∷ done) marked (c ∷ points) known w t word.Range is h = no_state t h
 point_next done marked (c ∷ points) known w t e is h = points_next done None marked (c ∷ points) known w t e is h
 
-end_next : (done : List Mapped) (last : Option ℕ) (marked : Bool) (points : List ℕ) (tags : List (List ℕ)) (condition : Option NamedCondition) (known : IsKnown done last (part marked points tags condition)) (w : List ℕ) (t : State)
-    → step_by (phase_of last tags condition) (at done last marked points tags condition) w ≡ Some t → Next (AtEnd done last (part marked points tags condition) known) w t
-end_next done last marked points tags (Some c) known w t h = rule_next done last (part marked points tags (Some c)) known w t (word_of w) (spelled w) h
-end_next done last marked points (tag ∷ tags) None known w t h = tag_next done last marked points tag tags known w t (word_of w) (spelled w) h
-end_next done (Some c) marked points [] None known w t h = points_next done (Some c) marked points known w t (word_of w) (spelled w) h
-end_next done None marked points [] None known w t h = point_next done marked points known w t (word_of w) (spelled w) h
+end_next : (done : List Mapped) (last : Option ℕ) (marked : Bool) (points : List ℕ) (type_name : Option (List ℕ)) (condition : Option NamedCondition) (known : IsKnown done last (part marked points type_name condition)) (w : List ℕ) (t : State)
+    → step_by (phase_of last type_name condition) (at done last marked points type_name condition) w ≡ Some t → Next (AtEnd done last (part marked points type_name condition) known) w t
+end_next done last marked points type_name (Some c) known w t h = rule_next done last (part marked points type_name (Some c)) known w t (word_of w) (spelled w) h
+end_next done last marked points (Some name) None known w t h = type_next done last marked points (Some name) known w t (word_of w) (spelled w) h
+end_next done (Some c) marked points None None known w t h = points_next done (Some c) marked points known w t (word_of w) (spelled w) h
+end_next done None marked points None None known w t h = point_next done marked points known w t (word_of w) (spelled w) h
 
 -- ---- code points
 
@@ -263,13 +251,13 @@ sequence_more [] c d = refl
 sequence_more (e ∷ points) c d = ap (λ l. words.Point c ∷ words.Hyphen ∷ l) (sequence_more points e d)
 
 -- a single code point
-single_known : (done : List Mapped) (marked : Bool) (c : ℕ) → AllByRecursion IsMapped done → is_scalar_value c ≡ true → IsKnown done None (part marked (c ∷ []) [] None)
-single_known done marked c all scalar = record { all = all; mapped = record { sequence = (scalar, tt); tags = tt; condition = tt }; ends = tt }
+single_known : (done : List Mapped) (marked : Bool) (c : ℕ) → AllByRecursion IsMapped done → is_scalar_value c ≡ true → IsKnown done None (part marked (c ∷ []) None None)
+single_known done marked c all scalar = record { all = all; mapped = record { sequence = (scalar, tt); type_name = tt; condition = tt }; ends = tt }
 
 point_begins : (done : List Mapped) (all : AllByRecursion IsMapped done) (w : List ℕ) (t : State) (o : Option ℕ) → point_of w ≡ o → at_point (before done) o ≡ Some t → Next (AtBegin done all) w t
 point_begins done all w t None is h = no_state t h
 point_begins done all w t (Some c) is h =
-    next (AtBegin done all) (AtEnd done None (part false (c ∷ []) [] None) (single_known done false c all (scalar_of w c is))) (words.Point c) w t h is refl (heard (ap (option_map words.Point) is) (λ d p. refl) refl refl)
+    next (AtBegin done all) (AtEnd done None (part false (c ∷ []) None None) (single_known done false c all (scalar_of w c is))) (words.Point c) w t h is refl (heard (ap (option_map words.Point) is) (λ d p. refl) refl refl)
 
 begin_next : (done : List Mapped) (all : AllByRecursion IsMapped done) (w : List ℕ) (t : State) (e : EntryWord) → IsSpelled e w → begin_by (before done) e w ≡ Some t → Next (AtBegin done all) w t
 begin_next done all w t word.Mark is h = next (AtBegin done all) (AtMark done all) words.Mark w t h is refl (quiet (no_point_mark w is) (λ d s i p. refl) refl refl)
@@ -278,76 +266,48 @@ begin_next done all w t e is h = point_begins done all w t (point_of w) refl h
 mark_next : (done : List Mapped) (all : AllByRecursion IsMapped done) (w : List ℕ) (t : State) (o : Option ℕ) → point_of w ≡ o → at_point (state_at (AtMark done all)) o ≡ Some t → Next (AtMark done all) w t
 mark_next done all w t None is h = no_state t h
 mark_next done all w t (Some c) is h =
-    next (AtMark done all) (AtEnd done None (part true (c ∷ []) [] None) (single_known done true c all (scalar_of w c is))) (words.Point c) w t h is
+    next (AtMark done all) (AtEnd done None (part true (c ∷ []) None None) (single_known done true c all (scalar_of w c is))) (words.Point c) w t h is
     (sym (append_assoc (done_words done) (words.Mark ∷ []) (words.Point c ∷ []))) (heard (ap (option_map words.Point) is) (λ d p. refl) refl refl)
 
 -- the words of a sequence with a code point more
 regroup_point : (xs ms ss : List Word) (x y : Word) → xs ++ (ms ++ ((ss ++ x ∷ y ∷ []) ++ [])) ≡ ((xs ++ (ms ++ (ss ++ []))) ++ x ∷ []) ++ y ∷ []
 regroup_point xs ms ss x y = simp (append_assoc, append-nil)
 
-hyphen_next : (done : List Mapped) (marked : Bool) (c : ℕ) (points : List ℕ) (known : IsKnown done None (part marked (c ∷ points) [] None)) (w : List ℕ) (t : State) (o : Option ℕ) → point_of w ≡ o
+hyphen_next : (done : List Mapped) (marked : Bool) (c : ℕ) (points : List ℕ) (known : IsKnown done None (part marked (c ∷ points) None None)) (w : List ℕ) (t : State) (o : Option ℕ) → point_of w ≡ o
     → at_point (state_at (AtHyphen done marked c points known)) o ≡ Some t → Next (AtHyphen done marked c points known) w t
 hyphen_next done marked c points known w t None is h = no_state t h
 hyphen_next done marked c points known w t (Some d) is h =
-    let more : IsKnown done None (part marked (c ∷ (points ++ d ∷ [])) [] None) =
-    record { all = known.all; mapped = record { sequence = scalars_more (c ∷ points) d known.mapped.sequence (scalar_of w d is); tags = tt; condition = tt }; ends = tt } in
-    next (AtHyphen done marked c points known) (AtEnd done None (part marked (c ∷ (points ++ d ∷ [])) [] None) more) (words.Point d) w t h is
+    let more : IsKnown done None (part marked (c ∷ (points ++ d ∷ [])) None None) =
+    record { all = known.all; mapped = record { sequence = scalars_more (c ∷ points) d known.mapped.sequence (scalar_of w d is); type_name = tt; condition = tt }; ends = tt } in
+    next (AtHyphen done marked c points known) (AtEnd done None (part marked (c ∷ (points ++ d ∷ [])) None None) more) (words.Point d) w t h is
     (ap (λ l. done_words done ++ (mark_words marked ++ (l ++ []))) (sequence_more points c d) ∙ regroup_point (done_words done) (mark_words marked) (sequence_words (c ∷ points)) words.Hyphen (words.Point d))
     (heard (ap (option_map words.Point) is) (λ d p. refl) refl (one_more (c ∷ points) d))
 
-range_next : (marked : Bool) (c : ℕ) (known : IsKnown [] None (part marked (c ∷ []) [] None)) (w : List ℕ) (t : State) (o : Option ℕ) → point_of w ≡ o
+range_next : (marked : Bool) (c : ℕ) (known : IsKnown [] None (part marked (c ∷ []) None None)) (w : List ℕ) (t : State) (o : Option ℕ) → point_of w ≡ o
     → at_last (state_at (AtRange marked c known)) o ≡ Some t → Next (AtRange marked c known) w t
 range_next marked c known w t None is h = no_state t h
 range_next marked c known w t (Some d) is h =
-    let parts = state_if (nat_le c d) (after [] (Some d) (part marked (c ∷ []) [] None)) t h in
-    let ends : IsKnown [] (Some d) (part marked (c ∷ []) [] None) = record { all = tt; mapped = known.mapped; ends = (refl, scalar_of w d is, (c, refl, leb-true c d parts.0)) } in
-    next (AtRange marked c known) (AtEnd [] (Some d) (part marked (c ∷ []) [] None) ends) (words.Point d) w t parts.1 is
+    let parts = state_if (nat_le c d) (after [] (Some d) (part marked (c ∷ []) None None)) t h in
+    let ends : IsKnown [] (Some d) (part marked (c ∷ []) None None) = record { all = tt; mapped = known.mapped; ends = (refl, scalar_of w d is, (c, refl, leb-true c d parts.0)) } in
+    next (AtRange marked c known) (AtEnd [] (Some d) (part marked (c ∷ []) None None) ends) (words.Point d) w t parts.1 is
     (regroup_last (mark_words marked) (words.Point c) words.Range (words.Point d)) (heard (ap (option_map words.Point) is) (λ d p. refl) refl refl)
   where
     regroup_last : (ms : List Word) (x y z : Word) → ms ++ x ∷ y ∷ z ∷ [] ≡ ((ms ++ x ∷ []) ++ y ∷ []) ++ z ∷ []
     regroup_last ms x y z = simp append_assoc
 
--- ---- tags and conditions
+-- ---- types and conditions
 
-names_more : (tags : List (List ℕ)) (tag name : List ℕ) → names_words (tag ∷ (tags ++ name ∷ [])) ≡ names_words (tag ∷ tags) ++ words.Comma ∷ words.Tag name ∷ []
-names_more [] tag name = refl
-names_more (other ∷ tags) tag name = ap (λ l. words.Tag tag ∷ words.Comma ∷ l) (names_more tags other name)
+regroup_name : (xs ss ls : List Word) (x y : Word) → xs ++ (ss ++ (ls ++ ((x ∷ y ∷ []) ++ []))) ≡ ((xs ++ (ss ++ (ls ++ []))) ++ x ∷ []) ++ y ∷ []
+regroup_name xs ss ls x y = simp (append_assoc, append-nil)
 
-tags_more : (tags : List (List ℕ)) (name : List ℕ) → tags_words (tags ++ name ∷ []) ≡ tags_words tags ++ tag_word tags ∷ words.Tag name ∷ []
-tags_more [] name = refl
-tags_more (tag ∷ tags) name = ap (λ l. words.As ∷ l) (names_more tags tag name)
-
-new_in : (tags : List (List ℕ)) (tag name : List ℕ) → AllByRecursion (λ other. tag ≡ other → ⊥) tags → (name ≡ tag → ⊥) → AllByRecursion (λ other. tag ≡ other → ⊥) (tags ++ name ∷ [])
-new_in [] tag name all other = (λ e. other (sym e), tt)
-new_in (x ∷ tags) tag name all other = (all.0, new_in tags tag name all.1 other)
-
-are_more : (tags : List (List ℕ)) (name : List ℕ) → AreNames tags → is_name name ≡ true → IsNew name tags → AreNames (tags ++ name ∷ [])
-are_more [] name are is new = (is, tt, tt)
-are_more (tag ∷ tags) name are is new = (are.0, new_in tags tag name are.1 new.0, are_more tags name are.2 is new.1)
-
-may_more : (tags : List (List ℕ)) (name : List ℕ) → MayHaveTags false tags → is_name name ≡ true → IsNew name tags → MayHaveTags false (tags ++ name ∷ [])
-may_more [] name may is new = (refl, (is, tt, tt))
-may_more (tag ∷ tags) name may is new = (refl, are_more (tag ∷ tags) name may.1 is new)
-
-regroup_name : (xs ss ls ts : List Word) (x y : Word) → xs ++ (ss ++ (ls ++ ((ts ++ x ∷ y ∷ []) ++ []))) ≡ ((xs ++ (ss ++ (ls ++ (ts ++ [])))) ++ x ∷ []) ++ y ∷ []
-regroup_name xs ss ls ts x y = simp (append_assoc, append-nil)
-
-tag_phase : (last : Option ℕ) (tags : List (List ℕ)) (name : List ℕ) → phase_of last (tags ++ name ∷ []) None ≡ phase.Tag
-tag_phase last [] name = refl
-tag_phase last (tag ∷ tags) name = refl
-
-as_next : (done : List Mapped) (last : Option ℕ) (points : List ℕ) (tags : List (List ℕ)) (known : IsKnown done last (part false points tags None)) (w : List ℕ) (t : State)
-    → at_tag (state_at (AtAs done last points tags known)) w ≡ Some t → Next (AtAs done last points tags known) w t
-as_next done last points tags known w t h =
-    let named : State = record { done = done; current = part false points (tags ++ w ∷ []) None; last = last; phase = phase.Tag } in
-    let parts = state_if (is_name w && not (is_one_of tags w)) named t h in
-    let tests = and_parts (is_name w) (not (is_one_of tags w)) parts.0 in
-    let new = new_from tags w (not-true (is_one_of tags w) tests.1) in
-    let more : IsKnown done last (part false points (tags ++ w ∷ []) None) =
-    record { all = known.all; mapped = record { sequence = known.mapped.sequence; tags = may_more tags w known.mapped.tags tests.0 new; condition = tt }; ends = known.ends } in
-    let state : Some (after done last (part false points (tags ++ w ∷ []) None)) ≡ Some t = ap (λ p. Some (record named { phase = p })) (tag_phase last tags w) ∙ parts.1 in
-    next (AtAs done last points tags known) (AtEnd done last (part false points (tags ++ w ∷ []) None) more) (words.Tag w) w t state refl
-    (ap (λ l. done_words done ++ (sequence_words points ++ (last_words last ++ (l ++ [])))) (tags_more tags w) ∙ regroup_name (done_words done) (sequence_words points) (last_words last) (tags_words tags) (tag_word tags) (words.Tag w))
+as_next : (done : List Mapped) (last : Option ℕ) (points : List ℕ) (known : IsKnown done last (part false points None None)) (w : List ℕ) (t : State)
+    → at_type (state_at (AtAs done last points known)) w ≡ Some t → Next (AtAs done last points known) w t
+as_next done last points known w t h =
+    let parts = state_if (is_name w) (after done last (part false points (Some w) None)) t h in
+    let more : IsKnown done last (part false points (Some w) None) =
+    record { all = known.all; mapped = record { sequence = known.mapped.sequence; type_name = (refl, parts.0); condition = tt }; ends = known.ends } in
+    next (AtAs done last points known) (AtEnd done last (part false points (Some w) None) more) (words.TypeName w) w t parts.1 refl
+    (regroup_name (done_words done) (sequence_words points) (last_words last) words.As (words.TypeName w))
     (heard refl (λ d p. refl) refl refl)
 
 regroup_rule : (xs ms ss ls ts : List Word) (x y : Word) → xs ++ (ms ++ (ss ++ (ls ++ (ts ++ x ∷ y ∷ [])))) ≡ ((xs ++ (ms ++ (ss ++ (ls ++ (ts ++ []))))) ++ x ∷ []) ++ y ∷ []
@@ -357,15 +317,15 @@ kind_step : (kind : ConditionKind) (s : State) (w : List ℕ) → step_by (kind_
 kind_step condition.When s w = refl
 kind_step condition.Unless s w = refl
 
-kind_next : (kind : ConditionKind) (done : List Mapped) (last : Option ℕ) (marked : Bool) (points : List ℕ) (tags : List (List ℕ)) (known : IsKnown done last (part marked points tags None)) (w : List ℕ) (t : State)
-    → at_rule (state_at (AtKind kind done last marked points tags known)) kind w ≡ Some t → Next (AtKind kind done last marked points tags known) w t
-kind_next kind done last marked points tags known w t h =
+kind_next : (kind : ConditionKind) (done : List Mapped) (last : Option ℕ) (marked : Bool) (points : List ℕ) (type_name : Option (List ℕ)) (known : IsKnown done last (part marked points type_name None)) (w : List ℕ) (t : State)
+    → at_rule (state_at (AtKind kind done last marked points type_name known)) kind w ≡ Some t → Next (AtKind kind done last marked points type_name known) w t
+kind_next kind done last marked points type_name known w t h =
     let c : NamedCondition = record { kind = kind; rule = w } in
-    let parts = state_if (is_name w) (after done last (part marked points tags (Some c))) t h in
-    let more : IsKnown done last (part marked points tags (Some c)) =
-    record { all = known.all; mapped = record { sequence = known.mapped.sequence; tags = known.mapped.tags; condition = parts.0 }; ends = known.ends } in
-    next (AtKind kind done last marked points tags known) (AtEnd done last (part marked points tags (Some c)) more) (words.Rule w) w t parts.1 refl
-    (regroup_rule (done_words done) (mark_words marked) (sequence_words points) (last_words last) (tags_words tags) (kind_word kind) (words.Rule w))
+    let parts = state_if (is_name w) (after done last (part marked points type_name (Some c))) t h in
+    let more : IsKnown done last (part marked points type_name (Some c)) =
+    record { all = known.all; mapped = record { sequence = known.mapped.sequence; type_name = known.mapped.type_name; condition = parts.0 }; ends = known.ends } in
+    next (AtKind kind done last marked points type_name known) (AtEnd done last (part marked points type_name (Some c)) more) (words.Rule w) w t parts.1 refl
+    (regroup_rule (done_words done) (mark_words marked) (sequence_words points) (last_words last) (type_words type_name) (kind_word kind) (words.Rule w))
     (heard (kind_noted kind w) (λ d p. refl) refl refl)
 
 -- ---- the next lexeme
@@ -373,11 +333,11 @@ kind_next kind done last marked points tags known w t h =
 next_of : (v : Reached) (w : List ℕ) (t : State) → step (state_at v) w ≡ Some t → Next v w t
 next_of (AtBegin done all) w t h = begin_next done all w t (word_of w) (spelled w) h
 next_of (AtMark done all) w t h = mark_next done all w t (point_of w) refl h
-next_of (AtEnd done last m known) w t h = end_next done last m.marked m.points m.tags m.condition known w t h
+next_of (AtEnd done last m known) w t h = end_next done last m.marked m.points m.type_name m.condition known w t h
 next_of (AtHyphen done marked c points known) w t h = hyphen_next done marked c points known w t (point_of w) refl h
 next_of (AtRange marked c known) w t h = range_next marked c known w t (point_of w) refl h
-next_of (AtAs done last points tags known) w t h = as_next done last points tags known w t h
-next_of (AtKind kind done last marked points tags known) w t h = kind_next kind done last marked points tags known w t (sym (kind_step kind (state_at (AtKind kind done last marked points tags known)) w) ∙ h)
+next_of (AtAs done last points known) w t h = as_next done last points known w t h
+next_of (AtKind kind done last marked points type_name known) w t h = kind_next kind done last marked points type_name known w t (sym (kind_step kind (state_at (AtKind kind done last marked points type_name known)) w) ∙ h)
 
 -- ---- all lexemes
 
@@ -397,13 +357,12 @@ word_more : (d : Definitions) (s i : ℕ) (x : Word) (w : Placed) (xs : List Pla
 word_more d s i (words.Point c) w xs =
     let p : LinePoint = record { place = w.place; point = c; sequence = s; index = i } in
     ap (λ l. record { begins = l; faults = faults_of d (record { word = words.Point c; at = w } ∷ xs) (p ∷ points_from s (i + 1) xs) }) (begins_more p (points_from s (i + 1) xs))
-word_more d s i (words.Tag name) w xs = refl
+word_more d s i (words.TypeName name) w xs = refl
 word_more d s i (words.Rule name) w xs = refl
 word_more d s i words.Mark w xs = refl
 word_more d s i words.Hyphen w xs = refl
 word_more d s i words.Bar w xs = refl
 word_more d s i words.Colon w xs = refl
-word_more d s i words.Comma w xs = refl
 word_more d s i words.Range w xs = refl
 word_more d s i words.As w xs = refl
 word_more d s i words.When w xs = refl
@@ -512,9 +471,9 @@ form_of (AtBegin done all) form h = no_form form h
 form_of (AtMark done all) form h = no_form form h
 form_of (AtHyphen done marked c points known) form h = no_form form h
 form_of (AtRange marked c known) form h = no_form form h
-form_of (AtAs done last points tags known) form h = no_form form h
-form_of (AtKind condition.When done last marked points tags known) form h = no_form form h
-form_of (AtKind condition.Unless done last marked points tags known) form h = no_form form h
+form_of (AtAs done last points known) form h = no_form form h
+form_of (AtKind condition.When done last marked points type_name known) form h = no_form form h
+form_of (AtKind condition.Unless done last marked points type_name known) form h = no_form form h
 
 words_of : (ws : List (List ℕ)) (form : EntryForm) (o : Option State) → state_after (Some start) ws ≡ o → entry_at o ≡ Some form → IsForm form.mapped form.last × AreWords (entry_words form.mapped form.last) ws
 words_of ws form None e h = no_form form h

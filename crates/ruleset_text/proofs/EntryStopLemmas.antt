@@ -1,10 +1,8 @@
 -- The place at which a line stops being an entry or a range is where the grammar says.
-use Rattle.std.proofs.Common.{◌≡◌, ℕ, suc, ◌+◌, ◌/◌, ◌%◌, ◌<◌, ◌≤◌, nat_lt, Bool, true, false, not, ◌&&◌, ◌||◌, cond, if◌then◌else◌, leb, List, [], ◌∷◌, ◌++◌, length, length-append, Option, Some, None, Result, Ok, Err, refl, sym, ap, subst, ◌∙◌, arith}
-use Rattle.std.specs.Prelude.{◌↔◌, bytes_eq, is_some, slice_index, codes}
+use Rattle.std.proofs.Common.{◌≡◌, ℕ, ◌≤◌, Bool, true, false, ◌&&◌, cond, leb, List, [], ◌∷◌, ◌++◌, length, Option, Some, None, Result, Ok, Err, refl, sym, ap, subst, ◌∙◌, arith}
+use Rattle.std.specs.Prelude.{◌↔◌, is_some, slice_index, codes}
 use Rattle.std.proofs.Math.Bool.{and-false}
-use Rattle.std.proofs.lemmas.Bool.{le-leb, not-false}
-use Rattle.std.proofs.lemmas.Bool.Decides.{nat_tests}
-use Rattle.std.proofs.lemmas.Slice.Eq.{bytes_eq-Decides}
+use Rattle.std.proofs.lemmas.Bool.{le-leb}
 use Rattle.label_patterns.specs.declared.condition.ConditionKind.{ConditionKind}
 use Rattle.label_patterns.specs.declared.condition.ConditionKind.TheVariants as condition
 use Rattle.idn_text.specs.Points.{point_of_hex}
@@ -18,11 +16,11 @@ use Rattle.ruleset_text.specs.Entries.{EntryForm, Mapped}
 use Rattle.ruleset_text.specs.EntryParts.{has_parts}
 use Rattle.ruleset_text.specs.EntryText.{IsForm}
 use Rattle.ruleset_text.specs.EntryWords.{AreWords, entry_words, point_of}
-use Rattle.ruleset_text.specs.EntrySteps.{State, start, word_of, marked, at_point, at_last, begin_by, is_first, may_be_range, with_done, separated, after_rule, after_tags, after_tag, after_points, after_point, at_tag, at_rule, with_phase, step_by, step, stepped, state_after, is_begin, is_new, is_lacking, step_in, is_complete, ended, entry_at, entry_in, entry_read}
-use Rattle.ruleset_text.specs.EntryStops.{AreEntry, IsEntryOf, IsEntryStop, FitsNames}
+use Rattle.ruleset_text.specs.EntrySteps.{State, start, word_of, marked, at_point, at_last, begin_by, is_first, may_be_range, with_done, separated, after_rule, after_type, after_points, after_point, at_type, at_rule, with_phase, step_by, step, stepped, state_after, is_begin, is_new, is_lacking, step_in, is_complete, ended, entry_at, entry_in, entry_read}
+use Rattle.ruleset_text.specs.EntryStops.{AreEntry, IsEntryOf, IsEntryStop}
 use Rattle.ruleset_text.specs.Lexemes.{lexemes}
-use Rattle.ruleset_text.specs.Names.{is_name, is_name_byte, is_one_of}
-use Rattle.ruleset_text.specs.PlacedLexemes.{Placed, placed_lexemes, unplaced}
+use Rattle.ruleset_text.specs.Names.{is_name}
+use Rattle.ruleset_text.specs.PlacedLexemes.{placed_lexemes}
 use Rattle.ruleset_text.specs.Stops.{run, Begins}
 use Rattle.ruleset_text.specs.Tokens.{without_prefix}
 use Rattle.ruleset_text.proofs.EntryLemmas.{none_after}
@@ -31,18 +29,8 @@ use Rattle.ruleset_text.proofs.EntryReadLemmas.{words_read}
 use Rattle.ruleset_text.proofs.EntrySpelledLemmas.{read_words}
 use Rattle.ruleset_text.proofs.HexLemmas.{hex_facts, scalar_below}
 use Rattle.ruleset_text.proofs.LineStopLemmas.{Tells, leads, reads_to, tells, stop_is, renamed, ok_err}
-use Rattle.ruleset_text.proofs.PlacedLemmas.{placed-length, unplaced-from}
+use Rattle.ruleset_text.proofs.PlacedLemmas.{unplaced-from}
 use Rattle.ruleset_text.proofs.StopLemmas.{Spelled, Reads, run_none}
-
-equal : (a b : List ℕ) → bytes_eq a b ≡ true → a ≡ b
-equal a b e = (bytes_eq-Decides a b).0 e
-
-differ : (a b : List ℕ) → (a ≡ b → ⊥) → bytes_eq a b ≡ false
-differ a b other = by (bytes_eq a b) refl
-  where
-    by : (t : Bool) → bytes_eq a b ≡ t → t ≡ false
-    by true e = absurd (other ((bytes_eq-Decides a b).0 e))
-    by false e = refl
 
 pub none_some : {X : Type 0} (A : Type 0) (x : X) → (let o : Option X = None in o) ≡ Some x → A
 none_some A x e = absurd cc
@@ -98,28 +86,24 @@ read_rule s t e h = by (is_some s.last) h
     by false h = read_separated s t e h
     by true h = none_some _ t h
 
-read_tags : (s t : State) (e : EntryWord) → after_tags s e ≡ Some t → is_new t ≡ false
-read_tags s t word.When h = read_by phase.When s t refl h
-read_tags s t word.Unless h = read_by phase.Unless s t refl h
-read_tags s t e h = read_rule s t e h
-
-read_tag : (s t : State) (e : EntryWord) → after_tag s e ≡ Some t → is_new t ≡ false
-read_tag s t word.Comma h = read_by phase.As s t refl h
-read_tag s t e h = read_tags s t e h
+read_type : (s t : State) (e : EntryWord) → after_type s e ≡ Some t → is_new t ≡ false
+read_type s t word.When h = read_by phase.When s t refl h
+read_type s t word.Unless h = read_by phase.Unless s t refl h
+read_type s t e h = read_rule s t e h
 
 read_points : (s t : State) (e : EntryWord) → after_points s e ≡ Some t → is_new t ≡ false
 read_points s t word.As h = read_unless s (with_phase s phase.As) t s.current.marked (read_by phase.As s t refl) h
-read_points s t e h = read_tags s t e h
+read_points s t e h = read_type s t e h
 
 read_after_point : (s t : State) (e : EntryWord) → after_point s e ≡ Some t → is_new t ≡ false
 read_after_point s t word.Hyphen h = read_by phase.Hyphen s t refl h
 read_after_point s t word.Range h = read_if s (with_phase s phase.Range) t (may_be_range s) (read_by phase.Range s t refl) h
 read_after_point s t e h = read_points s t e h
 
-read_name : (s t : State) (w : List ℕ) → at_tag s w ≡ Some t → is_new t ≡ false
+read_name : (s t : State) (w : List ℕ) → at_type s w ≡ Some t → is_new t ≡ false
 read_name s t w h =
-    let u : State = record s { current = record s.current { tags = s.current.tags ++ w ∷ [] }; phase = phase.Tag } in
-    read_if s u t (is_name w && not (is_one_of s.current.tags w)) (read_as u t refl) h
+    let u : State = record s { current = record s.current { type_name = Some w }; phase = phase.VariantType } in
+    read_if s u t (is_name w) (read_as u t refl) h
 
 read_condition : (s t : State) (kind : ConditionKind) (w : List ℕ) → at_rule s kind w ≡ Some t → is_new t ≡ false
 read_condition s t kind w h =
@@ -134,7 +118,7 @@ read_step phase.Hyphen s t w h = read_point s t (point_of w) h
 read_step phase.Range s t w h = read_last s t (point_of w) h
 read_step phase.Last s t w h = read_points s t (word_of w) h
 read_step phase.As s t w h = read_name s t w h
-read_step phase.Tag s t w h = read_tag s t (word_of w) h
+read_step phase.VariantType s t w h = read_type s t (word_of w) h
 read_step phase.When s t w h = read_condition s t condition.When w h
 read_step phase.Unless s t w h = read_condition s t condition.Unless w h
 read_step phase.Rule s t w h = read_rule s t (word_of w) h
@@ -170,17 +154,9 @@ ran parts (w ∷ ws) s t e = by (is_lacking parts (is_new s) (word_of w)) (step 
 
 -- ---- what was read can be completed
 
--- tags are read in these phases
-abbrev ReadsTags : Phase → Type 0
-ReadsTags phase.As = Unit {0}
-ReadsTags phase.Tag = Unit {0}
-ReadsTags p = ⊥
-
--- the first code point is one; tags are read only where they may stand, and so many of them were at most
-record IsSound (parts : EntryParts) (n : ℕ) (s : State) : Type 0 where
-  point : slice_index s.current.points 0 ≤ 1114111
-  named : ReadsTags s.phase → parts.named ≡ true
-  tags : length s.current.tags ≤ n
+-- the first code point is one
+abbrev IsSound : State → Type 0
+IsSound s = slice_index s.current.points 0 ≤ 1114111
 
 pub point_bound : (w : List ℕ) (c : ℕ) → point_of w ≡ Some c → c ≤ 1114111
 point_bound w c e = let below = scalar_below c (hex_facts (without_prefix w) c e).scalar in omega (arith, below)
@@ -189,193 +165,81 @@ first_bound : (points : List ℕ) (c : ℕ) → slice_index points 0 ≤ 1114111
 first_bound [] c a b = b
 first_bound (d ∷ points) c a b = a
 
-module _ (parts : EntryParts) (n : ℕ) where
-  along : (s t : State) → Some s ≡ Some t → IsSound parts (suc n) s → IsSound parts (suc n) t
-  along s t e is = subst (IsSound parts (suc n)) (same_some s t e) is
+along : (s t : State) → Some s ≡ Some t → IsSound s → IsSound t
+along s t e is = subst IsSound (same_some s t e) is
 
-  -- another phase, in which no tags are read, or where they may be
-  in_phase : (s t : State) (p : Phase) → (ReadsTags p → parts.named ≡ true) → IsSound parts n s → Some (with_phase s p) ≡ Some t → IsSound parts (suc n) t
-  in_phase s t p may is h = let few = is.tags in along (with_phase s p) t h (record { point = is.point; named = may; tags = omega arith })
+begun : (s t : State) → Some (with_done s) ≡ Some t → IsSound t
+begun s t h = along (with_done s) t h (omega arith)
 
-  begun : (s t : State) → Some (with_done s) ≡ Some t → IsSound parts (suc n) t
-  begun s t h = along (with_done s) t h (record { point = omega arith; named = λ bad. absurd bad; tags = omega arith })
+if_sound : (s u t : State) (b : Bool) → IsSound u → cond b (Some u) None ≡ Some t → IsSound t
+if_sound s u t true is h = along u t h is
+if_sound s u t false is h = none_some _ t h
 
-  point_sound : (s t : State) (w : List ℕ) (o : Option ℕ) → IsSound parts n s → point_of w ≡ o → at_point s o ≡ Some t → IsSound parts (suc n) t
-  point_sound s t w None is e h = none_some _ t h
-  point_sound s t w (Some c) is e h =
-      let few = is.tags in
-      along (record s { current = record s.current { points = s.current.points ++ c ∷ [] }; phase = phase.Point }) t h
-      (record { point = first_bound s.current.points c is.point (point_bound w c e); named = λ bad. absurd bad; tags = omega arith })
+unless_sound : (s u t : State) (b : Bool) → IsSound u → cond b None (Some u) ≡ Some t → IsSound t
+unless_sound s u t true is h = none_some _ t h
+unless_sound s u t false is h = along u t h is
 
-  begin_sound : (s t : State) (w : List ℕ) (e : EntryWord) → IsSound parts n s → begin_by s e w ≡ Some t → IsSound parts (suc n) t
-  begin_sound s t w word.Mark is h = let few = is.tags in along (marked s) t h (record { point = is.point; named = λ bad. absurd bad; tags = omega arith })
-  begin_sound s t w e is h = point_sound s t w (point_of w) is refl h
+point_sound : (s t : State) (w : List ℕ) (o : Option ℕ) → IsSound s → point_of w ≡ o → at_point s o ≡ Some t → IsSound t
+point_sound s t w None is e h = none_some _ t h
+point_sound s t w (Some c) is e h =
+    along (record s { current = record s.current { points = s.current.points ++ c ∷ [] }; phase = phase.Point }) t h (first_bound s.current.points c is (point_bound w c e))
 
-  last_sound : (s t : State) (o : Option ℕ) → IsSound parts n s → at_last s o ≡ Some t → IsSound parts (suc n) t
-  last_sound s t None is h = none_some _ t h
-  last_sound s t (Some c) is h = by (leb (slice_index s.current.points 0) c) h
-    where
-      by : (b : Bool) → cond b (Some (record s { last = Some c; phase = phase.Last })) None ≡ Some t → IsSound parts (suc n) t
-      by true h = let few = is.tags in along (record s { last = Some c; phase = phase.Last }) t h (record { point = is.point; named = λ bad. absurd bad; tags = omega arith })
-      by false h = none_some _ t h
+begin_sound : (s t : State) (w : List ℕ) (e : EntryWord) → IsSound s → begin_by s e w ≡ Some t → IsSound t
+begin_sound s t w word.Mark is h = along (marked s) t h is
+begin_sound s t w e is h = point_sound s t w (point_of w) is refl h
 
-  if_sound : (s t : State) (b : Bool) → cond b (Some (with_done s)) None ≡ Some t → IsSound parts (suc n) t
-  if_sound s t true h = begun s t h
-  if_sound s t false h = none_some _ t h
+last_sound : (s t : State) (o : Option ℕ) → IsSound s → at_last s o ≡ Some t → IsSound t
+last_sound s t None is h = none_some _ t h
+last_sound s t (Some c) is h = if_sound s (record s { last = Some c; phase = phase.Last }) t (leb (slice_index s.current.points 0) c) is h
 
-  unless_sound : (s t : State) (b : Bool) → cond b None (Some (with_done s)) ≡ Some t → IsSound parts (suc n) t
-  unless_sound s t true h = none_some _ t h
-  unless_sound s t false h = begun s t h
+separated_sound : (s t : State) (e : EntryWord) → separated s e ≡ Some t → IsSound t
+separated_sound s t word.Bar h = if_sound s (with_done s) t (is_first s.done) (omega arith) h
+separated_sound s t word.Colon h = unless_sound s (with_done s) t (is_first s.done) (omega arith) h
+separated_sound s t e h = none_some _ t h
 
-  separated_sound : (s t : State) (e : EntryWord) → separated s e ≡ Some t → IsSound parts (suc n) t
-  separated_sound s t word.Bar h = if_sound s t (is_first s.done) h
-  separated_sound s t word.Colon h = unless_sound s t (is_first s.done) h
-  separated_sound s t e h = none_some _ t h
+rule_sound : (s t : State) (e : EntryWord) → after_rule s e ≡ Some t → IsSound t
+rule_sound s t e h = by (is_some s.last) h
+  where
+    by : (b : Bool) → cond b None (separated s e) ≡ Some t → IsSound t
+    by false h = separated_sound s t e h
+    by true h = none_some _ t h
 
-  rule_sound : (s t : State) (e : EntryWord) → after_rule s e ≡ Some t → IsSound parts (suc n) t
-  rule_sound s t e h = by (is_some s.last) h
-    where
-      by : (b : Bool) → cond b None (separated s e) ≡ Some t → IsSound parts (suc n) t
-      by false h = separated_sound s t e h
-      by true h = none_some _ t h
+type_sound : (s t : State) (e : EntryWord) → IsSound s → after_type s e ≡ Some t → IsSound t
+type_sound s t word.When is h = along (with_phase s phase.When) t h is
+type_sound s t word.Unless is h = along (with_phase s phase.Unless) t h is
+type_sound s t e is h = rule_sound s t e h
 
-  tags_sound : (s t : State) (e : EntryWord) → IsSound parts n s → after_tags s e ≡ Some t → IsSound parts (suc n) t
-  tags_sound s t word.When is h = in_phase s t phase.When (λ bad. absurd bad) is h
-  tags_sound s t word.Unless is h = in_phase s t phase.Unless (λ bad. absurd bad) is h
-  tags_sound s t e is h = rule_sound s t e h
+points_sound : (s t : State) (e : EntryWord) → IsSound s → after_points s e ≡ Some t → IsSound t
+points_sound s t word.As is h = unless_sound s (with_phase s phase.As) t s.current.marked is h
+points_sound s t e is h = type_sound s t e is h
 
-  tag_sound : (s t : State) (e : EntryWord) → parts.named ≡ true → IsSound parts n s → after_tag s e ≡ Some t → IsSound parts (suc n) t
-  tag_sound s t word.Comma named is h = in_phase s t phase.As (λ reads. named) is h
-  tag_sound s t e named is h = tags_sound s t e is h
+after_point_sound : (s t : State) (e : EntryWord) → IsSound s → after_point s e ≡ Some t → IsSound t
+after_point_sound s t word.Hyphen is h = along (with_phase s phase.Hyphen) t h is
+after_point_sound s t word.Range is h = if_sound s (with_phase s phase.Range) t (may_be_range s) is h
+after_point_sound s t e is h = points_sound s t e is h
 
-  -- 'as' stands only where tags may
-  as_named : (first : Bool) → is_lacking parts first word.As ≡ false → parts.named ≡ true
-  as_named true had = not-false parts.named had
-  as_named false had = not-false parts.named had
+step_sound : (s t : State) (w : List ℕ) (p : Phase) → IsSound s → step_by p s w ≡ Some t → IsSound t
+step_sound s t w phase.Begin is h = begin_sound s t w (word_of w) is h
+step_sound s t w phase.Mark is h = point_sound s t w (point_of w) is refl h
+step_sound s t w phase.Hyphen is h = point_sound s t w (point_of w) is refl h
+step_sound s t w phase.Point is h = after_point_sound s t (word_of w) is h
+step_sound s t w phase.Range is h = last_sound s t (point_of w) is h
+step_sound s t w phase.Last is h = points_sound s t (word_of w) is h
+step_sound s t w phase.As is h = if_sound s (record s { current = record s.current { type_name = Some w }; phase = phase.VariantType }) t (is_name w) is h
+step_sound s t w phase.VariantType is h = type_sound s t (word_of w) is h
+step_sound s t w phase.When is h =
+    if_sound s (record s { current = record s.current { condition = Some (record { kind = condition.When; rule = w }) }; phase = phase.Rule }) t (is_name w) is h
+step_sound s t w phase.Unless is h =
+    if_sound s (record s { current = record s.current { condition = Some (record { kind = condition.Unless; rule = w }) }; phase = phase.Rule }) t (is_name w) is h
+step_sound s t w phase.Rule is h = rule_sound s t (word_of w) h
 
-  points_sound : (first : Bool) (s t : State) (e : EntryWord) → IsSound parts n s → is_lacking parts first e ≡ false → after_points s e ≡ Some t → IsSound parts (suc n) t
-  points_sound first s t word.As is had h = by s.current.marked h
-    where
-      by : (b : Bool) → cond b None (Some (with_phase s phase.As)) ≡ Some t → IsSound parts (suc n) t
-      by true h = none_some _ t h
-      by false h = in_phase s t phase.As (λ reads. as_named first had) is h
-  points_sound first s t e is had h = tags_sound s t e is h
-
-  after_point_sound : (first : Bool) (s t : State) (e : EntryWord) → IsSound parts n s → is_lacking parts first e ≡ false → after_point s e ≡ Some t → IsSound parts (suc n) t
-  after_point_sound first s t word.Hyphen is had h = in_phase s t phase.Hyphen (λ bad. absurd bad) is h
-  after_point_sound first s t word.Range is had h = by (may_be_range s) h
-    where
-      by : (b : Bool) → cond b (Some (with_phase s phase.Range)) None ≡ Some t → IsSound parts (suc n) t
-      by true h = in_phase s t phase.Range (λ bad. absurd bad) is h
-      by false h = none_some _ t h
-  after_point_sound first s t e is had h = points_sound first s t e is had h
-
-  at_tag_sound : (s t : State) (w : List ℕ) → parts.named ≡ true → IsSound parts n s → at_tag s w ≡ Some t → IsSound parts (suc n) t
-  at_tag_sound s t w named is h = by (is_name w && not (is_one_of s.current.tags w)) h
-    where
-      by : (b : Bool) → cond b (Some (record s { current = record s.current { tags = s.current.tags ++ w ∷ [] }; phase = phase.Tag })) None ≡ Some t → IsSound parts (suc n) t
-      by true h =
-          let few = is.tags in
-          along (record s { current = record s.current { tags = s.current.tags ++ w ∷ [] }; phase = phase.Tag }) t h
-          (record { point = is.point; named = λ reads. named; tags = omega (arith, length-append s.current.tags (w ∷ [])) })
-      by false h = none_some _ t h
-
-  at_rule_sound : (s t : State) (kind : ConditionKind) (w : List ℕ) → IsSound parts n s → at_rule s kind w ≡ Some t → IsSound parts (suc n) t
-  at_rule_sound s t kind w is h = by (is_name w) h
-    where
-      by : (b : Bool) → cond b (Some (record s { current = record s.current { condition = Some (record { kind = kind; rule = w }) }; phase = phase.Rule })) None ≡ Some t → IsSound parts (suc n) t
-      by true h =
-          let few = is.tags in
-          along (record s { current = record s.current { condition = Some (record { kind = kind; rule = w }) }; phase = phase.Rule }) t h
-          (record { point = is.point; named = λ bad. absurd bad; tags = omega arith })
-      by false h = none_some _ t h
-
-  step_sound : (first : Bool) (s t : State) (w : List ℕ) (p : Phase) → s.phase ≡ p → IsSound parts n s → is_lacking parts first (word_of w) ≡ false → step_by p s w ≡ Some t → IsSound parts (suc n) t
-  step_sound first s t w phase.Begin e is had h = begin_sound s t w (word_of w) is h
-  step_sound first s t w phase.Mark e is had h = point_sound s t w (point_of w) is refl h
-  step_sound first s t w phase.Hyphen e is had h = point_sound s t w (point_of w) is refl h
-  step_sound first s t w phase.Point e is had h = after_point_sound first s t (word_of w) is had h
-  step_sound first s t w phase.Range e is had h = last_sound s t (point_of w) is h
-  step_sound first s t w phase.Last e is had h = points_sound first s t (word_of w) is had h
-  step_sound first s t w phase.As e is had h = at_tag_sound s t w (is.named (subst ReadsTags (sym e) tt)) is h
-  step_sound first s t w phase.Tag e is had h = tag_sound s t (word_of w) (is.named (subst ReadsTags (sym e) tt)) is h
-  step_sound first s t w phase.When e is had h = at_rule_sound s t condition.When w is h
-  step_sound first s t w phase.Unless e is had h = at_rule_sound s t condition.Unless w is h
-  step_sound first s t w phase.Rule e is had h = rule_sound s t (word_of w) h
-
-sound_within : (parts : EntryParts) (n m : ℕ) (s : State) → n ≤ m → IsSound parts n s → IsSound parts m s
-sound_within parts n m s upto is = let few = is.tags in record { point = is.point; named = is.named; tags = omega arith }
-
-sound_next : (parts : EntryParts) (n m : ℕ) (first : Bool) (s t : State) (w : List ℕ) (ws : List (List ℕ)) (o : Option State) → IsSound parts n s → is_lacking parts first (word_of w) ≡ false → step s w ≡ o
-    → ((u : State) → IsSound parts (suc n) u → state_after (Some u) ws ≡ Some t → IsSound parts m t) → state_after o ws ≡ Some t → IsSound parts m t
-sound_next parts n m first s t w ws None is had e rest h = none_some _ t (sym (none_after ws) ∙ h)
-sound_next parts n m first s t w ws (Some u) is had e rest h = rest u (step_sound parts n first s u w s.phase refl is had e) h
-
-sound_after : (parts : EntryParts) (ws : List (List ℕ)) (n m : ℕ) (first : Bool) (s t : State) → n + length ws ≤ m → IsSound parts n s → AllHad parts first ws → state_after (Some s) ws ≡ Some t → IsSound parts m t
-sound_after parts [] n m first s t upto is had e = subst (IsSound parts m) (same_some s t e) (sound_within parts n m s (omega arith) is)
-sound_after parts (w ∷ ws) n m first s t upto is had e =
-    sound_next parts n m first s t w ws (step s w) is had.0 refl (λ u k h. sound_after parts ws (suc n) m false u t (omega arith) k had.1 h) e
-
--- ---- a name that is none of those given
-
--- 't' and a number of four digits
-abbrev numbered : ℕ → List ℕ
-numbered i = 116 ∷ (48 + i / 10 / 10 / 10) ∷ (48 + i / 10 / 10 % 10) ∷ (48 + i / 10 % 10) ∷ (48 + i % 10) ∷ []
-
-numbered-once : (i j : ℕ) → numbered i ≡ numbered j → i ≡ j
-numbered-once i j e =
-    let a : 48 + i / 10 / 10 / 10 ≡ 48 + j / 10 / 10 / 10 = cc in
-    let b : 48 + i / 10 / 10 % 10 ≡ 48 + j / 10 / 10 % 10 = cc in
-    let c : 48 + i / 10 % 10 ≡ 48 + j / 10 % 10 = cc in
-    let d : 48 + i % 10 ≡ 48 + j % 10 = cc in
-    omega arith
-
-digit : (d : ℕ) → d < 10 → is_name_byte (48 + d) ≡ true
-digit d few = grind (arith, nat_tests)
-
-numbered-name : (i : ℕ) → i < 10000 → is_name (numbered i) ≡ true
-numbered-name i few =
-    let a : is_name_byte (48 + i / 10 / 10 / 10) ≡ true = digit (i / 10 / 10 / 10) (omega arith) in
-    let b : is_name_byte (48 + i / 10 / 10 % 10) ≡ true = digit (i / 10 / 10 % 10) (omega arith) in
-    let c : is_name_byte (48 + i / 10 % 10) ≡ true = digit (i / 10 % 10) (omega arith) in
-    let d : is_name_byte (48 + i % 10) ≡ true = digit (i % 10) (omega arith) in
-    rw (a, b, c, d) refl
-
--- the numbers but for one
-abbrev passing : ℕ → ℕ → ℕ
-passing i j = if nat_lt j i then j else suc j
-
-passing-once : (i a b : ℕ) → passing i a ≡ passing i b → a ≡ b
-passing-once i a b e = grind (arith, nat_tests)
-
-passing-other : (i a : ℕ) → passing i a ≡ i → ⊥
-passing-other i a e = grind (arith, nat_tests)
-
-passing-upto : (i a n : ℕ) → a ≤ n → passing i a ≤ suc n
-passing-upto i a n upto = grind (arith, nat_tests)
-
--- of more names than a list has, one is none of the list
-abbrev Fresh : (ℕ → List ℕ) → List (List ℕ) → Type 0
-Fresh f names = (i : ℕ) × (i ≤ length names) × (is_one_of names (f i) ≡ false)
-
-abbrev IsOnce : (ℕ → List ℕ) → Type 0
-IsOnce f = (i j : ℕ) → f i ≡ f j → i ≡ j
-
-fresh_other : (f : ℕ → List ℕ) (name : List ℕ) (names : List (List ℕ)) (i : ℕ) → IsOnce f → name ≡ f i → Fresh (λ j. f (passing i j)) names → Fresh f (name ∷ names)
-fresh_other f name names i once same r =
-    let none : bytes_eq name (f (passing i r.0)) ≡ false = differ name (f (passing i r.0)) (λ e. passing-other i r.0 (once (passing i r.0) i (sym e ∙ same))) in
-    (passing i r.0, passing-upto i r.0 (length names) r.1, ap (λ b. b || is_one_of names (f (passing i r.0))) none ∙ r.2)
-
-fresh_next : (f : ℕ → List ℕ) (name : List ℕ) (names : List (List ℕ)) → IsOnce f → ((g : ℕ → List ℕ) → IsOnce g → Fresh g names) → (r : Fresh f names) (b : Bool) → bytes_eq name (f r.0) ≡ b → Fresh f (name ∷ names)
-fresh_next f name names once of_others r false e = (r.0, (let upto = r.1 in omega arith), ap (λ b. b || is_one_of names (f r.0)) e ∙ r.2)
-fresh_next f name names once of_others r true e =
-    fresh_other f name names r.0 once (equal name (f r.0) e)
-    (of_others (λ j. f (passing r.0 j)) (λ a b h. passing-once r.0 a b (once (passing r.0 a) (passing r.0 b) h)))
-
-fresh : (names : List (List ℕ)) (f : ℕ → List ℕ) → IsOnce f → Fresh f names
-fresh [] f once = (0, omega arith, refl)
-fresh (name ∷ names) f once =
-    let r = fresh names f once in fresh_next f name names once (λ g one. fresh names g one) r (bytes_eq name (f r.0)) refl
+sound_after : (ws : List (List ℕ)) (s t : State) → IsSound s → state_after (Some s) ws ≡ Some t → IsSound t
+sound_after [] s t is e = along s t e is
+sound_after (w ∷ ws) s t is e = by (step s w) refl e (λ u. sound_after ws u t)
+  where
+    by : (o : Option State) → step s w ≡ o → state_after o ws ≡ Some t → ((u : State) → IsSound u → state_after (Some u) ws ≡ Some t → IsSound t) → IsSound t
+    by None h e rest = none_some _ t (sym (none_after ws) ∙ e)
+    by (Some u) h e rest = rest u (step_sound s u w s.phase is h) e
 
 -- a lexeme that completes it
 a_point : point_of (codes "0061") ≡ Some 97
@@ -421,42 +285,33 @@ by_rule parts s kind e = record {
   complete = refl;
 }
 
-by_tag : (parts : EntryParts) (s : State) (r : Fresh numbered s.current.tags) → r.0 < 10000 → step s (numbered r.0) ≡ at_tag s (numbered r.0) → Completed parts s
-by_tag parts s r few e =
-    let next : State = record s { current = record s.current { tags = s.current.tags ++ numbered r.0 ∷ [] }; phase = phase.Tag } in
-    let test : (is_name (numbered r.0) && not (is_one_of s.current.tags (numbered r.0))) ≡ true =
-    ap (λ b. b && not (is_one_of s.current.tags (numbered r.0))) (numbered-name r.0 few) ∙ ap not r.2 in
-    record {
-      more = numbered r.0 ∷ [];
-      had = λ first. (no_lack parts first (numbered r.0) refl, tt);
-      at = next;
-      leads = e ∙ ap (λ b. cond b (Some next) None) test;
-      complete = refl;
-    }
+by_type : (parts : EntryParts) (s : State) → step s (codes "t") ≡ at_type s (codes "t") → Completed parts s
+by_type parts s e = record {
+  more = codes "t" ∷ [];
+  had = λ first. (no_lack parts first (codes "t") refl, tt);
+  at = record s { current = record s.current { type_name = Some (codes "t") }; phase = phase.VariantType };
+  leads = e;
+  complete = refl;
+}
 
-completed : (parts : EntryParts) (n : ℕ) (s : State) (p : Phase) → s.phase ≡ p → (parts.named ≡ true → n ≤ 8192) → IsSound parts n s → Completed parts s
-completed parts n s phase.Begin e few is = by_point parts s (ap (λ p. step_by p s (codes "0061")) e)
-completed parts n s phase.Mark e few is = by_point parts s (ap (λ p. step_by p s (codes "0061")) e)
-completed parts n s phase.Hyphen e few is = by_point parts s (ap (λ p. step_by p s (codes "0061")) e)
-completed parts n s phase.Point e few is = as_it_is parts s (ap is_complete e)
-completed parts n s phase.Last e few is = as_it_is parts s (ap is_complete e)
-completed parts n s phase.Tag e few is = as_it_is parts s (ap is_complete e)
-completed parts n s phase.Rule e few is = as_it_is parts s (ap is_complete e)
-completed parts n s phase.When e few is = by_rule parts s condition.When (ap (λ p. step_by p s (codes "r")) e)
-completed parts n s phase.Unless e few is = by_rule parts s condition.Unless (ap (λ p. step_by p s (codes "r")) e)
-completed parts n s phase.As e few is =
-    let r = fresh s.current.tags numbered numbered-once in
-    let most = few (is.named (subst ReadsTags (sym e) tt)) in
-    let upto = r.1 in
-    let tags = is.tags in
-    by_tag parts s r (omega arith) (ap (λ p. step_by p s (numbered r.0)) e)
-completed parts n s phase.Range e few is =
+completed : (parts : EntryParts) (s : State) (p : Phase) → s.phase ≡ p → IsSound s → Completed parts s
+completed parts s phase.Begin e is = by_point parts s (ap (λ p. step_by p s (codes "0061")) e)
+completed parts s phase.Mark e is = by_point parts s (ap (λ p. step_by p s (codes "0061")) e)
+completed parts s phase.Hyphen e is = by_point parts s (ap (λ p. step_by p s (codes "0061")) e)
+completed parts s phase.Point e is = as_it_is parts s (ap is_complete e)
+completed parts s phase.Last e is = as_it_is parts s (ap is_complete e)
+completed parts s phase.VariantType e is = as_it_is parts s (ap is_complete e)
+completed parts s phase.Rule e is = as_it_is parts s (ap is_complete e)
+completed parts s phase.When e is = by_rule parts s condition.When (ap (λ p. step_by p s (codes "r")) e)
+completed parts s phase.Unless e is = by_rule parts s condition.Unless (ap (λ p. step_by p s (codes "r")) e)
+completed parts s phase.As e is = by_type parts s (ap (λ p. step_by p s (codes "t")) e)
+completed parts s phase.Range e is =
     let next : State = record s { last = Some 1114111; phase = phase.Last } in
     record {
       more = codes "10FFFF" ∷ [];
       had = λ first. (no_lack parts first (codes "10FFFF") refl, tt);
       at = next;
-      leads = ap (λ p. step_by p s (codes "10FFFF")) e ∙ ap (at_last s) last_point ∙ ap (λ b. cond b (Some next) None) (le-leb (slice_index s.current.points 0) 1114111 is.point);
+      leads = ap (λ p. step_by p s (codes "10FFFF")) e ∙ ap (at_last s) last_point ∙ ap (λ b. cond b (Some next) None) (le-leb (slice_index s.current.points 0) 1114111 is);
       complete = refl;
     }
 
@@ -473,9 +328,6 @@ after_append (w ∷ ws) vs s = after_append ws vs (stepped s w)
 form_at : (t : State) → is_complete t.phase ≡ true → (form : EntryForm) × (ended t ≡ Some form)
 form_at t e = (record { mapped = t.done ++ t.current ∷ []; last = t.last }, ap (λ b. cond b (Some (record { mapped = t.done ++ t.current ∷ []; last = t.last })) None) e)
 
-start_sound : (parts : EntryParts) → IsSound parts 0 start
-start_sound parts = record { point = omega arith; named = λ bad. absurd bad; tags = omega arith }
-
 -- lexemes that were read with such parts, to a complete form
 whole : (parts : EntryParts) (ws : List (List ℕ)) (t : State) (form : EntryForm) → AllHad parts true ws → state_after (Some start) ws ≡ Some t → ended t ≡ Some form
     → IsForm form.mapped form.last × (has_parts parts form ≡ true) × AreWords (entry_words form.mapped form.last) ws
@@ -485,10 +337,10 @@ whole parts ws t form had e ends =
     let is = read_words form ws read in
     (is.0, form_by_had parts form ws is.0 is.1 had, is.1)
 
-begins_by_run : (parts : EntryParts) (ws : List (List ℕ)) (s : State) → (parts.named ≡ true → length ws ≤ 8192) → run (step_in parts) (Some start) ws ≡ Some s → Begins (AreEntry parts) ws
-begins_by_run parts ws s few e =
+begins_by_run : (parts : EntryParts) (ws : List (List ℕ)) (s : State) → run (step_in parts) (Some start) ws ≡ Some s → Begins (AreEntry parts) ws
+begins_by_run parts ws s e =
     let r = ran parts ws start s e in
-    let c = completed parts (length ws) s s.phase refl few (sound_after parts ws 0 (length ws) true start s (omega arith) (start_sound parts) r.0 r.1) in
+    let c = completed parts s s.phase refl (sound_after ws start s (omega arith) r.1) in
     let f = form_at c.at c.complete in
     let all = had_append parts ws c.more true r.0 c.had in
     let leads = after_append ws c.more (Some start) ∙ ap (λ o. state_after o c.more) r.1 ∙ c.leads in
@@ -512,30 +364,15 @@ entry_run parts ws is =
 
 -- ---- a reader by steps
 
--- so few lexemes that some name is none of them
-abbrev Fits : EntryParts → List (List ℕ) → Type 0
-Fits parts ws = parts.named ≡ true → length ws ≤ 8192
-
 abbrev Spells : EntryParts → List (List ℕ) → EntryForm → Type 0
 Spells parts ws form = IsForm form.mapped form.last × (has_parts parts form ≡ true) × AreWords (entry_words form.mapped form.last) ws
 
-reader : (parts : EntryParts) → Reads (step_in parts) start ended (Fits parts) (Spells parts)
+reader : (parts : EntryParts) → Reads (step_in parts) start ended (λ ws. Unit {0}) (Spells parts)
 reader parts = record {
   all = λ ws form is. entry_run parts ws (form, is.0, is.1, is.2);
   only = λ ws s form e f. let k = ran parts ws start s e in whole parts ws s form k.0 k.1 f;
-  begun = λ ws s few e. let b = begins_by_run parts ws s few e in (b.0, (b.1.0, (b.1.1, b.1.2, b.1.3)));
+  begun = λ ws s fits e. let b = begins_by_run parts ws s e in (b.0, (b.1.0, (b.1.1, b.1.2, b.1.3)));
 }
-
-unplaced_count : (ws : List Placed) → length (unplaced ws) ≡ length ws
-unplaced_count [] = refl
-unplaced_count (w ∷ ws) = ap suc (unplaced_count ws)
-
-few_front : (parts : EntryParts) (line : List ℕ) → FitsNames parts line → (front rest : List Placed) → placed_lexemes line ≡ front ++ rest → Fits parts (unplaced front)
-few_front parts line fits front rest cut named =
-    let most = fits named in
-    let few = placed-length 0 line in
-    let same = ap length cut ∙ length-append front rest in
-    omega (arith, unplaced_count front)
 
 -- ---- the form
 
@@ -560,9 +397,9 @@ the_entry parts line form = (form_found parts line form, found_form parts line f
 
 -- ---- the place
 
-told : (parts : EntryParts) (line : List ℕ) → FitsNames parts line → Tells (Spells parts) (placed_lexemes line) (length line) (entry_read parts line)
+told : (parts : EntryParts) (line : List ℕ) → Tells (Spells parts) (placed_lexemes line) (length line) (entry_read parts line)
 unfolding entry_read
-told parts line fits = tells (step_in parts) start ended (Fits parts) (Spells parts) (reader parts) (length line) (placed_lexemes line) (few_front parts line fits)
+told parts line = tells (step_in parts) start ended (λ ws. Unit {0}) (Spells parts) (reader parts) (length line) (placed_lexemes line) (λ front rest cut. tt)
 
 place_found : (parts : EntryParts) (line : List ℕ) (place : FaultPlace) (read : Result EntryForm FaultPlace) → Tells (Spells parts) (placed_lexemes line) (length line) read → read ≡ Err place
     → IsEntryStop parts line place
@@ -570,10 +407,10 @@ place_found parts line place read is e =
     let stop : Tells (Spells parts) (placed_lexemes line) (length line) (Err place) = subst (Tells (Spells parts) (placed_lexemes line) (length line)) e is in
     renamed (Spelled (Spells parts)) (AreEntry parts) (placed_lexemes line) (length line) place (λ more all. (all.0, all.1.0, all.1.1, all.1.2)) (λ more all. (all.0, (all.1, all.2, all.3))) stop
 
-pub the_stop : (parts : EntryParts) (line : List ℕ) (place : FaultPlace) → FitsNames parts line → (entry_read parts line ≡ Err place) ↔ IsEntryStop parts line place
-the_stop parts line place fits = (
-  place_found parts line place (entry_read parts line) (told parts line fits),
-  λ is. stop_is (Spells parts) (placed_lexemes line) (length line) (entry_read parts line) place (told parts line fits)
+pub the_stop : (parts : EntryParts) (line : List ℕ) (place : FaultPlace) → (entry_read parts line ≡ Err place) ↔ IsEntryStop parts line place
+the_stop parts line place = (
+  place_found parts line place (entry_read parts line) (told parts line),
+  λ is. stop_is (Spells parts) (placed_lexemes line) (length line) (entry_read parts line) place (told parts line)
       (renamed (AreEntry parts) (Spelled (Spells parts)) (placed_lexemes line) (length line) place (λ more all. (all.0, (all.1, all.2, all.3))) (λ more all. (all.0, all.1.0, all.1.1, all.1.2)) is),
 )
 

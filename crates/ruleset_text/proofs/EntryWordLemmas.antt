@@ -1,5 +1,5 @@
 -- Where no word is looked for in reading an entry, none can be lacking.
-use Rattle.std.proofs.Common.{◌≡◌, ℕ, Bool, true, false, not, cond, ◌&&◌, List, [], ◌∷◌, ◌++◌, length, Option, Some, None, refl, sym, ap, subst, ◌∙◌}
+use Rattle.std.proofs.Common.{◌≡◌, ℕ, Bool, true, false, cond, ◌&&◌, List, length, Option, Some, None, refl, sym, ap, subst, ◌∙◌}
 use Rattle.std.specs.Prelude.{bytes_eq, codes}
 use Rattle.std.proofs.lemmas.Slice.Eq.{bytes_eq-Decides}
 use Rattle.std.proofs.Math.Bool.{and-false}
@@ -9,12 +9,13 @@ use Rattle.ruleset_text.specs.declared.entry_reading.Phase.TheVariants as phase
 use Rattle.label_patterns.specs.declared.condition.ConditionKind.TheVariants as condition
 use Rattle.ruleset_text.specs.declared.entry_reading.EntryWord.{EntryWord}
 use Rattle.ruleset_text.specs.declared.entry_reading.EntryWord.TheVariants as word
-use Rattle.ruleset_text.specs.EntrySteps.{State, at_last, at_point, at_tag, begin_by, is_begin, is_first, is_lacking, is_new, step, step_by, step_in, word_of}
+use Rattle.ruleset_text.specs.EntrySteps.{State, at_last, at_point, at_type, begin_by, is_begin, is_first, is_lacking, is_new, step, step_by, step_in, word_of}
 use Rattle.idn_text.specs.Points.{point_of_hex}
 use Rattle.ruleset_text.specs.Definitions.{Definitions}
-use Rattle.ruleset_text.specs.EntryFaults.{Notes, unknown_in}
+use Rattle.ruleset_text.specs.EntryFaults.{Notes}
+use Rattle.ruleset_text.specs.LineFaults.{unknown_in}
 use Rattle.ruleset_text.specs.EntryWords.{point_of}
-use Rattle.ruleset_text.specs.Names.{is_name, is_one_of}
+use Rattle.ruleset_text.specs.Names.{is_name}
 use Rattle.ruleset_text.specs.inner.EntryTaken.{is_before_name}
 use Rattle.ruleset_text.specs.PlacedLexemes.{Placed}
 use Rattle.ruleset_text.specs.inner.EntryNoted.{and_notes, name_notes, names_next, noted, noted_word, with_word}
@@ -82,7 +83,7 @@ module _ (parts : EntryParts) (s : State) (w : List ℕ) where
       by phase.Range h = and-false (is_first s.done)
       by phase.Last h = and-false (is_first s.done)
       by phase.As h = and-false (is_first s.done)
-      by phase.Tag h = and-false (is_first s.done)
+      by phase.VariantType h = and-false (is_first s.done)
       by phase.When h = and-false (is_first s.done)
       by phase.Unless h = and-false (is_first s.done)
       by phase.Rule h = and-false (is_first s.done)
@@ -104,10 +105,10 @@ module _ (parts : EntryParts) (s : State) (w : List ℕ) where
   no_name_taken phase.Hyphen h none = absurd cc
   no_name_taken phase.Range h none = absurd cc
   no_name_taken phase.Last h none = absurd cc
-  no_name_taken phase.Tag h none = absurd cc
+  no_name_taken phase.VariantType h none = absurd cc
   no_name_taken phase.Rule h none = absurd cc
   no_name_taken phase.As h none =
-      ap (λ b. cond (b && not (is_one_of s.current.tags w)) (Some (record s { current = record s.current { tags = s.current.tags ++ w ∷ [] }; phase = phase.Tag })) None) none
+      ap (λ b. cond b (Some (record s { current = record s.current { type_name = Some w }; phase = phase.VariantType })) None) none
   no_name_taken phase.When h none = ap (λ b. cond b (Some (record s { current = record s.current { condition = Some (record { kind = condition.When; rule = w }) }; phase = phase.Rule })) None) none
   no_name_taken phase.Unless h none = ap (λ b. cond b (Some (record s { current = record s.current { condition = Some (record { kind = condition.Unless; rule = w }) }; phase = phase.Rule })) None) none
 
@@ -129,7 +130,7 @@ module _ (parts : EntryParts) (s : State) (w : List ℕ) where
       by phase.Hyphen h = absurd cc
       by phase.Range h = absurd cc
       by phase.Last h = absurd cc
-      by phase.Tag h = absurd cc
+      by phase.VariantType h = absurd cc
       by phase.Rule h = absurd cc
 
   pub name_free : is_before_name s.phase ≡ true → parts.named ≡ true → step_in parts s w ≡ step s w
@@ -139,11 +140,11 @@ module _ (parts : EntryParts) (s : State) (w : List ℕ) where
       by false none lacks = no_name_taken s.phase h none
       by true name lacks = absurd (let clash : true ≡ false = sym lacks ∙ name_kept parts false w (word_of w) named name (spelled w) in cc)
 
-  -- of the names only that of a tag is left
-  pub tag_next : is_before_name s.phase ≡ true → (s.phase ≡ phase.When → ⊥) → (s.phase ≡ phase.Unless → ⊥) → step s w ≡ at_tag s w
-  tag_next h not_when not_unless = by s.phase refl h
+  -- of the names only that of a type is left
+  pub type_next : is_before_name s.phase ≡ true → (s.phase ≡ phase.When → ⊥) → (s.phase ≡ phase.Unless → ⊥) → step s w ≡ at_type s w
+  type_next h not_when not_unless = by s.phase refl h
     where
-      by : (p : Phase) → s.phase ≡ p → is_before_name p ≡ true → step_by p s w ≡ at_tag s w
+      by : (p : Phase) → s.phase ≡ p → is_before_name p ≡ true → step_by p s w ≡ at_type s w
       by phase.As e h = refl
       by phase.When e h = absurd (not_when e)
       by phase.Unless e h = absurd (not_unless e)
@@ -153,5 +154,5 @@ module _ (parts : EntryParts) (s : State) (w : List ℕ) where
       by phase.Hyphen e h = absurd cc
       by phase.Range e h = absurd cc
       by phase.Last e h = absurd cc
-      by phase.Tag e h = absurd cc
+      by phase.VariantType e h = absurd cc
       by phase.Rule e h = absurd cc

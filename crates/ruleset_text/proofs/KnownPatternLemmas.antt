@@ -29,8 +29,8 @@ demands_of : (properties : Properties) (sets : List (List ℕ)) (demands : List 
 demands_of properties sets [] n e all = tt
 demands_of properties sets (d ∷ demands) n e all = (subst (λ k. HasItsSets k d.pattern) e all.0.parts.0.known, demands_of properties sets demands n e all.1)
 
-abbrev tags_in : Definitions → List Definition
-tags_in d = map definition.Tag d.tags
+abbrev pub types_in : Definitions → List Definition
+types_in d = map definition.VariantType d.types
 
 abbrev sets_in : Definitions → List Definition
 sets_in d = named definition.Set d.set_names d.sets
@@ -41,14 +41,29 @@ rules_in d = named definition.Rule d.rule_names d.rules
 abbrev pub demands_in : Definitions → List Definition
 demands_in d = map (λ e. definition.Demand e.kind e.pattern) d.demands
 
-pub patterns : (d : Definitions) → AreDefinitions d → AllByRecursion (IsDefinition d.properties d.set_names) (rules_in d ++ demands_in d)
+abbrev pub actions_in : Definitions → List Definition
+actions_in d = map definition.Action d.actions
+
+pub patterns : (d : Definitions) → AreDefinitions d → AllByRecursion (IsDefinition d.properties d.set_names) (rules_in d ++ (demands_in d ++ actions_in d))
 patterns d are =
-    all_after (IsDefinition d.properties d.set_names) (sets_in d) (rules_in d ++ demands_in d)
-    (all_after (IsDefinition d.properties d.set_names) (tags_in d) (sets_in d ++ (rules_in d ++ demands_in d)) are.each)
+    all_after (IsDefinition d.properties d.set_names) (sets_in d) (rules_in d ++ (demands_in d ++ actions_in d))
+    (all_after (IsDefinition d.properties d.set_names) (types_in d) (sets_in d ++ (rules_in d ++ (demands_in d ++ actions_in d))) are.each)
+
+pub rules_are : (d : Definitions) → AreDefinitions d → AllByRecursion (IsDefinition d.properties d.set_names) (rules_in d)
+rules_are d are = all_before (IsDefinition d.properties d.set_names) (rules_in d) (demands_in d ++ actions_in d) (patterns d are)
+
+pub demands_are : (d : Definitions) → AreDefinitions d → AllByRecursion (IsDefinition d.properties d.set_names) (demands_in d)
+demands_are d are =
+    all_before (IsDefinition d.properties d.set_names) (demands_in d) (actions_in d)
+    (all_after (IsDefinition d.properties d.set_names) (rules_in d) (demands_in d ++ actions_in d) (patterns d are))
 
 pub rules_known : (d : Definitions) → AreDefinitions d → AllByRecursion (HasItsSets (length d.sets)) d.rules
-rules_known d are =
-    rules_of d.properties d.set_names d.rule_names d.rules (length d.sets) are.named_sets are.named_rules (all_before (IsDefinition d.properties d.set_names) (rules_in d) (demands_in d) (patterns d are))
+rules_known d are = rules_of d.properties d.set_names d.rule_names d.rules (length d.sets) are.named_sets are.named_rules (rules_are d are)
 
 pub demands_known : (d : Definitions) → AreDefinitions d → AllByRecursion (λ e. HasItsSets (length d.sets) e.pattern) d.demands
-demands_known d are = demands_of d.properties d.set_names d.demands (length d.sets) are.named_sets (all_after (IsDefinition d.properties d.set_names) (rules_in d) (demands_in d) (patterns d are))
+demands_known d are = demands_of d.properties d.set_names d.demands (length d.sets) are.named_sets (demands_are d are)
+
+pub actions_are : (d : Definitions) → AreDefinitions d → AllByRecursion (IsDefinition d.properties d.set_names) (actions_in d)
+actions_are d are =
+    all_after (IsDefinition d.properties d.set_names) (demands_in d) (actions_in d)
+    (all_after (IsDefinition d.properties d.set_names) (rules_in d) (demands_in d ++ actions_in d) (patterns d are))

@@ -1,11 +1,11 @@
 -- What names after those of the sets leave as it was: the text of patterns whose sets are known.
 use Rattle.std.proofs.Common.{◌≡◌, ℕ, ◌≤◌, true, List, [], ◌∷◌, ◌++◌, length, refl, ap, ◌∙◌, arith}
-use Rattle.std.specs.Prelude.{codes}
 use Rattle.std.proofs.lemmas.Bool.{ltb-true, and_parts}
 use Rattle.std.proofs.lemmas.List.{get_or_append_left}
 use Rattle.label_patterns.specs.Patterns.{Pattern, Point, Set, Any, Start, End, Anchor, Group, Optional, Many, Then, Either}
 use Rattle.label_patterns.specs.Matches.{HasItsSets}
-use Rattle.ruleset_text.specs.Canonical.{pattern_text, definition_text}
+use Rattle.label_patterns.specs.Rules.{is_context_rule}
+use Rattle.ruleset_text.specs.Canonical.{pattern_text, definition_text, rule_word}
 use Rattle.ruleset_text.specs.Definition as definition
 use Rattle.ruleset_text.specs.Definition.{Definition}
 use Rattle.ruleset_text.specs.Limits.{has_its_sets}
@@ -57,13 +57,15 @@ pattern_text-more names more (Either p q) h =
 
 -- the pattern of a definition has sets that are known
 abbrev pub KnowsSets : ℕ → Definition → Type 0
-KnowsSets n (definition.Tag name) = Unit {0}
+KnowsSets n (definition.VariantType name) = Unit {0}
 KnowsSets n (definition.Set name spans) = Unit {0}
 KnowsSets n (definition.Rule name contexts) = HasItsSets n contexts
 KnowsSets n (definition.Demand kind p) = HasItsSets n p
+KnowsSets n (definition.Action a) = Unit {0}
 
 pub definition_text-more : (names more : List (List ℕ)) (x : Definition) → KnowsSets (length names) x → definition_text (names ++ more) x ≡ definition_text names x
-definition_text-more names more (definition.Tag name) h = refl
+definition_text-more names more (definition.VariantType name) h = refl
 definition_text-more names more (definition.Set name spans) h = refl
-definition_text-more names more (definition.Rule name contexts) h = ap (λ t. codes "%rule " ++ name ++ 32 ∷ t) (pattern_text-more names more contexts h)
+definition_text-more names more (definition.Rule name contexts) h = ap (λ t. rule_word (is_context_rule contexts) ++ (name ++ 32 ∷ t)) (pattern_text-more names more contexts h)
 definition_text-more names more (definition.Demand kind p) h = ap (λ t. definition.demand_word kind ++ 32 ∷ t) (pattern_text-more names more p h)
+definition_text-more names more (definition.Action a) h = refl

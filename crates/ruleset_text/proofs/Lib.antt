@@ -12,7 +12,9 @@ mod DefineFaultLemmas
 pub mod SpanExactLemmas
 pub mod LexemeLemmas
 pub mod PlacedLemmas
-mod NameLemmas
+pub mod NameLemmas
+mod PredefinedLemmas
+mod WholeRuleLemmas
 mod SpanLemmas
 pub mod HexLemmas
 mod PointLemmas
@@ -21,8 +23,13 @@ mod TextLemmas
 mod BackLemmas
 mod SpanTextLemmas
 mod KnownSetLemmas
+mod ActionLemmas
+mod ActionNameLemmas
+mod ActionReadLemmas
+mod FreshNameLemmas
+mod NameWordLemmas
 pub mod AddedLemmas
-mod FormLemmas
+pub mod FormLemmas
 mod DefineLemmas
 mod SpanBackLemmas
 mod LineBackLemmas

@@ -7,13 +7,26 @@ use Rattle.label_patterns.specs.declared.span.Span.{Span}
 use Rattle.label_patterns.specs.Patterns.{Pattern, Point, Set, Any, Start, End, Anchor, Group, Optional, Many, Then, Either}
 use Rattle.ruleset_text.specs.declared.definition.DemandKind.{DemandKind}
 use Rattle.ruleset_text.specs.declared.definition.DemandKind.TheVariants.{Never, Always}
-use Rattle.ruleset_text.specs.Canonical.{point_text, pattern_text, span_text, spans_text, definition_text}
+use Rattle.label_patterns.specs.Rules.{is_context_rule}
+use Rattle.ruleset_text.specs.declared.action.TriggerKind.{TriggerKind}
+use Rattle.ruleset_text.specs.declared.action.TriggerKind.TheVariants as trigger
+use Rattle.ruleset_text.specs.declared.named_condition.NamedCondition.{NamedCondition}
+use Rattle.ruleset_text.specs.Actions.{NamedAction, NamedTrigger, IsAction, HasTypes, action_text, disposition_word, names_text, trigger_text, trigger_word}
+use Rattle.ruleset_text.specs.Canonical.{point_text, pattern_text, span_text, spans_text, definition_text, rule_word}
 use Rattle.idn_text.specs.Points.{four_digits, hex_digit}
 use Rattle.ruleset_text.specs.Definition as definition
 use Rattle.ruleset_text.specs.Definition.{Definition}
-use Rattle.ruleset_text.specs.Definitions.{Demand, Definitions, named, all_definitions, canonical_lines}
-use Rattle.ruleset_text.specs.Names.{is_letter, is_name_byte, is_name, AreNames}
-use Rattle.ruleset_text.specs.WellFormed.{AreDefinitions}
+use Rattle.ruleset_text.specs.Definitions.{Demand, Definitions, named, all_definitions, canonical_lines, type_names}
+use Rattle.ruleset_text.specs.NamedConditions.{HasRule, condition_text, condition_word}
+use Rattle.ruleset_text.specs.Names.{is_letter, is_name_byte, is_name, predefined_types, AreNames}
+use Rattle.ruleset_text.specs.WellFormed.{IsDefinition, AreDefinitions}
+use Rattle.ruleset_text.proofs.KnownPatternLemmas.{actions_are}
+use Rattle.idn_class.specs.declared.properties.Properties.{Properties}
+use Rattle.label_patterns.specs.declared.condition.ConditionKind.{ConditionKind}
+use Rattle.label_patterns.specs.declared.condition.ConditionKind.TheVariants.{When, Unless}
+use Rattle.std.specs.Prelude.{Option, Some, None}
+use Rattle.variant_dispositions.specs.declared.disposition.Disposition.{Disposition}
+use Rattle.variant_dispositions.specs.declared.disposition.Disposition.TheVariants.{Invalid, Blocked, Allocatable, Activated, Valid}
 
 abbrev pub IsInLine : ℕ → Type 0
 IsInLine b = (eqb b 10 ≡ false) × (eqb b 13 ≡ false)
@@ -110,9 +123,10 @@ spans_in_line (s ∷ spans) = ((refl, refl), joined (span_text s) (spans_text sp
 abbrev HasNoEnd : List (List ℕ) → Definition → Type 0
 HasNoEnd names x = AreInLine (definition_text names x)
 
-tags_in_line : (names tags : List (List ℕ)) → AllByRecursion AreInLine tags → AllByRecursion (HasNoEnd names) (map definition.Tag tags)
-tags_in_line names [] h = tt
-tags_in_line names (tag ∷ tags) h = (joined (codes "%tag ") tag ((refl, refl), ((refl, refl), ((refl, refl), ((refl, refl), ((refl, refl), tt))))) h.0, tags_in_line names tags h.1)
+types_in_line : (names types : List (List ℕ)) → AllByRecursion AreInLine types → AllByRecursion (HasNoEnd names) (map definition.VariantType types)
+types_in_line names [] h = tt
+types_in_line names (name ∷ types) h =
+    (joined (codes "%type ") name ((refl, refl), ((refl, refl), ((refl, refl), ((refl, refl), ((refl, refl), ((refl, refl), tt)))))) h.0, types_in_line names types h.1)
 
 sets_in_line : (names own : List (List ℕ)) (sets : List (List Span)) → AllByRecursion AreInLine own → AllByRecursion (HasNoEnd names) (named definition.Set own sets)
 sets_in_line names [] sets h = tt
@@ -122,11 +136,15 @@ sets_in_line names (name ∷ own) (spans ∷ sets) h = (
   sets_in_line names own sets h.1,
 )
 
+word_in_line : (b : Bool) → AreInLine (rule_word b)
+word_in_line true = ((refl, refl), ((refl, refl), ((refl, refl), ((refl, refl), ((refl, refl), ((refl, refl), tt))))))
+word_in_line false = ((refl, refl), ((refl, refl), ((refl, refl), ((refl, refl), ((refl, refl), ((refl, refl), ((refl, refl), tt)))))))
+
 rules_in_line : (names own : List (List ℕ)) (rules : List Pattern) → AllByRecursion AreInLine names → AllByRecursion AreInLine own → AllByRecursion (HasNoEnd names) (named definition.Rule own rules)
 rules_in_line names [] rules k h = tt
 rules_in_line names (name ∷ own) [] k h = tt
 rules_in_line names (name ∷ own) (p ∷ rules) k h = (
-  joined (codes "%rule ") (name ++ 32 ∷ pattern_text names p) ((refl, refl), ((refl, refl), ((refl, refl), ((refl, refl), ((refl, refl), ((refl, refl), tt)))))) (joined name (32 ∷ pattern_text names p) h.0 ((refl, refl), pattern_in_line names p k)),
+  joined (rule_word (is_context_rule p)) (name ++ 32 ∷ pattern_text names p) (word_in_line (is_context_rule p)) (joined name (32 ∷ pattern_text names p) h.0 ((refl, refl), pattern_in_line names p k)),
   rules_in_line names own rules k h.1,
 )
 
@@ -143,6 +161,52 @@ demands_in_line : (names : List (List ℕ)) (demands : List Demand) → AllByRec
 demands_in_line names [] k = tt
 demands_in_line names (d ∷ demands) k = (demand_in_line names d k, demands_in_line names demands k)
 
+-- ---- actions
+
+disposition_in_line : (d : Disposition) → AreInLine (disposition_word d)
+disposition_in_line Invalid = name_in_line (disposition_word Invalid) refl
+disposition_in_line Blocked = name_in_line (disposition_word Blocked) refl
+disposition_in_line Allocatable = name_in_line (disposition_word Allocatable) refl
+disposition_in_line Activated = name_in_line (disposition_word Activated) refl
+disposition_in_line Valid = name_in_line (disposition_word Valid) refl
+
+trigger_word_in_line : (kind : TriggerKind) → AreInLine (trigger_word kind)
+trigger_word_in_line trigger.Any = name_in_line (trigger_word trigger.Any) refl
+trigger_word_in_line trigger.All = name_in_line (trigger_word trigger.All) refl
+trigger_word_in_line trigger.Only = name_in_line (trigger_word trigger.Only) refl
+
+condition_in_line : (c : Option NamedCondition) → HasRule c → AreInLine (condition_text c)
+condition_in_line None rule = tt
+condition_in_line (Some c) rule = by c.kind
+  where
+    own : AreInLine c.rule
+    own = name_in_line c.rule rule
+
+    by : (kind : ConditionKind) → AreInLine (condition_word kind ++ c.rule)
+    by When = joined (codes " when ") c.rule ((refl, refl), ((refl, refl), ((refl, refl), ((refl, refl), ((refl, refl), ((refl, refl), tt)))))) own
+    by Unless = joined (codes " unless ") c.rule ((refl, refl), ((refl, refl), ((refl, refl), ((refl, refl), ((refl, refl), ((refl, refl), ((refl, refl), ((refl, refl), tt)))))))) own
+
+types_text_in_line : (names : List (List ℕ)) → AreNames names → AreInLine (names_text names)
+types_text_in_line [] are = tt
+types_text_in_line (name ∷ []) are = name_in_line name are.0
+types_text_in_line (name ∷ other ∷ names) are = joined name (44 ∷ names_text (other ∷ names)) (name_in_line name are.0) ((refl, refl), types_text_in_line (other ∷ names) are.2)
+
+trigger_in_line : (t : Option NamedTrigger) → HasTypes t → AreInLine (trigger_text t)
+trigger_in_line None types = tt
+trigger_in_line (Some t) types =
+    ((refl, refl), joined (trigger_word t.kind) (32 ∷ names_text t.types) (trigger_word_in_line t.kind) ((refl, refl), types_text_in_line t.types types.1))
+
+action_in_line : (names : List (List ℕ)) (a : NamedAction) → IsAction a → HasNoEnd names (definition.Action a)
+action_in_line names a is =
+    joined (codes "%action ") (action_text a) ((refl, refl), ((refl, refl), ((refl, refl), ((refl, refl), ((refl, refl), ((refl, refl), ((refl, refl), ((refl, refl), tt))))))))
+    (joined (disposition_word a.disposition) (condition_text a.condition ++ trigger_text a.trigger) (disposition_in_line a.disposition)
+    (joined (condition_text a.condition) (trigger_text a.trigger) (condition_in_line a.condition is.rule) (trigger_in_line a.trigger is.types)))
+
+actions_in_line : (properties : Properties) (sets names : List (List ℕ)) (actions : List NamedAction) → AllByRecursion (IsDefinition properties sets) (map definition.Action actions)
+    → AllByRecursion (HasNoEnd names) (map definition.Action actions)
+actions_in_line properties sets names [] all = tt
+actions_in_line properties sets names (a ∷ actions) all = (action_in_line names a all.0.parts, actions_in_line properties sets names actions all.1)
+
 pub all_joined : {X : Type 0} (P : X → Type 0) (a b : List X) → AllByRecursion P a → AllByRecursion P b → AllByRecursion P (a ++ b)
 all_joined P [] b h k = k
 all_joined P (x ∷ a) b h k = (h.0, all_joined P a b h.1 k)
@@ -157,10 +221,12 @@ lines_of names (x ∷ xs) h = (h.0, lines_of names xs h.1)
 
 pub lines_in_line : (d : Definitions) → AreDefinitions d → AllByRecursion AreInLine (canonical_lines d)
 lines_in_line d are =
-    let all = all_cut AreInLine d.tags (d.set_names ++ d.rule_names) (names_in_line (d.tags ++ (d.set_names ++ d.rule_names)) are.names) in
+    let all = all_cut AreInLine (type_names d) (d.set_names ++ d.rule_names) (names_in_line (type_names d ++ (d.set_names ++ d.rule_names)) are.names) in
+    let types = all_cut AreInLine predefined_types d.types all.0 in
     let own = all_cut AreInLine d.set_names d.rule_names all.1 in
     lines_of d.set_names (all_definitions d)
-    (all_joined (HasNoEnd d.set_names) (map definition.Tag d.tags) _ (tags_in_line d.set_names d.tags all.0)
+    (all_joined (HasNoEnd d.set_names) (map definition.VariantType d.types) _ (types_in_line d.set_names d.types types.1)
     (all_joined (HasNoEnd d.set_names) (named definition.Set d.set_names d.sets) _ (sets_in_line d.set_names d.set_names d.sets own.0)
-    (all_joined (HasNoEnd d.set_names) (named definition.Rule d.rule_names d.rules) (map (λ e. definition.Demand e.kind e.pattern) d.demands) (rules_in_line d.set_names d.rule_names d.rules own.0 own.1)
-    (demands_in_line d.set_names d.demands own.0))))
+    (all_joined (HasNoEnd d.set_names) (named definition.Rule d.rule_names d.rules) _ (rules_in_line d.set_names d.rule_names d.rules own.0 own.1)
+    (all_joined (HasNoEnd d.set_names) (map (λ e. definition.Demand e.kind e.pattern) d.demands) (map definition.Action d.actions) (demands_in_line d.set_names d.demands own.0)
+    (actions_in_line d.properties d.set_names d.set_names d.actions (actions_are d are))))))

@@ -1,12 +1,12 @@
 -- The number of a name among names, and how long names are.
-use Rattle.std.proofs.Common.{◌≡◌, ℕ, zero, suc, ◌+◌, ◌-◌, ◌<◌, ◌≤◌, Bool, true, false, not, cond, ◌&&◌, leb, List, [], ◌∷◌, ◌++◌, length, take, drop, get_or, refl, sym, ap, ◌∙◌, arith}
+use Rattle.std.proofs.Common.{◌≡◌, ℕ, zero, suc, ◌+◌, ◌-◌, ◌<◌, ◌≤◌, Bool, true, false, not, cond, ◌&&◌, ◌||◌, leb, List, [], ◌∷◌, ◌++◌, length, take, drop, get_or, refl, sym, ap, ◌∙◌, arith}
 use Rattle.std.specs.Prelude.{bytes_eq, nat_le, slice_index_or, IsTrue}
 use Rattle.std.specs.List.{position_or_len, list_all}
 use Rattle.std.proofs.lemmas.List.{drop_more, drop_all, take_rest}
 use Rattle.std.proofs.lemmas.Bool.{le-leb}
 use Rattle.std.proofs.lemmas.Bool.Decides.{nat_tests}
-use Rattle.ruleset_text.specs.Definitions.{Definitions, rule_name}
-use Rattle.ruleset_text.specs.Names.{AreNames, is_letter, is_name_byte, is_name, number_of}
+use Rattle.ruleset_text.specs.Definitions.{Definitions, rule_name, type_names}
+use Rattle.ruleset_text.specs.Names.{AreNames, is_letter, is_name_byte, is_name, is_one_of, number_of}
 use Rattle.ruleset_text.specs.WellFormed.{AreDefinitions}
 
 step : (names : List (List ℕ)) (bytes name : List ℕ) (i : ℕ) → i < length names → name ≡ get_or names i name
@@ -47,13 +47,22 @@ long-name (c ∷ cs) l letter few =
     ap (list_all is_name_byte) rest
     ∙ sym (ap (λ b. b && leb (length cs) 31 && list_all is_name_byte cs) letter ∙ ap (λ b. b && list_all is_name_byte cs) short)
 
+-- a name among names and others
+pub one_of-append : (xs ys : List (List ℕ)) (name : List ℕ) → is_one_of (xs ++ ys) name ≡ (is_one_of xs name || is_one_of ys name)
+one_of-append [] ys name = refl
+one_of-append (x ∷ xs) ys name = ap (λ b. bytes_eq x name || b) (one_of-append xs ys name) ∙ by (bytes_eq x name)
+  where
+    by : (b : Bool) → (b || (is_one_of xs name || is_one_of ys name)) ≡ ((b || is_one_of xs name) || is_one_of ys name)
+    by true = refl
+    by false = refl
+
 -- ---- how long names are
 
 both : (a b : Bool) → IsTrue (a && b) → IsTrue a × IsTrue b
 both true b h = (refl, h)
 both false b h = absurd (let clash : false ≡ true = h in cc)
 
-name-short : (name : List ℕ) → IsTrue (is_name name) → length name ≤ 32
+pub name-short : (name : List ℕ) → IsTrue (is_name name) → length name ≤ 32
 name-short [] is = omega arith
 name-short (c ∷ cs) is =
     let rest = (both (is_letter c && nat_le (length cs) 31) (list_all is_name_byte cs) is).0 in
@@ -70,4 +79,4 @@ names_after [] ys are = are
 names_after (x ∷ xs) ys are = names_after xs ys are.2
 
 pub rule_name-short : (d : Definitions) (n : ℕ) → AreDefinitions d → length (rule_name d n) ≤ 32
-rule_name-short d n are = name_at-short d.rule_names n (names_after d.set_names d.rule_names (names_after d.tags (d.set_names ++ d.rule_names) are.names))
+rule_name-short d n are = name_at-short d.rule_names n (names_after d.set_names d.rule_names (names_after (type_names d) (d.set_names ++ d.rule_names) are.names))

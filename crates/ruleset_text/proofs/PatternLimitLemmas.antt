@@ -299,7 +299,7 @@ each_marked (Either p q) d left =
 pub some_past : (left : ℕ) (p : Pattern) → any (marks 0 left p) ≡ is_past_limits left p
 some_past left p = any_marked p 0 left (omega arith) ∙ ap (λ n. (nat_lt 8 n || nat_lt 2 (stars p)) || nat_lt left (atoms p)) (let same : 0 + groups p ≡ groups p = omega arith in same)
 
-some_marked : (ms : List Bool) (ws : List Placed) → length ms ≡ length ws → is_some (first_marked ms ws) ≡ any ms
+pub some_marked : (ms : List Bool) (ws : List Placed) → length ms ≡ length ws → is_some (first_marked ms ws) ≡ any ms
 some_marked [] ws e = refl
 some_marked (m ∷ ms) [] e = absurd (omega (arith, e))
 some_marked (true ∷ ms) (w ∷ ws) e = refl

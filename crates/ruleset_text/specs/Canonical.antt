@@ -1,10 +1,12 @@
 -- The canonical text of a pattern, of the spans of a set, and of a definition.
-use Rattle.std.specs.Prelude.{◌≡◌, ℕ, ◌<◌, ◌/◌, ◌%◌, nat_lt, ◌==◌, List, [], ◌∷◌, ◌++◌, length, slice_index_or, codes, IsTrue, if◌then◌else◌}
+use Rattle.std.specs.Prelude.{◌≡◌, ℕ, ◌<◌, ◌/◌, ◌%◌, nat_lt, ◌==◌, Bool, true, false, List, [], ◌∷◌, ◌++◌, length, slice_index_or, codes, IsTrue, if◌then◌else◌}
 use Rattle.std.specs.List.{AllByRecursion}
 use Rattle.idn_text.specs.Points.{four_digits, hex_digit, is_scalar_value}
 use Rattle.label_patterns.specs.declared.span.Span.{Span}
 use Rattle.label_patterns.specs.Patterns.{Pattern, Point, Set, Any, Start, End, Anchor, Group, Optional, Many, Then, Either}
+use Rattle.label_patterns.specs.Rules.{is_context_rule}
 use Rattle.ruleset_text.specs.declared.token.Token.{Token}
+use Rattle.ruleset_text.specs.Actions.{action_text}
 use Rattle.ruleset_text.specs.Definition as definition
 use Rattle.ruleset_text.specs.Definition.{Definition, demand_word}
 use Rattle.ruleset_text.specs.Lexemes.{is_word_byte}
@@ -44,12 +46,18 @@ abbrev pub spans_text : List Span → List ℕ
 spans_text [] = []
 spans_text (s ∷ spans) = 32 ∷ (span_text s ++ spans_text spans)
 
+-- the keyword of a context rule, and that of a whole-label rule
+abbrev pub rule_word : Bool → List ℕ
+rule_word true = codes "%rule "
+rule_word false = codes "%whole "
+
 -- the canonical line of a definition, without its line feed: one blank between its parts
 abbrev pub definition_text : List (List ℕ) → Definition → List ℕ
-definition_text names (definition.Tag name) = codes "%tag " ++ name
+definition_text names (definition.VariantType name) = codes "%type " ++ name
 definition_text names (definition.Set name spans) = codes "%set " ++ name ++ spans_text spans
-definition_text names (definition.Rule name contexts) = codes "%rule " ++ name ++ 32 ∷ pattern_text names contexts
+definition_text names (definition.Rule name p) = rule_word (is_context_rule p) ++ (name ++ 32 ∷ pattern_text names p)
 definition_text names (definition.Demand kind p) = demand_word kind ++ 32 ∷ pattern_text names p
+definition_text names (definition.Action a) = codes "%action " ++ action_text a
 
 -- the word is one word, and its token is this one
 abbrev pub IsWordOf : List (List ℕ) → Token → List ℕ → Type 0

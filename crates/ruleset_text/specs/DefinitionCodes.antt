@@ -1,12 +1,20 @@
 -- Codes of what is defined, by which the values of definitions are told apart.
-use Rattle.std.specs.Prelude.{◌≡◌, ℕ, ◌==◌, Bool, true, false, List, [], ◌∷◌, ◌++◌, if◌then◌else◌, refl}
-use Rattle.std.specs.Coded.{Coded, code_by, coded×, coded_ℕ, coded_bool, coded_list}
+use Rattle.std.specs.Prelude.{◌≡◌, ℕ, ◌==◌, Bool, true, false, Option, List, [], ◌∷◌, ◌++◌, if◌then◌else◌, refl}
+use Rattle.std.specs.Coded.{Coded, code_by, coded×, coded_ℕ, coded_bool, coded_list, coded_option}
 use Rattle.std.proofs.Common.{sym, ap, ◌∙◌, append_assoc, append-nil}
+use Rattle.label_patterns.specs.declared.condition.ConditionKind.{ConditionKind}
+use Rattle.label_patterns.specs.declared.condition.ConditionKind.TheVariants.{When, Unless}
 use Rattle.label_patterns.specs.declared.span.Span.{Span}
 use Rattle.label_patterns.specs.Patterns.{Pattern, Point, Set, Any, Start, End, Anchor, Group, Optional, Many, Then, Either}
 use Rattle.ruleset_text.specs.declared.definition.DemandKind.{DemandKind}
 use Rattle.ruleset_text.specs.declared.definition.DemandKind.TheVariants.{Never, Always}
+use Rattle.ruleset_text.specs.declared.action.TriggerKind.{TriggerKind}
+use Rattle.ruleset_text.specs.declared.action.TriggerKind.TheVariants as trigger
+use Rattle.ruleset_text.specs.declared.named_condition.NamedCondition.{NamedCondition}
+use Rattle.ruleset_text.specs.Actions.{NamedAction, NamedTrigger}
 use Rattle.ruleset_text.specs.Definitions.{Demand, Definitions}
+use Rattle.variant_dispositions.specs.declared.disposition.Disposition.{Disposition}
+use Rattle.variant_dispositions.specs.declared.disposition.Disposition.TheVariants.{Invalid, Blocked, Allocatable, Activated, Valid}
 use Rattle.idn_class.specs.declared.properties.Properties.{Properties}
 use Rattle.idn_class.specs.declared.properties.Properties.TheVariants.{Profile, Unicode}
 
@@ -122,6 +130,63 @@ properties_back Unicode = refl
 abbrev pub properties_code : Coded Properties
 properties_code = code_by Bool coded_bool is_profile properties_from properties_back
 
+-- ---- actions
+
+abbrev pub is_when : ConditionKind → Bool
+is_when When = true
+is_when Unless = false
+
+abbrev pub condition_kind_from : Bool → ConditionKind
+condition_kind_from true = When
+condition_kind_from false = Unless
+
+pub condition_kind_back : (kind : ConditionKind) → condition_kind_from (is_when kind) ≡ kind
+condition_kind_back When = refl
+condition_kind_back Unless = refl
+
+abbrev pub condition_code : Coded NamedCondition
+condition_code = code_by (Bool × List ℕ) (coded× coded_bool (coded_list coded_ℕ)) (λ c. (is_when c.kind, c.rule)) (λ p. record { kind = condition_kind_from p.0; rule = p.1 })
+    (λ c. ap (λ k. record { kind = k; rule = c.rule }) (condition_kind_back c.kind))
+
+abbrev pub trigger_number : TriggerKind → ℕ
+trigger_number trigger.Any = 0
+trigger_number trigger.All = 1
+trigger_number trigger.Only = 2
+
+abbrev pub trigger_from : ℕ → TriggerKind
+trigger_from n = if n == 0 then trigger.Any else if n == 1 then trigger.All else trigger.Only
+
+pub trigger_back : (kind : TriggerKind) → trigger_from (trigger_number kind) ≡ kind
+trigger_back trigger.Any = refl
+trigger_back trigger.All = refl
+trigger_back trigger.Only = refl
+
+abbrev pub trigger_code : Coded NamedTrigger
+trigger_code = code_by (ℕ × List (List ℕ)) (coded× coded_ℕ (coded_list (coded_list coded_ℕ))) (λ t. (trigger_number t.kind, t.types)) (λ p. record { kind = trigger_from p.0; types = p.1 })
+    (λ t. ap (λ k. record { kind = k; types = t.types }) (trigger_back t.kind))
+
+abbrev pub disposition_number : Disposition → ℕ
+disposition_number Invalid = 0
+disposition_number Blocked = 1
+disposition_number Allocatable = 2
+disposition_number Activated = 3
+disposition_number Valid = 4
+
+abbrev pub disposition_from : ℕ → Disposition
+disposition_from n = if n == 0 then Invalid else if n == 1 then Blocked else if n == 2 then Allocatable else if n == 3 then Activated else Valid
+
+pub disposition_back : (d : Disposition) → disposition_from (disposition_number d) ≡ d
+disposition_back Invalid = refl
+disposition_back Blocked = refl
+disposition_back Allocatable = refl
+disposition_back Activated = refl
+disposition_back Valid = refl
+
+abbrev pub action_code : Coded NamedAction
+action_code = code_by (ℕ × (Option NamedCondition × Option NamedTrigger)) (coded× coded_ℕ (coded× (coded_option condition_code) (coded_option trigger_code)))
+    (λ a. (disposition_number a.disposition, (a.condition, a.trigger))) (λ p. record { disposition = disposition_from p.0; condition = p.1.0; trigger = p.1.1 })
+    (λ a. ap (λ d. record { disposition = d; condition = a.condition; trigger = a.trigger }) (disposition_back a.disposition))
+
 -- ---- all definitions
 
 abbrev pub names_code : Coded (List (List ℕ))
@@ -129,8 +194,8 @@ names_code = coded_list (coded_list coded_ℕ)
 
 abbrev pub definitions_code : Coded Definitions
 definitions_code =
-    code_by (Properties × (List (List ℕ) × (List (List ℕ) × (List (List Span) × (List (List ℕ) × (List Pattern × List Demand))))))
-    (coded× properties_code (coded× names_code (coded× names_code (coded× (coded_list (coded_list span_code)) (coded× names_code (coded× (coded_list pattern_code) (coded_list demand_code)))))))
-    (λ d. (d.properties, (d.tags, (d.set_names, (d.sets, (d.rule_names, (d.rules, d.demands)))))))
-    (λ t. record { properties = t.0; tags = t.1.0; set_names = t.1.1.0; sets = t.1.1.1.0; rule_names = t.1.1.1.1.0; rules = t.1.1.1.1.1.0; demands = t.1.1.1.1.1.1 })
+    code_by (Properties × (List (List ℕ) × (List (List ℕ) × (List (List Span) × (List (List ℕ) × (List Pattern × (List Demand × List NamedAction)))))))
+    (coded× properties_code (coded× names_code (coded× names_code (coded× (coded_list (coded_list span_code)) (coded× names_code (coded× (coded_list pattern_code) (coded× (coded_list demand_code) (coded_list action_code))))))))
+    (λ d. (d.properties, (d.types, (d.set_names, (d.sets, (d.rule_names, (d.rules, (d.demands, d.actions))))))))
+    (λ t. record { properties = t.0; types = t.1.0; set_names = t.1.1.0; sets = t.1.1.1.0; rule_names = t.1.1.1.1.0; rules = t.1.1.1.1.1.0; demands = t.1.1.1.1.1.1.0; actions = t.1.1.1.1.1.1.1 })
     (λ _. refl)

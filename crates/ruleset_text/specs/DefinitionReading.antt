@@ -10,7 +10,9 @@ use Rattle.ruleset_text.specs.declared.fault.FaultPlace.TheVariants.{Lexeme, End
 use Rattle.ruleset_text.specs.declared.keyword.Keyword.{Keyword}
 use Rattle.ruleset_text.specs.declared.keyword.Keyword.TheVariants as keyword
 use Rattle.ruleset_text.specs.declared.spans.Held.TheVariants as held
-use Rattle.ruleset_text.specs.Definition.{Definition, Tag, Set, Rule, Demand, keyword_of}
+use Rattle.ruleset_text.specs.ActionSteps as actions
+use Rattle.ruleset_text.specs.Actions.{NamedAction}
+use Rattle.ruleset_text.specs.Definition.{Definition, VariantType, Set, Rule, Demand, Action, keyword_of}
 use Rattle.ruleset_text.specs.LineStops.{map_read, read_from}
 use Rattle.ruleset_text.specs.Names.{is_name}
 use Rattle.ruleset_text.specs.PatternSigns.{State, start, step_in, ended_in}
@@ -19,7 +21,7 @@ use Rattle.ruleset_text.specs.Spans as spans
 use Rattle.ruleset_text.specs.Spans.{part_of}
 use Rattle.ruleset_text.specs.Tokens.{token_of}
 
--- the pattern of a rule or of a demand; its sets go by their numbers among these names
+-- the contexts of a context rule, or the pattern of a whole-label rule or of a demand; its sets go by their numbers among these names
 abbrev pub pattern_step : Bool → List (List ℕ) → State → List ℕ → Option State
 pattern_step is_rule names s w = step_in is_rule s (token_of names w)
 
@@ -49,24 +51,30 @@ after_name f (Err place) = Err place
 abbrev pub named : (List ℕ → List Placed → Result Definition FaultPlace) → ℕ → List Placed → Result Definition FaultPlace
 named f end ws = after_name f (name_read end ws)
 
--- a tag has nothing more, a set its spans, a rule its contexts
-abbrev pub tag_read : ℕ → List ℕ → List Placed → Result Definition FaultPlace
-tag_read end name [] = Ok (Tag name)
-tag_read end name (w ∷ ws) = Err (Lexeme w.place (length w.lexeme))
+-- a type has nothing more, a set its spans, a rule its pattern
+abbrev pub type_read : ℕ → List ℕ → List Placed → Result Definition FaultPlace
+type_read end name [] = Ok (VariantType name)
+type_read end name (w ∷ ws) = Err (Lexeme w.place (length w.lexeme))
 
 abbrev pub set_read : ℕ → List ℕ → List Placed → Result Definition FaultPlace
 set_read end name ws = map_read (Set name) (spans_read end ws)
 
-abbrev pub rule_read : List (List ℕ) → ℕ → List ℕ → List Placed → Result Definition FaultPlace
-rule_read names end name ws = map_read (Rule name) (pattern_read true names end ws)
+abbrev pub rule_read : Bool → List (List ℕ) → ℕ → List ℕ → List Placed → Result Definition FaultPlace
+rule_read is_rule names end name ws = map_read (Rule name) (pattern_read is_rule names end ws)
+
+-- an action
+abbrev pub action_read : ℕ → List Placed → Result NamedAction FaultPlace
+action_read end ws = read_from actions.step actions.ended end actions.Begin ws
 
 -- what the lexemes after a keyword define
 abbrev pub definition_read : List (List ℕ) → Keyword → ℕ → List Placed → Result Definition FaultPlace
-definition_read names keyword.Tag end ws = named (tag_read end) end ws
+definition_read names keyword.VariantType end ws = named (type_read end) end ws
 definition_read names keyword.Set end ws = named (set_read end) end ws
-definition_read names keyword.Rule end ws = named (rule_read names end) end ws
+definition_read names keyword.Rule end ws = named (rule_read true names end) end ws
+definition_read names keyword.Whole end ws = named (rule_read false names end) end ws
 definition_read names keyword.Never end ws = map_read (Demand demand.Never) (pattern_read false names end ws)
 definition_read names keyword.Always end ws = map_read (Demand demand.Always) (pattern_read false names end ws)
+definition_read names keyword.Action end ws = map_read Action (action_read end ws)
 
 -- those of a line, the first of which is the keyword
 abbrev pub after_keyword : List (List ℕ) → ℕ → Placed → List Placed → Option Keyword → Result Definition FaultPlace

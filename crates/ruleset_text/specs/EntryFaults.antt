@@ -6,11 +6,10 @@ use Rattle.ruleset_text.specs.declared.entry_notes.LinePoint.{LinePoint}
 use Rattle.ruleset_text.specs.declared.fault.FaultPlace.{FaultPlace}
 use Rattle.ruleset_text.specs.declared.fault.FaultPlace.TheVariants.{InRange, NinthPoint, SeventeenthVariant, Source, Variant}
 use Rattle.ruleset_text.specs.declared.fault.LineFaults.{LineFaults}
-use Rattle.ruleset_text.specs.Definitions.{Definitions}
+use Rattle.ruleset_text.specs.Definitions.{Definitions, type_names}
 use Rattle.ruleset_text.specs.Entries.{EntryForm}
-use Rattle.ruleset_text.specs.EntryWords.{Word, Point, Tag, Rule, Bar, Colon, entry_words}
-use Rattle.ruleset_text.specs.LineFaults.{bad_place, first_told, lexeme_place}
-use Rattle.ruleset_text.specs.Names.{is_one_of}
+use Rattle.ruleset_text.specs.EntryWords.{Word, Point, TypeName, Rule, Bar, Colon, entry_words}
+use Rattle.ruleset_text.specs.LineFaults.{bad_place, first_told, unknown_in}
 use Rattle.ruleset_text.specs.PlacedLexemes.{Placed, placed_lexemes}
 
 -- ---- the words of a line, and its code points
@@ -51,13 +50,9 @@ past_place p =
     if p.index == 8 then Some (NinthPoint p.place p.point) else
     if p.sequence == 17 then Some (SeventeenthVariant p.place p.point) else None
 
--- a name that is none of these
-abbrev pub unknown_in : List (List ℕ) → List ℕ → Placed → Option FaultPlace
-unknown_in names name w = if is_one_of names name then None else Some (lexeme_place w)
-
--- a tag or a rule that isn't defined
+-- a type or a rule that isn't defined
 abbrev pub unknown_place : Definitions → Word → Placed → Option FaultPlace
-unknown_place d (Tag name) w = unknown_in d.tags name w
+unknown_place d (TypeName name) w = unknown_in (type_names d) name w
 unknown_place d (Rule name) w = unknown_in d.rule_names name w
 unknown_place d word w = None
 

@@ -7,7 +7,7 @@ use Rattle.ruleset_text.specs.Entries.{Mapped, EntryForm}
 use Rattle.ruleset_text.specs.EntryFaults.{Notes}
 
 abbrev pub mapped : held.Mapped → Mapped
-mapped m = record { marked = m.marked; points = m.points.items; tags = m.tags.items; condition = m.condition }
+mapped m = record { marked = m.marked; points = m.points.items; type_name = m.type_name; condition = m.condition }
 
 abbrev pub entry_form : declared.EntryForm → EntryForm
 entry_form e = record { mapped = map mapped e.mapped.items; last = e.last }

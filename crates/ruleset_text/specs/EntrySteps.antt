@@ -13,7 +13,7 @@ use Rattle.ruleset_text.specs.Entries.{Mapped, EntryForm}
 use Rattle.ruleset_text.specs.EntryForms.{mapped}
 use Rattle.ruleset_text.specs.EntryWords.{point_of}
 use Rattle.ruleset_text.specs.LineStops.{read_from}
-use Rattle.ruleset_text.specs.Names.{is_name, is_one_of}
+use Rattle.ruleset_text.specs.Names.{is_name}
 use Rattle.ruleset_text.specs.PlacedLexemes.{placed_lexemes}
 
 -- what was read: those that are complete, the one that isn't, the last code point of a range, and what was read last
@@ -28,7 +28,7 @@ abbrev pub state : reading.EntryState → State
 state s = record { done = map mapped s.done.items; current = mapped s.current; last = s.last; phase = s.phase }
 
 abbrev pub nothing : Mapped
-nothing = record { marked = false; points = []; tags = []; condition = None }
+nothing = record { marked = false; points = []; type_name = None; condition = None }
 
 abbrev pub start : State
 start = record { done = []; current = nothing; last = None; phase = phase.Begin }
@@ -39,7 +39,6 @@ word_of w =
     if bytes_eq w (codes "-") then word.Hyphen else
     if bytes_eq w (codes "|") then word.Bar else
     if bytes_eq w (codes ":") then word.Colon else
-    if bytes_eq w (codes ",") then word.Comma else
     if bytes_eq w (codes "..") then word.Range else
     if bytes_eq w (codes "as") then word.As else
     if bytes_eq w (codes "when") then word.When else
@@ -79,7 +78,7 @@ abbrev pub at_last : State → Option ℕ → Option State
 at_last s None = None
 at_last s (Some c) = if nat_le (slice_index s.current.points 0) c then Some (record s { last = Some c; phase = phase.Last }) else None
 
--- ---- tags, conditions, separators
+-- ---- types, conditions, separators
 
 -- '|' after the source and ':' after a variant; nothing after a range
 abbrev pub with_done : State → State
@@ -94,28 +93,24 @@ abbrev pub after_rule : State → EntryWord → Option State
 after_rule s w = if is_some s.last then None else separated s w
 
 -- 'when' or 'unless', or what may stand after a condition
-abbrev pub after_tags : State → EntryWord → Option State
-after_tags s word.When = Some (with_phase s phase.When)
-after_tags s word.Unless = Some (with_phase s phase.Unless)
-after_tags s e = after_rule s e
+abbrev pub after_type : State → EntryWord → Option State
+after_type s word.When = Some (with_phase s phase.When)
+after_type s word.Unless = Some (with_phase s phase.Unless)
+after_type s e = after_rule s e
 
-abbrev pub after_tag : State → EntryWord → Option State
-after_tag s word.Comma = Some (with_phase s phase.As)
-after_tag s e = after_tags s e
-
--- 'as', unless '!' stands before; or what may stand after tags
+-- 'as', unless '!' stands before; or what may stand after a type
 abbrev pub after_points : State → EntryWord → Option State
 after_points s word.As = if s.current.marked then None else Some (with_phase s phase.As)
-after_points s e = after_tags s e
+after_points s e = after_type s e
 
 abbrev pub after_point : State → EntryWord → Option State
 after_point s word.Hyphen = Some (with_phase s phase.Hyphen)
 after_point s word.Range = if may_be_range s then Some (with_phase s phase.Range) else None
 after_point s e = after_points s e
 
--- a tag, which is none of those before
-abbrev pub at_tag : State → List ℕ → Option State
-at_tag s w = if is_name w && not (is_one_of s.current.tags w) then Some (record s { current = record s.current { tags = s.current.tags ++ w ∷ [] }; phase = phase.Tag }) else None
+-- the name of a type
+abbrev pub at_type : State → List ℕ → Option State
+at_type s w = if is_name w then Some (record s { current = record s.current { type_name = Some w }; phase = phase.VariantType }) else None
 
 -- the rule of a condition
 abbrev pub at_rule : State → ConditionKind → List ℕ → Option State
@@ -130,8 +125,8 @@ step_by phase.Point s w = after_point s (word_of w)
 step_by phase.Hyphen s w = at_point s (point_of w)
 step_by phase.Range s w = at_last s (point_of w)
 step_by phase.Last s w = after_points s (word_of w)
-step_by phase.As s w = at_tag s w
-step_by phase.Tag s w = after_tag s (word_of w)
+step_by phase.As s w = at_type s w
+step_by phase.VariantType s w = after_type s (word_of w)
 step_by phase.When s w = at_rule s condition.When w
 step_by phase.Unless s w = at_rule s condition.Unless w
 step_by phase.Rule s w = after_rule s (word_of w)
@@ -148,10 +143,10 @@ is_begin e = false
 abbrev pub is_new : State → Bool
 is_new s = is_first s.done && is_begin s.phase
 
--- the word is of none of the parts: '!' before the source, with which a line begins, or before a variant; '..'; a word of tags or
+-- the word is of none of the parts: '!' before the source, with which a line begins, or before a variant; '..'; a word of types or
 -- conditions
 abbrev pub is_lacking : EntryParts → Bool → EntryWord → Bool
-is_lacking parts true word.Mark = not parts.outside
+is_lacking parts true word.Mark = not parts.invalid
 is_lacking parts false word.Mark = not parts.blocked
 is_lacking parts first word.Range = not parts.ranges
 is_lacking parts first word.As = not parts.named
@@ -175,7 +170,7 @@ state_after s (w ∷ ws) = state_after (stepped s w) ws
 abbrev pub is_complete : Phase → Bool
 is_complete phase.Point = true
 is_complete phase.Last = true
-is_complete phase.Tag = true
+is_complete phase.VariantType = true
 is_complete phase.Rule = true
 is_complete e = false
 

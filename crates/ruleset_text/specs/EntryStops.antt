@@ -1,5 +1,5 @@
 -- Which lines are an entry or a range with no other parts than these, and where another line stops being one.
-use Rattle.std.specs.Prelude.{◌≡◌, ℕ, ◌≤◌, true, IsTrue, List, length}
+use Rattle.std.specs.Prelude.{ℕ, IsTrue, List, length}
 use Rattle.ruleset_text.specs.declared.entry_parts.EntryParts.{EntryParts}
 use Rattle.ruleset_text.specs.declared.fault.FaultPlace.{FaultPlace}
 use Rattle.ruleset_text.specs.Entries.{EntryForm}
@@ -20,7 +20,3 @@ AreEntry parts ws = (form : EntryForm) × IsForm form.mapped form.last × IsTrue
 -- the line stops being one there
 abbrev pub IsEntryStop : EntryParts → List ℕ → FaultPlace → Type 0
 IsEntryStop parts line place = IsLineStop (AreEntry parts) (placed_lexemes line) (length line) place
-
--- a line that may have tags has so few bytes that some name is none of them
-abbrev pub FitsNames : EntryParts → List ℕ → Type 0
-FitsNames parts line = parts.named ≡ true → length line ≤ 8192

@@ -2,12 +2,10 @@
 use Rattle.std.specs.Prelude.{◌≡◌, ℕ, ◌≤◌, Bool, true, false, Option, Some, None, IsTrue, List, [], ◌∷◌, ◌++◌, codes}
 use Rattle.std.specs.List.{AllByRecursion}
 use Rattle.idn_text.specs.Points.{is_scalar_value}
-use Rattle.ruleset_text.specs.declared.entry_form.NamedCondition.{NamedCondition}
-use Rattle.label_patterns.specs.declared.condition.ConditionKind.{ConditionKind}
-use Rattle.label_patterns.specs.declared.condition.ConditionKind.TheVariants.{When, Unless}
 use Rattle.ruleset_text.specs.Canonical.{point_text}
 use Rattle.ruleset_text.specs.Entries.{Mapped}
-use Rattle.ruleset_text.specs.Names.{is_name, AreNames}
+use Rattle.ruleset_text.specs.NamedConditions.{HasRule, condition_text}
+use Rattle.ruleset_text.specs.Names.{is_name}
 
 -- ---- the text
 
@@ -26,27 +24,13 @@ abbrev pub last_text : Option ℕ → List ℕ
 last_text None = []
 last_text (Some c) = 46 ∷ 46 ∷ point_text c
 
--- ',' between names
-abbrev pub names_text : List (List ℕ) → List ℕ
-names_text [] = []
-names_text (name ∷ []) = name
-names_text (name ∷ other ∷ names) = name ++ 44 ∷ names_text (other ∷ names)
-
-abbrev pub tags_text : List (List ℕ) → List ℕ
-tags_text [] = []
-tags_text (tag ∷ tags) = codes " as " ++ names_text (tag ∷ tags)
-
-abbrev pub condition_word : ConditionKind → List ℕ
-condition_word When = codes " when "
-condition_word Unless = codes " unless "
-
-abbrev pub condition_text : Option NamedCondition → List ℕ
-condition_text None = []
-condition_text (Some c) = condition_word c.kind ++ c.rule
+abbrev pub type_text : Option (List ℕ) → List ℕ
+type_text None = []
+type_text (Some name) = codes " as " ++ name
 
 -- a source or a variant; one with a last code point is that of a range
 abbrev pub mapped_text : Mapped → Option ℕ → List ℕ
-mapped_text m last = mark_text m.marked ++ (sequence_text m.points ++ (last_text last ++ (tags_text m.tags ++ condition_text m.condition)))
+mapped_text m last = mark_text m.marked ++ (sequence_text m.points ++ (last_text last ++ (type_text m.type_name ++ condition_text m.condition)))
 
 -- ':' between variants
 abbrev pub variants_text : List Mapped → List ℕ
@@ -67,18 +51,14 @@ abbrev pub IsSequence : List ℕ → Type 0
 IsSequence [] = ⊥
 IsSequence (c ∷ points) = AllByRecursion (λ d. IsTrue (is_scalar_value d)) (c ∷ points)
 
--- what is marked has no tags
-abbrev pub MayHaveTags : Bool → List (List ℕ) → Type 0
-MayHaveTags marked [] = Unit {0}
-MayHaveTags marked (tag ∷ tags) = (marked ≡ false) × AreNames (tag ∷ tags)
-
-abbrev pub HasRule : Option NamedCondition → Type 0
-HasRule None = Unit {0}
-HasRule (Some c) = IsTrue (is_name c.rule)
+-- what is marked has no type beside its mark
+abbrev pub MayHaveType : Bool → Option (List ℕ) → Type 0
+MayHaveType marked None = Unit {0}
+MayHaveType marked (Some name) = (marked ≡ false) × IsTrue (is_name name)
 
 pub record IsMapped (m : Mapped) : Type 0 where
   pub sequence : IsSequence m.points
-  pub tags : MayHaveTags m.marked m.tags
+  pub type_name : MayHaveType m.marked m.type_name
   pub condition : HasRule m.condition
 
 -- a source and variants; or a range: a source of one code point that is not above the last one

@@ -1,7 +1,7 @@
 -- The words of an entry or of a range, and the lines that spell it: the grammar of docs/NOTATION.md.
 use Rattle.std.specs.Prelude.{◌≡◌, ℕ, Bool, true, false, Option, Some, None, List, [], ◌∷◌, ◌++◌, codes}
 use Rattle.idn_text.specs.Points.{point_of_hex}
-use Rattle.ruleset_text.specs.declared.entry_form.NamedCondition.{NamedCondition}
+use Rattle.ruleset_text.specs.declared.named_condition.NamedCondition.{NamedCondition}
 use Rattle.label_patterns.specs.declared.condition.ConditionKind.{ConditionKind}
 use Rattle.label_patterns.specs.declared.condition.ConditionKind.TheVariants as condition
 use Rattle.ruleset_text.specs.Entries.{Mapped, EntryForm}
@@ -12,8 +12,8 @@ use Rattle.ruleset_text.specs.Tokens.{without_prefix}
 pub data Word : Type 0 where
   -- a code point, with 'U+' before it or without
   Point : ℕ → Word
-  -- the name of a tag
-  Tag : List ℕ → Word
+  -- the name of a variant type
+  TypeName : List ℕ → Word
   -- the name of a rule
   Rule : List ℕ → Word
   -- '!'
@@ -24,8 +24,6 @@ pub data Word : Type 0 where
   Bar : Word
   -- ':'
   Colon : Word
-  -- ','
-  Comma : Word
   -- '..'
   Range : Word
   As : Word
@@ -39,13 +37,12 @@ point_of lexeme = point_of_hex (without_prefix lexeme)
 -- the lexeme is this word
 abbrev pub IsWord : Word → List ℕ → Type 0
 IsWord (Point c) lexeme = point_of lexeme ≡ Some c
-IsWord (Tag name) lexeme = lexeme ≡ name
+IsWord (TypeName name) lexeme = lexeme ≡ name
 IsWord (Rule name) lexeme = lexeme ≡ name
 IsWord Mark lexeme = lexeme ≡ codes "!"
 IsWord Hyphen lexeme = lexeme ≡ codes "-"
 IsWord Bar lexeme = lexeme ≡ codes "|"
 IsWord Colon lexeme = lexeme ≡ codes ":"
-IsWord Comma lexeme = lexeme ≡ codes ","
 IsWord Range lexeme = lexeme ≡ codes ".."
 IsWord As lexeme = lexeme ≡ codes "as"
 IsWord When lexeme = lexeme ≡ codes "when"
@@ -74,15 +71,9 @@ abbrev pub last_words : Option ℕ → List Word
 last_words None = []
 last_words (Some c) = Range ∷ Point c ∷ []
 
--- ',' between tags
-abbrev pub names_words : List (List ℕ) → List Word
-names_words [] = []
-names_words (name ∷ []) = Tag name ∷ []
-names_words (name ∷ other ∷ names) = Tag name ∷ Comma ∷ names_words (other ∷ names)
-
-abbrev pub tags_words : List (List ℕ) → List Word
-tags_words [] = []
-tags_words (tag ∷ tags) = As ∷ names_words (tag ∷ tags)
+abbrev pub type_words : Option (List ℕ) → List Word
+type_words None = []
+type_words (Some name) = As ∷ TypeName name ∷ []
 
 abbrev pub kind_word : ConditionKind → Word
 kind_word condition.When = When
@@ -94,7 +85,7 @@ condition_words (Some c) = kind_word c.kind ∷ Rule c.rule ∷ []
 
 -- a source or a variant; one with a last code point is that of a range
 abbrev pub mapped_words : Mapped → Option ℕ → List Word
-mapped_words m last = mark_words m.marked ++ (sequence_words m.points ++ (last_words last ++ (tags_words m.tags ++ condition_words m.condition)))
+mapped_words m last = mark_words m.marked ++ (sequence_words m.points ++ (last_words last ++ (type_words m.type_name ++ condition_words m.condition)))
 
 -- ':' between variants
 abbrev pub variants_words : List Mapped → List Word

@@ -16,6 +16,10 @@ pub mod Rules
 pub mod Lexemes
 pub mod PlacedLexemes
 pub mod Names
+pub mod NamedConditions
+pub mod Actions
+pub mod ActionSteps
+pub mod ActionForms
 pub mod SpanWords
 pub mod Tokens
 pub mod Spans

@@ -8,6 +8,7 @@ use Rattle.ruleset_text.specs.declared.token.Token.{Token}
 use Rattle.ruleset_text.specs.declared.token.Token.TheVariants as token
 use Rattle.ruleset_text.specs.Classes.{is_bad_point}
 use Rattle.ruleset_text.specs.EntryWords.{point_of}
+use Rattle.ruleset_text.specs.Names.{is_one_of}
 use Rattle.ruleset_text.specs.PlacedLexemes.{Placed}
 use Rattle.ruleset_text.specs.Tokens.{token_of}
 use Rattle.idn_class.specs.declared.properties.Properties.{Properties}
@@ -28,6 +29,10 @@ pub record IsFirstTold {X : Type 0} (f : X → Option FaultPlace) (ws : List X) 
   pub cut : ws ≡ before ++ w ∷ after
   pub earlier : AllByRecursion (λ v. f v ≡ None) before
   pub told : f w ≡ Some place
+
+-- a name that is none of these
+abbrev pub unknown_in : List (List ℕ) → List ℕ → Placed → Option FaultPlace
+unknown_in names name w = if is_one_of names name then None else Some (lexeme_place w)
 
 -- a code point that no label has
 abbrev pub bad_place : Properties → ℕ → Option ℕ → Option FaultPlace

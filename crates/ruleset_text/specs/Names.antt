@@ -1,5 +1,5 @@
--- Names of tags, sets and rules.
-use Rattle.std.specs.Prelude.{◌≡◌, ℕ, nat_le, ◌==◌, ◌||◌, ◌&&◌, Bool, false, List, [], ◌∷◌, length, bytes_eq, IsTrue}
+-- Names of variant types, sets and rules.
+use Rattle.std.specs.Prelude.{◌≡◌, ℕ, nat_le, ◌==◌, ◌||◌, ◌&&◌, Bool, false, List, [], ◌∷◌, length, bytes_eq, codes, IsTrue}
 use Rattle.std.specs.List.{AllByRecursion, list_all, list_any, position_or_len}
 
 -- A to Z, or a to z
@@ -27,6 +27,10 @@ number_of names name = position_or_len (λ other. bytes_eq other name) names
 -- the name is one of these
 abbrev pub is_one_of : List (List ℕ) → List ℕ → Bool
 is_one_of names name = list_any (λ other. bytes_eq other name) names
+
+-- the predefined types, numbered from 0 on (RFC 7940, section 7.3)
+abbrev pub predefined_types : List (List ℕ)
+predefined_types = codes "invalid" ∷ codes "blocked" ∷ codes "allocatable" ∷ codes "activated" ∷ codes "valid" ∷ []
 
 -- names, no two of which are the same
 abbrev pub AreNames : List (List ℕ) → Type 0

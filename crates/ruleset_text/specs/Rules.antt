@@ -1,4 +1,4 @@
--- What a pattern needs to be one of a demand or the contexts of a rule.
+-- What a pattern needs to be one of a demand or of a whole-label rule, or the contexts of a context rule.
 use Rattle.std.specs.Prelude.{Bool, true, false, ◌||◌, ◌&&◌, not, if◌then◌else◌}
 use Rattle.ruleset_text.specs.Signs.{Sign}
 use Rattle.ruleset_text.specs.Signs as sign
@@ -47,9 +47,13 @@ is_context Anchor = true
 is_context (Then p q) = if is_anchor p then is_after q else is_before p && is_context q
 is_context p = false
 
--- a rule: contexts
+-- a context rule: contexts
 abbrev pub is_rule : Pattern → Bool
 is_rule (Either p q) = is_context p && is_rule q
 is_rule Anchor = true
 is_rule (Then p q) = if is_anchor p then is_after q else is_before p && is_context q
 is_rule p = false
+
+-- a rule: a context rule, or a whole-label rule, which has no '_'
+abbrev pub is_rule_or_whole : Pattern → Bool
+is_rule_or_whole p = is_rule p || not (has sign.Anchor p)

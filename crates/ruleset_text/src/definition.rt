@@ -1,13 +1,16 @@
 //! What a line defines.
 ghost use Rattle.std.specs.Prelude.{◌≡◌, ◌++◌, [], length, IfOk, OnOk};
 ghost use Rattle.label_patterns.specs.Trees.{pattern};
+ghost use Rattle.ruleset_text.specs.ActionForms.{action as action_of};
+ghost use Rattle.ruleset_text.specs.Canonical as text;
 ghost use Rattle.ruleset_text.specs.Canonical.{definition_text};
 ghost use Rattle.ruleset_text.specs.Definition as words;
 ghost use Rattle.ruleset_text.specs.DefinitionTrees as trees;
 
+use crate::action::{NamedAction, push_action_text};
 use crate::canonical::{push_byte, push_bytes, push_pattern, push_spans};
 use crate::names::Name;
-use label_patterns::{PatternTree, PointSet};
+use label_patterns::{PatternTree, PointSet, is_context_rule};
 use std::alloc::{AllocError, Global};
 
 /// What a demand asks of each label.
@@ -22,10 +25,12 @@ pub enum DemandKind {
 /// What a line defines. The sets of a pattern go by their number.
 #[derive(Drop)]
 pub enum Definition {
-    Tag(Name),
+    VariantType(Name),
     Set(Name, PointSet),
+    /// A context rule by its contexts, or a whole-label rule by its pattern, which has no `_`.
     Rule(Name, PatternTree),
     Demand(DemandKind, PatternTree),
+    Action(NamedAction),
 }
 
 /// Appends the canonical line of a definition, without its line feed. The sets of a pattern have these names.
@@ -38,18 +43,19 @@ pub fn push_definition(
         out.old.items ++ definition_text sets.now (trees.definition definition.now)) }
 {
     match definition {
-        Definition::Tag(name) => push_tag(out, name),
+        Definition::VariantType(name) => push_type(out, name),
         Definition::Set(name, set) => push_set(out, name, set),
-        Definition::Rule(name, contexts) => push_rule(out, sets, name, contexts),
+        Definition::Rule(name, pattern) => push_rule(out, sets, name, pattern),
         Definition::Demand(kind, pattern) => push_demand(out, sets, *kind, pattern),
+        Definition::Action(action) => push_action(out, action),
     }
 }
 
-/// Appends the canonical line of a tag, without its line feed. It names no set.
-pub fn push_tag(out: &mut Vec<u8>, name: &Name) -> Result<(), AllocError>
-    ensures { OnOk result (out.new.items ≡ out.old.items ++ definition_text [] (words.Tag name.now)) }
+/// Appends the canonical line of a variant type, without its line feed. It names no set.
+pub fn push_type(out: &mut Vec<u8>, name: &Name) -> Result<(), AllocError>
+    ensures { OnOk result (out.new.items ≡ out.old.items ++ definition_text [] (words.VariantType name.now)) }
 {
-    push_bytes(out, b"%tag ")?;
+    push_bytes(out, b"%type ")?;
     push_bytes(out, name.as_slice())
 }
 
@@ -62,20 +68,31 @@ pub fn push_set(out: &mut Vec<u8>, name: &Name, set: &PointSet) -> Result<(), Al
     push_spans(out, set)
 }
 
-/// Appends the canonical line of a rule, without its line feed. The sets of its contexts have these names.
+/// Appends the canonical line of a rule, without its line feed. The sets of its pattern have these names.
 pub fn push_rule(
     out: &mut Vec<u8>,
     sets: &[Name],
     name: &Name,
-    contexts: &PatternTree,
+    tree: &PatternTree,
 ) -> Result<(), AllocError>
     ensures { OnOk result (out.new.items ≡
-        out.old.items ++ definition_text sets.now (words.Rule name.now (pattern contexts.now))) }
+        out.old.items ++ definition_text sets.now (words.Rule name.now (pattern tree.now))) }
 {
-    push_bytes(out, b"%rule ")?;
+    push_bytes(out, rule_word(is_context_rule(tree)))?;
     push_bytes(out, name.as_slice())?;
     push_byte(out, b' ')?;
-    push_pattern(out, sets, contexts)
+    push_pattern(out, sets, tree)
+}
+
+/// The keyword of a rule and the blank after it.
+fn rule_word(is_context_rule: bool) -> &'static [u8]
+    ensures { result.now ≡ text.rule_word is_context_rule }
+{
+    if is_context_rule {
+        b"%rule "
+    } else {
+        b"%whole "
+    }
 }
 
 /// Appends the canonical line of a demand, without its line feed. The sets of its pattern have these names.
@@ -91,6 +108,15 @@ pub fn push_demand(
     push_bytes(out, demand_word(kind))?;
     push_byte(out, b' ')?;
     push_pattern(out, sets, tree)
+}
+
+/// Appends the canonical line of an action, without its line feed. It names no set.
+pub fn push_action(out: &mut Vec<u8>, action: &NamedAction) -> Result<(), AllocError>
+    ensures { OnOk result (out.new.items ≡
+        out.old.items ++ definition_text [] (words.Action (action_of action.now))) }
+{
+    push_bytes(out, b"%action ")?;
+    push_action_text(out, action)
 }
 
 /// The keyword of a demand.

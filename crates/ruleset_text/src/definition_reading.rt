@@ -1,11 +1,12 @@
 //! Reading what a line defines.
 ghost use Rattle.std.specs.Prelude.{◌≡◌, ◌<◌, ◌^◌, false, MatchResult, length};
-ghost use Rattle.ruleset_text.specs.Definition.{Demand as demand_of};
+ghost use Rattle.ruleset_text.specs.Definition.{Action as action_of, Demand as demand_of};
 ghost use Rattle.ruleset_text.specs.DefinitionReading as reading;
 ghost use Rattle.ruleset_text.specs.DefinitionReading.{definition_read, name_read};
 ghost use Rattle.ruleset_text.specs.LineStops.{map_read};
 ghost use Rattle.ruleset_text.specs.inner.DefinitionSteps.{GivesDefinition};
 
+use crate::action_reading::read_action;
 use crate::definition::{Definition, DemandKind};
 use crate::definition_line::DefinitionLine;
 use crate::fault::{FaultPlace, LineFaults, ReadError};
@@ -42,29 +43,31 @@ pub fn read_definition(
         end,
     } = line;
     match keyword {
-        Keyword::Tag => read_tag(alloc, earlier, after, end),
+        Keyword::VariantType => read_type(alloc, earlier, after, end),
         Keyword::Set => read_set(alloc, earlier, after, end),
-        Keyword::Rule => read_rule(alloc, earlier, after, end),
+        Keyword::Rule => read_rule(alloc, true, earlier, after, end),
+        Keyword::Whole => read_rule(alloc, false, earlier, after, end),
         Keyword::Never => read_demand(alloc, earlier, DemandKind::Never, after, end),
         Keyword::Always => read_demand(alloc, earlier, DemandKind::Always, after, end),
+        Keyword::Action => read_action_line(alloc, earlier, after, end),
     }
 }
 
-fn read_tag(
+fn read_type(
     alloc: Global,
     earlier: Earlier<'_>,
     mut lexemes: PlacedLexemes<'_>,
     end: usize,
 ) -> Result<ReadDefinition, ReadError>
     ensures { GivesDefinition earlier.entry lexemes.entry result
-        (reading.named (reading.tag_read end) end lexemes.entry) }
+        (reading.named (reading.type_read end) end lexemes.entry) }
 {
     let name = read_name(&mut lexemes, end)?;
     if let Some((place, lexeme)) = lexemes.next() {
         return Err(ReadError::Stop(FaultPlace::Lexeme(place, lexeme.len())));
     }
     Ok(ReadDefinition {
-        definition: Definition::Tag(Name::copied(alloc, name)?),
+        definition: Definition::VariantType(Name::copied(alloc, name)?),
         atoms_left: earlier.atoms_left,
         faults: LineFaults::none(),
     })
@@ -88,18 +91,20 @@ fn read_set(
     })
 }
 
+/// A context rule, or a whole-label rule.
 fn read_rule(
     alloc: Global,
+    is_rule: bool,
     earlier: Earlier<'_>,
     mut lexemes: PlacedLexemes<'_>,
     end: usize,
 ) -> Result<ReadDefinition, ReadError>
     requires { length lexemes < 2 ^ 63 }
     ensures { GivesDefinition earlier.entry lexemes.entry result
-        (reading.named (reading.rule_read earlier.entry.sets.now end) end lexemes.entry) }
+        (reading.named (reading.rule_read is_rule earlier.entry.sets.now end) end lexemes.entry) }
 {
     let name = read_name(&mut lexemes, end)?;
-    let read = read_pattern(alloc, true, earlier, lexemes, end)?;
+    let read = read_pattern(alloc, is_rule, earlier, lexemes, end)?;
     Ok(ReadDefinition {
         definition: Definition::Rule(Name::copied(alloc, name)?, read.tree),
         atoms_left: read.atoms_left,
@@ -123,6 +128,25 @@ fn read_demand(
         definition: Definition::Demand(kind, read.tree),
         atoms_left: read.atoms_left,
         faults: read.faults,
+    })
+}
+
+fn read_action_line(
+    alloc: Global,
+    earlier: Earlier<'_>,
+    lexemes: PlacedLexemes<'_>,
+    end: usize,
+) -> Result<ReadDefinition, ReadError>
+    ensures { GivesDefinition earlier.entry lexemes.entry result
+        (map_read action_of (reading.action_read end lexemes.entry)) }
+{
+    let read = read_action(alloc, earlier, lexemes, end)?;
+    let mut faults = LineFaults::none();
+    faults.name = read.unknown;
+    Ok(ReadDefinition {
+        definition: Definition::Action(read.action),
+        atoms_left: earlier.atoms_left,
+        faults,
     })
 }
 

@@ -1,9 +1,11 @@
 //! What the lines of a ruleset define.
-ghost use Rattle.std.specs.Prelude.{◌≡◌, ◌+◌, ◌-◌, ◌<◌, ◌≤◌, ◌^◌, nat_le, length, map, IfErr, IfOk};
+ghost use Rattle.std.specs.Prelude.{◌≡◌, ◌+◌, ◌-◌, ◌<◌, ◌≤◌, ◌^◌, ◌++◌, true, nat_le, length, map, IfErr};
 ghost use Rattle.std.specs.Prelude.{MatchResult, OnOk, OnErr, Some, Err};
 ghost use Rattle.std.specs.List.{AllByRecursion};
 ghost use Rattle.label_patterns.specs.Matches.{HasItsSets};
 ghost use Rattle.label_patterns.specs.Trees.{pattern};
+ghost use Rattle.ruleset_text.specs.ActionForms.{action};
+ghost use Rattle.ruleset_text.specs.Actions.{knows_action};
 ghost use Rattle.ruleset_text.specs.Canonical.{definition_text};
 ghost use Rattle.ruleset_text.specs.Definition as definition;
 ghost use Rattle.ruleset_text.specs.Definitions as words;
@@ -19,13 +21,15 @@ ghost use Rattle.ruleset_text.specs.Names.{is_one_of as is_among};
 ghost use Rattle.ruleset_text.specs.PlacedLexemes.{placed_lexemes, unplaced};
 ghost use Rattle.ruleset_text.specs.WellFormed.{AreDefinitions};
 
-use crate::copies::{copied_patterns, copied_sets};
+use crate::action::NamedAction;
 use crate::definition::{Definition, DemandKind, canonical_len};
 use crate::definition_line::DefinitionLine;
 use crate::definition_reading::{ReadDefinition, read_definition};
 use crate::fault::{DefinitionFault, DefinitionRefusal, FaultPlace};
-use crate::limits::{ATOM_LIMIT, DEFINITION_LIMIT, PATTERN_LIMIT, SET_LIMIT, TAG_LIMIT};
-use crate::names::{Name, copied_names, is_one_of};
+use crate::limits::{ATOM_LIMIT, DEFINITION_LIMIT, RULE_LIMIT, SET_LIMIT, TYPE_LIMIT};
+use crate::names::{
+    Name, PREDEFINED_TYPES, is_one_of, is_type, number_of, predefined_number, predefined_type,
+};
 use crate::reading::Earlier;
 use idn_class::Properties;
 use label_patterns::{PatternTree, PointSet};
@@ -39,17 +43,20 @@ pub struct Demand {
     pub pattern: PatternTree,
 }
 
-/// What the lines of a ruleset define so far. A set goes by its number, and so does a rule.
+/// What the lines of a ruleset define so far. A set goes by its number, and so do a rule and a type.
 #[derive(Drop)]
 pub struct Definitions {
     /// Whose classes are asked.
     properties: Properties,
-    tags: Vec<Name>,
+    /// Those that are not predefined.
+    types: Vec<Name>,
     set_names: Vec<Name>,
     sets: Vec<PointSet>,
     rule_names: Vec<Name>,
+    /// Context rules and whole-label rules.
     rules: Vec<PatternTree>,
     demands: Vec<Demand>,
+    actions: Vec<NamedAction>,
     /// How many atoms further patterns may have.
     atoms_left: usize,
     /// How many bytes the canonical lines have, with their line feeds.
@@ -78,32 +85,16 @@ impl Definitions {
     {
         Definitions {
             properties,
-            tags: Vec::new(alloc),
+            types: Vec::new(alloc),
             set_names: Vec::new(alloc),
             sets: Vec::new(alloc),
             rule_names: Vec::new(alloc),
             rules: Vec::new(alloc),
             demands: Vec::new(alloc),
+            actions: Vec::new(alloc),
             atoms_left: ATOM_LIMIT,
             written: 0,
         }
-    }
-
-    /// These definitions as a value of their own. It is an `Err` only where memory was refused.
-    pub fn copied(&self, alloc: Global) -> Result<Self, AllocError>
-        ensures { IfOk result (λ copy. copy ≡ self.now) }
-    {
-        Ok(Definitions {
-            properties: self.properties,
-            tags: copied_names(alloc, &self.tags)?,
-            set_names: copied_names(alloc, &self.set_names)?,
-            sets: copied_sets(alloc, &self.sets)?,
-            rule_names: copied_names(alloc, &self.rule_names)?,
-            rules: copied_patterns(alloc, &self.rules)?,
-            demands: copied_demands(alloc, &self.demands)?,
-            atoms_left: self.atoms_left,
-            written: self.written,
-        })
     }
 
     /// Whose classes are asked.
@@ -113,12 +104,48 @@ impl Definitions {
         self.properties
     }
 
-    /// The names of the tags.
-    pub fn tags(&self) -> &[Name]
-        ensures is { result.now ≡ self.now.tags }
-        ensures few { length self.now.tags ≤ 8 }
+    /// The names of the variant types that are not predefined.
+    pub fn types(&self) -> &[Name]
+        ensures is { result.now ≡ self.now.types }
+        ensures few { length self.now.types ≤ 57 }
     {
-        &self.tags
+        &self.types
+    }
+
+    /// Whether a variant type has this name.
+    pub fn has_type(&self, name: &[u8]) -> bool
+        ensures { result ≡ is_among (words.type_names self.now) name.now }
+    {
+        is_type(&self.types, name)
+    }
+
+    /// The number of the variant type of this name, or how many types there are, at most 62. The predefined ones have
+    /// the numbers 0 to 4 (RFC 7940, section 7.3), and the others the next ones, in the order of their lines.
+    pub fn type_number(&self, name: &[u8]) -> usize
+        ensures is { result ≡ words.type_number self.now name.now }
+        ensures few { result ≤ 62 }
+    {
+        let number = predefined_number(name);
+        if number < PREDEFINED_TYPES {
+            return number;
+        }
+        PREDEFINED_TYPES + number_of(&self.types, name)
+    }
+
+    /// The name of the variant type of this number; nothing, where there is none.
+    pub fn type_name(&self, number: usize) -> &[u8]
+        ensures { result.now ≡ words.type_name self.now number }
+    {
+        if number < PREDEFINED_TYPES {
+            return predefined_type(number);
+        }
+        match self.types.get(number - PREDEFINED_TYPES) {
+            Some(name) => name.as_slice(),
+            None => {
+                let nothing: &[u8] = &[];
+                nothing
+            }
+        }
     }
 
     /// The names of the sets.
@@ -159,7 +186,7 @@ impl Definitions {
         }
     }
 
-    /// The contexts of the rules, by their number.
+    /// The contexts of context rules and the patterns of whole-label rules, by their number.
     pub fn rules(&self) -> &[PatternTree]
         ensures is { map pattern result.now ≡ self.now.rules }
         ensures known { AllByRecursion (HasItsSets (length self.now.sets)) self.now.rules }
@@ -173,6 +200,15 @@ impl Definitions {
         ensures known { AllByRecursion (λ d. HasItsSets (length self.now.sets) d.pattern) self.now.demands }
     {
         &self.demands
+    }
+
+    /// The actions.
+    pub fn actions(&self) -> &[NamedAction]
+        ensures is { map action result.now ≡ self.now.actions }
+        ensures known { AllByRecursion (λ a. knows_action (words.type_names self.now) (words.whole_rules self.now) a ≡ true)
+            self.now.actions }
+    {
+        &self.actions
     }
 
     /// How many atoms further patterns may have.
@@ -234,7 +270,10 @@ impl Definitions {
         ensures { IsEarlier result self.now }
     {
         Earlier {
+            types: &self.types,
             sets: &self.set_names,
+            rule_names: &self.rule_names,
+            rules: &self.rules,
             atoms_left: self.atoms_left,
             properties: self.properties,
         }
@@ -291,37 +330,44 @@ impl Definitions {
         ensures { result ≡ words.has_most self.now (trees.definition definition.now) }
     {
         match definition {
-            Definition::Tag(_) => self.tags.len() >= TAG_LIMIT,
+            Definition::VariantType(_) => self.types.len() >= TYPE_LIMIT,
             Definition::Set(_, _) => self.sets.len() >= SET_LIMIT,
-            Definition::Rule(_, _) => self.has_most_patterns(),
-            Definition::Demand(_, _) => self.has_most_patterns(),
+            Definition::Rule(_, _) => self.has_most_rules(),
+            Definition::Demand(_, _) => self.has_most_rules(),
+            Definition::Action(_) => self.has_most_rules(),
         }
     }
 
-    fn has_most_patterns(&self) -> bool
-        ensures { result ≡ nat_le 256 (length self.now.rules + length self.now.demands) }
+    /// Whether as many rules, demands and actions as may be are defined.
+    fn has_most_rules(&self) -> bool
+        ensures { result ≡ nat_le 256 (words.rule_lines self.now) }
     {
-        self.rules.len() + self.demands.len() >= PATTERN_LIMIT
+        self.rules.len() + self.demands.len() + self.actions.len() >= RULE_LIMIT
     }
 
-    /// Whether its name is that of a tag, a set or a rule.
+    /// Whether its name is that of a type, a set or a rule.
     fn has_same_name(&self, definition: &Definition) -> bool
         ensures { result ≡ words.has_same_name self.now (trees.definition definition.now) }
     {
         match definition {
-            Definition::Tag(name) => self.has_name(name),
+            Definition::VariantType(name) => self.has_name(name),
             Definition::Set(name, _) => self.has_name(name),
             Definition::Rule(name, _) => self.has_name(name),
             Definition::Demand(_, _) => false,
+            Definition::Action(_) => false,
         }
     }
 
     fn has_name(&self, name: &Name) -> bool
         ensures { result ≡ is_among (words.all_names self.now) name.now }
     {
-        is_one_of(&self.tags, name.as_slice())
-            || is_one_of(&self.set_names, name.as_slice())
-            || is_one_of(&self.rule_names, name.as_slice())
+        self.has_type(name.as_slice()) || self.has_set_or_rule(name)
+    }
+
+    fn has_set_or_rule(&self, name: &Name) -> bool
+        ensures { result ≡ is_among (self.now.set_names ++ self.now.rule_names) name.now }
+    {
+        is_one_of(&self.set_names, name.as_slice()) || is_one_of(&self.rule_names, name.as_slice())
     }
 
     /// Adds the definition of a line. An `Err` changes nothing.
@@ -339,21 +385,22 @@ impl Definitions {
         ensures err { OnErr result (self.new ≡ self.old) }
     {
         match definition {
-            Definition::Tag(name) => self.add_tag(name, len),
+            Definition::VariantType(name) => self.add_type(name, len),
             Definition::Set(name, set) => self.add_set(name, set, len),
             Definition::Rule(name, contexts) => self.add_rule(name, contexts, atoms_left, len),
             Definition::Demand(kind, pattern) => self.add_demand(kind, pattern, atoms_left, len),
+            Definition::Action(action) => self.add_action(action, len),
         }
     }
 
-    fn add_tag(&mut self, name: Name, len: usize) -> Result<(), AllocError>
-        requires without_fault { AreDefinitions (added self.old (definition.Tag name)) }
-        requires len { len ≡ length (definition_text self.old.set_names (definition.Tag name)) }
+    fn add_type(&mut self, name: Name, len: usize) -> Result<(), AllocError>
+        requires without_fault { AreDefinitions (added self.old (definition.VariantType name)) }
+        requires len { len ≡ length (definition_text self.old.set_names (definition.VariantType name)) }
         requires room { canonical_size self.old + (len + 1) < 2 ^ 64 }
-        ensures ok { OnOk result (self.new ≡ added self.old (definition.Tag name)) }
+        ensures ok { OnOk result (self.new ≡ added self.old (definition.VariantType name)) }
         ensures err { OnErr result (self.new ≡ self.old) }
     {
-        self.tags.push(name)?;
+        self.types.push(name)?;
         self.written += len + 1;
         Ok(())
     }
@@ -416,18 +463,16 @@ impl Definitions {
         self.written += len + 1;
         Ok(())
     }
-}
 
-/// These demands as a list of their own.
-fn copied_demands(alloc: Global, demands: &[Demand]) -> Result<Vec<Demand>, AllocError>
-    ensures { IfOk result (λ copies. map demand copies.items ≡ map demand demands.now) }
-{
-    let mut copies = Vec::new(alloc);
-    for demand in demands {
-        copies.push(Demand {
-            kind: demand.kind,
-            pattern: demand.pattern.copied(alloc)?,
-        })?;
+    fn add_action(&mut self, added_one: NamedAction, len: usize) -> Result<(), AllocError>
+        requires without_fault { AreDefinitions (added self.old (definition.Action (action added_one))) }
+        requires len { len ≡ length (definition_text self.old.set_names (definition.Action (action added_one))) }
+        requires room { canonical_size self.old + (len + 1) < 2 ^ 64 }
+        ensures ok { OnOk result (self.new ≡ added self.old (definition.Action (action added_one))) }
+        ensures err { OnErr result (self.new ≡ self.old) }
+    {
+        self.actions.push(added_one)?;
+        self.written += len + 1;
+        Ok(())
     }
-    Ok(copies)
 }

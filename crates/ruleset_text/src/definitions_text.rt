@@ -5,29 +5,30 @@ ghost use Rattle.ruleset_text.specs.Definition as definition;
 ghost use Rattle.ruleset_text.specs.Definitions.{definitions_text, lines_text, named};
 
 use crate::canonical::push_byte;
-use crate::definition::{push_demand, push_rule, push_set, push_tag};
+use crate::definition::{push_action, push_demand, push_rule, push_set, push_type};
 use crate::definitions::Definitions;
 use std::alloc::AllocError;
 
 impl Definitions {
-    /// Appends the canonical lines of the definitions, each with its line feed: tags, sets, rules, demands. After an
-    /// `Err` some may have been appended.
+    /// Appends the canonical lines of the definitions, each with its line feed: types, sets, rules, demands, actions.
+    /// After an `Err` some may have been appended.
     pub fn push_lines(&self, out: &mut Vec<u8>) -> Result<(), AllocError>
         ensures { OnOk result (out.new.items ≡ out.old.items ++ definitions_text self.now) }
     {
-        self.push_tags(out)?;
+        self.push_types(out)?;
         self.push_sets(out)?;
         self.push_rules(out)?;
-        self.push_demands(out)
+        self.push_demands(out)?;
+        self.push_actions(out)
     }
 
-    fn push_tags(&self, out: &mut Vec<u8>) -> Result<(), AllocError>
+    fn push_types(&self, out: &mut Vec<u8>) -> Result<(), AllocError>
         ensures { OnOk result (out.new.items ≡
-            out.old.items ++ lines_text (map (definition_text self.now.set_names) (map definition.Tag self.now.tags))) }
+            out.old.items ++ lines_text (map (definition_text self.now.set_names) (map definition.VariantType self.now.types))) }
     {
-        let tags = self.tags();
-        for tag in tags {
-            push_tag(out, tag)?;
+        let types = self.types();
+        for name in types {
+            push_type(out, name)?;
             push_byte(out, b'\n')?;
         }
         Ok(())
@@ -71,6 +72,19 @@ impl Definitions {
         let demands = self.demands();
         for demand in demands {
             push_demand(out, sets, demand.kind, &demand.pattern)?;
+            push_byte(out, b'\n')?;
+        }
+        Ok(())
+    }
+
+    fn push_actions(&self, out: &mut Vec<u8>) -> Result<(), AllocError>
+        ensures { OnOk result (out.new.items ≡
+            out.old.items ++ lines_text (map (definition_text self.now.set_names)
+            (map definition.Action self.now.actions))) }
+    {
+        let actions = self.actions();
+        for action in actions {
+            push_action(out, action)?;
             push_byte(out, b'\n')?;
         }
         Ok(())

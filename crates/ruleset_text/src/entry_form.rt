@@ -1,20 +1,14 @@
 //! What a line of an entry or of a range says.
+use crate::named_condition::NamedCondition;
 use crate::names::Name;
-use label_patterns::ConditionKind;
 
-/// Where a source or a variant may be used, by the name of a rule.
-#[derive(Drop)]
-pub struct NamedCondition {
-    pub kind: ConditionKind,
-    pub rule: Name,
-}
-
-/// A source or a variant, as a line writes it: with `!` or without, with the names of its tags, and its condition.
+/// A source or a variant, as a line writes it: with `!` or without, with the name of its type, and its condition. `!`
+/// before a source says `as invalid`, and before a variant `as blocked`.
 #[derive(Drop)]
 pub struct Mapped {
     pub marked: bool,
     pub points: Vec<u32>,
-    pub tags: Vec<Name>,
+    pub type_name: Option<Name>,
     pub condition: Option<NamedCondition>,
 }
 

@@ -1,7 +1,7 @@
 //! Laws of entries and ranges, each the contract of a function that does nothing.
 ghost use Rattle.std.specs.Prelude.{◌≡◌, ◌↔◌, Option, Some, Ok, Err, ℕ, List};
 ghost use Rattle.ruleset_text.specs.Entries.{EntryForm, Mapped};
-ghost use Rattle.ruleset_text.specs.EntryStops.{FitsNames, IsEntryOf, IsEntryStop};
+ghost use Rattle.ruleset_text.specs.EntryStops.{IsEntryOf, IsEntryStop};
 ghost use Rattle.ruleset_text.specs.EntryText.{IsForm, entry_text};
 ghost use Rattle.ruleset_text.specs.EntryWords.{IsEntryLine};
 ghost use Rattle.ruleset_text.specs.EntrySteps.{entry_in, entry_read};
@@ -11,15 +11,14 @@ use crate::entry_parts::EntryParts;
 use crate::fault::FaultPlace;
 
 /// What is read as an entry or a range is what the grammar says of the line, and nothing else; so a line spells one at
-/// most. Any other line, if it has at most 8,192 bytes or no tags, stops being one at the lexeme with which none goes
-/// on, or at its end.
+/// most. Any other line stops being one at the lexeme with which none goes on, or at its end.
 pub fn reading_an_entry_is_exact()
     ensures exact { (form : EntryForm) (line : List ℕ) → (entry_in (lexemes line) ≡ Some form) ↔ IsEntryLine form line }
     ensures one { (form other : EntryForm) (line : List ℕ) → IsEntryLine form line → IsEntryLine other line →
         form ≡ other }
     ensures form { (parts : EntryParts) (line : List ℕ) (form : EntryForm) →
         (entry_read parts line ≡ Ok form) ↔ IsEntryOf parts line form }
-    ensures stop { (parts : EntryParts) (line : List ℕ) (place : FaultPlace) → FitsNames parts line →
+    ensures stop { (parts : EntryParts) (line : List ℕ) (place : FaultPlace) →
         (entry_read parts line ≡ Err place) ↔ IsEntryStop parts line place }
 {}
 

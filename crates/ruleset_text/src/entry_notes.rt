@@ -1,13 +1,14 @@
 //! What is noted of the line of an entry while it is read.
-ghost use Rattle.std.specs.Prelude.{◌≡◌, OnOk, Some};
+ghost use Rattle.std.specs.Prelude.{◌≡◌, length, OnOk, Some};
 ghost use Rattle.ruleset_text.specs.EntryFaults as faults;
 ghost use Rattle.ruleset_text.specs.EntryForms.{notes};
+ghost use Rattle.ruleset_text.specs.declared.fault.FaultPlace.TheVariants.{Lexeme};
 ghost use Rattle.ruleset_text.specs.inner.EntryNoted.{and_notes, name_notes, nothing_noted, point_notes};
+ghost use Rattle.ruleset_text.specs.inner.EntryNoted.{unless_defined};
 
 use crate::classes::is_bad_point;
 use crate::definitions::Definitions;
 use crate::fault::{FaultPlace, LineFaults};
-use crate::names::{Name, is_one_of};
 use std::alloc::{AllocError, Global};
 
 /// The most sequences of an entry: a source and 16 variants.
@@ -80,12 +81,12 @@ impl EntryNotes {
         Ok(())
     }
 
-    /// Notes the name of a tag or of a rule, where it stands. These are the names that are defined.
-    pub(crate) fn add_name(&mut self, names: &[Name], name: &[u8], place: usize)
-        ensures { notes self.new ≡ and_notes (notes self.old) (name_notes (faults.unknown_in names.now name.now
-            (record { place = place; lexeme = name.now }))) }
+    /// Notes the name of a type or of a rule, where it stands, if it isn't defined.
+    pub(crate) fn add_name(&mut self, is_defined: bool, name: &[u8], place: usize)
+        ensures { notes self.new ≡ and_notes (notes self.old)
+            (name_notes (unless_defined is_defined (Lexeme place (length name.now)))) }
     {
-        if self.faults.name.is_none() && !is_one_of(names, name) {
+        if self.faults.name.is_none() && !is_defined {
             self.faults.name = Some(FaultPlace::Lexeme(place, name.len()));
         }
     }

@@ -3,12 +3,12 @@
 /// The parts that entries and ranges may have besides their code points.
 #[derive(Clone, Copy, Debug, PartialEq, Eq)]
 pub struct EntryParts {
-    /// `!` before the source.
-    pub outside: bool,
-    /// `!` before a variant.
+    /// `!` before the source, which gives it the type invalid.
+    pub invalid: bool,
+    /// `!` before a variant, which gives it the type blocked.
     pub blocked: bool,
     /// Ranges.
     pub ranges: bool,
-    /// Tags and conditions.
+    /// Types and conditions.
     pub named: bool,
 }

@@ -6,15 +6,17 @@ ghost use Rattle.ruleset_text.specs.EntryWords.{point_of};
 ghost use Rattle.ruleset_text.specs.EntryFaults.{notes_of};
 ghost use Rattle.ruleset_text.specs.EntrySteps as steps;
 ghost use Rattle.ruleset_text.specs.LineStops.{Gives};
+ghost use Rattle.ruleset_text.specs.Names.{is_one_of as is_among};
 ghost use Rattle.ruleset_text.specs.declared.entry_reading.Phase.TheVariants.{Begin};
 ghost use Rattle.ruleset_text.specs.inner.EntryNoted.{names_next, noted, point_noted};
 ghost use Rattle.ruleset_text.specs.inner.EntryTaken.{is_before_name, is_before_word, taken_as};
 
 use crate::definitions::Definitions;
-use crate::entry_form::{EntryForm, Mapped, NamedCondition};
+use crate::entry_form::{EntryForm, Mapped};
 use crate::entry_notes::{EntryNotes, LinePoint};
 use crate::entry_parts::EntryParts;
 use crate::fault::{FaultPlace, ReadError};
+use crate::named_condition::NamedCondition;
 use crate::names::{Name, is_name, is_one_of};
 use crate::placed::PlacedLexemes;
 use crate::tokens::without_prefix;
@@ -34,8 +36,6 @@ enum EntryWord {
     Bar,
     /// `:`
     Colon,
-    /// `,`
-    Comma,
     /// `..`
     Range,
     /// `as`
@@ -59,9 +59,10 @@ enum Phase {
     Range,
     /// The last code point of a range.
     Last,
-    /// `as`, or `,`
+    /// `as`
     As,
-    Tag,
+    /// The name of a type.
+    VariantType,
     When,
     Unless,
     Rule,
@@ -77,7 +78,7 @@ struct EntryState {
 }
 
 /// The entry or the range that a line spells, with no other parts than these; or where the line stops being one, which
-/// law `reading_an_entry_is_exact` says. Tags and rules go by their names. What its form doesn't show is noted: where
+/// law `reading_an_entry_is_exact` says. Types and rules go by their names. What its form doesn't show is noted: where
 /// each sequence begins, and what is wrong after these definitions.
 // Always inline, so that it is where a table is read, whoever else calls it. So are each step and the end.
 #[inline(always)]
@@ -113,7 +114,7 @@ fn nothing(alloc: Global) -> Mapped
     Mapped {
         marked: false,
         points: Vec::new(alloc),
-        tags: Vec::new(alloc),
+        type_name: None,
         condition: None,
     }
 }
@@ -168,15 +169,15 @@ impl EntryState {
                 lexeme,
             ),
             Phase::Begin => self.begin(alloc, parts, definitions, notes, place, lexeme),
-            Phase::Point | Phase::Last | Phase::Tag | Phase::Rule => self.take_word(
+            Phase::Point | Phase::Last | Phase::VariantType | Phase::Rule => self.take_word(
                 alloc, parts, lexeme,
             ),
         }
     }
 
-    /// Takes a name, which may be any word of tags and conditions, if these are not lacking.
+    /// Takes a name, which may be any word of types and conditions, if these are not lacking.
     #[inline(always)]
-    #[tactic(auto, using(crate::proofs::EntryWordLemmas::name_lacks, crate::proofs::EntryWordLemmas::name_had, crate::proofs::EntryWordLemmas::name_free, crate::proofs::EntryWordLemmas::tag_next))]
+    #[tactic(auto, using(crate::proofs::EntryWordLemmas::name_lacks, crate::proofs::EntryWordLemmas::name_had, crate::proofs::EntryWordLemmas::name_free, crate::proofs::EntryWordLemmas::type_next))]
     fn take_name(
         &mut self,
         alloc: Global,
@@ -192,24 +193,25 @@ impl EntryState {
         ensures notes { IfOk result (λ taken. forms.notes notes.new ≡ noted definitions.now (steps.state self.old)
             (record { place = place; lexeme = lexeme.now }) (forms.notes notes.old)) }
     {
-        notes.add_name(self.names_next(definitions), lexeme, place);
+        notes.add_name(self.is_defined(definitions, lexeme), lexeme, place);
         if !parts.named && is_lacking(parts, false, word_of(lexeme)) {
             return Ok(false);
         }
         match self.phase {
             Phase::When => self.take_rule(alloc, ConditionKind::When, lexeme),
             Phase::Unless => self.take_rule(alloc, ConditionKind::Unless, lexeme),
-            _ => self.take_tag(alloc, lexeme),
+            _ => self.take_type(alloc, lexeme),
         }
     }
 
-    /// The names of which one stands next.
-    fn names_next<'a>(&self, definitions: &'a Definitions) -> &'a [Name]
-        ensures { result.now ≡ names_next definitions.now self.now.phase }
+    /// Whether it is one of the names of which one stands next.
+    #[inline(always)]
+    fn is_defined(&self, definitions: &Definitions, name: &[u8]) -> bool
+        ensures { result ≡ is_among (names_next definitions.now self.now.phase) name.now }
     {
         match self.phase {
-            Phase::As => definitions.tags(),
-            _ => definitions.rule_names(),
+            Phase::As => definitions.has_type(name),
+            _ => is_one_of(definitions.rule_names(), name),
         }
     }
 
@@ -232,7 +234,7 @@ impl EntryState {
         match self.phase {
             Phase::Point => self.after_point(alloc, word),
             Phase::Last => self.after_points(alloc, word),
-            Phase::Tag => self.after_tag(alloc, word),
+            Phase::VariantType => self.after_type(alloc, word),
             _ => self.after_rule(alloc, word),
         }
     }
@@ -363,35 +365,25 @@ impl EntryState {
     {
         match word {
             EntryWord::As => Ok(!self.current.marked && self.go_on(Phase::As)),
-            word => self.after_tags(alloc, word),
+            word => self.after_type(alloc, word),
         }
     }
 
-    /// Takes the name of a tag, if there is none like it yet.
-    fn take_tag(&mut self, alloc: Global, lexeme: &[u8]) -> Result<bool, AllocError>
-        ensures { IfOk result (λ taken. steps.at_tag (steps.state self.old) lexeme.now ≡
+    /// Takes the name of a type.
+    fn take_type(&mut self, alloc: Global, lexeme: &[u8]) -> Result<bool, AllocError>
+        ensures { IfOk result (λ taken. steps.at_type (steps.state self.old) lexeme.now ≡
             taken_as taken (steps.state self.new)) }
     {
-        if !is_name(lexeme) || is_one_of(&self.current.tags, lexeme) {
+        if !is_name(lexeme) {
             return Ok(false);
         }
-        self.current.tags.push(Name::copied(alloc, lexeme)?)?;
-        self.phase = Phase::Tag;
+        self.current.type_name = Some(Name::copied(alloc, lexeme)?);
+        self.phase = Phase::VariantType;
         Ok(true)
     }
 
-    fn after_tag(&mut self, alloc: Global, word: EntryWord) -> Result<bool, AllocError>
-        ensures { IfOk result (λ taken. steps.after_tag (steps.state self.old) word ≡
-            taken_as taken (steps.state self.new)) }
-    {
-        match word {
-            EntryWord::Comma => Ok(self.go_on(Phase::As)),
-            word => self.after_tags(alloc, word),
-        }
-    }
-
-    fn after_tags(&mut self, alloc: Global, word: EntryWord) -> Result<bool, AllocError>
-        ensures { IfOk result (λ taken. steps.after_tags (steps.state self.old) word ≡
+    fn after_type(&mut self, alloc: Global, word: EntryWord) -> Result<bool, AllocError>
+        ensures { IfOk result (λ taken. steps.after_type (steps.state self.old) word ≡
             taken_as taken (steps.state self.new)) }
     {
         match word {
@@ -474,7 +466,7 @@ fn is_lacking(parts: EntryParts, first: bool, word: EntryWord) -> bool
     match word {
         EntryWord::Mark => {
             if first {
-                !parts.outside
+                !parts.invalid
             } else {
                 !parts.blocked
             }
@@ -495,7 +487,10 @@ fn first_point(points: &[u32]) -> u32
 fn is_complete(phase: Phase) -> bool
     ensures { result ≡ steps.is_complete phase }
 {
-    matches!(phase, Phase::Point | Phase::Last | Phase::Tag | Phase::Rule)
+    matches!(
+        phase,
+        Phase::Point | Phase::Last | Phase::VariantType | Phase::Rule
+    )
 }
 
 fn is_mark(lexeme: &[u8]) -> bool
@@ -512,7 +507,6 @@ fn word_of(lexeme: &[u8]) -> EntryWord
         b"-" => EntryWord::Hyphen,
         b"|" => EntryWord::Bar,
         b":" => EntryWord::Colon,
-        b"," => EntryWord::Comma,
         b".." => EntryWord::Range,
         b"as" => EntryWord::As,
         b"when" => EntryWord::When,

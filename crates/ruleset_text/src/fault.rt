@@ -11,14 +11,16 @@ use std::alloc::{AllocError, AllocFailed};
 pub enum DefinitionFault {
     /// The line has not the form of its keyword.
     Syntax,
-    /// The line goes past a limit: 8 tags, 256 sets, 256 rules and demands together, 4,096 atoms in all patterns, 8
-    /// groups or two `*` within each other, 8,192 bytes of a canonical line, or the room for the canonical text.
+    /// The line goes past a limit: 62 types with those that are predefined, 256 sets, 256 rules, demands and actions
+    /// together, 4,096 atoms in all patterns, 8 groups or two `*` within each other, 8,192 bytes of a canonical line, or
+    /// the room for the canonical text.
     Limit,
-    /// The line names a set that no earlier line defines.
+    /// The line names a set, a type or a rule that no earlier line defines, or where an action asks for one, a context
+    /// rule.
     NoSuchName,
     /// A code point is written on the line whose class is none of PVALID, CONTEXTJ and CONTEXTO.
     BadClass,
-    /// The line defines a name that an earlier line defines.
+    /// The line defines a name that an earlier line defines, or that of a predefined type.
     SameName,
     /// Memory was refused.
     Memory,

@@ -12,6 +12,8 @@ ghost use Rattle.ruleset_text.specs.declared.keyword.Keyword.{Keyword};
 ghost use Rattle.ruleset_text.specs.declared.token.Token.{Token};
 ghost use Rattle.label_patterns.specs.Patterns as patterns;
 ghost use Rattle.label_patterns.specs.Matches.{HasItsSets};
+ghost use Rattle.ruleset_text.specs.declared.action.TriggerKind.TheVariants as kind;
+ghost use Rattle.ruleset_text.specs.ActionSteps.{action, trigger};
 ghost use Rattle.ruleset_text.specs.Canonical.{HasPoints, pattern_text};
 ghost use Rattle.ruleset_text.specs.Definition.{Definition, contexts_of, definition_of, demand_of};
 ghost use Rattle.ruleset_text.specs.Definition as definition;
@@ -39,6 +41,7 @@ ghost use Rattle.ruleset_text.specs.Spans.{span, spans_in, spans_of};
 ghost use Rattle.ruleset_text.specs.Tokens.{tokens_of};
 ghost use Rattle.ruleset_text.specs.WellFormed.{AreDefinitions};
 ghost use Rattle.idn_class.specs.declared.properties.Properties.{Properties};
+ghost use Rattle.variant_dispositions.specs.declared.disposition.Disposition.TheVariants as disposition;
 
 /// The function that reads a pattern tells exactly what the grammar says; so tokens spell one pattern at most.
 pub fn reading_a_pattern_is_exact()
@@ -65,11 +68,11 @@ pub fn reading_a_definition_is_exact()
 
 /// What is read of a line is the definition that it spells; or the place where it stops defining something: some
 /// definition begins with the lexemes before, and none goes on with the one that stands there; or the line ends there
-/// too early.
+/// too early. Of an action of more than 8,192 lexemes that isn't said, since it may list all names that there are.
 pub fn a_line_stops_where_no_definition_goes_on()
     ensures read { (names : List (List ℕ)) (end : ℕ) (ws : List Placed) (x : Definition) →
         (line_read names end ws ≡ Ok x) ↔ SpellsLine names (unplaced ws) x }
-    ensures place { (names : List (List ℕ)) (end : ℕ) (ws : List Placed) (place : FaultPlace) →
+    ensures place { (names : List (List ℕ)) (end : ℕ) (ws : List Placed) (place : FaultPlace) → length ws ≤ 8192 →
         (line_read names end ws ≡ Err place) ↔ IsLineStop (IsDefinitionLine names) ws end place }
 {}
 
@@ -98,7 +101,7 @@ pub fn tokens_past_limits_are_marked()
 {}
 
 /// A place is told of a line that defines something exactly where reading refuses it: for a pattern past a limit or a
-/// definition too many, for a set that isn't defined, for a code point that no label has.
+/// definition too many, for a set, a type or a rule that isn't defined, for a code point that no label has.
 pub fn places_are_told_of_definitions_that_are_refused()
     ensures { (d : Definitions) (keyword : Keyword) (end : ℕ) (ws : List Placed) (x : Definition) → AreDefinitions d →
         definition_read d.set_names keyword end ws ≡ Ok x → AreFaultsOf d x (faults_after d x ws) }
@@ -175,13 +178,21 @@ pub fn definitions_compute_the_examples()
     ensures long_name { is_name (codes "nnnnnnnnnnnnnnnnnnnnnnnnnnnnnnnnn") ≡ false }
 {}
 
-/// Examples of lines, which the definitions compute; before them are defined the tags t and v, the set A and the rule
-/// r.
+/// Examples of lines, which the definitions compute; before them are defined the types t and v, the set A, the context
+/// rule r and the whole-label rule w.
 pub fn definitions_compute_the_lines()
-    ensures tag { with_words 1000 some_defined (lexemes (codes "%tag a")) ≡
-        Ok (added some_defined (definition.Tag (codes "a"))) }
-    ensures capital { with_words 1000 some_defined (lexemes (codes "%tag R")) ≡
-        Ok (added some_defined (definition.Tag (codes "R"))) }
+    ensures variant_type { with_words 1000 some_defined (lexemes (codes "%type a")) ≡
+        Ok (added some_defined (definition.VariantType (codes "a"))) }
+    ensures capital { with_words 1000 some_defined (lexemes (codes "%type R")) ≡
+        Ok (added some_defined (definition.VariantType (codes "R"))) }
+    ensures whole { with_words 1000 some_defined (lexemes (codes "%whole U @A $")) ≡
+        Ok (added some_defined (definition.Rule (codes "U") (patterns.Then (patterns.Set 0) patterns.End))) }
+    ensures action { with_words 1000 some_defined (lexemes (codes "%action valid when w only t , blocked")) ≡
+        Ok (added some_defined (definition.Action (action disposition.Valid
+        (Some (record { kind = condition.When; rule = codes "w" }))
+        (Some (trigger kind.Only (codes "t" ∷ codes "blocked" ∷ [])))))) }
+    ensures catch_all { with_words 1000 some_defined (lexemes (codes "%action blocked")) ≡
+        Ok (added some_defined (definition.Action (action disposition.Blocked None None))) }
     ensures rule { with_words 1000 some_defined (lexemes (codes "%rule U _ @A")) ≡
         Ok (added some_defined (definition.Rule (codes "U") (patterns.Then patterns.Anchor (patterns.Set 0)))) }
     ensures demand { with_words 1000 some_defined (lexemes (codes "%always @A .*")) ≡
@@ -200,9 +211,27 @@ pub fn definitions_compute_the_lines()
     ensures two_digits { with_words 1000 some_defined (lexemes (codes "%set C 61")) ≡ Err Syntax }
     ensures digit_first { with_words 1000 some_defined (lexemes (codes "%set 9c 0061")) ≡ Err Syntax }
     ensures hyphen { with_words 1000 some_defined (lexemes (codes "%set C-D 0061")) ≡ Err Syntax }
-    ensures no_tag { with_words 1000 some_defined (lexemes (codes "%tag")) ≡ Err Syntax }
-    ensures two_tags { with_words 1000 some_defined (lexemes (codes "%tag a b")) ≡ Err Syntax }
-    ensures long_name { with_words 1000 some_defined (lexemes (codes "%tag nnnnnnnnnnnnnnnnnnnnnnnnnnnnnnnnn")) ≡
+    ensures tag { with_words 1000 some_defined (lexemes (codes "%tag a")) ≡ Err Syntax }
+    ensures no_type { with_words 1000 some_defined (lexemes (codes "%type")) ≡ Err Syntax }
+    ensures two_types { with_words 1000 some_defined (lexemes (codes "%type a b")) ≡ Err Syntax }
+    ensures long_name { with_words 1000 some_defined (lexemes (codes "%type nnnnnnnnnnnnnnnnnnnnnnnnnnnnnnnnn")) ≡
+        Err Syntax }
+    ensures whole_with_anchor { with_words 1000 some_defined (lexemes (codes "%whole s @A _")) ≡ Err Syntax }
+    ensures whole_without_pattern { with_words 1000 some_defined (lexemes (codes "%whole s")) ≡ Err Syntax }
+    ensures no_disposition { with_words 1000 some_defined (lexemes (codes "%action")) ≡ Err Syntax }
+    ensures misspelt { with_words 1000 some_defined (lexemes (codes "%action block any blocked")) ≡ Err Syntax }
+    ensures no_types { with_words 1000 some_defined (lexemes (codes "%action valid any")) ≡ Err Syntax }
+    ensures comma_last { with_words 1000 some_defined (lexemes (codes "%action blocked any blocked,")) ≡ Err Syntax }
+    ensures no_comma { with_words 1000 some_defined (lexemes (codes "%action blocked any blocked valid")) ≡
+        Err Syntax }
+    ensures type_twice { with_words 1000 some_defined (lexemes (codes "%action blocked any blocked,valid,blocked")) ≡
+        Err Syntax }
+    ensures condition_last { with_words 1000 some_defined (lexemes (codes "%action valid any valid when w")) ≡
+        Err Syntax }
+    ensures two_triggers { with_words 1000 some_defined (lexemes (codes "%action valid any valid all valid")) ≡
+        Err Syntax }
+    ensures no_rule { with_words 1000 some_defined (lexemes (codes "%action valid when")) ≡ Err Syntax }
+    ensures two_conditions { with_words 1000 some_defined (lexemes (codes "%action valid when w unless w")) ≡
         Err Syntax }
     ensures no_anchor { with_words 1000 some_defined (lexemes (codes "%rule s @A")) ≡ Err Syntax }
     ensures two_anchors { with_words 1000 some_defined (lexemes (codes "%rule s @A _ _")) ≡ Err Syntax }
@@ -225,13 +254,21 @@ pub fn definitions_compute_the_lines()
     ensures no_set { with_words 1000 some_defined (lexemes (codes "%rule s @r _")) ≡ Err NoSuchName }
     ensures second { with_words 1000 some_defined (lexemes (codes "%never (@A @B)")) ≡ Err NoSuchName }
     ensures name_before_class { with_words 1000 some_defined (lexemes (codes "%never @nope 0041")) ≡ Err NoSuchName }
+    ensures no_such_type { with_words 1000 some_defined (lexemes (codes "%action blocked any t,s")) ≡ Err NoSuchName }
+    ensures no_such_rule { with_words 1000 some_defined (lexemes (codes "%action invalid when s")) ≡ Err NoSuchName }
+    ensures context_rule { with_words 1000 some_defined (lexemes (codes "%action invalid when r")) ≡ Err NoSuchName }
+    ensures type_as_rule { with_words 1000 some_defined (lexemes (codes "%action invalid when t")) ≡ Err NoSuchName }
+    ensures rule_as_type { with_words 1000 some_defined (lexemes (codes "%action blocked any w")) ≡ Err NoSuchName }
     ensures name_before_same_name { with_words 1000 some_defined (lexemes (codes "%rule t @nope _")) ≡ Err NoSuchName }
     ensures class { with_words 1000 some_defined (lexemes (codes "%set C 0041")) ≡ Err BadClass }
     ensures class_before_same_name { with_words 1000 some_defined (lexemes (codes "%set t 0041")) ≡ Err BadClass }
-    ensures same_tag { with_words 1000 some_defined (lexemes (codes "%tag t")) ≡ Err SameName }
-    ensures set_as_tag { with_words 1000 some_defined (lexemes (codes "%tag A")) ≡ Err SameName }
-    ensures rule_as_tag { with_words 1000 some_defined (lexemes (codes "%tag r")) ≡ Err SameName }
+    ensures same_type { with_words 1000 some_defined (lexemes (codes "%type t")) ≡ Err SameName }
+    ensures predefined { with_words 1000 some_defined (lexemes (codes "%type blocked")) ≡ Err SameName }
+    ensures predefined_as_set { with_words 1000 some_defined (lexemes (codes "%set valid 0061")) ≡ Err SameName }
+    ensures set_as_type { with_words 1000 some_defined (lexemes (codes "%type A")) ≡ Err SameName }
+    ensures rule_as_a_type { with_words 1000 some_defined (lexemes (codes "%type r")) ≡ Err SameName }
     ensures rule_again { with_words 1000 some_defined (lexemes (codes "%rule r _")) ≡ Err SameName }
+    ensures whole_as_rule { with_words 1000 some_defined (lexemes (codes "%rule w _")) ≡ Err SameName }
     ensures set_as_rule { with_words 1000 some_defined (lexemes (codes "%rule A _")) ≡ Err SameName }
 {}
 
@@ -239,33 +276,35 @@ pub fn definitions_compute_the_lines()
 pub fn definitions_compute_the_entries()
     ensures entry { entry_in (lexemes (codes "0061-0065 | ! u+00e4")) ≡
         Some (record {
-          mapped = written false (97 ∷ 101 ∷ []) [] None ∷ written true (228 ∷ []) [] None ∷ [];
+          mapped = written false (97 ∷ 101 ∷ []) None None ∷ written true (228 ∷ []) None None ∷ [];
           last = None;
         }) }
-    ensures tags { entry_in (lexemes (codes "56FD as simp,trad|570B as trad:!0061")) ≡
+    ensures types { entry_in (lexemes (codes "56FD as r_simp|570B as trad:!0061")) ≡
         Some (record {
-          mapped = written false (22269 ∷ []) (codes "simp" ∷ codes "trad" ∷ []) None ∷
-              written false (22283 ∷ []) (codes "trad" ∷ []) None ∷ written true (97 ∷ []) [] None ∷ [];
+          mapped = written false (22269 ∷ []) (Some (codes "r_simp")) None ∷
+              written false (22283 ∷ []) (Some (codes "trad")) None ∷ written true (97 ∷ []) None None ∷ [];
           last = None;
         }) }
+    ensures range_with_type { entry_in (lexemes (codes "0061..0063 as low")) ≡
+        Some (record { mapped = written false (97 ∷ []) (Some (codes "low")) None ∷ []; last = Some 99 }) }
     ensures words_as_names { entry_in (lexemes (codes "0061 as as when when")) ≡
         Some (record {
-          mapped = written false (97 ∷ []) (codes "as" ∷ [])
+          mapped = written false (97 ∷ []) (Some (codes "as"))
               (Some (record { kind = condition.When; rule = codes "when" })) ∷ [];
           last = None;
         }) }
     ensures range { entry_in (lexemes (codes "!0062 .. 0063 unless r")) ≡
         Some (record {
-          mapped = written true (98 ∷ []) []
+          mapped = written true (98 ∷ []) None
               (Some (record { kind = condition.Unless; rule = codes "r" })) ∷ [];
           last = Some 99;
         }) }
-    ensures mark_with_tags { entry_in (lexemes (codes "!0061 as t")) ≡ None }
-    ensures blocked_with_tags { entry_in (lexemes (codes "0061|!0062 as t")) ≡ None }
-    ensures tag_twice { entry_in (lexemes (codes "0061 as t,t")) ≡ None }
-    ensures no_tag { entry_in (lexemes (codes "0061 as")) ≡ None }
-    ensures tags_without_comma { entry_in (lexemes (codes "0061 as t v")) ≡ None }
-    ensures tags_last { entry_in (lexemes (codes "0061 when r as t")) ≡ None }
+    ensures mark_with_type { entry_in (lexemes (codes "!0061 as t")) ≡ None }
+    ensures blocked_with_type { entry_in (lexemes (codes "0061|!0062 as t")) ≡ None }
+    ensures two_types { entry_in (lexemes (codes "0061 as t,v")) ≡ None }
+    ensures no_type { entry_in (lexemes (codes "0061 as")) ≡ None }
+    ensures types_without_comma { entry_in (lexemes (codes "0061 as t v")) ≡ None }
+    ensures type_last { entry_in (lexemes (codes "0061 when r as t")) ≡ None }
     ensures two_conditions { entry_in (lexemes (codes "0061 when r unless r")) ≡ None }
     ensures no_rule { entry_in (lexemes (codes "0061 when")) ≡ None }
     ensures no_variant { entry_in (lexemes (codes "0061 when r|")) ≡ None }

@@ -1,9 +1,10 @@
-//! Reading the lines of a ruleset: tags, sets, rules and demands, and the forms of entries.
+//! Reading the lines of a ruleset: variant types, sets, rules, demands and actions, and the forms of entries.
 #![tactic(auto)]
 
+mod action;
+mod action_reading;
 mod canonical;
 mod classes;
-mod copies;
 mod definition;
 mod definition_line;
 mod definition_reading;
@@ -19,6 +20,7 @@ mod keyword;
 mod laws;
 mod lexemes;
 mod limits;
+mod named_condition;
 mod names;
 mod pieces;
 mod placed;
@@ -28,12 +30,13 @@ mod spans;
 mod token;
 mod tokens;
 
+pub use action::{NamedAction, NamedTrigger, TriggerKind};
 pub use canonical::{push_pattern, push_spans};
 pub use classes::is_bad_point;
 pub use definition::{Definition, DemandKind, push_definition};
 pub use definition_line::DefinitionLine;
 pub use definitions::{Definitions, Demand};
-pub use entry_form::{EntryForm, Mapped, NamedCondition};
+pub use entry_form::{EntryForm, Mapped};
 pub use entry_laws::{canonical_entries_are_read_back, reading_an_entry_is_exact};
 pub use entry_notes::{EntryNotes, LinePoint, SEQUENCE_LIMIT};
 pub use entry_parts::EntryParts;
@@ -49,6 +52,6 @@ pub use laws::{
     tokens_past_limits_are_marked, what_lines_define_has_no_fault,
 };
 pub use lexemes::{next_lexeme, without_blanks};
-pub use limits::TAG_LIMIT;
-pub use names::{Name, is_name, number_of};
+pub use named_condition::NamedCondition;
+pub use names::{Name, is_name, is_one_of, number_of, predefined_type};
 pub use placed::PlacedLexemes;

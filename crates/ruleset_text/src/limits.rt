@@ -11,14 +11,14 @@ use crate::pieces::Piece;
 use crate::token::Token;
 use label_patterns::PatternTree;
 
-/// The most tags of a ruleset.
-pub const TAG_LIMIT: usize = 8;
+/// The most types of a ruleset beside those that are predefined.
+pub(crate) const TYPE_LIMIT: usize = 57;
 
 /// The most sets.
 pub(crate) const SET_LIMIT: usize = 256;
 
-/// The most rules and demands together.
-pub(crate) const PATTERN_LIMIT: usize = 256;
+/// The most rules of both kinds, demands and actions together.
+pub(crate) const RULE_LIMIT: usize = 256;
 
 /// The most atoms of all patterns together.
 pub(crate) const ATOM_LIMIT: usize = 4096;

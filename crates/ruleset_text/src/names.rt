@@ -1,11 +1,15 @@
-//! Names of tags, sets and rules.
-ghost use Rattle.std.specs.Prelude.{◌≡◌, ◌≤◌, length, IfOk};
+//! Names of variant types, sets and rules.
+ghost use Rattle.std.specs.Prelude.{◌≡◌, ◌≤◌, ◌++◌, [], length, slice_index_or, IfOk};
 ghost use Rattle.std.specs.List.{list_all};
 ghost use Rattle.ruleset_text.specs.Names as words;
+ghost use Rattle.ruleset_text.specs.inner.PredefinedTypes.{predefined_by};
 ghost use Rattle.ruleset_text.specs.Names.{is_name as is_a_name};
 
 use std::alloc::{AllocError, Global};
 use std::marker::Model;
+
+/// How many types are predefined.
+pub(crate) const PREDEFINED_TYPES: usize = 5;
 
 /// A name, in ASCII.
 #[derive(Drop)]
@@ -36,17 +40,6 @@ impl Name {
     {
         &self.bytes
     }
-}
-
-/// These names as a list of their own. It is an `Err` only where memory was refused.
-pub fn copied_names(alloc: Global, names: &[Name]) -> Result<Vec<Name>, AllocError>
-    ensures { IfOk result (λ copies. copies.items ≡ names.now) }
-{
-    let mut copies = Vec::new(alloc);
-    for name in names {
-        copies.push(Name::copied(alloc, name.as_slice())?)?;
-    }
-    Ok(copies)
 }
 
 /// Whether bytes are a name: a letter, then letters, digits and `_`, 32 at most.
@@ -83,6 +76,41 @@ pub fn is_one_of(names: &[Name], bytes: &[u8]) -> bool
     ensures { result ≡ words.is_one_of names.now bytes.now }
 {
     names.iter().any(|name| name.as_slice() == bytes)
+}
+
+/// The name of the predefined type of this number (RFC 7940, section 7.3): there are five.
+pub fn predefined_type(number: usize) -> &'static [u8]
+    ensures { result.now ≡ slice_index_or words.predefined_types number [] }
+{
+    match number {
+        0 => b"invalid",
+        1 => b"blocked",
+        2 => b"allocatable",
+        3 => b"activated",
+        4 => b"valid",
+        _ => b"",
+    }
+}
+
+/// The number of the predefined type of this name, or 5.
+pub(crate) fn predefined_number(name: &[u8]) -> usize
+    ensures { result ≡ predefined_by name.now }
+{
+    match name {
+        b"invalid" => 0,
+        b"blocked" => 1,
+        b"allocatable" => 2,
+        b"activated" => 3,
+        b"valid" => 4,
+        _ => PREDEFINED_TYPES,
+    }
+}
+
+/// Whether the name is that of a predefined type or of one of these.
+pub fn is_type(types: &[Name], name: &[u8]) -> bool
+    ensures { result ≡ words.is_one_of (words.predefined_types ++ types.now) name.now }
+{
+    predefined_number(name) < PREDEFINED_TYPES || is_one_of(types, name)
 }
 
 fn is_letter(byte: u8) -> bool

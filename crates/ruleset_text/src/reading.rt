@@ -22,11 +22,14 @@ use idn_class::Properties;
 use label_patterns::PatternTree;
 use std::alloc::{AllocError, Global};
 
-/// What is known before a line: the names of the sets, how many atoms its pattern may have, and whose classes are
-/// asked.
+/// What is known before a line: the types that are not predefined, the names of the sets, the rules, how many atoms its
+/// pattern may have, and whose classes are asked.
 #[derive(Clone, Copy)]
 pub struct Earlier<'a> {
+    pub types: &'a [Name],
     pub sets: &'a [Name],
+    pub rule_names: &'a [Name],
+    pub rules: &'a [PatternTree],
     pub atoms_left: usize,
     pub properties: Properties,
 }
@@ -39,7 +42,7 @@ pub struct ReadPattern {
     pub faults: LineFaults,
 }
 
-/// The pattern of a rule or of a demand that lexemes spell, to the end of a line of `end` bytes.
+/// The contexts of a context rule, or a pattern without `_`, that lexemes spell, to the end of a line of `end` bytes.
 pub fn read_pattern(
     alloc: Global,
     is_rule: bool,

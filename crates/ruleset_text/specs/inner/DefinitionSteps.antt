@@ -1,5 +1,5 @@
 -- What each step of reading a definition gives.
-use Rattle.std.specs.Prelude.{◌≡◌, ℕ, ◌-◌, ◌<◌, IsTrue, true, false, Result, Ok, Err, List, length}
+use Rattle.std.specs.Prelude.{◌≡◌, ℕ, ◌-◌, ◌<◌, ◌++◌, IsTrue, true, false, Result, Ok, Err, List, length, map}
 use Rattle.label_patterns.specs.Patterns.{Pattern}
 use Rattle.label_patterns.specs.Sets.{Rise}
 use Rattle.label_patterns.specs.Trees.{pattern}
@@ -11,12 +11,17 @@ use Rattle.ruleset_text.specs.declared.fault.DefinitionFault.TheVariants as faul
 use Rattle.ruleset_text.specs.declared.fault.DefinitionRefusal.{DefinitionRefusal}
 use Rattle.ruleset_text.specs.declared.fault.FaultPlace.{FaultPlace}
 use Rattle.ruleset_text.specs.declared.fault.ReadError.{ReadError}
+use Rattle.ruleset_text.specs.declared.action_reading.ReadAction.{ReadAction}
+use Rattle.ruleset_text.specs.ActionForms.{action}
+use Rattle.ruleset_text.specs.Actions.{IsAction, NamedAction, action_marks}
+use Rattle.ruleset_text.specs.DefinitionReading.{action_read}
+use Rattle.ruleset_text.specs.PatternLimits.{first_marked}
 use Rattle.ruleset_text.specs.Signs as sign
 use Rattle.ruleset_text.specs.Definition as definition
 use Rattle.ruleset_text.specs.Definition.{Definition}
-use Rattle.ruleset_text.specs.DefinitionPlaces.{definition_faults, pattern_faults}
+use Rattle.ruleset_text.specs.DefinitionPlaces.{Known, definition_faults, known_after, pattern_faults}
 use Rattle.ruleset_text.specs.Canonical.{definition_text}
-use Rattle.ruleset_text.specs.Definitions.{Definitions, all_atoms, definition_atoms, has_bad_class, has_known_sets, has_same_name, is_line_over_limit, is_one_too_many}
+use Rattle.ruleset_text.specs.Definitions.{Definitions, definition_atoms, has_bad_class, has_known_names, has_same_name, is_line_over_limit, is_one_too_many, whole_names}
 use Rattle.ruleset_text.specs.WellFormed.{AreDefinitions}
 use Rattle.ruleset_text.specs.DefinitionTrees as trees
 use Rattle.ruleset_text.specs.Grammar.{Is, Whole}
@@ -24,7 +29,8 @@ use Rattle.ruleset_text.specs.Limits.{atoms}
 use Rattle.ruleset_text.specs.LineStops.{StopsAt}
 use Rattle.ruleset_text.specs.PlacedLexemes.{Placed}
 use Rattle.ruleset_text.specs.Names.{is_name}
-use Rattle.ruleset_text.specs.Rules.{has, is_rule}
+use Rattle.ruleset_text.specs.Names.{predefined_types}
+use Rattle.ruleset_text.specs.Rules.{has, is_rule_or_whole}
 
 -- a pattern that was read, how many atoms may follow, and its faults
 pub record IsReadPattern (e : Earlier) (ws : List Placed) (r : ReadPattern) (answer : Result Pattern FaultPlace) : Type 0 where
@@ -37,11 +43,30 @@ abbrev pub GivesPattern : Earlier → List Placed → Result ReadPattern ReadErr
 GivesPattern e ws (Ok r) read = IsReadPattern e ws r read
 GivesPattern e ws (Err error) read = StopsAt error read
 
+-- what is known before a line, by the fields of the program
+abbrev pub known : Earlier → Known
+known e = record {
+  types = predefined_types ++ e.types.now;
+  sets = e.sets.now;
+  whole_rules = whole_names e.rule_names.now (map pattern e.rules.now);
+  left = e.atoms_left;
+  properties = e.properties;
+}
+
+-- an action that was read, and the first name that isn't defined
+pub record IsReadAction (k : Known) (ws : List Placed) (r : ReadAction) (answer : Result NamedAction FaultPlace) : Type 0 where
+  pub read : answer ≡ Ok (action r.action)
+  pub unknown : r.unknown ≡ first_marked (action_marks k.types k.whole_rules (action r.action)) ws
+
+abbrev pub GivesAction : Known → List Placed → ℕ → Result ReadAction ReadError → Type 0
+GivesAction k ws end (Ok r) = IsReadAction k ws r (action_read end ws)
+GivesAction k ws end (Err error) = StopsAt error (action_read end ws)
+
 -- the same of a definition, by the lexemes after its keyword
 pub record IsReadDefinition (e : Earlier) (ws : List Placed) (r : ReadDefinition) (answer : Result Definition FaultPlace) : Type 0 where
   pub read : answer ≡ Ok (trees.definition r.definition)
   pub atoms : r.atoms_left ≡ e.atoms_left - definition_atoms (trees.definition r.definition)
-  pub faults : r.faults ≡ definition_faults e.sets.now e.atoms_left e.properties (trees.definition r.definition) ws
+  pub faults : r.faults ≡ definition_faults (known e) (trees.definition r.definition) ws
 
 abbrev pub GivesDefinition : Earlier → List Placed → Result ReadDefinition ReadError → Result Definition FaultPlace → Type 0
 GivesDefinition e ws (Ok r) read = IsReadDefinition e ws r read
@@ -49,15 +74,13 @@ GivesDefinition e ws (Err error) read = StopsAt error read
 
 -- what is known before a line, after these definitions
 pub record IsEarlier (e : Earlier) (d : Definitions) : Type 0 where
-  pub sets : e.sets.now ≡ d.set_names
-  pub atoms : e.atoms_left ≡ 4096 - all_atoms d
-  pub properties : e.properties ≡ d.properties
+  pub known : known e ≡ known_after d
   pub without_fault : AreDefinitions d
 
 -- nothing is wrong with a definition
 pub record IsFaultless (limit : ℕ) (d : Definitions) (x : Definition) : Type 0 where
   pub count : is_one_too_many d x ≡ false
-  pub known : has_known_sets (length d.sets) x ≡ true
+  pub known : has_known_names d x ≡ true
   pub line : is_line_over_limit limit d (length (definition_text d.set_names x)) ≡ false
   pub class : has_bad_class d.properties x ≡ false
   pub name : has_same_name d x ≡ false
@@ -78,7 +101,8 @@ Leaves (Err refusal) new read = Refuses refusal.fault read
 
 -- what the form of a definition alone says of it
 abbrev pub HasForm : Definition → Type 0
-HasForm (definition.Tag name) = IsTrue (is_name name)
+HasForm (definition.VariantType name) = IsTrue (is_name name)
 HasForm (definition.Set name spans) = IsTrue (is_name name) × (0 < length spans) × Rise spans
-HasForm (definition.Rule name contexts) = IsTrue (is_name name) × Is Whole contexts × IsTrue (is_rule contexts)
+HasForm (definition.Rule name p) = IsTrue (is_name name) × Is Whole p × IsTrue (is_rule_or_whole p)
 HasForm (definition.Demand kind p) = Is Whole p × (has sign.Anchor p ≡ false)
+HasForm (definition.Action a) = IsAction a

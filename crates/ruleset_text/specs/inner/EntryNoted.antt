@@ -1,14 +1,14 @@
 -- What a step of reading an entry notes of its lexeme.
-use Rattle.std.specs.Prelude.{ℕ, ◌++◌, Option, Some, None, List, [], ◌∷◌, length}
+use Rattle.std.specs.Prelude.{ℕ, ◌++◌, Option, Some, None, List, [], ◌∷◌, length, Bool, if◌then◌else◌}
 use Rattle.std.specs.Option.{option_map, option_or}
 use Rattle.ruleset_text.specs.declared.entry_notes.LinePoint.{LinePoint}
 use Rattle.ruleset_text.specs.declared.entry_reading.Phase.{Phase}
 use Rattle.ruleset_text.specs.declared.entry_reading.Phase.TheVariants as phase
 use Rattle.ruleset_text.specs.declared.fault.FaultPlace.{FaultPlace}
-use Rattle.ruleset_text.specs.Definitions.{Definitions}
+use Rattle.ruleset_text.specs.Definitions.{Definitions, type_names}
 use Rattle.ruleset_text.specs.EntryFaults.{Notes, begin_places, past_place, unknown_place}
 use Rattle.ruleset_text.specs.EntrySteps.{State, step}
-use Rattle.ruleset_text.specs.EntryWords.{Word, Point, Tag, Rule, point_of}
+use Rattle.ruleset_text.specs.EntryWords.{Word, Point, TypeName, Rule, point_of}
 use Rattle.ruleset_text.specs.LineFaults.{bad_place}
 use Rattle.ruleset_text.specs.PlacedLexemes.{Placed}
 
@@ -26,12 +26,15 @@ and_notes n m = record {
   };
 }
 
--- those of a code point, and of the name of a tag or of a rule
+-- those of a code point, and of the name of a type or of a rule
 abbrev pub point_notes : Definitions → LinePoint → Notes
 point_notes d p = record {
   begins = begin_places (p ∷ []);
   faults = record { limit = past_place p; name = None; class = bad_place d.properties p.place (Some p.point) };
 }
+
+abbrev pub unless_defined : Bool → FaultPlace → Option FaultPlace
+unless_defined is_defined at = if is_defined then None else Some at
 
 abbrev pub name_notes : Option FaultPlace → Notes
 name_notes place = record { begins = []; faults = record { limit = None; name = place; class = None } }
@@ -43,7 +46,7 @@ word_notes d s i word w = name_notes (unknown_place d word w)
 
 -- the names of which one stands next, where a name does
 abbrev pub names_next : Definitions → Phase → List (List ℕ)
-names_next d phase.As = d.tags
+names_next d phase.As = type_names d
 names_next d p = d.rule_names
 
 -- the code point or the name that a lexeme is, if it is one
@@ -52,7 +55,7 @@ noted_word phase.Begin w = option_map Point (point_of w)
 noted_word phase.Mark w = option_map Point (point_of w)
 noted_word phase.Hyphen w = option_map Point (point_of w)
 noted_word phase.Range w = option_map Point (point_of w)
-noted_word phase.As w = Some (Tag w)
+noted_word phase.As w = Some (TypeName w)
 noted_word phase.When w = Some (Rule w)
 noted_word phase.Unless w = Some (Rule w)
 noted_word p w = None

@@ -9,7 +9,7 @@ abbrev pub taken_as : Bool → State → Option State
 taken_as true s = Some s
 taken_as false s = None
 
--- the name of a tag or of a rule stands next
+-- the name of a type or of a rule stands next
 abbrev pub is_before_name : Phase → Bool
 is_before_name phase.As = true
 is_before_name phase.When = true
@@ -20,6 +20,6 @@ is_before_name p = false
 abbrev pub is_before_word : Phase → Bool
 is_before_word phase.Point = true
 is_before_word phase.Last = true
-is_before_word phase.Tag = true
+is_before_word phase.VariantType = true
 is_before_word phase.Rule = true
 is_before_word p = false

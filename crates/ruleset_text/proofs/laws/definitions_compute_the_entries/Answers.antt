@@ -7,9 +7,13 @@ pub returns-clause-entry : goal.returns-clause-entry
 unfolding entry_in point_of_hex
 returns-clause-entry c = refl
 
-pub returns-clause-tags : goal.returns-clause-tags
+pub returns-clause-types : goal.returns-clause-types
 unfolding entry_in point_of_hex
-returns-clause-tags c = refl
+returns-clause-types c = refl
+
+pub returns-clause-range_with_type : goal.returns-clause-range_with_type
+unfolding entry_in point_of_hex
+returns-clause-range_with_type c = refl
 
 pub returns-clause-words_as_names : goal.returns-clause-words_as_names
 unfolding entry_in point_of_hex
@@ -19,29 +23,29 @@ pub returns-clause-range : goal.returns-clause-range
 unfolding entry_in point_of_hex
 returns-clause-range c = refl
 
-pub returns-clause-mark_with_tags : goal.returns-clause-mark_with_tags
+pub returns-clause-mark_with_type : goal.returns-clause-mark_with_type
 unfolding entry_in point_of_hex
-returns-clause-mark_with_tags c = refl
+returns-clause-mark_with_type c = refl
 
-pub returns-clause-blocked_with_tags : goal.returns-clause-blocked_with_tags
+pub returns-clause-blocked_with_type : goal.returns-clause-blocked_with_type
 unfolding entry_in point_of_hex
-returns-clause-blocked_with_tags c = refl
+returns-clause-blocked_with_type c = refl
 
-pub returns-clause-tag_twice : goal.returns-clause-tag_twice
+pub returns-clause-two_types : goal.returns-clause-two_types
 unfolding entry_in point_of_hex
-returns-clause-tag_twice c = refl
+returns-clause-two_types c = refl
 
-pub returns-clause-no_tag : goal.returns-clause-no_tag
+pub returns-clause-no_type : goal.returns-clause-no_type
 unfolding entry_in point_of_hex
-returns-clause-no_tag c = refl
+returns-clause-no_type c = refl
 
-pub returns-clause-tags_without_comma : goal.returns-clause-tags_without_comma
+pub returns-clause-types_without_comma : goal.returns-clause-types_without_comma
 unfolding entry_in point_of_hex
-returns-clause-tags_without_comma c = refl
+returns-clause-types_without_comma c = refl
 
-pub returns-clause-tags_last : goal.returns-clause-tags_last
+pub returns-clause-type_last : goal.returns-clause-type_last
 unfolding entry_in point_of_hex
-returns-clause-tags_last c = refl
+returns-clause-type_last c = refl
 
 pub returns-clause-two_conditions : goal.returns-clause-two_conditions
 unfolding entry_in point_of_hex

@@ -9,7 +9,7 @@ use Rattle.ruleset_text.proofs.definitions.Definitions.define.Goals as goal
 
 pub returns-in_err-read-clause-read : goal.returns-in_err-read-clause-read
 returns-in_err-read-clause-read c =
-    stop_told c.args.limit c.earlier.result.sets.now c.args.self.now c.args.line.keyword c.args.line.end c.args.line.after c.in_err-read.field-0.0 c.from_residual.result c.earlier.ensures.sets
+    stop_told c.args.limit c.earlier.result.sets.now c.args.self.now c.args.line.keyword c.args.line.end c.args.line.after c.in_err-read.field-0.0 c.from_residual.result (ap (λ k. k.sets) c.earlier.ensures.known)
     c.from_residual.ensures.0 c.from_residual.ensures.1 (c.in_err-read.ensures {u = tt})
 
 pub check-requires-clause-faults : goal.check-requires-clause-faults
