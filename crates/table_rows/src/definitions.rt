@@ -10,12 +10,12 @@ use std::test::Fail;
 const LIMIT: usize = 1000;
 
 /// Lines before each of those below.
-const DEFINED: [&str; 4] = ["%tag t", "%tag v", "%set A 0061", "%rule r _ 0062"];
+const DEFINED: [&str; 4] = ["%type t", "%type v", "%set A 0061", "%rule r _ 0062"];
 
 /// A line, and its first fault, if it has one.
 const LINES: [(&str, Option<DefinitionFault>); 45] = [
-    ("%tag a", None),
-    ("%tag R", None),
+    ("%type a", None),
+    ("%type R", None),
     ("  %set\tabcd 0061 .. 0063 u+0065", None),
     ("%set D 0900..097F", None),
     ("%rule U ^ _ @A/_(@A / .)* $", None),
@@ -31,8 +31,8 @@ const LINES: [(&str, Option<DefinitionFault>); 45] = [
     ("%set C @A", Some(DefinitionFault::Syntax)),
     ("%set 9c 0061", Some(DefinitionFault::Syntax)),
     ("%set C-D 0061", Some(DefinitionFault::Syntax)),
-    ("%tag", Some(DefinitionFault::Syntax)),
-    ("%tag a b", Some(DefinitionFault::Syntax)),
+    ("%type", Some(DefinitionFault::Syntax)),
+    ("%type a b", Some(DefinitionFault::Syntax)),
     ("%rule s @A", Some(DefinitionFault::Syntax)),
     ("%rule s _ / @A", Some(DefinitionFault::Syntax)),
     ("%rule s (@A / $) _", Some(DefinitionFault::Syntax)),
@@ -59,8 +59,8 @@ const LINES: [(&str, Option<DefinitionFault>); 45] = [
     ("%never 0041", Some(DefinitionFault::BadClass)),
     ("%rule s 0041 _", Some(DefinitionFault::BadClass)),
     ("%set t 0041", Some(DefinitionFault::BadClass)),
-    ("%tag t", Some(DefinitionFault::SameName)),
-    ("%tag A", Some(DefinitionFault::SameName)),
+    ("%type t", Some(DefinitionFault::SameName)),
+    ("%type A", Some(DefinitionFault::SameName)),
     ("%set t 0061", Some(DefinitionFault::SameName)),
     ("%set r 0061", Some(DefinitionFault::SameName)),
     ("%rule A _", Some(DefinitionFault::SameName)),
@@ -112,14 +112,14 @@ const MIXED: [&str; 6] = [
     "%set Vowels u+0061 0065..0069",
     "%rule r _ @Vowels/^ _",
     "%always @Vowels.*",
-    " %tag  t1",
+    " %type  t1",
     "%set B 0064 .. 0066",
     "%never\t( 0030/0031 )* @B",
 ];
 
 /// The canonical text of what they define.
 const CANONICAL: &str = "\
-%tag t1
+%type t1
 %set Vowels 0061 0065..0069
 %set B 0064..0066
 %rule r _ @Vowels / ^ _
@@ -135,17 +135,6 @@ fn canonical_text(rt: HostRuntime) -> Result<(), Fail> {
         CANONICAL.as_bytes()
     );
     assert_eq!(&rt; definitions.canonical_len(), CANONICAL.len());
-    Ok(())
-}
-
-#[test]
-fn copies_of_definitions(rt: HostRuntime) -> Result<(), Fail> {
-    let copy = defined(rt.alloc(), &MIXED)?.copied(rt.alloc())?;
-    assert_eq!(&rt;
-        text_of(rt.alloc(), &copy)?.as_slice(),
-        CANONICAL.as_bytes()
-    );
-    assert_eq!(&rt; copy.canonical_len(), CANONICAL.len());
     Ok(())
 }
 

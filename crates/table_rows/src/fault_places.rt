@@ -4,7 +4,7 @@ use ruleset_text::FaultPlace;
 use std::test::Fail;
 use variant_table::{Notation, Table};
 
-const PLACES: [(Notation, &str, Option<FaultPlace>); 11] = [
+const PLACES: [(Notation, &str, Option<FaultPlace>); 20] = [
     (
         Notation::Table,
         "0061|0062|0063",
@@ -43,13 +43,59 @@ const PLACES: [(Notation, &str, Option<FaultPlace>); 11] = [
     ),
     (
         Notation::Ruleset,
-        "%version 3\n%tag t\n0061 as t,u",
-        Some(FaultPlace::Lexeme(10, 1)),
+        "%version 3\n%type t\n0061 as t|0062 as u",
+        Some(FaultPlace::Lexeme(18, 1)),
     ),
     (
         Notation::Ruleset,
         "%version 3\n%never ((0061* / 0062)* 0063)*",
         Some(FaultPlace::Lexeme(29, 1)),
+    ),
+    // Types, whole-label rules and actions.
+    (
+        Notation::Ruleset,
+        "%version 3\n%type s t",
+        Some(FaultPlace::Lexeme(8, 1)),
+    ),
+    (
+        Notation::Ruleset,
+        "%version 3\n%action block any blocked",
+        Some(FaultPlace::Lexeme(8, 5)),
+    ),
+    (
+        Notation::Ruleset,
+        "%version 3\n%action blocked any blocked,valid,blocked",
+        Some(FaultPlace::Lexeme(34, 7)),
+    ),
+    (
+        Notation::Ruleset,
+        "%version 3\n%type s\n!0061 as s",
+        Some(FaultPlace::Lexeme(6, 2)),
+    ),
+    (
+        Notation::Ruleset,
+        "%version 3\n%type s\n%type t\n0061 as s,t",
+        Some(FaultPlace::Lexeme(9, 1)),
+    ),
+    (
+        Notation::Ruleset,
+        "%version 3\n%whole w 0061 _",
+        Some(FaultPlace::Lexeme(14, 1)),
+    ),
+    (
+        Notation::Ruleset,
+        "%version 3\n%action blocked any s",
+        Some(FaultPlace::Lexeme(20, 1)),
+    ),
+    (
+        Notation::Ruleset,
+        "%version 3\n%rule r _\n%action invalid when r",
+        Some(FaultPlace::Lexeme(21, 1)),
+    ),
+    (
+        Notation::Ruleset,
+        "%version 3\n%type blocked",
+        Some(FaultPlace::Lexeme(6, 7)),
     ),
     (Notation::Ruleset, "0061", None),
 ];

@@ -25,8 +25,8 @@ const SIGMA: &str = "%version 3\n%rule end _ $\n03B1\n03C2|03C3\n03C3|03C2 when 
 const SHARP: &str =
     "%version 3\n%rule edge ^ _\n002D unless edge\n0061\n0073\n0073-0073|00DF\n00DF|0073-0073\n";
 
-/// Outside sources.
-const OUTSIDE: &str = "%version 3\n0061|!0430\n0062\n!0430|!0061\n";
+/// A source of the type `invalid`.
+const INVALID: &str = "%version 3\n0061|!0430\n0062\n!0430|!0061\n";
 
 /// Tables with labels, and the labels that are near these, each with a space after it.
 const ROWS: [(Notation, &str, &str, &str); 15] = [
@@ -43,8 +43,8 @@ const ROWS: [(Notation, &str, &str, &str); 15] = [
     (Notation::Ruleset, SHARP, "sss", "sss sß ßs "),
     (Notation::Ruleset, SHARP, "aß", "ass aß "),
     (Notation::Ruleset, SHARP, "-ss", "-ss -ß "),
-    (Notation::Ruleset, OUTSIDE, "ab", "ab аb "),
-    (Notation::Ruleset, OUTSIDE, "аb", "ab аb "),
+    (Notation::Ruleset, INVALID, "ab", "ab аb "),
+    (Notation::Ruleset, INVALID, "аb", "ab аb "),
 ];
 
 /// The labels near a label of 1 to 63 code points, each with a space after it.

@@ -83,8 +83,8 @@ fn labels_that_are_spelled(rt: HostRuntime) -> Result<(), Fail> {
     Ok(())
 }
 
-/// а of Cyrillic is outside, and is a variant of a, and a one of it.
-const OUTSIDE: &[u8] = b"%version 3\n0061|!0430\n0062\n!0430|!0061\n";
+/// а of Cyrillic is invalid, and is a variant of a, and a one of it.
+const INVALID: &[u8] = b"%version 3\n0061|!0430\n0062\n!0430|!0061\n";
 
 /// a stands at the beginning alone, and becomes b.
 const AT_THE_START: &[u8] = b"%version 3\n%rule start ^ _\n0061 when start|0062\n0062\n";
@@ -94,9 +94,9 @@ const BECOMES_AT_THE_START: &[u8] = b"%version 3\n%rule start ^ _\n0061|0062 whe
 
 /// Labels, others, and whether the labels spell them, and whether these arise from them.
 const ARISING: [(&[u8], &str, &str, (bool, bool)); 9] = [
-    (OUTSIDE, "ab", "\u{430}b", (true, true)),
-    (OUTSIDE, "\u{430}b", "ab", (false, true)),
-    (OUTSIDE, "\u{430}b", "\u{430}b", (false, true)),
+    (INVALID, "ab", "\u{430}b", (true, true)),
+    (INVALID, "\u{430}b", "ab", (true, true)),
+    (INVALID, "\u{430}b", "\u{430}b", (true, true)),
     (AT_THE_START, "ab", "bb", (true, true)),
     (AT_THE_START, "ba", "bb", (false, true)),
     (AT_THE_START, "ba", "ab", (false, false)),
@@ -124,36 +124,90 @@ const MARKED: &[u8] = b"%version 2\n0061|!0062:0063\n0061-0061|0064\n";
 /// b is blocked in place of a, and bb is not in place of aa.
 const ONE_WAY: &[u8] = b"%version 2\n0061|!0062\n0061-0061|0062-0062\n";
 
-/// b has the first tag, and c the second one.
-const TAGGED: &[u8] = b"%version 3\n%tag simp\n%tag trad\n0061|0062 as simp:0063 as trad\n";
+/// a has a type of its own, b the first type that the ruleset defines, and c the second one.
+const TYPED: &[u8] =
+    b"%version 3\n%type simp\n%type trad\n0061 as invalid|0062 as simp:0063 as trad\n";
 
-/// Labels that aa gives, and which of the first three kinds its readings have, and which they lack: a bit for what is
-/// blocked, and one for what isn't of each of two tags.
-const KINDS: [(Notation, &[u8], &str, (u64, u64)); 10] = [
-    (Notation::Table, MARKED, "aa", (0, 0b111)),
-    (Notation::Table, MARKED, "cc", (0, 0b111)),
-    (Notation::Table, MARKED, "bc", (0b111, 0)),
-    (Notation::Table, MARKED, "d", (0, 0b111)),
-    (Notation::Table, ONE_WAY, "bb", (0b111, 0b111)),
-    (Notation::Table, ONE_WAY, "ab", (0b111, 0)),
-    (Notation::Ruleset, TAGGED, "aa", (0, 0b111)),
-    (Notation::Ruleset, TAGGED, "ab", (0b100, 0b011)),
-    (Notation::Ruleset, TAGGED, "cc", (0b010, 0b101)),
-    (Notation::Ruleset, TAGGED, "bc", (0b110, 0b001)),
+/// What is recorded of a source that has no type.
+const UNMAPPED: u64 = 1;
+
+/// What is recorded of a variant that has no type.
+const UNTYPED: u64 = 1 << 1;
+
+/// What is recorded of the types: the numbers 0 and 1, and the first two that a ruleset defines.
+const INVALID_TYPE: u64 = 1 << 2;
+
+const BLOCKED: u64 = 1 << 3;
+
+const SIMP: u64 = 1 << 7;
+
+const TRAD: u64 = 1 << 8;
+
+/// Labels that aa gives, which kinds its readings have, and which of these they lack.
+const KINDS: [(Notation, &[u8], &str, u64, u64); 11] = [
+    (Notation::Table, MARKED, "aa", UNMAPPED, BLOCKED | UNTYPED),
+    (Notation::Table, MARKED, "cc", UNTYPED, BLOCKED | UNMAPPED),
+    (Notation::Table, MARKED, "bc", BLOCKED | UNTYPED, UNMAPPED),
+    (Notation::Table, MARKED, "d", UNTYPED, BLOCKED | UNMAPPED),
+    (
+        Notation::Table,
+        ONE_WAY,
+        "bb",
+        BLOCKED | UNTYPED,
+        BLOCKED | UNTYPED | UNMAPPED,
+    ),
+    (Notation::Table, ONE_WAY, "ab", BLOCKED | UNMAPPED, UNTYPED),
+    (
+        Notation::Ruleset,
+        TYPED,
+        "aa",
+        INVALID_TYPE,
+        UNMAPPED | UNTYPED | BLOCKED | SIMP | TRAD,
+    ),
+    (
+        Notation::Ruleset,
+        TYPED,
+        "ab",
+        INVALID_TYPE | SIMP,
+        UNMAPPED | UNTYPED | BLOCKED | TRAD,
+    ),
+    (
+        Notation::Ruleset,
+        TYPED,
+        "cc",
+        TRAD,
+        UNMAPPED | UNTYPED | INVALID_TYPE | BLOCKED | SIMP,
+    ),
+    (
+        Notation::Ruleset,
+        TYPED,
+        "bc",
+        SIMP | TRAD,
+        UNMAPPED | UNTYPED | INVALID_TYPE | BLOCKED,
+    ),
+    (
+        Notation::Ruleset,
+        INVALID,
+        "aa",
+        UNMAPPED,
+        UNTYPED | INVALID_TYPE | BLOCKED,
+    ),
 ];
 
+/// The readings of aa have exactly these kinds, and lack each of those.
 #[test]
 fn kinds_of_readings(rt: HostRuntime) -> Result<(), Fail> {
     let alloc = rt.alloc();
-    for (notation, text, other, want) in KINDS {
+    for (notation, text, other, has, lacks) in KINDS {
         let mut readings = readings_of(alloc, notation, text, "aa", Cuts::Segmentations)?;
         let other = points(alloc, other)?;
         if other.len() > 63 {
             return Err("a label of more than 63 code points".into());
         }
         let words = readings.words_of(&other).ok_or("not spelled")?;
-        let kinds = (words.has & 0b111, words.lacks & 0b111);
-        assert_eq!(&rt; kinds, want, "{other:?} under {text:?}");
+        assert_eq!(&rt; words.has, has, "{other:?} under {text:?}");
+        let lacks_all = words.lacks & lacks == lacks;
+        assert!(&rt; lacks_all, "{other:?} under {text:?}: {}", words.lacks);
     }
     Ok(())
 }

@@ -49,7 +49,7 @@ impl Numbers {
         Ok(text)
     }
 
-    /// A ruleset of 1 to 5 entries, of which a third of the sources are outside.
+    /// A ruleset of 1 to 5 entries, of which a third of the sources are invalid.
     fn ruleset(&mut self, alloc: Global) -> Result<String, Fail> {
         let mut text = String::new(alloc);
         text.push_str("%version 3\n")?;
@@ -218,7 +218,7 @@ fn random_tables_labels_and_texts(rt: HostRuntime) -> Result<(), Fail> {
 }
 
 #[test]
-fn random_rulesets_with_outside_sources(rt: HostRuntime) -> Result<(), Fail> {
+fn random_rulesets_with_invalid_sources(rt: HostRuntime) -> Result<(), Fail> {
     let alloc = rt.alloc();
     let mut numbers = Numbers(2);
     let mut listed: u64 = 0;

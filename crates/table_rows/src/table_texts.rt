@@ -1,4 +1,4 @@
-//! The canonical texts of tables, of rulesets, and of sequences; and tables without their blocked variants.
+//! The canonical texts of tables, of rulesets, and of sequences; the types of variants, and those that no action names.
 use arrayvec::ArrayVec;
 use std::alloc::Global;
 use std::process::Abort;
@@ -39,40 +39,50 @@ const TABLES_OF_VERSION_2: [(&str, &str); 6] = [
 ];
 
 /// The same of rulesets, after the version line: definitions come first, by their kind.
-const RULESETS: [(&str, &str); 10] = [
-    ("%tag t\r\n", "%tag t\n"),
+const RULESETS: [(&str, &str); 12] = [
+    ("%type t\r\n", "%type t\n"),
     (
-        "0061|!0062\n%rule end _$\n  %tag\tt\n!0063..0064\n%set A u+0061 0062 .. 0063\n%rule r @A?_/^_",
-        "%tag t\n%set A 0061 0062..0063\n%rule end _ $\n%rule r @A? _ / ^ _\n0061|!0062\n!0063\n!0064\n",
+        "0061|!0062\n%rule end _$\n  %type\tt\n!0063..0064\n%set A u+0061 0062 .. 0063\n%rule r @A?_/^_",
+        "%type t\n%set A 0061 0062..0063\n%rule end _ $\n%rule r @A? _ / ^ _\n0061|!0062\n!0063\n!0064\n",
     ),
     (
         "%set A 0900..097F\n%rule r (@A .)* _ (0061 / @A)",
         "%set A 0900..097F\n%rule r (@A .)* _ (0061 / @A)\n",
     ),
-    ("# %never 0061\n%tag T\n%tag t\n", "%tag T\n%tag t\n"),
+    ("# %never 0061\n%type T\n%type t\n", "%type T\n%type t\n"),
     (
-        "%tag simp\n%tag trad\n4E2D\n56FD as simp|570B as trad\n570B as  trad|56FD as simp",
-        "%tag simp\n%tag trad\n4E2D\n56FD as simp|570B as trad\n570B as trad|56FD as simp\n",
+        "%type simp\n%type trad\n4E2D\n56FD as simp|570B as trad\n570B as  trad|56FD as simp",
+        "%type simp\n%type trad\n4E2D\n56FD as simp|570B as trad\n570B as trad|56FD as simp\n",
+    ),
+    // A type without a line of its own, by its name and, where a mark says as much, by that.
+    (
+        "0061 as allocatable|0062 as blocked:0063 as invalid\n0062 as invalid|!0063\n0063 as blocked",
+        "0061 as allocatable|!0062:0063 as invalid\n!0062|!0063\n0063 as blocked\n",
     ),
     (
-        "%tag simp\n%tag trad\n%tag own\n0061 as own|0062 as simp , trad:!0063:0064 as trad",
-        "%tag simp\n%tag trad\n%tag own\n0061 as own|0062 as simp,trad:!0063:0064 as trad\n",
+        "%type own\n0061 as own|0062 as valid : 0063 as  activated",
+        "%type own\n0061 as own|0062 as valid:0063 as activated\n",
     ),
     (
-        "%tag t\n0061..0062 as t\n%rule r 0061 _\n!0063..0064 when r",
-        "%tag t\n%rule r 0061 _\n0061 as t\n0062 as t\n!0063 when r\n!0064 when r\n",
+        "%type t\n0061..0062 as t\n%rule r 0061 _\n!0063..0064 when r",
+        "%type t\n%rule r 0061 _\n0061 as t\n0062 as t\n!0063 when r\n!0064 when r\n",
     ),
     (
         "%rule r _ 0062\n%rule s 0062 _\n0061|0063 when r:0063 when s:!0063 unless r\n0063|0061",
         "%rule r _ 0062\n%rule s 0062 _\n0061|0063 when r:0063 when s:!0063 unless r\n0063|0061\n",
     ),
     (
-        "%tag t\n%rule s _\n0061 as t unless s|0062 as t when s",
-        "%tag t\n%rule s _\n0061 as t unless s|0062 as t when s\n",
+        "%type t\n%rule s _\n0061 as t unless s|0062 as t when s",
+        "%type t\n%rule s _\n0061 as t unless s|0062 as t when s\n",
     ),
     (
-        "0061\n%always 0061*\n%never ^ 0061/0061  $\n%tag t",
-        "%tag t\n%always 0061*\n%never ^ 0061 / 0061 $\n0061\n",
+        "0061\n%always 0061*\n%never ^ 0061/0061  $\n%type t",
+        "%type t\n%always 0061*\n%never ^ 0061 / 0061 $\n0061\n",
+    ),
+    // A rule of a whole label may be a condition, too.
+    (
+        "%whole all 0061\n0061 when all|0062 unless all",
+        "%whole all 0061\n0061 when all|0062 unless all\n",
     ),
 ];
 
@@ -112,69 +122,91 @@ fn tables(rt: HostRuntime) -> Result<(), Fail> {
     Ok(())
 }
 
-/// Tables with their version, and the text of the same table without its blocked variants. A ruleset defines what it
-/// did.
-const UNBLOCKED: [(Notation, &str, u8, &str); 3] = [
+/// The number of the type of each replacement of the entry at the start of the label, in the order of the line.
+fn types(alloc: Global, table: &Table, label: &[u32]) -> Result<Vec<Option<u8>>, Fail> {
+    let mut types = Vec::new(alloc);
+    for entry in table.entries_at(label, 0) {
+        for number in 0..entry.replacements() {
+            types.push(entry.variant_type(number))?;
+        }
+    }
+    Ok(types)
+}
+
+/// Tables, the types of the entry of 0078, and whether anything has a type.
+const TYPED: [(Notation, &str, &[Option<u8>], bool); 4] = [
+    (
+        Notation::Table,
+        "0078|0079:007A",
+        &[None, None, None],
+        false,
+    ),
     (
         Notation::Table,
         "%version 2\n0061\n0078|!0079:007A:!0031",
-        2,
-        "%version 2\n0061\n0078|007A\n",
+        &[None, Some(1), None, Some(1)],
+        true,
     ),
-    (Notation::Table, "0061|0062", 1, "0061|0062\n"),
     (
         Notation::Ruleset,
-        "%version 3\n%tag t\n%set A 0061\n%rule r _ @A\n0061|!0062:0063\n",
-        3,
-        "%version 3\n%tag t\n%set A 0061\n%rule r _ @A\n0061|0063\n",
+        "%version 3\n0061 as blocked\n0078|0079",
+        &[None, None],
+        true,
+    ),
+    (
+        Notation::Ruleset,
+        "%version 3\n%type t\n%type u\n!0078|!0079:007A as u:0061 as allocatable:0062 as invalid",
+        &[Some(0), Some(1), Some(6), Some(2), Some(0)],
+        true,
     ),
 ];
 
-/// A table and the same without its blocked variants are of this version, and the second is written as this.
-fn assert_unblocked(
-    rt: &impl Abort,
-    alloc: Global,
-    table: &Table,
-    (version, want): (u8, &str),
-) -> Result<(), Fail> {
-    let unblocked = table.unblocked(alloc)?;
-    let versions = (table.version(), unblocked.version());
-    assert_eq!(rt; versions, (version, version), "{want:?}");
-    let written = unblocked.write_table(alloc)?;
-    assert_eq!(rt; written.as_slice(), want.as_bytes(), "{want:?}");
-    Ok(())
-}
-
 #[test]
-fn tables_without_their_blocked_variants(rt: HostRuntime) -> Result<(), Fail> {
-    for (notation, text, version, want) in UNBLOCKED {
+fn types_of_replacements(rt: HostRuntime) -> Result<(), Fail> {
+    for (notation, text, want, typed) in TYPED {
         let table = Table::read(rt.alloc(), notation, text.as_bytes())?;
-        assert_unblocked(&rt, rt.alloc(), &table, (version, want))?;
+        let got = types(rt.alloc(), &table, &[0x78])?;
+        assert_eq!(&rt; got.as_slice(), want, "{text:?}");
+        assert_eq!(&rt; table.has_types(), typed, "{text:?}");
     }
     Ok(())
 }
 
-/// Which replacements of the entry at the start of the label are blocked.
-fn blocked(alloc: Global, table: &Table, label: &[u32]) -> Result<Vec<bool>, Fail> {
-    let mut blocked = Vec::new(alloc);
-    for entry in table.entries_at(label, 0) {
-        for number in 0..entry.replacements() {
-            blocked.push(entry.blocked(number))?;
-        }
+/// Rulesets after their version line, and their idle types, each with a line feed.
+const IDLE_TYPES: [(&str, &str); 6] = [
+    ("", ""),
+    // A predefined type is never idle; another is though a variant has it.
+    ("0061 as valid|!0062", ""),
+    ("%type s\n%type t\n0061|0062 as s", "s\nt\n"),
+    ("%type s\n%type t\n%type u\n%action blocked any u,s", "t\n"),
+    (
+        "%type s\n%type t\n%action valid all t\n%action allocatable only s",
+        "",
+    ),
+    (
+        "%type t\n%type s\n%whole r 0061\n%action invalid when r\n%action blocked any valid",
+        "t\ns\n",
+    ),
+];
+
+/// The names of the idle types of a ruleset, each with a line feed.
+fn idle_types(alloc: Global, lines: &str) -> Result<Vec<u8>, Fail> {
+    let text = format!(in alloc; "%version 3\n{lines}")?;
+    let table = Table::read(alloc, Notation::Ruleset, text.as_bytes())?;
+    let mut names = Vec::new(alloc);
+    for name in &table.idle_types(alloc)? {
+        names.extend_from_slice(name.as_slice())?;
+        names.push(b'\n')?;
     }
-    Ok(blocked)
+    Ok(names)
 }
 
-/// Which variants are blocked.
 #[test]
-fn blocked_variants(rt: HostRuntime) -> Result<(), Fail> {
-    let table = Table::read(
-        rt.alloc(),
-        Notation::Table,
-        b"%version 2\n0061\n0078|!0079:007A:!0031",
-    )?;
-    let got = blocked(rt.alloc(), &table, &[0x78])?;
-    assert_eq!(&rt; got.as_slice(), [false, true, false, true].as_slice());
+fn types_that_no_action_names(rt: HostRuntime) -> Result<(), Fail> {
+    for (lines, want) in IDLE_TYPES {
+        let got = idle_types(rt.alloc(), lines)?;
+        assert_eq!(&rt; got.as_slice(), want.as_bytes(), "{lines:?}");
+    }
     Ok(())
 }
 

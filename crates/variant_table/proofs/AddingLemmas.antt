@@ -21,7 +21,7 @@ use Rattle.variant_table.specs.Faults.{SameName, table_fault}
 use Rattle.variant_table.specs.Canonical.{table_text, written_text}
 use Rattle.variant_table.specs.Conditions.{is_too_large, is_text_too_long, is_over_limit, has_bad_class, has_repeat, has_source_in}
 use Rattle.variant_table.specs.Entries.{Variant, Entry, entry_from, source_of}
-use Rattle.variant_table.specs.Forms.{with_point, written_out, knows_all, variant_of, entry_of, entries_of}
+use Rattle.variant_table.specs.Forms.{with_point, written_out, knows_all, source_mark, variant_by, sequences_of, entry_of, entries_of}
 use Rattle.variant_table.specs.Limits.{text_limit, entry_limit}
 use Rattle.variant_table.specs.Ranges.{range_size}
 use Rattle.variant_table.specs.Reading.{◌>>=◌, with_entries, with_form, with_form_of}
@@ -179,7 +179,7 @@ module _ {r now : ReadSoFar} (is : r ≡ now) where
             ∙ entries-bad d.properties t (entry_of d ms ∷ []) (sym (noted.faults.class refl) ∙ h))
 
         module _ (good : is_some r.notes.faults.class ≡ false) (ss : List Variant)
-            (are : ss ≡ map (variant_of d) ms) where
+            (are : ss ≡ sequences_of d ms) where
           abbrev e : Entry
           e = entry_from ss
 
@@ -291,7 +291,7 @@ module _ {r now : ReadSoFar} (is : r ≡ now) where
         range_known = ap (λ xs. knows_all d (map mapped xs)) range.one ∙ known
 
         es : List Entry
-        es = points_from (variant_of d m) first count
+        es = points_from (variant_by source_mark d m) first count
 
         es-are : entries_of d range_form ≡ es
         unfolding es
@@ -307,7 +307,7 @@ module _ {r now : ReadSoFar} (is : r ≡ now) where
           class_in : list_any (has_bad_class d.properties) es ≡ is_some bad
           unfolding es
           class_in =
-              sym (points_bad d.properties (variant_of d m) (range_with_len first count))
+              sym (points_bad d.properties (variant_by source_mark d m) (range_with_len first count))
               ∙ sym (some_found (is_bad_point d.properties) (range_with_len first count))
               ∙ ap (λ q. is_some (find (is_bad_point q) (range_with_len first count))) (sym p-is)
               ∙ ap is_some (sym found)
@@ -316,15 +316,15 @@ module _ {r now : ReadSoFar} (is : r ≡ now) where
           range_bad h = range_told BadClass (range_read ∙ entries-bad d.properties t es (class_in ∙ h))
 
           module _ (good : is_some bad ≡ false) (ss : List Variant)
-              (taken : ss ≡ map (variant_of d) (map mapped items)) where
+              (taken : ss ≡ sequences_of d (map mapped items)) where
             abbrev w : Variant
             w = source_of (entry_from ss)
 
-            w-is : w ≡ variant_of d m
+            w-is : w ≡ variant_by source_mark d m
             w-is =
-                ap (λ vs. source_of (entry_from vs)) (taken ∙ ap (λ xs. map (variant_of d) (map mapped xs)) range.one)
+                ap (λ vs. source_of (entry_from vs)) (taken ∙ ap (λ xs. sequences_of d (map mapped xs)) range.one)
 
-            here : with_new_sources t (points_from (variant_of d m) first count)
+            here : with_new_sources t (points_from (variant_by source_mark d m) first count)
                 ≡ with_new_sources t (points_from w first count)
             here = ap (λ u. with_new_sources t (points_from u first count)) (sym w-is)
 
@@ -332,8 +332,8 @@ module _ {r now : ReadSoFar} (is : r ≡ now) where
             unfolding es
             range_new =
                 range_read
-                ∙ entries-new d.properties t es (class_in ∙ good) (range_single (variant_of d m) first count)
-                ∙ sym (with_range (variant_of d m) t first count) ∙ here
+                ∙ entries-new d.properties t es (class_in ∙ good) (range_single (variant_by source_mark d m) first count)
+                ∙ sym (with_range (variant_by source_mark d m) t first count) ∙ here
 
             pub range_there : with_new_sources t (points_from w first count) ≡ Err SameSource
                 → with_form_of now.table given ≡ Err SameSource
@@ -348,7 +348,7 @@ module _ {r now : ReadSoFar} (is : r ≡ now) where
               range_counted =
                   subst (IsCounted v d rest)
                   (sym (new_table (list_any (has_source_in t) es) t es t'
-                  (sym (with_range (variant_of d m) t first count) ∙ here ∙ h)))
+                  (sym (with_range (variant_by source_mark d m) t first count) ∙ here ∙ h)))
                   (counted_with v d t range_form r.left range_noted.counted
                   (known_form d (Some last) (m ∷ []) range_noted.form known) es (sym es-are)
                   (subst (AllByRecursion (IsNamed d)) es-are (named_form d (Some last) (m ∷ []) range_noted.form known))

@@ -1,10 +1,10 @@
 -- The canonical text of a well-formed table spells that table.
 use Rattle.std.proofs.Common.{◌≡◌, ◌≢◌, ℕ, zero, suc, ◌+◌, ◌*◌, ◌-◌, ◌<◌, ◌≤◌, Bool, true, false, not, ◌&&◌, cond, eqb, Some, List, [], ◌∷◌, ◌++◌, length, map, get_or, take, inl, inr, Option, Result, Ok, Err, refl, sym, ap, subst, ◌∙◌, append_assoc, arith, length-append, eq-eqb}
-use Rattle.std.specs.List.{All, AllByRecursion, AllPairs, list_all}
+use Rattle.std.specs.List.{AllByRecursion, list_all}
 use Rattle.std.specs.Option.{option_map}
 use Rattle.std.specs.Str.Lines.{strip_carriage_return}
 use Rattle.std.specs.Prelude.{bytes_eq, nat_le, is_some, None}
-use Rattle.std.proofs.lemmas.List.{append-nil, length-map}
+use Rattle.std.proofs.lemmas.List.{append-nil}
 use Rattle.std.proofs.lemmas.Bool.{leb-true, and_parts, false_from_ne_true}
 use Rattle.std.proofs.lemmas.Slice.Eq.{bytes_eq-Decides}
 use Rattle.std.proofs.lemmas.List.Elements.{All-from_recursion, recursion_from_All, All-weaker}
@@ -14,20 +14,21 @@ use Rattle.label_patterns.specs.declared.condition.ConditionKind.TheVariants.{Wh
 use Rattle.idn_text.specs.Lines.{raw_lines, HasNoFeed}
 use Rattle.idn_text.proofs.NumberingLemmas.{raw_lines-then}
 use Rattle.idn_text.specs.Points.{is_hex_digit}
-use Rattle.ruleset_text.specs.declared.entry_form.NamedCondition.{NamedCondition}
+use Rattle.ruleset_text.specs.declared.named_condition.NamedCondition.{NamedCondition}
 use Rattle.ruleset_text.specs.declared.fault.DefinitionFault.{DefinitionFault}
 use Rattle.ruleset_text.specs.declared.keyword.Keyword.{Keyword}
 use Rattle.ruleset_text.specs.Canonical.{definition_text, point_text}
 use Rattle.ruleset_text.specs.Definition.{Definition, keyword_of}
-use Rattle.ruleset_text.specs.Definitions.{Definitions, all_definitions, and_then, canonical_lines, defined, definitions_text, lines_text, nothing_defined, with_keyword, with_lines, with_words}
+use Rattle.ruleset_text.specs.Definitions.{Definitions, type_name, type_names, all_definitions, and_then, canonical_lines, defined, definitions_text, lines_text, nothing_defined, with_keyword, with_lines, with_words}
 use Rattle.ruleset_text.specs.Entries.{Mapped}
 use Rattle.ruleset_text.specs.Lexemes.{lexemes}
-use Rattle.ruleset_text.specs.Names.{is_letter, is_name_byte, is_name, is_one_of, number_of, AreNames}
+use Rattle.ruleset_text.specs.Names.{is_letter, is_name_byte, is_name, AreNames}
 use Rattle.ruleset_text.specs.WellFormed.{AreDefinitions, IsDefinition}
 use Rattle.ruleset_text.proofs.DefinitionsBackLemmas.{definitions_back}
 use Rattle.ruleset_text.proofs.DefinitionsTextLemmas.{definitions_text-length}
 use Rattle.ruleset_text.proofs.LineBytes.{IsInLine, AreInLine, joined, lines_in_line, point_in_line, name_in_line}
-use Rattle.ruleset_text.specs.EntryText.{mark_text, sequence_text, names_text, tags_text, condition_word, condition_text, IsSequence, MayHaveTags, HasRule, IsMapped, IsForm}
+use Rattle.ruleset_text.specs.EntryText.{mark_text, sequence_text, type_text, IsSequence, MayHaveType, IsMapped, IsForm}
+use Rattle.ruleset_text.specs.NamedConditions.{condition_word, condition_text, HasRule}
 use Rattle.ruleset_text.specs.EntryWords.{IsEntryLine}
 use Rattle.ruleset_text.proofs.EntryBackLemmas.{form_back}
 use Rattle.ruleset_text.proofs.EntryExactLemmas.{entry_spelled}
@@ -37,20 +38,18 @@ use Rattle.variant_table.specs.declared.version.Notation.{Notation}
 use Rattle.variant_table.specs.declared.version.Notation.TheVariants.{Table, Ruleset}
 use Rattle.variant_table.specs.declared.version.Version.TheVariants.{One, Two, Three}
 use Rattle.variant_table.specs.DefinitionLines.{keyword_in, with_after}
-use Rattle.variant_table.specs.Entries.{Variant, Entry, IsOfVersion, IsPlain, TableValue, empty_table, entry_from, source_of, table_of, whole, sequences_in, replacements}
-use Rattle.ruleset_text.specs.EntryParts.{has_tags}
+use Rattle.variant_table.specs.Entries.{Variant, Entry, IsOfVersion, IsPlain, IsPlainOrBlocked, TableValue, empty_table, entry_from, source_of, table_of, whole, sequences_in, replacements}
 use Rattle.variant_table.proofs.VersionLemmas.{is_plain, is_bare, is_form, form_parts}
-use Rattle.variant_table.specs.Forms.{has_form, knows_rule, knows_all, numbered, name_at, named, variant_of, mapped_of, as_written}
+use Rattle.variant_table.specs.Forms.{has_form, knows_rule, knows_type, knows_names, knows_all, numbered, named, source_mark, variant_mark, variant_by, sequences_of, is_type, unmarked_name, mapped_by, as_written}
 use Rattle.variant_table.specs.Canonical.{canonical_line, canonical_text, version_line, head_text, table_text}
-use Rattle.variant_table.specs.WellFormed.{AreOfVersion, IsSequence as IsTableSequence, IsEntry, HasItsRule, HasItsNames, IsNamed, IsTable}
+use Rattle.variant_table.specs.WellFormed.{AreOfVersion, IsSequence as IsTableSequence, IsEntry, HasItsRule, HasItsType, HasItsNames, IsNamed, IsTable}
 use Rattle.variant_table.specs.Limits.{line_limit, text_limit}
 use Rattle.variant_table.specs.Versions.{version_of, head_of, body_of, size_of, is_version_line, notation_of}
 use Rattle.variant_table.specs.Texts.{LineSpells, LineAdds, LinesSpell, AreLinesOf, IsTextOf}
 use Rattle.variant_table.proofs.ConditionLemmas.{AreScalars, sequences_scalar, sequences_filled}
 use Rattle.variant_table.proofs.EntryLemmas.{same_variant}
-use Rattle.variant_table.proofs.FormSteps.{tags_named}
-use Rattle.variant_table.proofs.LengthLemmas.{names_size, length-tags_text, pieces_size, length-piece, length-entry_text}
-use Rattle.variant_table.proofs.NumberLemmas.{number_back, numbers_back, is_name-at, one_of-at, few_numbers, names-front, names-after, pairs_head, pairs_tail}
+use Rattle.variant_table.proofs.LengthLemmas.{pieces_size, length-piece, length-entry_text}
+use Rattle.variant_table.proofs.NumberLemmas.{number_back, is_name-at, one_of-at, names-front, names-after, type_read}
 use Rattle.variant_table.proofs.SizeLemmas.{size_of-cons}
 use Rattle.variant_table.proofs.WritingLemmas.{further_text, sequence_text-is, length-sequence_text, piece_text, further_pieces, pieces_text, canonical_line-is}
 use Rattle.idn_class.specs.declared.properties.Properties.{Properties}
@@ -62,51 +61,42 @@ scalar_sequence [] l h = absurd (omega (arith, l))
 scalar_sequence (c ∷ s) l h = h
 
 module _ (d : Definitions) (are : AreDefinitions d) where
-  tag_names : AreNames d.tags
-  tag_names = names-front d.tags (d.set_names ++ d.rule_names) are.names
+  types_named : AreNames (type_names d)
+  types_named = names-front (type_names d) (d.set_names ++ d.rule_names) are.names
 
   rule_names : AreNames d.rule_names
-  rule_names = names-after d.set_names d.rule_names (names-after d.tags (d.set_names ++ d.rule_names) are.names)
+  rule_names = names-after d.set_names d.rule_names (names-after (type_names d) (d.set_names ++ d.rule_names) are.names)
 
-  names_of : (ns : List ℕ) → AllByRecursion (λ n. n < length d.tags) ns → AllPairs (λ m n. m ≢ n) ns → AreNames (map (name_at d.tags) ns)
-  names_of [] h apart = tt
-  names_of (n ∷ ns) h apart = (
-    is_name-at d.tags n tag_names h.0,
-    others n ns h.0 h.1 (recursion_from_All (λ k. n ≢ k) ns (pairs_head (λ k m. k ≢ m) n ns apart)),
-    names_of ns h.1 (pairs_tail (λ k m. k ≢ m) n ns apart),
-  )
+  may_have : (mark : ℕ) (type : Option ℕ) → HasItsType d type → MayHaveType (is_type mark type) (unmarked_name mark d type)
+  may_have mark None h = tt
+  may_have mark (Some n) h = by (eqb n mark)
     where
-      others : (n : ℕ) (ns : List ℕ) → n < length d.tags → AllByRecursion (λ k. k < length d.tags) ns → AllByRecursion (λ k. n ≢ k) ns → AllByRecursion (λ other. name_at d.tags n ≡ other → ⊥) (map (name_at d.tags) ns)
-      others n [] l h apart = tt
-      others n (k ∷ ns) l h apart = (
-        λ same. apart.0 (sym (number_back d.tags n tag_names l) ∙ ap (number_of d.tags) same ∙ number_back d.tags k tag_names h.0),
-        others n ns l h.1 apart.1,
-      )
-
-  may_have : (marked : Bool) (ns : List ℕ) → (marked ≡ true → ns ≡ []) → AreNames (map (name_at d.tags) ns) → MayHaveTags marked (map (name_at d.tags) ns)
-  may_have marked [] h names = tt
-  may_have true (n ∷ ns) h names = absurd (let x = h refl in cc)
-  may_have false (n ∷ ns) h names = (refl, names)
+      by : (b : Bool) → MayHaveType b (cond b None (Some (type_name d n)))
+      by true = tt
+      by false = (refl, is_name-at (type_names d) n types_named h)
 
   has_rule : (c : Option Condition) → HasItsRule d c → HasRule (option_map (named d) c)
   has_rule None h = tt
   has_rule (Some c) h = is_name-at d.rule_names c.rule rule_names h
 
-  mapped_form : (v : Variant) → 0 < length v.sequence → AreScalars v.sequence → HasItsNames d v → IsMapped (mapped_of d v)
-  mapped_form v l s h = record {
+  mapped_form : (mark : ℕ) (v : Variant) → 0 < length v.sequence → AreScalars v.sequence → HasItsNames d v → IsMapped (mapped_by mark d v)
+  mapped_form mark v l s h = record {
     sequence = scalar_sequence v.sequence l s;
-    tags = may_have v.marked v.tags h.unmarked (names_of v.tags (recursion_from_All (λ n. n < length d.tags) v.tags h.tags) h.distinct);
+    type_name = may_have mark v.type h.type;
     condition = has_rule v.condition h.condition;
   }
 
-  forms : (variants : List Variant) → AllByRecursion (λ s. 0 < length s) (sequences_in variants) → AllByRecursion AreScalars (sequences_in variants) → AllByRecursion (HasItsNames d) variants → AllByRecursion IsMapped (map (mapped_of d) variants)
+  forms : (variants : List Variant) → AllByRecursion (λ s. 0 < length s) (sequences_in variants) → AllByRecursion AreScalars (sequences_in variants) → AllByRecursion (HasItsNames d) variants → AllByRecursion IsMapped (map (mapped_by variant_mark d) variants)
   forms [] f h n = tt
-  forms (v ∷ variants) f h n = (mapped_form v f.0 h.0 n.0, forms variants f.1 h.1 n.1)
+  forms (v ∷ variants) f h n = (mapped_form variant_mark v f.0 h.0 n.0, forms variants f.1 h.1 n.1)
 
   entry_form : (e : Entry) → IsEntry e → IsNamed d e → IsForm (as_written d e) None
   entry_form e h n =
       let all = recursion_from_All IsTableSequence (replacements e) h.sequences in
-      forms (whole e) (sequences_filled (replacements e) all) (sequences_scalar (replacements e) all) (recursion_from_All (HasItsNames d) (whole e) n)
+      let filled = sequences_filled (replacements e) all in
+      let scalar = sequences_scalar (replacements e) all in
+      let named = recursion_from_All (HasItsNames d) (whole e) n in
+      (mapped_form source_mark (source_of e) filled.0 scalar.0 named.0, forms e.variants filled.1 scalar.1 named.1)
 
   -- the canonical line of an entry spells it
   pub canonical_line_spells : (e : Entry) → IsEntry e → IsNamed d e → IsEntryLine (record { mapped = as_written d e; last = None }) (canonical_line d e)
@@ -118,46 +108,73 @@ module _ (d : Definitions) (are : AreDefinitions d) where
   rule_read None h = refl
   rule_read (Some c) h = ap (λ n. Some (record c { rule = n })) (number_back d.rule_names c.rule rule_names h)
 
-  variant_read : (v : Variant) → HasItsNames d v → variant_of d (mapped_of d v) ≡ v
-  variant_read v h =
-      same_variant (variant_of d (mapped_of d v)) v refl refl (numbers_back d.tags v.tags tag_names (recursion_from_All (λ n. n < length d.tags) v.tags h.tags)) (rule_read v.condition h.condition)
+  variant_read : (mark : ℕ) (v : Variant) → HasItsNames d v → variant_by mark d (mapped_by mark d v) ≡ v
+  variant_read mark v h = same_variant (variant_by mark d (mapped_by mark d v)) v refl (type_read d mark v.type types_named h.type) (rule_read v.condition h.condition)
 
-  variants_back : (variants : List Variant) → AllByRecursion (HasItsNames d) variants → map (variant_of d) (map (mapped_of d) variants) ≡ variants
-  variants_back [] h = refl
-  variants_back (v ∷ variants) h = ap (λ w. w ∷ map (variant_of d) (map (mapped_of d) variants)) (variant_read v h.0) ∙ ap (λ vs. v ∷ vs) (variants_back variants h.1)
+  variants_read : (variants : List Variant) → AllByRecursion (HasItsNames d) variants → map (variant_by variant_mark d) (map (mapped_by variant_mark d) variants) ≡ variants
+  variants_read [] h = refl
+  variants_read (v ∷ variants) h =
+      ap (λ w. w ∷ map (variant_by variant_mark d) (map (mapped_by variant_mark d) variants)) (variant_read variant_mark v h.0) ∙ ap (λ vs. v ∷ vs) (variants_read variants h.1)
 
-  tags_known : (ns : List ℕ) → AllByRecursion (λ n. n < length d.tags) ns → list_all (is_one_of d.tags) (map (name_at d.tags) ns) ≡ true
-  tags_known [] h = refl
-  tags_known (n ∷ ns) h = ap (λ b. b && list_all (is_one_of d.tags) (map (name_at d.tags) ns)) (one_of-at d.tags n h.0) ∙ tags_known ns h.1
+  entry_read : (e : Entry) → AllByRecursion (HasItsNames d) (whole e) → sequences_of d (as_written d e) ≡ whole e
+  entry_read e h =
+      ap (λ w. w ∷ map (variant_by variant_mark d) (map (mapped_by variant_mark d) e.variants)) (variant_read source_mark (source_of e) h.0) ∙ ap (λ vs. source_of e ∷ vs) (variants_read e.variants h.1)
+
+  type_known : (mark : ℕ) (type : Option ℕ) → HasItsType d type → knows_type d (unmarked_name mark d type) ≡ true
+  type_known mark None h = refl
+  type_known mark (Some n) h = by (eqb n mark)
+    where
+      by : (b : Bool) → knows_type d (cond b None (Some (type_name d n))) ≡ true
+      by true = refl
+      by false = one_of-at (type_names d) n h
 
   rule_known : (c : Option Condition) → HasItsRule d c → knows_rule d (option_map (named d) c) ≡ true
   rule_known None h = refl
   rule_known (Some c) h = one_of-at d.rule_names c.rule h
 
-  all_known : (variants : List Variant) → AllByRecursion (HasItsNames d) variants → knows_all d (map (mapped_of d) variants) ≡ true
-  all_known [] h = refl
-  all_known (v ∷ variants) h =
-      ap (λ b. (b && knows_rule d (option_map (named d) v.condition)) && knows_all d (map (mapped_of d) variants)) (tags_known v.tags (recursion_from_All (λ n. n < length d.tags) v.tags (h.0).tags))
-      ∙ ap (λ b. b && knows_all d (map (mapped_of d) variants)) (rule_known v.condition (h.0).condition) ∙ all_known variants h.1
+  one_known : (mark : ℕ) (v : Variant) → HasItsNames d v → knows_names d (mapped_by mark d v) ≡ true
+  one_known mark v h = ap (λ b. b && knows_rule d (option_map (named d) v.condition)) (type_known mark v.type h.type) ∙ rule_known v.condition h.condition
+
+  variants_known : (variants : List Variant) → AllByRecursion (HasItsNames d) variants → knows_all d (map (mapped_by variant_mark d) variants) ≡ true
+  variants_known [] h = refl
+  variants_known (v ∷ variants) h = ap (λ b. b && knows_all d (map (mapped_by variant_mark d) variants)) (one_known variant_mark v h.0) ∙ variants_known variants h.1
+
+  all_known : (e : Entry) → AllByRecursion (HasItsNames d) (whole e) → knows_all d (as_written d e) ≡ true
+  all_known e h = ap (λ b. b && knows_all d (map (mapped_by variant_mark d) e.variants)) (one_known source_mark (source_of e) h.0) ∙ variants_known e.variants h.1
 
 -- ---- its version
 
-plain_mapped : (d : Definitions) (v : Variant) → IsPlain v → is_plain (mapped_of d v) ≡ true
-plain_mapped d v h =
-    ap (λ t. not (has_tags (map (name_at d.tags) t)) && not (is_some (option_map (named d) v.condition))) h.0 ∙ ap (λ c. not (is_some (option_map (named d) c))) h.1
+plain_mapped : (d : Definitions) (mark : ℕ) (v : Variant) → IsPlain v → is_plain (mapped_by mark d v) ≡ true
+plain_mapped d mark v h =
+    ap (λ t. not (is_some (unmarked_name mark d t)) && not (is_some (option_map (named d) v.condition))) h.0 ∙ ap (λ c. not (is_some (option_map (named d) c))) h.1
 
-all_plain : (d : Definitions) (variants : List Variant) → AllByRecursion IsPlain variants → list_all is_plain (map (mapped_of d) variants) ≡ true
-all_plain d [] h = refl
-all_plain d (v ∷ variants) h = ap (λ b. b && list_all is_plain (map (mapped_of d) variants)) (plain_mapped d v h.0) ∙ all_plain d variants h.1
+bare_mapped : (d : Definitions) (mark : ℕ) (v : Variant) → IsPlain v → is_bare (mapped_by mark d v) ≡ true
+bare_mapped d mark v h = ap (λ b. b && not (is_type mark v.type)) (plain_mapped d mark v h) ∙ ap (λ t. not (is_type mark t)) h.0
 
-all_unmarked : (d : Definitions) (variants : List Variant) → AllByRecursion IsPlain variants → AllByRecursion (λ v. v.marked ≡ false) variants → list_all is_bare (map (mapped_of d) variants) ≡ true
-all_unmarked d [] p h = refl
-all_unmarked d (v ∷ variants) p h =
-    ap (λ b. (b && not v.marked) && list_all is_bare (map (mapped_of d) variants)) (plain_mapped d v p.0) ∙ ap (λ b. not b && list_all is_bare (map (mapped_of d) variants)) h.0 ∙ all_unmarked d variants p.1 h.1
+all_bare : (d : Definitions) (variants : List Variant) → AllByRecursion IsPlain variants → list_all is_bare (map (mapped_by variant_mark d) variants) ≡ true
+all_bare d [] h = refl
+all_bare d (v ∷ variants) h = ap (λ b. b && list_all is_bare (map (mapped_by variant_mark d) variants)) (bare_mapped d variant_mark v h.0) ∙ all_bare d variants h.1
+
+-- '!' stands for the type of what is blocked
+no_name : (d : Definitions) (v : Variant) → IsPlainOrBlocked v → unmarked_name variant_mark d v.type ≡ None
+no_name d v h = elim h.0 [ inl e ↦ ap (unmarked_name variant_mark d) e | inr e ↦ ap (unmarked_name variant_mark d) e ]
+
+all_unnamed : (d : Definitions) (variants : List Variant) → AllByRecursion IsPlainOrBlocked variants → list_all is_plain (map (mapped_by variant_mark d) variants) ≡ true
+all_unnamed d [] h = refl
+all_unnamed d (v ∷ variants) h =
+    ap (λ n. (not (is_some n) && not (is_some (option_map (named d) v.condition))) && list_all is_plain (map (mapped_by variant_mark d) variants)) (no_name d v h.0)
+    ∙ ap (λ c. not (is_some (option_map (named d) c)) && list_all is_plain (map (mapped_by variant_mark d) variants)) h.0.1 ∙ all_unnamed d variants h.1
 
 form_of_version : (v : Version) (d : Definitions) (e : Entry) → IsOfVersion v e → is_form v (record { mapped = as_written d e; last = None }) ≡ true
-form_of_version One d e h = ap (λ b. b && true) (all_unmarked d (whole e) (recursion_from_All IsPlain (whole e) h.2) (h.0, recursion_from_All (λ v. v.marked ≡ false) e.variants h.1))
-form_of_version Two d e h = ap (λ b. b && not e.outside) (all_plain d (whole e) (recursion_from_All IsPlain (whole e) h.1)) ∙ ap not h.0
+form_of_version One d e h =
+    let all = recursion_from_All IsPlain (whole e) h in
+    let others = list_all is_bare (map (mapped_by variant_mark d) e.variants) in
+    ap (λ b. (b && others) && true) (bare_mapped d source_mark (source_of e) all.0) ∙ ap (λ b. b && true) (all_bare d e.variants all.1)
+form_of_version Two d e h =
+    let others = list_all is_plain (map (mapped_by variant_mark d) e.variants) in
+    let unmarked = not (is_type source_mark e.type) in
+    ap (λ b. (b && others) && unmarked) (plain_mapped d source_mark (source_of e) h.0) ∙ ap (λ b. b && unmarked) (all_unnamed d e.variants (recursion_from_All IsPlainOrBlocked e.variants h.1))
+    ∙ ap (λ t. not (is_type source_mark t)) h.0.0
 form_of_version Three d e h = refl
 
 of_version : (v : Version) (d : Definitions) (e : Entry) → IsOfVersion v e → has_form v (record { mapped = as_written d e; last = None }) ≡ true
@@ -174,22 +191,13 @@ mark_in_line : (marked : Bool) → AreInLine (mark_text marked)
 mark_in_line true = ((refl, refl), tt)
 mark_in_line false = tt
 
-names_in_line : (names : List (List ℕ)) → AllByRecursion AreInLine names → AreInLine (names_text names)
-names_in_line [] h = tt
-names_in_line (name ∷ []) h = h.0
-names_in_line (name ∷ other ∷ names) h = joined name (44 ∷ names_text (other ∷ names)) h.0 ((refl, refl), names_in_line (other ∷ names) h.1)
-
-tags_in_line : (tags : List (List ℕ)) → AllByRecursion AreInLine tags → AreInLine (tags_text tags)
-tags_in_line [] h = tt
-tags_in_line (tag ∷ tags) h = ((refl, refl), ((refl, refl), ((refl, refl), ((refl, refl), names_in_line (tag ∷ tags) h))))
+type_in_line : (marked : Bool) (name : Option (List ℕ)) → MayHaveType marked name → AreInLine (type_text name)
+type_in_line marked None h = tt
+type_in_line marked (Some name) h = ((refl, refl), ((refl, refl), ((refl, refl), ((refl, refl), name_in_line name h.1))))
 
 word_in_line : (kind : ConditionKind) → AreInLine (condition_word kind)
 word_in_line When = ((refl, refl), ((refl, refl), ((refl, refl), ((refl, refl), ((refl, refl), ((refl, refl), tt))))))
 word_in_line Unless = ((refl, refl), ((refl, refl), ((refl, refl), ((refl, refl), ((refl, refl), ((refl, refl), ((refl, refl), ((refl, refl), tt))))))))
-
-each_name_in_line : (tags : List (List ℕ)) → AreNames tags → AllByRecursion AreInLine tags
-each_name_in_line [] h = tt
-each_name_in_line (tag ∷ tags) h = (name_in_line tag h.0, each_name_in_line tags h.2)
 
 condition_in_line : (c : Option NamedCondition) → HasRule c → AreInLine (condition_text c)
 condition_in_line None h = tt
@@ -197,9 +205,9 @@ condition_in_line (Some c) h = joined (condition_word c.kind) c.rule (word_in_li
 
 piece_in_line : (m : Mapped) → IsMapped m → AreInLine (piece_text m)
 piece_in_line m h =
-    joined (mark_text m.marked) (sequence_text m.points ++ ([] ++ (tags_text m.tags ++ condition_text m.condition))) (mark_in_line m.marked)
-    (joined (sequence_text m.points) ([] ++ (tags_text m.tags ++ condition_text m.condition)) (sequence_in_line m.points)
-    (joined (tags_text m.tags) (condition_text m.condition) (tags_in_line m.tags (each_name_in_line m.tags (tags_named m.marked m.tags h.tags))) (condition_in_line m.condition h.condition)))
+    joined (mark_text m.marked) (sequence_text m.points ++ ([] ++ (type_text m.type_name ++ condition_text m.condition))) (mark_in_line m.marked)
+    (joined (sequence_text m.points) ([] ++ (type_text m.type_name ++ condition_text m.condition)) (sequence_in_line m.points)
+    (joined (type_text m.type_name) (condition_text m.condition) (type_in_line m.marked m.type_name h.type_name) (condition_in_line m.condition h.condition)))
 
 further_in_line : (ms : List Mapped) → AllByRecursion IsMapped ms → AreInLine (further_pieces ms)
 further_in_line [] h = tt
@@ -213,7 +221,7 @@ line_in_line : (d : Definitions) (e : Entry) → AreDefinitions d → IsEntry e 
 line_in_line d e are h n =
     let form : AllByRecursion IsMapped (as_written d e) = entry_form d are e h n in
     subst AreInLine (sym (canonical_line-is d e))
-    (joined (piece_text (mapped_of d (source_of e))) (pieces_text (map (mapped_of d) e.variants)) (piece_in_line (mapped_of d (source_of e)) form.0) (pieces_in_line (map (mapped_of d) e.variants) form.1))
+    (joined (piece_text (mapped_by source_mark d (source_of e))) (pieces_text (map (mapped_by variant_mark d) e.variants)) (piece_in_line (mapped_by source_mark d (source_of e)) form.0) (pieces_in_line (map (mapped_by variant_mark d) e.variants) form.1))
 
 no_feed_line : (line : List ℕ) → AreInLine line → HasNoFeed line
 no_feed_line line h = All-weaker IsInLine (λ b. b ≢ 10) (λ b other is. cc (eq-eqb b 10 is, other.0)) line (All-from_recursion IsInLine line h)
@@ -232,71 +240,56 @@ one_mark : (marked : Bool) → length (mark_text marked) ≤ 1
 one_mark true = omega arith
 one_mark false = omega arith
 
-plain_piece : (d : Definitions) (v : Variant) → IsTableSequence v.sequence → IsPlain v → length (piece_text (mapped_of d v)) ≤ 55 + length (mark_text v.marked)
-plain_piece d v s h =
+plain_piece : (d : Definitions) (mark : ℕ) (v : Variant) → IsTableSequence v.sequence → IsPlain v → length (piece_text (mapped_by mark d v)) ≤ 55
+plain_piece d mark v s h =
     omega (
       arith,
-      length-piece (mapped_of d v),
+      length-piece (mapped_by mark d v),
       length-sequence_text v.sequence (omega (arith, s.filled)) s.short,
-      ap (λ t. length (tags_text (map (name_at d.tags) t) ++ condition_text (option_map (named d) v.condition))) h.0,
+      ap (λ t. length (mark_text (is_type mark t))) h.0,
+      ap (λ t. length (type_text (unmarked_name mark d t) ++ condition_text (option_map (named d) v.condition))) h.0,
       ap (λ c. length (condition_text (option_map (named d) c))) h.1,
     )
 
--- how many are blocked
-marked : List Variant → ℕ
-marked [] = 0
-marked (v ∷ variants) = length (mark_text v.marked) + marked variants
-
-plain_pieces : (d : Definitions) (variants : List Variant) → AllByRecursion IsTableSequence (sequences_in variants) → AllByRecursion IsPlain variants → pieces_size (map (mapped_of d) variants) ≤ 56 * length variants + marked variants
-unfolding marked
+plain_pieces : (d : Definitions) (variants : List Variant) → AllByRecursion IsTableSequence (sequences_in variants) → AllByRecursion IsPlain variants → pieces_size (map (mapped_by variant_mark d) variants) ≤ 56 * length variants
 plain_pieces d [] s h = omega arith
-plain_pieces d (v ∷ variants) s h = omega (arith, plain_piece d v s.0 h.0, plain_pieces d variants s.1 h.1)
+plain_pieces d (v ∷ variants) s h = omega (arith, plain_piece d variant_mark v s.0 h.0, plain_pieces d variants s.1 h.1)
 
-marked-few : (variants : List Variant) → marked variants ≤ length variants
-unfolding marked
-marked-few [] = omega arith
-marked-few (v ∷ variants) = omega (arith, one_mark v.marked, marked-few variants)
-
-marked-none : (variants : List Variant) → AllByRecursion (λ v. v.marked ≡ false) variants → marked variants ≡ 0
-unfolding marked
-marked-none [] h = refl
-marked-none (v ∷ variants) h = omega (arith, ap (λ b. length (mark_text b)) h.0, marked-none variants h.1)
-
--- without tags and conditions a canonical line has at most 951 bytes and one more for each mark
-length-by_marks : (d : Definitions) (e : Entry) → IsEntry e → All IsPlain (whole e) → length (canonical_line d e) ≤ 951 + length (mark_text e.outside) + marked e.variants
-unfolding marked
-length-by_marks d e h p =
+-- in version 1 a canonical line has at most 951 bytes
+pub length-canonical_line : (d : Definitions) (e : Entry) → IsEntry e → IsOfVersion One e → length (canonical_line d e) ≤ 951
+length-canonical_line d e h of =
     let all = recursion_from_All IsTableSequence (replacements e) h.sequences in
-    let plain = recursion_from_All IsPlain (whole e) p in
-    omega (arith, h.few, length-entry_text (mapped_of d (source_of e)) (map (mapped_of d) e.variants), plain_piece d (source_of e) all.0 plain.0, plain_pieces d e.variants all.1 plain.1)
+    let plain = recursion_from_All IsPlain (whole e) of in
+    omega (arith, h.few, length-entry_text (mapped_by source_mark d (source_of e)) (map (mapped_by variant_mark d) e.variants), plain_piece d source_mark (source_of e) all.0 plain.0, plain_pieces d e.variants all.1 plain.1)
 
--- with all its marks it has at most 968 bytes
-pub length-marked_line : (d : Definitions) (e : Entry) → IsEntry e → All IsPlain (whole e) → length (canonical_line d e) ≤ 968
-length-marked_line d e h p = omega (arith, h.few, length-by_marks d e h p, one_mark e.outside, marked-few e.variants)
+blocked_piece : (d : Definitions) (v : Variant) → IsTableSequence v.sequence → IsPlainOrBlocked v → length (piece_text (mapped_by variant_mark d v)) ≤ 56
+blocked_piece d v s h =
+    omega (
+      arith,
+      length-piece (mapped_by variant_mark d v),
+      length-sequence_text v.sequence (omega (arith, s.filled)) s.short,
+      one_mark (is_type variant_mark v.type),
+      ap (λ n. length (type_text n ++ condition_text (option_map (named d) v.condition))) (no_name d v h),
+      ap (λ c. length (condition_text (option_map (named d) c))) h.1,
+    )
+
+blocked_pieces : (d : Definitions) (variants : List Variant) → AllByRecursion IsTableSequence (sequences_in variants) → AllByRecursion IsPlainOrBlocked variants → pieces_size (map (mapped_by variant_mark d) variants) ≤ 57 * length variants
+blocked_pieces d [] s h = omega arith
+blocked_pieces d (v ∷ variants) s h = omega (arith, blocked_piece d v s.0 h.0, blocked_pieces d variants s.1 h.1)
 
 -- in version 2 it has at most 967
 pub length-blocked_line : (d : Definitions) (e : Entry) → IsEntry e → IsOfVersion Two e → length (canonical_line d e) ≤ 967
-length-blocked_line d e h of = omega (arith, h.few, length-by_marks d e h of.1, ap (λ b. length (mark_text b)) of.0, marked-few e.variants)
+length-blocked_line d e h of =
+    let all = recursion_from_All IsTableSequence (replacements e) h.sequences in
+    omega (arith, h.few, length-entry_text (mapped_by source_mark d (source_of e)) (map (mapped_by variant_mark d) e.variants), plain_piece d source_mark (source_of e) all.0 of.0, blocked_pieces d e.variants all.1 (recursion_from_All IsPlainOrBlocked e.variants of.1))
 
--- in version 1 it has at most 951
-pub length-canonical_line : (d : Definitions) (e : Entry) → IsEntry e → IsOfVersion One e → length (canonical_line d e) ≤ 951
-length-canonical_line d e h of = omega (arith, length-by_marks d e h of.2, ap (λ b. length (mark_text b)) of.0, marked-none e.variants (recursion_from_All (λ v. v.marked ≡ false) e.variants of.1))
-
--- ---- with tags and conditions
+-- ---- with types and conditions
 
 length-name : (name : List ℕ) → is_name name ≡ true → length name ≤ 32
 length-name [] h = absurd cc
 length-name (c ∷ cs) h =
     let p = and_parts (is_letter c && nat_le (length cs) 31) (list_all is_name_byte cs) h in
     omega (arith, leb-true (length cs) 31 (and_parts (is_letter c) (nat_le (length cs) 31) p.0).1)
-
-length-names : (tags : List (List ℕ)) → AreNames tags → names_size tags ≤ 33 * length tags
-length-names [] h = omega arith
-length-names (tag ∷ tags) h = omega (arith, length-name tag h.0, length-names tags h.2)
-
-length-tags : (tags : List (List ℕ)) → AreNames tags → length tags ≤ 8 → length (tags_text tags) ≤ 267
-length-tags [] h l = omega arith
-length-tags (tag ∷ tags) h l = omega (arith, l, length-tags_text (tag ∷ tags) (omega arith), length-names (tag ∷ tags) h)
 
 length-word : (kind : ConditionKind) → length (condition_word kind) ≤ 8
 length-word When = omega arith
@@ -306,38 +299,34 @@ length-condition : (c : Option NamedCondition) → HasRule c → length (conditi
 length-condition None h = omega arith
 length-condition (Some c) h = omega (arith, length-append (condition_word c.kind) c.rule, length-word c.kind, length-name c.rule h)
 
--- what is marked has no tags
-marked_or_tagged : (marked : Bool) (tags : List (List ℕ)) → MayHaveTags marked tags → AreNames tags → length tags ≤ 8 → length (mark_text marked) + length (tags_text tags) ≤ 267
-marked_or_tagged marked [] h names l = omega (arith, one_mark marked)
-marked_or_tagged marked (tag ∷ tags) h names l = omega (arith, ap (λ b. length (mark_text b)) h.0, length-tags (tag ∷ tags) names l)
+-- what is marked has no type beside its mark
+marked_or_typed : (marked : Bool) (name : Option (List ℕ)) → MayHaveType marked name → length (mark_text marked) + length (type_text name) ≤ 36
+marked_or_typed marked None h = omega (arith, one_mark marked)
+marked_or_typed marked (Some name) h = omega (arith, ap (λ b. length (mark_text b)) h.0, length-name name h.1)
 
-few_tags : (d : Definitions) (v : Variant) → AreDefinitions d → HasItsNames d v → length v.tags ≤ 8
-few_tags d v are h = omega (arith, are.few_tags, few_numbers (length d.tags) v.tags (recursion_from_All (λ n. n < length d.tags) v.tags h.tags) h.distinct)
-
-named_piece : (d : Definitions) (v : Variant) → AreDefinitions d → IsTableSequence v.sequence → HasItsNames d v → IsMapped (mapped_of d v) → length (piece_text (mapped_of d v)) ≤ 362
-named_piece d v are s h m =
-    let tags : List (List ℕ) = map (name_at d.tags) v.tags in
+named_piece : (d : Definitions) (mark : ℕ) (v : Variant) → IsTableSequence v.sequence → IsMapped (mapped_by mark d v) → length (piece_text (mapped_by mark d v)) ≤ 131
+named_piece d mark v s m =
+    let name : Option (List ℕ) = unmarked_name mark d v.type in
     let condition : Option NamedCondition = option_map (named d) v.condition in
     omega (
       arith,
-      length-piece (mapped_of d v),
+      length-piece (mapped_by mark d v),
       length-sequence_text v.sequence (omega (arith, s.filled)) s.short,
-      length-append (tags_text tags) (condition_text condition),
-      marked_or_tagged v.marked tags m.tags (tags_named v.marked tags m.tags) (omega (arith, few_tags d v are h, length-map v.tags (name_at d.tags))),
+      length-append (type_text name) (condition_text condition),
+      marked_or_typed (is_type mark v.type) name m.type_name,
       length-condition condition m.condition,
     )
 
-named_pieces : (d : Definitions) (variants : List Variant) → AreDefinitions d → AllByRecursion IsTableSequence (sequences_in variants) → AllByRecursion (HasItsNames d) variants → AllByRecursion IsMapped (map (mapped_of d) variants)
-    → pieces_size (map (mapped_of d) variants) ≤ 363 * length variants
-named_pieces d [] are s h m = omega arith
-named_pieces d (v ∷ variants) are s h m = omega (arith, named_piece d v are s.0 h.0 m.0, named_pieces d variants are s.1 h.1 m.1)
+named_pieces : (d : Definitions) (variants : List Variant) → AllByRecursion IsTableSequence (sequences_in variants) → AllByRecursion IsMapped (map (mapped_by variant_mark d) variants) → pieces_size (map (mapped_by variant_mark d) variants) ≤ 132 * length variants
+named_pieces d [] s m = omega arith
+named_pieces d (v ∷ variants) s m = omega (arith, named_piece d variant_mark v s.0 m.0, named_pieces d variants s.1 m.1)
 
--- a canonical line has at most 6,170 bytes
-pub length-named_line : (d : Definitions) (e : Entry) → AreDefinitions d → IsEntry e → IsNamed d e → length (canonical_line d e) ≤ 6170
+-- a canonical line has at most 2,243 bytes
+pub length-named_line : (d : Definitions) (e : Entry) → AreDefinitions d → IsEntry e → IsNamed d e → length (canonical_line d e) ≤ 2243
 length-named_line d e are h n =
     let all = recursion_from_All IsTableSequence (replacements e) h.sequences in
     let form : AllByRecursion IsMapped (as_written d e) = entry_form d are e h n in
-    omega (arith, h.few, length-entry_text (mapped_of d (source_of e)) (map (mapped_of d) e.variants), named_pieces d (whole e) are all (recursion_from_All (HasItsNames d) (whole e) n) form)
+    omega (arith, h.few, length-entry_text (mapped_by source_mark d (source_of e)) (map (mapped_by variant_mark d) e.variants), named_piece d source_mark (source_of e) all.0 form.0, named_pieces d e.variants all.1 form.1)
 
 length-by_version : (v : Version) (d : Definitions) (e : Entry) → AreDefinitions d → IsEntry e → IsNamed d e → IsOfVersion v e → length (canonical_line d e) ≤ line_limit v
 length-by_version One d e are h n of = omega (arith, length-canonical_line d e h of)
@@ -386,8 +375,8 @@ spells_entry v d e are h n of =
     inr (inr (
       record { mapped = as_written d e; last = None },
       (subst (IsEntryLine (record { mapped = as_written d e; last = None })) (sym (strip_nothing (canonical_line d e) (line_in_line d e are h n))) (canonical_line_spells d are e h n), of_version v d e of),
-      all_known d are (whole e) all,
-      ap (λ vs. entry_from vs ∷ []) (sym (variants_back d are (whole e) all)),
+      all_known d are e all,
+      ap (λ vs. entry_from vs ∷ []) (sym (entry_read d are e all)),
     ))
 
 entries_spell : (v : Version) (d : Definitions) (done table : List Entry) → AreDefinitions d → AllByRecursion IsEntry table → AreNamed d table → AllByRecursion (IsOfVersion v) table
@@ -529,7 +518,7 @@ begins_by_digit (c ∷ points) rest l h e =
     let text : sequence_text (c ∷ points) ++ rest ≡ point_text c ++ (further_text points ++ rest) = ap (λ t. t ++ rest) (sequence_text-is c points) ∙ append_assoc (point_text c) (further_text points) rest in
     no_percent (point_text c) (further_text points ++ rest) hex.digit (omega (arith, long)) (ap (λ t. bytes_eq t (version_line Table)) (sym text) ∙ e)
 
-begins_by_mark : (outside : Bool) (source rest : List ℕ) → 0 < length source → AreScalars source → bytes_eq (mark_text outside ++ (sequence_text source ++ rest)) (version_line Table) ≡ true → ⊥
+begins_by_mark : (marked : Bool) (source rest : List ℕ) → 0 < length source → AreScalars source → bytes_eq (mark_text marked ++ (sequence_text source ++ rest)) (version_line Table) ≡ true → ⊥
 begins_by_mark true source rest l h e =
     let none : 33 ≡ 37 = ap (λ s. get_or s 0 0) ((bytes_eq-Decides (33 ∷ (sequence_text source ++ rest)) (version_line Table)).0 e) in
     omega (arith, none)
@@ -538,14 +527,14 @@ begins_by_mark false source rest l h e = begins_by_digit source rest l h e
 no_version_line : (d : Definitions) (e : Entry) → AreDefinitions d → IsEntry e → IsNamed d e → is_version_line Table (canonical_line d e) ≡ false
 no_version_line d e are h n =
     let all = recursion_from_All IsTableSequence (replacements e) h.sequences in
-    let m : Mapped = mapped_of d (source_of e) in
-    let after : List ℕ = [] ++ (tags_text m.tags ++ condition_text m.condition) in
-    let others : List ℕ = pieces_text (map (mapped_of d) e.variants) in
-    let line : canonical_line d e ≡ mark_text e.outside ++ (sequence_text e.source ++ (after ++ others)) =
-    canonical_line-is d e ∙ append_assoc (mark_text e.outside) (sequence_text e.source ++ after) others ∙ ap (λ t. mark_text e.outside ++ t) (append_assoc (sequence_text e.source) after others) in
+    let m : Mapped = mapped_by source_mark d (source_of e) in
+    let after : List ℕ = [] ++ (type_text m.type_name ++ condition_text m.condition) in
+    let others : List ℕ = pieces_text (map (mapped_by variant_mark d) e.variants) in
+    let line : canonical_line d e ≡ mark_text m.marked ++ (sequence_text e.source ++ (after ++ others)) =
+    canonical_line-is d e ∙ append_assoc (mark_text m.marked) (sequence_text e.source ++ after) others ∙ ap (λ t. mark_text m.marked ++ t) (append_assoc (sequence_text e.source) after others) in
     ap (λ l. bytes_eq l (version_line Table)) (strip_nothing (canonical_line d e) (line_in_line d e are h n) ∙ line)
-    ∙ false_from_ne_true (bytes_eq (mark_text e.outside ++ (sequence_text e.source ++ (after ++ others))) (version_line Table))
-    (begins_by_mark e.outside e.source (after ++ others) (sequences_filled (replacements e) all).0 (sequences_scalar (replacements e) all).0)
+    ∙ false_from_ne_true (bytes_eq (mark_text m.marked ++ (sequence_text e.source ++ (after ++ others))) (version_line Table))
+    (begins_by_mark m.marked e.source (after ++ others) (sequences_filled (replacements e) all).0 (sequences_scalar (replacements e) all).0)
 
 -- lines of which the first is no version line
 record AreBody (lines : List (List ℕ)) : Type 0 where

@@ -1,5 +1,5 @@
 -- Entries without a fault are those of a well-formed table.
-use Rattle.std.proofs.Common.{◌≡◌, ℕ, zero, suc, ◌+◌, ◌<◌, Bool, true, false, not, ◌||◌, ◌&&◌, List, [], ◌∷◌, ◌++◌, length, map, get_or, Ok, refl, sym, ap, subst, ◌∙◌, arith, append_assoc, length-append}
+use Rattle.std.proofs.Common.{◌≡◌, ◌⊎◌, inl, inr, ℕ, zero, suc, ◌+◌, ◌<◌, Bool, true, false, not, ◌||◌, ◌&&◌, List, [], ◌∷◌, ◌++◌, length, map, get_or, Ok, refl, sym, ap, subst, ◌∙◌, arith, append_assoc, length-append}
 use Rattle.std.specs.Prelude.{nat_lt, bytes_eq, ◌≢◌, ◌≤◌, Option, Some, None, is_some, slice_index}
 use Rattle.std.specs.List.{AllByRecursion, All, AllPairs, list_all, list_any, range_with_len}
 use Rattle.std.proofs.lemmas.Bool.Decides.{nat_tests}
@@ -23,26 +23,25 @@ use Rattle.idn_class.proofs.ClassNumbers.{class_of-no_scalar, is_scalar-out}
 use Rattle.std.proofs.lemmas.List.{length-map}
 use Rattle.std.proofs.lemmas.List.Concat.{flat_map-append}
 use Rattle.std.specs.Option.{option_map}
-use Rattle.ruleset_text.specs.declared.entry_form.NamedCondition.{NamedCondition}
-use Rattle.ruleset_text.specs.Definitions.{Definitions, definitions_text}
+use Rattle.ruleset_text.specs.declared.named_condition.NamedCondition.{NamedCondition}
+use Rattle.ruleset_text.specs.Definitions.{Definitions, definitions_text, type_names}
 use Rattle.ruleset_text.specs.Entries.{Mapped, EntryForm}
-use Rattle.ruleset_text.specs.EntryText.{IsSequence, IsMapped, IsForm, MayHaveTags, entry_text}
-use Rattle.ruleset_text.specs.Names.{is_one_of, number_of}
+use Rattle.ruleset_text.specs.EntryText.{IsSequence, IsMapped, IsForm, entry_text}
+use Rattle.ruleset_text.specs.Names.{predefined_types}
 use Rattle.variant_table.specs.declared.version.Version.{Version}
 use Rattle.variant_table.specs.declared.version.Version.TheVariants.{One, Two, Three}
 use Rattle.variant_table.specs.Canonical.{canonical_line, canonical_text, head_text, table_text, written_text}
-use Rattle.variant_table.specs.Entries.{Variant, Entry, replacements, sequences_in, IsOfVersion, IsPlain, itself, whole}
+use Rattle.variant_table.specs.Entries.{Variant, Entry, replacements, sequences_in, IsOfVersion, IsPlain, IsPlainOrBlocked, itself, whole}
 use Rattle.variant_table.specs.inner.Held.{HasNoEmptySequence}
 use Rattle.variant_table.specs.Limits.{entry_limit}
 use Rattle.variant_table.specs.Ranges.{entry_in_range, range_size}
 use Rattle.variant_table.specs.Conditions.{is_too_large, is_text_too_long, is_over_limit, has_bad_point, has_bad_class, has_repeat, has_source_in}
-use Rattle.ruleset_text.specs.EntryParts.{has_tags}
-use Rattle.variant_table.specs.Forms.{has_form, HasForm, with_point, written_to, written_out, knows_rule, knows_names, knows_all, numbered, variant_of, entry_of, entries_of, SpellsEntries, as_written}
+use Rattle.variant_table.specs.Forms.{has_form, HasForm, with_point, written_to, written_out, knows_rule, knows_type, knows_names, knows_all, numbered, source_mark, variant_mark, type_by, variant_by, sequences_of, entry_of, entries_of, SpellsEntries, as_written, normal}
 use Rattle.variant_table.proofs.VersionLemmas.{is_plain, is_bare, begins_marked, is_form, form_parts}
 use Rattle.variant_table.specs.Reading.{with_form}
-use Rattle.variant_table.specs.WellFormed.{HasItsRule, HasItsNames, IsNamed}
-use Rattle.variant_table.proofs.FormSteps.{tags_named}
-use Rattle.variant_table.proofs.NumberLemmas.{all_back, number_below, numbers_below, numbers_apart}
+use Rattle.variant_table.specs.WellFormed.{HasItsRule, HasItsType, HasItsNames, IsNamed}
+use Rattle.variant_table.proofs.FormSteps.{all_typed}
+use Rattle.variant_table.proofs.NumberLemmas.{MayBeTyped, all_back, number_below}
 use Rattle.variant_table.proofs.RepeatLemmas.{distinct_from, no_repeats, repeat_is}
 use Rattle.variant_table.proofs.TestLemmas.{told_by, with_form-by}
 use Rattle.idn_class.specs.declared.properties.Properties.{Properties}
@@ -148,13 +147,21 @@ sequences_scalar (s ∷ ss) h = (points_scalars s (recursion_from_All IsTablePoi
 
 -- ---- an entry as it is written
 
-filled_of : (d : Definitions) (ms : List Mapped) → HasNoEmptySequence ms → AllByRecursion (λ s. 0 < length s) (sequences_in (map (variant_of d) ms))
-filled_of d [] h = tt
-filled_of d (m ∷ ms) h = (h.0, filled_of d ms h.1)
+filled_by : (d : Definitions) (mark : ℕ) (ms : List Mapped) → HasNoEmptySequence ms → AllByRecursion (λ s. 0 < length s) (sequences_in (map (variant_by mark d) ms))
+filled_by d mark [] h = tt
+filled_by d mark (m ∷ ms) h = (h.0, filled_by d mark ms h.1)
 
-short_of : (d : Definitions) (ms : List Mapped) → list_any (λ m. nat_lt 8 (length m.points)) ms ≡ list_any (λ s. nat_lt 8 (length s)) (sequences_in (map (variant_of d) ms))
+filled_of : (d : Definitions) (ms : List Mapped) → HasNoEmptySequence ms → AllByRecursion (λ s. 0 < length s) (sequences_in (sequences_of d ms))
+filled_of d [] h = tt
+filled_of d (m ∷ ms) h = (h.0, filled_by d variant_mark ms h.1)
+
+short_by : (d : Definitions) (mark : ℕ) (ms : List Mapped) → list_any (λ m. nat_lt 8 (length m.points)) ms ≡ list_any (λ s. nat_lt 8 (length s)) (sequences_in (map (variant_by mark d) ms))
+short_by d mark [] = refl
+short_by d mark (m ∷ ms) = ap (λ b. nat_lt 8 (length m.points) || b) (short_by d mark ms)
+
+short_of : (d : Definitions) (ms : List Mapped) → list_any (λ m. nat_lt 8 (length m.points)) ms ≡ list_any (λ s. nat_lt 8 (length s)) (sequences_in (sequences_of d ms))
 short_of d [] = refl
-short_of d (m ∷ ms) = ap (λ b. nat_lt 8 (length m.points) || b) (short_of d ms)
+short_of d (m ∷ ms) = ap (λ b. nat_lt 8 (length m.points) || b) (short_by d variant_mark ms)
 
 -- an entry without a fault of its own
 pub entry_from_tests : (d : Definitions) (ms : List Mapped) → 0 < length ms → HasNoEmptySequence ms → is_too_large ms ≡ false → has_bad_class d.properties (entry_of d ms) ≡ false → has_repeat (entry_of d ms) ≡ false → IsEntry (entry_of d ms)
@@ -164,14 +171,14 @@ entry_from_tests d (m ∷ ms) l h a b r =
     let p = or_parts (nat_lt 17 (length (m ∷ ms))) (list_any (λ n. nat_lt 8 (length n.points)) (m ∷ ms)) a in
     record {
       sequences = All-from_recursion IsTableSequence (replacements e) (sequences_table d.properties (replacements e) (filled_of d (m ∷ ms) h) (sym (short_of d (m ∷ ms)) ∙ p.1) b);
-      few = omega (arith, ltb-false 17 (length (m ∷ ms)) p.0, length-map ms (variant_of d));
+      few = omega (arith, ltb-false 17 (length (m ∷ ms)) p.0, length-map ms (variant_by variant_mark d));
       distinct = distinct_from (itself e ∷ e.variants) (sym (repeat_is e) ∙ r);
     }
 
 pub small_from_entry : (d : Definitions) (ms : List Mapped) → 0 < length ms → IsEntry (entry_of d ms) → is_too_large ms ≡ false
 small_from_entry d [] l h = absurd (omega (arith, l))
 small_from_entry d (m ∷ ms) l h =
-    or_from (nat_lt 17 (length (m ∷ ms))) (list_any (λ n. nat_lt 8 (length n.points)) (m ∷ ms)) (le-ltb 17 (length (m ∷ ms)) (omega (arith, h.few, length-map ms (variant_of d))))
+    or_from (nat_lt 17 (length (m ∷ ms))) (list_any (λ n. nat_lt 8 (length n.points)) (m ∷ ms)) (le-ltb 17 (length (m ∷ ms)) (omega (arith, h.few, length-map ms (variant_by variant_mark d))))
     (short_of d (m ∷ ms) ∙ sequences_short (replacements (entry_of d (m ∷ ms))) (recursion_from_All IsTableSequence (replacements (entry_of d (m ∷ ms))) h.sequences))
 
 pub single_from_entry : (e : Entry) → IsEntry e → has_repeat e ≡ false
@@ -243,38 +250,33 @@ filled_form None mapped h = (filled_mapped mapped (all_mapped None mapped h), tt
 filled_form (Some last) [] h = absurd h
 filled_form (Some last) (m ∷ mapped) h = filled_points m (range_with_len (slice_index m.points 0) (range_size (slice_index m.points 0) last))
 
--- an entry as it is written: a source, and its names are defined
+-- an entry as it is written: a source, what is marked has no type, and its names are defined
 pub record IsKnown (d : Definitions) (ms : List Mapped) : Type 0 where
   pub some : 0 < length ms
+  pub typed : AllByRecursion MayBeTyped ms
   pub names : knows_all d ms ≡ true
 
-known_points : (d : Definitions) (m : Mapped) (cs : List ℕ) → knows_all d (m ∷ []) ≡ true → AllByRecursion (IsKnown d) (map (λ c. with_point m c ∷ []) cs)
-known_points d m [] h = tt
-known_points d m (c ∷ cs) h = (record { some = omega arith; names = h }, known_points d m cs h)
+known_points : (d : Definitions) (m : Mapped) (cs : List ℕ) → MayBeTyped m → knows_all d (m ∷ []) ≡ true → AllByRecursion (IsKnown d) (map (λ c. with_point m c ∷ []) cs)
+known_points d m [] may h = tt
+known_points d m (c ∷ cs) may h = (record { some = omega arith; typed = (may, tt); names = h }, known_points d m cs may h)
 
 pub known_form : (d : Definitions) (last : Option ℕ) (mapped : List Mapped) → IsForm mapped last → knows_all d mapped ≡ true → AllByRecursion (IsKnown d) (written_to last mapped)
 known_form d last [] h k = absurd h
-known_form d None (m ∷ mapped) h k = (record { some = omega arith; names = k }, tt)
-known_form d (Some last) (m ∷ []) h k = known_points d m (range_with_len (slice_index m.points 0) (range_size (slice_index m.points 0) last)) k
+known_form d None (m ∷ mapped) h k = (record { some = omega arith; typed = all_typed (m ∷ mapped) h; names = k }, tt)
+known_form d (Some last) (m ∷ []) h k = known_points d m (range_with_len (slice_index m.points 0) (range_size (slice_index m.points 0) last)) h.0.type_name k
 known_form d (Some last) (m ∷ n ∷ mapped) h k = absurd h
 
-line_back : (d : Definitions) (ms : List Mapped) → IsKnown d ms → as_written d (entry_of d ms) ≡ ms
+line_back : (d : Definitions) (ms : List Mapped) → IsKnown d ms → as_written d (entry_of d ms) ≡ normal ms
 line_back d [] h = absurd (omega (arith, h.some))
-line_back d (m ∷ ms) h = all_back d (m ∷ ms) h.names
+line_back d (m ∷ ms) h = all_back d m ms h.typed h.names
 
 -- the canonical text of entries is what they are written as
 pub text_back : (d : Definitions) (es : List (List Mapped)) → AllByRecursion (IsKnown d) es → canonical_text d (map (entry_of d) es) ≡ written_text es
 text_back d [] h = refl
 text_back d (ms ∷ es) h =
-    ap (λ m. (entry_text m None ++ 10 ∷ []) ++ canonical_text d (map (entry_of d) es)) (line_back d ms h.0) ∙ ap (λ t. (entry_text ms None ++ 10 ∷ []) ++ t) (text_back d es h.1)
+    ap (λ m. (entry_text m None ++ 10 ∷ []) ++ canonical_text d (map (entry_of d) es)) (line_back d ms h.0) ∙ ap (λ t. (entry_text (normal ms) None ++ 10 ∷ []) ++ t) (text_back d es h.1)
 
 -- ---- the forms of a version
-
-bare_unmarked : (d : Definitions) (mapped : List Mapped) → list_all is_bare mapped ≡ true → AllByRecursion (λ v. v.marked ≡ false) (map (variant_of d) mapped)
-bare_unmarked d [] h = tt
-bare_unmarked d (m ∷ mapped) h =
-    let p = and_parts (is_bare m) (list_all is_bare mapped) h in
-    (not-true m.marked (and_parts (is_plain m) (not m.marked) p.0).1, bare_unmarked d mapped p.1)
 
 pub bare_plain : (mapped : List Mapped) → list_all is_bare mapped ≡ true → list_all is_plain mapped ≡ true
 bare_plain [] h = refl
@@ -282,24 +284,37 @@ bare_plain (m ∷ mapped) h =
     let p = and_parts (is_bare m) (list_all is_bare mapped) h in
     ap (λ b. b && list_all is_plain mapped) (and_parts (is_plain m) (not m.marked) p.0).0 ∙ bare_plain mapped p.1
 
-no_tags : (tags : List (List ℕ)) → not (has_tags tags) ≡ true → tags ≡ []
-no_tags [] h = refl
-no_tags (tag ∷ tags) h = absurd cc
+none_there : {X : Type 0} (o : Option X) → not (is_some o) ≡ true → o ≡ None
+none_there None h = refl
+none_there (Some x) h = absurd cc
 
-no_condition : (c : Option NamedCondition) → not (is_some c) ≡ true → c ≡ None
-no_condition None h = refl
-no_condition (Some c) h = absurd cc
+pub plain_is : (m : Mapped) → is_plain m ≡ true → (m.type_name ≡ None) × (m.condition ≡ None)
+plain_is m h = let p = and_parts (not (is_some m.type_name)) (not (is_some m.condition)) h in (none_there m.type_name p.0, none_there m.condition p.1)
 
-pub plain_is : (m : Mapped) → is_plain m ≡ true → (m.tags ≡ []) × (m.condition ≡ None)
-plain_is m h = let p = and_parts (not (has_tags m.tags)) (not (is_some m.condition)) h in (no_tags m.tags p.0, no_condition m.condition p.1)
+-- what is plain and has no '!' makes what has neither a type nor a condition
+unmarked_variant : (d : Definitions) (mark : ℕ) (m : Mapped) → is_plain m ≡ true → m.marked ≡ false → IsPlain (variant_by mark d m)
+unmarked_variant d mark m h u =
+    let p = plain_is m h in
+    (ap (λ b. type_by mark d b m.type_name) u ∙ ap (λ n. type_by mark d false n) p.0, ap (option_map (numbered d)) p.1)
 
-plain_variant_of : (d : Definitions) (m : Mapped) → is_plain m ≡ true → IsPlain (variant_of d m)
-plain_variant_of d m h = let p = plain_is m h in (ap (map (number_of d.tags)) p.0, ap (option_map (numbered d)) p.1)
+bare_variants : (d : Definitions) (mark : ℕ) (mapped : List Mapped) → list_all is_bare mapped ≡ true → AllByRecursion IsPlain (map (variant_by mark d) mapped)
+bare_variants d mark [] h = tt
+bare_variants d mark (m ∷ mapped) h =
+    let p = and_parts (is_bare m) (list_all is_bare mapped) h in
+    let q = and_parts (is_plain m) (not m.marked) p.0 in
+    (unmarked_variant d mark m q.0 (not-true m.marked q.1), bare_variants d mark mapped p.1)
 
--- what is plain makes what has neither tags nor a condition
-plain_variants : (d : Definitions) (mapped : List Mapped) → list_all is_plain mapped ≡ true → AllByRecursion IsPlain (map (variant_of d) mapped)
-plain_variants d [] h = tt
-plain_variants d (m ∷ mapped) h = let p = and_parts (is_plain m) (list_all is_plain mapped) h in (plain_variant_of d m p.0, plain_variants d mapped p.1)
+-- what is plain makes a variant that is blocked at most
+blocked_variant : (d : Definitions) (m : Mapped) → is_plain m ≡ true → IsPlainOrBlocked (variant_by variant_mark d m)
+blocked_variant d m h = (by m.marked refl, ap (option_map (numbered d)) (plain_is m h).1)
+  where
+    by : (b : Bool) → m.marked ≡ b → (type_by variant_mark d m.marked m.type_name ≡ None) ⊎ (type_by variant_mark d m.marked m.type_name ≡ Some 1)
+    by true e = inr (ap (λ b. type_by variant_mark d b m.type_name) e)
+    by false e = inl (ap (λ b. type_by variant_mark d b m.type_name) e ∙ ap (λ n. type_by variant_mark d false n) (plain_is m h).0)
+
+blocked_variants : (d : Definitions) (mapped : List Mapped) → list_all is_plain mapped ≡ true → AllByRecursion IsPlainOrBlocked (map (variant_by variant_mark d) mapped)
+blocked_variants d [] h = tt
+blocked_variants d (m ∷ mapped) h = let p = and_parts (is_plain m) (list_all is_plain mapped) h in (blocked_variant d m p.0, blocked_variants d mapped p.1)
 
 -- and its names are defined
 pub plain_known : (d : Definitions) (mapped : List Mapped) → list_all is_plain mapped ≡ true → knows_all d mapped ≡ true
@@ -307,40 +322,36 @@ plain_known d [] h = refl
 plain_known d (m ∷ mapped) h =
     let p = and_parts (is_plain m) (list_all is_plain mapped) h in
     let q = plain_is m p.0 in
-    ap (λ t. (list_all (is_one_of d.tags) t && knows_rule d m.condition) && knows_all d mapped) q.0 ∙ ap (λ c. knows_rule d c && knows_all d mapped) q.1 ∙ plain_known d mapped p.1
-
-plain_entry : (d : Definitions) (mapped : List Mapped) → list_all is_plain mapped ≡ true → All IsPlain (whole (entry_of d mapped))
-plain_entry d [] h = All-from_recursion IsPlain (whole (entry_of d [])) ((refl, refl), tt)
-plain_entry d (m ∷ mapped) h = All-from_recursion IsPlain (whole (entry_of d (m ∷ mapped))) (plain_variants d (m ∷ mapped) h)
+    ap (λ t. (knows_type d t && knows_rule d m.condition) && knows_all d mapped) q.0 ∙ ap (λ c. knows_rule d c && knows_all d mapped) q.1 ∙ plain_known d mapped p.1
 
 bare_entry : (d : Definitions) (mapped : List Mapped) → list_all is_bare mapped ≡ true → IsOfVersion One (entry_of d mapped)
-bare_entry d [] h = (refl, All-from_recursion (λ v. v.marked ≡ false) [] tt, plain_entry d [] refl)
+bare_entry d [] h = All-from_recursion IsPlain (whole (entry_of d [])) ((refl, refl), tt)
 bare_entry d (m ∷ mapped) h =
-    let all = bare_unmarked d (m ∷ mapped) h in
-    (all.0, All-from_recursion (λ v. v.marked ≡ false) (map (variant_of d) mapped) all.1, plain_entry d (m ∷ mapped) (bare_plain (m ∷ mapped) h))
+    let p = and_parts (is_bare m) (list_all is_bare mapped) h in
+    let q = and_parts (is_plain m) (not m.marked) p.0 in
+    All-from_recursion IsPlain (whole (entry_of d (m ∷ mapped))) (unmarked_variant d source_mark m q.0 (not-true m.marked q.1), bare_variants d variant_mark mapped p.1)
 
-inside_entry : (d : Definitions) (mapped : List Mapped) → list_all is_plain mapped ≡ true → begins_marked mapped ≡ false → IsOfVersion Two (entry_of d mapped)
-inside_entry d [] p h = (refl, plain_entry d [] refl)
-inside_entry d (m ∷ mapped) p h = (h, plain_entry d (m ∷ mapped) p)
+unmarked_entry : (d : Definitions) (mapped : List Mapped) → list_all is_plain mapped ≡ true → begins_marked mapped ≡ false → IsOfVersion Two (entry_of d mapped)
+unmarked_entry d [] p h = ((refl, refl), All-from_recursion IsPlainOrBlocked [] tt)
+unmarked_entry d (m ∷ mapped) p h =
+    let q = and_parts (is_plain m) (list_all is_plain mapped) p in
+    (unmarked_variant d source_mark m q.0 h, All-from_recursion IsPlainOrBlocked (map (variant_by variant_mark d) mapped) (blocked_variants d mapped q.1))
 
 -- in a range
 each_point : (P : Entry → Type 0) (d : Definitions) (m : Mapped) (cs : List ℕ) → ((c : ℕ) → P (entry_of d (with_point m c ∷ []))) → AllByRecursion P (map (entry_of d) (map (λ c. with_point m c ∷ []) cs))
 each_point P d m [] h = tt
 each_point P d m (c ∷ cs) h = (h c, each_point P d m cs h)
 
-plain_point : (m : Mapped) (mapped : List Mapped) → list_all is_plain (m ∷ mapped) ≡ true → list_all is_plain (m ∷ []) ≡ true
-plain_point m mapped h = ap (λ b. b && true) (and_parts (is_plain m) (list_all is_plain mapped) h).0
-
 of_form : (v : Version) (d : Definitions) (last : Option ℕ) (mapped : List Mapped) → is_form v (record { mapped = mapped; last = last }) ≡ true → AllByRecursion (IsOfVersion v) (map (entry_of d) (written_to last mapped))
 of_form One d None mapped h = (bare_entry d mapped (and_parts (list_all is_bare mapped) true h).0, tt)
 of_form One d (Some last) mapped h = absurd (let p = (and_parts (list_all is_bare mapped) false h).1 in cc)
 of_form Two d None mapped h =
-    let p = and_parts (list_all is_plain mapped) (not (begins_marked mapped)) h in (inside_entry d mapped p.0 (not-true (begins_marked mapped) p.1), tt)
+    let p = and_parts (list_all is_plain mapped) (not (begins_marked mapped)) h in (unmarked_entry d mapped p.0 (not-true (begins_marked mapped) p.1), tt)
 of_form Two d (Some last) [] h = tt
 of_form Two d (Some last) (m ∷ mapped) h =
     let p = and_parts (list_all is_plain (m ∷ mapped)) (not m.marked) h in
     each_point (IsOfVersion Two) d m (range_with_len (slice_index m.points 0) (range_size (slice_index m.points 0) last))
-    (λ c. (not-true m.marked p.1, plain_entry d (with_point m c ∷ []) (plain_point m mapped p.0)))
+    (λ c. (unmarked_variant d source_mark (with_point m c) (and_parts (is_plain m) (list_all is_plain mapped) p.0).0 (not-true m.marked p.1), All-from_recursion IsPlainOrBlocked [] tt))
 of_form Three d None mapped h = (tt, tt)
 of_form Three d (Some last) [] h = tt
 of_form Three d (Some last) (m ∷ mapped) h =
@@ -351,42 +362,41 @@ version_form v d last mapped h = of_form v d last mapped (form_parts v (record {
 
 -- ---- names
 
-marked_tags : (marked : Bool) (tags : List (List ℕ)) → MayHaveTags marked tags → marked ≡ true → tags ≡ []
-marked_tags marked [] h e = refl
-marked_tags marked (tag ∷ tags) h e = absurd (let x : true ≡ false = sym e ∙ h.0 in cc)
-
 rule_named : (d : Definitions) (c : Option NamedCondition) → knows_rule d c ≡ true → HasItsRule d (option_map (numbered d) c)
 rule_named d None h = tt
 rule_named d (Some c) h = number_below d.rule_names c.rule h
 
+-- the marks stand for predefined types
+type_named : (d : Definitions) (mark : ℕ) (marked : Bool) (name : Option (List ℕ)) → mark < 2 → knows_type d name ≡ true → HasItsType d (type_by mark d marked name)
+type_named d mark true name l h = omega (arith, l, length-append predefined_types d.types)
+type_named d mark false None l h = tt
+type_named d mark false (Some name) l h = number_below (type_names d) name h
+
 -- the numbers of what is known
-pub named_variant : (d : Definitions) (m : Mapped) → IsMapped m → knows_names d m ≡ true → HasItsNames d (variant_of d m)
-named_variant d m h k =
-    let p = and_parts (list_all (is_one_of d.tags) m.tags) (knows_rule d m.condition) k in
-    record {
-      tags = All-from_recursion (λ n. n < length d.tags) (map (number_of d.tags) m.tags) (numbers_below d.tags m.tags p.0);
-      distinct = numbers_apart d.tags m.tags (tags_named m.marked m.tags h.tags) p.0;
-      unmarked = λ e. ap (map (number_of d.tags)) (marked_tags m.marked m.tags h.tags e);
-      condition = rule_named d m.condition p.1;
-    }
+pub named_variant : (d : Definitions) (mark : ℕ) (m : Mapped) → mark < 2 → knows_names d m ≡ true → HasItsNames d (variant_by mark d m)
+named_variant d mark m l k =
+    let p = and_parts (knows_type d m.type_name) (knows_rule d m.condition) k in
+    record { type = type_named d mark m.marked m.type_name l p.0; condition = rule_named d m.condition p.1 }
 
-named_variants : (d : Definitions) (ms : List Mapped) → AllByRecursion IsMapped ms → knows_all d ms ≡ true → AllByRecursion (HasItsNames d) (map (variant_of d) ms)
-named_variants d [] h k = tt
-named_variants d (m ∷ ms) h k = let p = and_parts (knows_names d m) (knows_all d ms) k in (named_variant d m h.0 p.0, named_variants d ms h.1 p.1)
+named_variants : (d : Definitions) (ms : List Mapped) → knows_all d ms ≡ true → AllByRecursion (HasItsNames d) (map (variant_by variant_mark d) ms)
+named_variants d [] k = tt
+named_variants d (m ∷ ms) k = let p = and_parts (knows_names d m) (knows_all d ms) k in (named_variant d variant_mark m (omega arith) p.0, named_variants d ms p.1)
 
-named_entry : (d : Definitions) (m : Mapped) (ms : List Mapped) → AllByRecursion IsMapped (m ∷ ms) → knows_all d (m ∷ ms) ≡ true → IsNamed d (entry_of d (m ∷ ms))
-named_entry d m ms h k = All-from_recursion (HasItsNames d) (whole (entry_of d (m ∷ ms))) (named_variants d (m ∷ ms) h k)
+named_entry : (d : Definitions) (m : Mapped) (ms : List Mapped) → knows_all d (m ∷ ms) ≡ true → IsNamed d (entry_of d (m ∷ ms))
+named_entry d m ms k =
+    let p = and_parts (knows_names d m) (knows_all d ms) k in
+    All-from_recursion (HasItsNames d) (whole (entry_of d (m ∷ ms))) (named_variant d source_mark m (omega arith) p.0, named_variants d ms p.1)
 
-named_point : (d : Definitions) (m : Mapped) (c : ℕ) → IsMapped m → knows_all d (m ∷ []) ≡ true → IsNamed d (entry_of d (with_point m c ∷ []))
-named_point d m c h k =
-    let one : HasItsNames d (variant_of d m) = named_variant d m h (and_parts (knows_names d m) true k).0 in
-    All-from_recursion (HasItsNames d) (whole (entry_of d (with_point m c ∷ []))) (record { tags = one.tags; distinct = one.distinct; unmarked = one.unmarked; condition = one.condition }, tt)
+named_point : (d : Definitions) (m : Mapped) (c : ℕ) → knows_all d (m ∷ []) ≡ true → IsNamed d (entry_of d (with_point m c ∷ []))
+named_point d m c k =
+    let one : HasItsNames d (variant_by source_mark d m) = named_variant d source_mark m (omega arith) (and_parts (knows_names d m) true k).0 in
+    All-from_recursion (HasItsNames d) (whole (entry_of d (with_point m c ∷ []))) (record { type = one.type; condition = one.condition }, tt)
 
 pub named_form : (d : Definitions) (last : Option ℕ) (mapped : List Mapped) → IsForm mapped last → knows_all d mapped ≡ true → AllByRecursion (IsNamed d) (map (entry_of d) (written_to last mapped))
 named_form d last [] h k = absurd h
-named_form d None (m ∷ mapped) h k = (named_entry d m mapped h k, tt)
+named_form d None (m ∷ mapped) h k = (named_entry d m mapped k, tt)
 named_form d (Some last) (m ∷ []) h k =
-    each_point (IsNamed d) d m (range_with_len (slice_index m.points 0) (range_size (slice_index m.points 0) last)) (λ c. named_point d m c h.0 k)
+    each_point (IsNamed d) d m (range_with_len (slice_index m.points 0) (range_size (slice_index m.points 0) last)) (λ c. named_point d m c k)
 named_form d (Some last) (m ∷ n ∷ mapped) h k = absurd h
 
 pub named_spelled : (v : Version) (d : Definitions) (line : List ℕ) (es : List Entry) → SpellsEntries v d line es → AllByRecursion (IsNamed d) es
@@ -437,9 +447,9 @@ new_range v t a (suc n) h =
     (p.0, new_range v (t ++ entry_in_range v a ∷ []) (a + 1) n (range_push v t a (a + 1) n (omega arith) p.1))
 
 -- the entries of a range
-pub points_are : (d : Definitions) (m : Mapped) (cs : List ℕ) → map (entry_of d) (map (λ c. with_point m c ∷ []) cs) ≡ map (entry_in_range (variant_of d m)) cs
+pub points_are : (d : Definitions) (m : Mapped) (cs : List ℕ) → map (entry_of d) (map (λ c. with_point m c ∷ []) cs) ≡ map (entry_in_range (variant_by source_mark d m)) cs
 points_are d m [] = refl
-points_are d m (c ∷ cs) = ap (λ es. entry_in_range (variant_of d m) c ∷ es) (points_are d m cs)
+points_are d m (c ∷ cs) = ap (λ es. entry_in_range (variant_by source_mark d m) c ∷ es) (points_are d m cs)
 
 new_form : (d : Definitions) (t : List Entry) (last : Option ℕ) (mapped : List Mapped) → list_any (has_source_in t) (map (entry_of d) (written_to last mapped)) ≡ false → AreNewSources t (map (entry_of d) (written_to last mapped))
 new_form d t None mapped h = ((or_parts (has_source_in t (entry_of d mapped)) false h).0, tt)
@@ -448,7 +458,7 @@ new_form d t (Some last) (m ∷ mapped) h =
     let first : ℕ = slice_index m.points 0 in
     let size : ℕ = range_size first last in
     let are = points_are d m (range_with_len first size) in
-    subst (AreNewSources t) (sym are) (new_range (variant_of d m) t first size (ap (list_any (has_source_in t)) (sym are) ∙ h))
+    subst (AreNewSources t) (sym are) (new_range (variant_by source_mark d m) t first size (ap (list_any (has_source_in t)) (sym are) ∙ h))
 
 -- ---- a line without a fault
 

@@ -1,12 +1,12 @@
 -- Entries as spans of a list of sequences.
-use Rattle.std.proofs.Common.{◌≡◌, ℕ, zero, suc, ◌+◌, ◌-◌, ◌<◌, ◌≤◌, Bool, List, [], ◌∷◌, ◌++◌, length, map, take, drop, Some, refl, sym, ap, ◌∙◌, arith, length-take, length-drop}
+use Rattle.std.proofs.Common.{◌≡◌, ℕ, zero, suc, ◌+◌, ◌-◌, ◌<◌, ◌≤◌, List, [], ◌∷◌, ◌++◌, length, map, take, drop, Some, refl, sym, ap, ◌∙◌, arith, length-take, length-drop}
 use Rattle.std.specs.Prelude.{slice_get, option_map, Option}
 use Rattle.std.specs.List.{All, AllByRecursion, slice_range}
 use Rattle.std.proofs.lemmas.List.{map-append, length-map, take-append-drop}
 use Rattle.std.proofs.lemmas.List.Elements.{recursion_from_All}
 use Rattle.label_patterns.specs.declared.condition.Condition.{Condition}
 use Rattle.variant_table.specs.declared.sequences.Span.{Span}
-use Rattle.variant_table.specs.Entries.{Variant, sequences_in, replacements, marks, entry_from, source_of, whole}
+use Rattle.variant_table.specs.Entries.{Variant, sequences_in, replacements, entry_from, source_of, whole}
 use Rattle.variant_table.specs.inner.Held.{entry_at, entries_of, IsEntryBelow}
 use Rattle.variant_table.proofs.ListLemmas.{drop_next}
 use Rattle.variant_table.proofs.PartLemmas.{slice_range-append, slice_range-end}
@@ -28,31 +28,18 @@ sequence_found [] i x e = absurd cc
 sequence_found (v ∷ vs) zero x e = (v, refl, cc)
 sequence_found (v ∷ vs) (suc i) x e = sequence_found vs i x e
 
--- the variant whose mark stands at a place
-pub variant_marked : (vs : List Variant) (i : ℕ) (b : Bool) → slice_get (map (λ v. v.marked) vs) i ≡ Some b → (v : Variant) × (slice_get vs i ≡ Some v) × (v.marked ≡ b)
-variant_marked [] i b e = absurd cc
-variant_marked (v ∷ vs) zero b e = (v, refl, cc)
-variant_marked (v ∷ vs) (suc i) b e = variant_marked vs i b e
-
 -- variants of which all parts are equal
-pub same_variant : (v w : Variant) → v.sequence ≡ w.sequence → v.marked ≡ w.marked → v.tags ≡ w.tags → v.condition ≡ w.condition → v ≡ w
-same_variant v w s b t c =
-    ap (λ x. record v { sequence = x }) s ∙ ap (λ x. record w { marked = x; tags = v.tags; condition = v.condition }) b
-    ∙ ap (λ x. record w { tags = x; condition = v.condition }) t ∙ ap (λ x. record w { condition = x }) c
+pub same_variant : (v w : Variant) → v.sequence ≡ w.sequence → v.type ≡ w.type → v.condition ≡ w.condition → v ≡ w
+same_variant v w s t c =
+    ap (λ x. record v { sequence = x }) s ∙ ap (λ x. record w { type = x; condition = v.condition }) t
+    ∙ ap (λ x. record w { condition = x }) c
 
 -- the variant by its parts
-pub variant_from : (vs : List Variant) (i : ℕ) (w : Variant) → slice_get (sequences_in vs) i ≡ Some w.sequence → slice_get (map (λ v. v.marked) vs) i ≡ Some w.marked
-    → slice_get (map (λ v. v.tags) vs) i ≡ Some w.tags → slice_get (map (λ v. v.condition) vs) i ≡ Some w.condition → slice_get vs i ≡ Some w
-variant_from [] i w s b t c = absurd cc
-variant_from (v ∷ vs) zero w s b t c = ap (λ x. Some x) (same_variant v w (cc) (cc) (cc) (cc))
-variant_from (v ∷ vs) (suc i) w s b t c = variant_from vs i w s b t c
-
--- what is known of a variant by its sequence and its mark
-pub variant_seen : (vs : List Variant) (i : ℕ) (s : List ℕ) (b : Bool) → slice_get (sequences_in vs) i ≡ Some s → slice_get (map (λ v. v.marked) vs) i ≡ Some b
-    → (v : Variant) × (slice_get vs i ≡ Some v) × (v.sequence ≡ s) × (v.marked ≡ b)
-variant_seen [] i s b e f = absurd cc
-variant_seen (v ∷ vs) zero s b e f = (v, refl, cc, cc)
-variant_seen (v ∷ vs) (suc i) s b e f = variant_seen vs i s b e f
+pub variant_from : (vs : List Variant) (i : ℕ) (w : Variant) → slice_get (sequences_in vs) i ≡ Some w.sequence
+    → slice_get (map (λ v. v.type) vs) i ≡ Some w.type → slice_get (map (λ v. v.condition) vs) i ≡ Some w.condition → slice_get vs i ≡ Some w
+variant_from [] i w s t c = absurd cc
+variant_from (v ∷ vs) zero w s t c = ap (λ x. Some x) (same_variant v w (cc) (cc) (cc))
+variant_from (v ∷ vs) (suc i) w s t c = variant_from vs i w s t c
 
 -- the variant whose sequence and condition stand at a place
 pub variant_asked : (vs : List Variant) (i : ℕ) (s : List ℕ) (c : Option Condition) → slice_get (sequences_in vs) i ≡ Some s → slice_get (map (λ v. v.condition) vs) i ≡ Some c
@@ -61,26 +48,11 @@ variant_asked [] i s c e f = absurd cc
 variant_asked (v ∷ vs) zero s c e f = (v, refl, cc, cc)
 variant_asked (v ∷ vs) (suc i) s c e f = variant_asked vs i s c e f
 
-later_marks : (vs : List Variant) (i : ℕ) → 0 < i → slice_get (marks (entry_from vs)) i ≡ slice_get (map (λ v. v.marked) vs) i
-later_marks vs zero l = absurd (omega (arith, l))
-later_marks [] (suc i) l = refl
-later_marks (v ∷ vs) (suc i) l = refl
-
 -- the source of an entry is its first sequence
 pub source_at : (sequences : List Variant) (s : Span) (x : List ℕ) → s.start < s.end → slice_get (sequences_in sequences) s.start ≡ Some x → (entry_at sequences s).source ≡ x
 source_at sequences s x l e =
     let at = sequence_found sequences s.start x e in
     ap (λ d. (entry_from (take (s.end - s.start) d)).source) (drop_next sequences s.start at.0 at.1) ∙ first_of_take (s.end - s.start) at.0 (drop (s.start + 1) sequences) (omega arith) ∙ at.2
-
-outside_of_take : (n : ℕ) (x : Variant) (xs : List Variant) → 0 < n → (entry_from (take n (x ∷ xs))).outside ≡ x.marked
-outside_of_take zero x xs l = absurd (omega arith)
-outside_of_take (suc n) x xs l = refl
-
--- an entry is outside by the mark of its first sequence
-pub outside_at : (sequences : List Variant) (s : Span) (b : Bool) → s.start < s.end → slice_get (map (λ v. v.marked) sequences) s.start ≡ Some b → (entry_at sequences s).outside ≡ b
-outside_at sequences s b l e =
-    let at = variant_marked sequences s.start b e in
-    ap (λ d. (entry_from (take (s.end - s.start) d)).outside) (drop_next sequences s.start at.0 at.1) ∙ outside_of_take (s.end - s.start) at.0 (drop (s.start + 1) sequences) (omega arith) ∙ at.2
 
 pub whole-entry_from : (sequences : List Variant) → 0 < length sequences → whole (entry_from sequences) ≡ sequences
 whole-entry_from [] l = absurd (omega (arith, l))
@@ -135,13 +107,6 @@ module _ (sequences : List Variant) (s : Span) (some : s.start < s.end) (within 
       ∙ ap (option_map f) (slice_get-take (drop s.start sequences) (s.end - s.start) i l ∙ slice_get-drop sequences s.start i)
       ∙ sym (slice_get-map f sequences (s.start + i))
 
-  -- the mark of a variant
-  pub mark_of : (i : ℕ) → 0 < i → i < s.end - s.start → slice_get (marks (entry_at sequences s)) i ≡ slice_get (map (λ v. v.marked) sequences) (s.start + i)
-  mark_of i some l =
-      later_marks (slice_range sequences s.start s.end) i some ∙ slice_get-map (λ v. v.marked) (slice_range sequences s.start s.end) i
-      ∙ ap (option_map (λ v. v.marked)) (slice_get-take (drop s.start sequences) (s.end - s.start) i l ∙ slice_get-drop sequences s.start i)
-      ∙ sym (slice_get-map (λ v. v.marked) sequences (s.start + i))
-
 -- ---- more sequences, and one more entry
 
 by_cases : (sequences more : List Variant) (limit : ℕ) (spans : List Span) → limit ≤ length sequences → AllByRecursion (IsEntryBelow limit) spans → entries_of (sequences ++ more) spans ≡ entries_of sequences spans
@@ -168,10 +133,10 @@ entries_of-push sequences more spans a b h e f =
     ∙ ap (λ part. entries_of sequences spans ++ entry_from part ∷ []) (slice_range-end sequences more a b e f)
 
 -- what stands at the first of them, with another sequence
-pub of_source : (vs : List Variant) (s : List ℕ) (b : Bool) (t : List ℕ) (c : Option Condition) → slice_get (map (λ v. v.marked) vs) 0 ≡ Some b → slice_get (map (λ v. v.tags) vs) 0 ≡ Some t → slice_get (map (λ v. v.condition) vs) 0 ≡ Some c
-    → record { sequence = s; marked = b; tags = t; condition = c } ≡ record (source_of (entry_from vs)) { sequence = s }
-of_source [] s b t c e f g = absurd cc
-of_source (v ∷ vs) s b t c e f g =
-    let w : Variant = record { sequence = s; marked = b; tags = t; condition = c } in
+pub of_source : (vs : List Variant) (s : List ℕ) (t : Option ℕ) (c : Option Condition) → slice_get (map (λ v. v.type) vs) 0 ≡ Some t → slice_get (map (λ v. v.condition) vs) 0 ≡ Some c
+    → record { sequence = s; type = t; condition = c } ≡ record (source_of (entry_from vs)) { sequence = s }
+of_source [] s t c e f = absurd cc
+of_source (v ∷ vs) s t c e f =
+    let w : Variant = record { sequence = s; type = t; condition = c } in
     let u : Variant = record v { sequence = s } in
-    same_variant w u refl (cc) (cc) (cc)
+    same_variant w u refl (cc) (cc)

@@ -18,7 +18,7 @@ use Rattle.idn_class.specs.declared.properties.Properties.TheVariants.{Profile}
 
 -- the entry of a and these variants
 abbrev pub letter : List Variant → Entry
-letter variants = entry_from (point_variant false 0x61 ∷ variants)
+letter variants = entry_from (point_variant None 0x61 ∷ variants)
 
 pvalid : (c : ℕ) → class_of Profile c ≡ Pvalid → has_bad_point Profile (c ∷ []) ≡ false
 pvalid c e = rw e
@@ -60,9 +60,9 @@ bad-5A = disallowed 0x5A (class_of-in_table Profile 0x5A Disallowed refl)
 
 -- ---- version 1
 
--- a code point as a source or a variant that has neither tags nor a condition
+-- a code point as a source or a variant that has neither a type by its name nor a condition
 abbrev pub written : Bool → ℕ → Mapped
-written marked c = record { marked = marked; points = c ∷ []; tags = []; condition = None }
+written marked c = record { marked = marked; points = c ∷ []; type_name = None; condition = None }
 
 abbrev pub entry_form : List Mapped → EntryForm
 entry_form mapped = record { mapped = mapped; last = None }
@@ -86,11 +86,11 @@ with_form-letter_again = with_form-by One (nothing_defined Profile) (letter [] �
 -- ---- version 2
 
 abbrev pub three : List Entry
-three = range_entries false 0x61 0x63
+three = range_entries None 0x61 0x63
 
 -- x, with y blocked and z
 abbrev pub last_letter : Entry
-last_letter = entry_from (point_variant false 0x78 ∷ point_variant true 0x79 ∷ point_variant false 0x7A ∷ [])
+last_letter = entry_from (point_variant None 0x78 ∷ point_variant (Some 1) 0x79 ∷ point_variant None 0x7A ∷ [])
 
 good-three : list_any (has_bad_class Profile) three ≡ false
 good-three = rw good-61 (rw good-62 (rw good-63 refl))
@@ -111,10 +111,10 @@ pub with_form-from_capital : with_form Two (nothing_defined Profile) [] (range_f
 unfolding point_text
 with_form-from_capital = with_form-by Two (nothing_defined Profile) [] (range_form 0x5A 0x61) false true true false false refl refl (rw bad-5A) refl refl
 
-pub with_form-b : with_form Two (nothing_defined Profile) [] (entry_form (written false 0x62 ∷ [])) ≡ Ok (point_entry false 0x62 ∷ [])
+pub with_form-b : with_form Two (nothing_defined Profile) [] (entry_form (written false 0x62 ∷ [])) ≡ Ok (point_entry None 0x62 ∷ [])
 unfolding point_text
 with_form-b = with_form-by Two (nothing_defined Profile) [] (entry_form (written false 0x62 ∷ [])) false true false false false refl refl (rw good-62) refl refl
 
-pub with_form-b_again : with_form Two (nothing_defined Profile) (point_entry false 0x62 ∷ []) (range_form 0x61 0x63) ≡ Err SameSource
+pub with_form-b_again : with_form Two (nothing_defined Profile) (point_entry None 0x62 ∷ []) (range_form 0x61 0x63) ≡ Err SameSource
 unfolding point_text
-with_form-b_again = with_form-by Two (nothing_defined Profile) (point_entry false 0x62 ∷ []) (range_form 0x61 0x63) false true false false true refl refl good-three refl refl
+with_form-b_again = with_form-by Two (nothing_defined Profile) (point_entry None 0x62 ∷ []) (range_form 0x61 0x63) false true false false true refl refl good-three refl refl

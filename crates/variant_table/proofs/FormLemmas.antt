@@ -6,13 +6,13 @@ use Rattle.std.proofs.lemmas.Bool.{eqb-true, and_parts}
 use Rattle.std.proofs.lemmas.List.{append-nil}
 use Rattle.idn_text.specs.Points.{is_hex_digit, point_of_hex}
 use Rattle.ruleset_text.specs.declared.keyword.Keyword.{Keyword}
-use Rattle.ruleset_text.specs.declared.keyword.Keyword.TheVariants.{Tag, Set, Rule, Never, Always}
+use Rattle.ruleset_text.specs.declared.keyword.Keyword.TheVariants.{VariantType, Set, Rule, Whole, Never, Always, Action}
 use Rattle.ruleset_text.specs.Definition.{keyword_of}
 use Rattle.ruleset_text.specs.Definitions.{Definitions}
 use Rattle.ruleset_text.specs.Entries.{Mapped, EntryForm}
 use Rattle.ruleset_text.specs.EntrySteps.{entry_in}
 use Rattle.ruleset_text.specs.EntryText.{IsSequence, IsMapped, IsForm}
-use Rattle.ruleset_text.specs.EntryWords.{Word, Point, Hyphen, Bar, AreWords, mark_words, sequence_words, last_words, tags_words, condition_words, mapped_words, variants_words, entry_words, point_of}
+use Rattle.ruleset_text.specs.EntryWords.{Word, Point, Hyphen, Bar, AreWords, mark_words, sequence_words, last_words, type_words, condition_words, mapped_words, variants_words, entry_words, point_of}
 use Rattle.ruleset_text.specs.Lexemes.{is_blank, is_joined, lexemes}
 use Rattle.ruleset_text.specs.Tokens.{without_prefix}
 use Rattle.ruleset_text.proofs.EntryExactLemmas.{entry_read, entry_spelled, one_form}
@@ -120,7 +120,7 @@ module _ (k : ℕ) (no_digit : is_hex_digit k ≡ false) (no_prefix : (eqb k 85 
   other_source false (c ∷ d ∷ points) after rest words s w = other_first false c (Hyphen ∷ ((sequence_words (d ∷ points) ++ after) ++ rest)) words w
 
   other_mapped : (m : Mapped) (last : Option ℕ) (rest : List Word) (words : List (List ℕ)) → IsMapped m → AreWords (mapped_words m last ++ rest) words → begins k words ≡ false
-  other_mapped m last rest words h w = other_source m.marked m.points (last_words last ++ (tags_words m.tags ++ condition_words m.condition)) rest words h.sequence w
+  other_mapped m last rest words h w = other_source m.marked m.points (last_words last ++ (type_words m.type_name ++ condition_words m.condition)) rest words h.sequence w
 
   other_alone : (m : Mapped) (last : Option ℕ) (words : List (List ℕ)) → IsMapped m → AreWords (mapped_words m last) words → begins k words ≡ false
   other_alone m last words h w = other_mapped m last [] words h (subst (λ ws. AreWords ws words) (sym (append-nil (mapped_words m last))) w)
@@ -140,7 +140,7 @@ form-not_skipped v line form h = skipped_by_words line ∙ other_entry 35 refl r
 no_keyword : (word : List ℕ) (words : List (List ℕ)) → begins 37 (word ∷ words) ≡ false → keyword_of word ≡ None
 no_keyword [] words h = refl
 no_keyword (c ∷ cs) words h =
-    ap (λ b. cond (b && bytes_eq cs (codes "tag")) (Some Tag) (cond (b && bytes_eq cs (codes "set")) (Some Set) (cond (b && bytes_eq cs (codes "rule")) (Some Rule) (cond (b && bytes_eq cs (codes "never")) (Some Never) (cond (b && bytes_eq cs (codes "always")) (Some Always) None))))) h
+    ap (λ b. cond (b && bytes_eq cs (codes "type")) (Some VariantType) (cond (b && bytes_eq cs (codes "set")) (Some Set) (cond (b && bytes_eq cs (codes "rule")) (Some Rule) (cond (b && bytes_eq cs (codes "whole")) (Some Whole) (cond (b && bytes_eq cs (codes "never")) (Some Never) (cond (b && bytes_eq cs (codes "always")) (Some Always) (cond (b && bytes_eq cs (codes "action")) (Some Action) None))))))) h
 
 none_in : (v : Version) (words : List (List ℕ)) → begins 37 words ≡ false → keyword_in v words ≡ None
 none_in One words h = refl

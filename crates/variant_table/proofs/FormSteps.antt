@@ -1,25 +1,24 @@
 -- Sources and variants of a form, one after another.
-use Rattle.std.proofs.Common.{◌≡◌, ℕ, zero, suc, ◌+◌, ◌<◌, ◌≤◌, Bool, true, ◌&&◌, List, [], ◌∷◌, ◌++◌, length, length-append, map, take, get_or, refl, sym, ap, subst, ◌∙◌, arith}
+use Rattle.std.proofs.Common.{◌≡◌, ℕ, zero, suc, ◌+◌, ◌<◌, ◌≤◌, Bool, true, List, [], ◌∷◌, ◌++◌, length, map, take, drop, ◌-◌, get_or, sym, ap, subst, ◌∙◌, arith}
 use Rattle.std.specs.Prelude.{slice_index, slice_index_or, Option, Some}
 use Rattle.std.specs.List.{AllByRecursion, list_all}
 use Rattle.std.proofs.lemmas.Bool.{and_parts}
-use Rattle.std.proofs.lemmas.List.{map-append, take_more}
+use Rattle.std.proofs.lemmas.List.{map-append, take_more, take_rest, take_all}
 use Rattle.ruleset_text.specs.declared.entry_form.Mapped as held
 use Rattle.ruleset_text.specs.Definitions.{Definitions}
 use Rattle.ruleset_text.specs.Entries.{Mapped}
 use Rattle.ruleset_text.specs.EntryForms.{mapped}
-use Rattle.ruleset_text.specs.Names.{AreNames, is_one_of, number_of}
-use Rattle.ruleset_text.specs.EntryText.{IsForm, MayHaveTags}
-use Rattle.variant_table.specs.Forms.{variant_of}
-use Rattle.variant_table.proofs.NumberLemmas.{number_below, few_numbers, numbers_below, numbers_apart}
+use Rattle.ruleset_text.specs.EntryText.{IsForm, IsMapped}
+use Rattle.variant_table.specs.Forms.{source_mark, variant_mark, variant_by, sequences_of}
+use Rattle.variant_table.proofs.NumberLemmas.{MayBeTyped}
 
 -- ---- their sequences
 
-pub one_taken : (d : Definitions) (xs : List held.Mapped) (i : ℕ) (x : held.Mapped) → i < length xs → x ≡ get_or xs i x
-    → map (variant_of d) (map mapped (take (i + 1) xs)) ≡ map (variant_of d) (map mapped (take i xs)) ++ variant_of d (mapped x) ∷ []
-one_taken d xs i x l e =
-    ap (λ t. map (variant_of d) (map mapped t)) (take_more xs i x l ∙ ap (λ y. take i xs ++ y ∷ []) (sym e))
-    ∙ ap (map (variant_of d)) (map-append mapped (take i xs) (x ∷ [])) ∙ map-append (variant_of d) (map mapped (take i xs)) (mapped x ∷ [])
+pub one_taken : (d : Definitions) (mark : ℕ) (xs : List held.Mapped) (i : ℕ) (x : held.Mapped) → i < length xs → x ≡ get_or xs i x
+    → map (variant_by mark d) (map mapped (take (i + 1) xs)) ≡ map (variant_by mark d) (map mapped (take i xs)) ++ variant_by mark d (mapped x) ∷ []
+one_taken d mark xs i x l e =
+    ap (λ t. map (variant_by mark d) (map mapped t)) (take_more xs i x l ∙ ap (λ y. take i xs ++ y ∷ []) (sym e))
+    ∙ ap (map (variant_by mark d)) (map-append mapped (take i xs) (x ∷ [])) ∙ map-append (variant_by mark d) (map mapped (take i xs)) (mapped x ∷ [])
 
 -- what is known of each is known of one
 pub one_of_all : (P : Mapped → Type 0) (xs : List held.Mapped) (i : ℕ) (x : held.Mapped) → i < length xs → x ≡ get_or xs i x → AllByRecursion P (map mapped xs) → P (mapped x)
@@ -27,56 +26,43 @@ one_of_all P [] i x l e h = absurd (omega (arith, l))
 one_of_all P (y ∷ xs) zero x l e h = subst (λ z. P (mapped z)) (sym e) h.0
 one_of_all P (y ∷ xs) (suc i) x l e h = one_of_all P xs i x (omega (arith, l)) e h.1
 
--- the names of tags
-pub tags_named : (marked : Bool) (tags : List (List ℕ)) → MayHaveTags marked tags → AreNames tags
-tags_named marked [] h = tt
-tags_named marked (tag ∷ tags) h = h.1
+-- ---- the source, and the variants after it
 
-names-take : (tags : List (List ℕ)) (i : ℕ) → AreNames tags → AreNames (take i tags)
-names-take [] zero h = tt
-names-take [] (suc i) h = tt
-names-take (tag ∷ tags) zero h = tt
-names-take (tag ∷ tags) (suc i) h = (h.0, apart-take tag tags i h.1, names-take tags i h.2)
-  where
-    apart-take : (tag : List ℕ) (tags : List (List ℕ)) (i : ℕ) → AllByRecursion (λ other. tag ≡ other → ⊥) tags → AllByRecursion (λ other. tag ≡ other → ⊥) (take i tags)
-    apart-take tag [] zero h = tt
-    apart-take tag [] (suc i) h = tt
-    apart-take tag (other ∷ tags) zero h = tt
-    apart-take tag (other ∷ tags) (suc i) h = (h.0, apart-take tag tags i h.1)
+-- what stands after the first
+abbrev pub after_first : List held.Mapped → List held.Mapped
+after_first ms = take (length ms - 1) (drop 1 ms)
 
--- ---- the numbers of tags, one after another
+pub after_is : (s : held.Mapped) (vs : List held.Mapped) → after_first (s ∷ vs) ≡ vs
+after_is s vs = take_rest (s ∷ vs) 1
 
-one_of_names : (test : List ℕ → Bool) (xs : List (List ℕ)) (i : ℕ) (x : List ℕ) → i < length xs → x ≡ get_or xs i x → list_all test xs ≡ true → test x ≡ true
-one_of_names test [] i x l e h = absurd (omega (arith, l))
-one_of_names test (y ∷ xs) zero x l e h = ap test e ∙ (and_parts (test y) (list_all test xs) h).0
-one_of_names test (y ∷ xs) (suc i) x l e h = one_of_names test xs i x (omega (arith, l)) e (and_parts (test y) (list_all test xs) h).1
+pub first_of_all : (P : Mapped → Type 0) (ms : List held.Mapped) (x : held.Mapped) → 1 ≤ length ms → x ≡ get_or ms 0 x → AllByRecursion P (map mapped ms) → P (mapped x)
+first_of_all P ms x l e h = one_of_all P ms 0 x (omega (arith, l)) e h
 
-all-take : (test : List ℕ → Bool) (xs : List (List ℕ)) (i : ℕ) → list_all test xs ≡ true → list_all test (take i xs) ≡ true
-all-take test [] zero h = refl
-all-take test [] (suc i) h = refl
-all-take test (x ∷ xs) zero h = refl
-all-take test (x ∷ xs) (suc i) h = let p = and_parts (test x) (list_all test xs) h in ap (λ b. b && list_all test (take i xs)) p.0 ∙ all-take test xs i p.1
+pub after_of_all : (P : Mapped → Type 0) (ms : List held.Mapped) (i : ℕ) (x : held.Mapped) → i < length (after_first ms) → x ≡ get_or (after_first ms) i x → AllByRecursion P (map mapped ms) → P (mapped x)
+after_of_all P [] i x l e h = absurd (omega (arith, l))
+after_of_all P (s ∷ vs) i x l e h =
+    one_of_all P vs i x (subst (λ r. i < length r) (after_is s vs) l) (subst (λ r. x ≡ get_or r i x) (after_is s vs) e) h.1
 
--- these are the numbers so far
-module _ (names tags : List (List ℕ)) (i : ℕ) (found : List ℕ) (tag : List ℕ) (n : ℕ) (is : n ≡ number_of names tag) (so_far : found ≡ map (number_of names) (take i tags)) (l : i < length tags) (at : tag ≡ get_or tags i tag) (known : list_all (is_one_of names) tags ≡ true) where
-  next : take (i + 1) tags ≡ take i tags ++ tag ∷ []
-  next = take_more tags i tag l ∙ ap (λ y. take i tags ++ y ∷ []) (sym at)
+pub first_taken : (d : Definitions) (ms : List held.Mapped) (x : held.Mapped) → 1 ≤ length ms → x ≡ get_or ms 0 x → variant_by source_mark d (mapped x) ∷ [] ≡ sequences_of d (map mapped (take 1 ms))
+first_taken d [] x l e = absurd (omega (arith, l))
+first_taken d (s ∷ []) x l e = ap (λ y. variant_by source_mark d (mapped y) ∷ []) e
+first_taken d (s ∷ v ∷ vs) x l e = ap (λ y. variant_by source_mark d (mapped y) ∷ []) e
 
-  pub tag_below : n < length names
-  tag_below = omega (arith, is, number_below names tag (one_of_names (is_one_of names) tags i tag l at known))
+pub more_taken : (d : Definitions) (ms : List held.Mapped) (i : ℕ) (x : held.Mapped) → i < length (after_first ms) → x ≡ get_or (after_first ms) i x
+    → sequences_of d (map mapped (take (suc (i + 1)) ms)) ≡ sequences_of d (map mapped (take (suc i) ms)) ++ variant_by variant_mark d (mapped x) ∷ []
+more_taken d [] i x l e = absurd (omega (arith, l))
+more_taken d (s ∷ vs) i x l e =
+    ap (λ t. variant_by source_mark d (mapped s) ∷ t)
+    (one_taken d variant_mark vs i x (subst (λ r. i < length r) (after_is s vs) l) (subst (λ r. x ≡ get_or r i x) (after_is s vs) e))
 
-  pub tag_found : found ++ n ∷ [] ≡ map (number_of names) (take (i + 1) tags)
-  tag_found =
-      ap (λ ns. ns ++ n ∷ []) so_far ∙ ap (λ m. map (number_of names) (take i tags) ++ m ∷ []) is ∙ sym (map-append (number_of names) (take i tags) (tag ∷ [])) ∙ ap (map (number_of names)) (sym next)
+pub all_taken : (ms : List held.Mapped) (i : ℕ) → 1 ≤ length ms → length (after_first ms) ≤ i → take (suc i) ms ≡ ms
+all_taken [] i l k = absurd (omega (arith, l))
+all_taken (s ∷ vs) i l k = take_all (suc i) (s ∷ vs) (omega (arith, k, ap length (after_is s vs)))
 
-  -- there is room for it
-  pub tag_fits : AreNames tags → length names ≤ 8 → length found < 8
-  tag_fits are few =
-      let kept : AreNames (take (i + 1) tags) = names-take tags (i + 1) are in
-      let all : list_all (is_one_of names) (take (i + 1) tags) ≡ true = all-take (is_one_of names) tags (i + 1) known in
-      let most : length (map (number_of names) (take (i + 1) tags)) ≤ length names =
-      few_numbers (length names) (map (number_of names) (take (i + 1) tags)) (numbers_below names (take (i + 1) tags) all) (numbers_apart names (take (i + 1) tags) kept all) in
-      omega (arith, most, few, ap length tag_found, length-append found (n ∷ []))
+-- what is marked has no type
+pub all_typed : (ms : List Mapped) → AllByRecursion IsMapped ms → AllByRecursion MayBeTyped ms
+all_typed [] h = tt
+all_typed (m ∷ ms) h = (h.0.type_name, all_typed ms h.1)
 
 -- what is tested of all is so of each
 pub all_known : (test : Mapped → Bool) (ms : List Mapped) → list_all test ms ≡ true → AllByRecursion (λ m. test m ≡ true) ms

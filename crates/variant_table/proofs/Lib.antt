@@ -56,8 +56,6 @@ pub mod LengthLemmas
 pub mod NumberLemmas
 -- Variants of an entry that stand again, and those that are apart.
 pub mod RepeatLemmas
--- The table without its blocked variants.
-pub mod UnblockedLemmas
 -- What the entries of a line add.
 pub mod AddingLemmas
 -- What is defined later changes no entry and no line of one.
@@ -76,3 +74,5 @@ mod PlaceExampleLemmas
 pub mod LinePlaceLemmas
 -- The line that is told is the first faulty one.
 pub mod FaultyLineLemmas
+-- Types that no action names.
+pub mod IdleLemmas

@@ -1,5 +1,5 @@
 -- Where a line has its fault, by the keyword with which it begins or without one.
-use Rattle.std.proofs.Common.{◌≡◌, inl, inr, ℕ, List, [], ◌∷◌, length, Option, Some, None, Result, Ok, Err, refl, sym, ap, subst, ◌∙◌}
+use Rattle.std.proofs.Common.{◌≡◌, inl, inr, ℕ, ◌+◌, ◌≤◌, Bool, true, false, cond, List, [], ◌∷◌, arith, length, Option, Some, None, Result, Ok, Err, refl, sym, ap, subst, ◌∙◌}
 use Rattle.std.specs.Prelude.{◌↔◌, IfErr}
 use Rattle.std.specs.Option.{option_map}
 use Rattle.std.specs.Result.{result_err, result_ok}
@@ -14,9 +14,8 @@ use Rattle.ruleset_text.specs.DefinitionPlaces as places
 use Rattle.ruleset_text.specs.DefinitionReading.{after_keyword, begun_at, begun_by, definition_read, line_read}
 use Rattle.ruleset_text.specs.Definitions.{Definitions}
 use Rattle.ruleset_text.specs.EntrySteps.{entry_read}
-use Rattle.ruleset_text.specs.EntryStops.{FitsNames}
-use Rattle.ruleset_text.specs.Lexemes.{lexemes}
-use Rattle.ruleset_text.specs.PlacedLexemes.{Placed, placed_lexemes, unplaced}
+use Rattle.ruleset_text.specs.Lexemes.{is_blank, is_joined, lexemes}
+use Rattle.ruleset_text.specs.PlacedLexemes.{Placed, onto_placed, placed_from, placed_lexemes, unplaced}
 use Rattle.ruleset_text.proofs.DefinitionStopLemmas as definition_stops
 use Rattle.ruleset_text.proofs.EntryStopLemmas as entry_stops
 use Rattle.ruleset_text.proofs.PlacedLemmas.{unplaced-from}
@@ -26,6 +25,7 @@ use Rattle.variant_table.specs.declared.version.Version.{Version}
 use Rattle.variant_table.specs.declared.version.Version.TheVariants.{One, Two, Three}
 use Rattle.variant_table.specs.DefinitionLines.{keyword_in, with_after}
 use Rattle.variant_table.specs.Forms.{parts_of}
+use Rattle.variant_table.specs.Limits.{line_limit}
 use Rattle.variant_table.specs.LinePlaces.{IsSyntaxPlace, body_place, definition_line, definition_place, place_by}
 use Rattle.variant_table.specs.inner.ReadingSteps.{told_in}
 
@@ -99,13 +99,33 @@ stop_told : (d : Definitions) (line : DefinitionLine) (read : Result Definition 
 stop_told d line (Ok x) = refl
 stop_told d line (Err stop) = refl
 
-pub syntax_told : (d : Definitions) (number : ℕ) (version : Version) (line : List ℕ) (place : FaultPlace) → FitsNames (parts_of version) line
+-- a line has no more lexemes than bytes
+onto_most : (n c : ℕ) (ws : List Placed) → length (onto_placed n c ws) ≤ length ws + 1
+onto_most n c [] = omega arith
+onto_most n c (w ∷ ws) = omega arith
+
+placed_most : (n : ℕ) (line : List ℕ) → length (placed_from n line) ≤ length line
+placed_most n [] = omega arith
+placed_most n (c ∷ cs) = by (is_blank c) (is_joined c cs) (placed_most (n + 1) cs)
+  where
+    by : (b j : Bool) → length (placed_from (n + 1) cs) ≤ length cs
+        → length (cond b (placed_from (n + 1) cs) (cond j (onto_placed n c (placed_from (n + 1) cs)) (record { place = n; lexeme = c ∷ [] } ∷ placed_from (n + 1) cs))) ≤ length (c ∷ cs)
+    by true j h = omega (arith, h)
+    by false true h = omega (arith, h, onto_most n c (placed_from (n + 1) cs))
+    by false false h = omega (arith, h)
+
+limit_most : (v : Version) → line_limit v ≤ 8192
+limit_most One = omega arith
+limit_most Two = omega arith
+limit_most Three = omega arith
+
+pub syntax_told : (d : Definitions) (number : ℕ) (version : Version) (line : List ℕ) (place : FaultPlace) → length line ≤ line_limit version
     → (body_place d (tables.Syntax number) version line ≡ Some place) ↔ IsSyntaxPlace d.set_names version line place
-syntax_told d number version line place fits = by (definition_line version line) refl
+syntax_told d number version line place short = by (definition_line version line) refl
   where
     by : (o : Option DefinitionLine) → definition_line version line ≡ o → (place_by d (tables.Syntax number) version line o ≡ Some place) ↔ IsSyntaxPlace d.set_names version line place
     by None e =
-        let stop = entry_stops.the_stop (parts_of version) line place fits in (
+        let stop = entry_stops.the_stop (parts_of version) line place in (
           λ h. inr (e, stop.0 (err_of place (entry_read (parts_of version) line) h)),
           λ is. elim is [ inl defined ↦ absurd (let clash : None ≡ Some defined.0 = sym e ∙ defined.1 in cc) | inr other ↦ ap result_err (stop.1 other.1) ],
         )
@@ -113,7 +133,7 @@ syntax_told d number version line place fits = by (definition_line version line)
         let read = definition_read d.set_names defining.keyword defining.end defining.after in
         let same = line_read_after d.set_names version line defining e in
         let told = stop_told d defining read in
-        let stop = definition_stops.the_stop d.set_names (length line) (placed_lexemes line) place in (
+        let stop = definition_stops.the_stop d.set_names (length line) (placed_lexemes line) place (omega (arith, short, limit_most version, placed_most 0 line)) in (
           λ h. inl (defining, e, stop.0 (same ∙ err_of place read (sym told ∙ h))),
           λ is. elim is [ inl defined ↦ told ∙ ap result_err (sym same ∙ stop.1 defined.2) | inr other ↦ absurd (let clash : Some defining ≡ None = sym e ∙ other.0 in cc) ],
         )

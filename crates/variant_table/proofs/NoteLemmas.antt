@@ -2,26 +2,26 @@
 use Rattle.std.proofs.Common.{◌≡◌, ℕ, zero, suc, ◌+◌, ◌<◌, ◌≤◌, nat_lt, ◌==◌, Bool, true, false, cond, not, ◌||◌, ◌&&◌, List, [], ◌∷◌, ◌++◌, length, Option, Some, None, refl, sym, ap, subst, ◌∙◌, append_assoc, append-nil, length-append, arith}
 use Rattle.std.specs.Prelude.{filter, is_some, map, option_map, slice_get, slice_index}
 use Rattle.std.proofs.lemmas.List.{length-map}
-use Rattle.std.specs.List.{AllByRecursion, list_all, list_any, range_with_len}
+use Rattle.std.specs.List.{AllByRecursion, list_any, range_with_len}
 use Rattle.std.proofs.lemmas.Bool.Decides.{nat_tests}
 use Rattle.std.proofs.lemmas.List.Folds.{list_any-append}
 use Rattle.idn_class.specs.declared.properties.Properties.{Properties}
 use Rattle.label_patterns.specs.declared.condition.ConditionKind.{ConditionKind}
 use Rattle.label_patterns.specs.declared.condition.ConditionKind.TheVariants as condition
-use Rattle.ruleset_text.specs.declared.entry_form.NamedCondition.{NamedCondition}
+use Rattle.ruleset_text.specs.declared.named_condition.NamedCondition.{NamedCondition}
 use Rattle.ruleset_text.specs.declared.entry_notes.LinePoint.{LinePoint}
 use Rattle.ruleset_text.specs.declared.fault.FaultPlace.{FaultPlace}
 use Rattle.ruleset_text.specs.declared.fault.FaultPlace.TheVariants.{InRange, NinthPoint, Point, SeventeenthVariant, Source, Variant as VariantPlace}
 use Rattle.ruleset_text.specs.Classes.{is_bad_point}
-use Rattle.ruleset_text.specs.Definitions.{Definitions}
+use Rattle.ruleset_text.specs.Definitions.{Definitions, type_names}
 use Rattle.ruleset_text.specs.Entries.{Mapped, EntryForm}
-use Rattle.ruleset_text.specs.EntryFaults.{Notes, PlacedWord, begin_places, line_points, notes_of, past_place, placed_words, points_from, range_place, source_place, unknown_in, unknown_place, variant_place, with_point as with_line_point}
+use Rattle.ruleset_text.specs.EntryFaults.{Notes, PlacedWord, begin_places, line_points, notes_of, past_place, placed_words, points_from, range_place, source_place, unknown_place, variant_place, with_point as with_line_point}
 use Rattle.ruleset_text.specs.EntrySteps.{entry_in}
 use Rattle.ruleset_text.specs.EntryText.{IsSequence, IsMapped, IsForm}
 use Rattle.ruleset_text.specs.EntryWords as words
-use Rattle.ruleset_text.specs.EntryWords.{Word, AreWords, mark_words, sequence_words, last_words, names_words, tags_words, kind_word, condition_words, mapped_words, variants_words, entry_words}
+use Rattle.ruleset_text.specs.EntryWords.{Word, AreWords, mark_words, sequence_words, last_words, type_words, kind_word, condition_words, mapped_words, variants_words, entry_words}
 use Rattle.ruleset_text.specs.Lexemes.{lexemes}
-use Rattle.ruleset_text.specs.LineFaults.{bad_place, first_told, lexeme_place}
+use Rattle.ruleset_text.specs.LineFaults.{bad_place, first_told, lexeme_place, unknown_in}
 use Rattle.ruleset_text.specs.Names.{is_one_of}
 use Rattle.ruleset_text.specs.PlacedLexemes.{Placed, placed_lexemes, unplaced}
 use Rattle.ruleset_text.proofs.EntrySpelledLemmas.{read_words}
@@ -29,7 +29,7 @@ use Rattle.ruleset_text.proofs.LineFaultLemmas.{either_some}
 use Rattle.ruleset_text.proofs.PlacedLemmas.{unplaced-from}
 use Rattle.variant_table.specs.Conditions.{first_again, given_again, has_bad_class, has_bad_point, has_repeat, is_too_large, stands_in}
 use Rattle.variant_table.specs.Entries.{Variant, itself, sequences_in}
-use Rattle.variant_table.specs.Forms.{entries_of, entry_of, knows_all, knows_names, knows_rule, variant_of, with_point, written_to}
+use Rattle.variant_table.specs.Forms.{entries_of, entry_of, knows_all, knows_names, knows_rule, knows_type, variant_mark, variant_by, with_point, written_to}
 use Rattle.variant_table.specs.LinePlaces.{AreFaultsOf, bad_in, class_by, class_place}
 use Rattle.variant_table.specs.Ranges.{range_size}
 use Rattle.variant_table.proofs.RangeLemmas.{some_found}
@@ -74,13 +74,12 @@ points_at s i (x ∷ xs) = with_numbered s i x (λ t j. points_at t j xs)
 
 placed_point : (x : Word) (w : Placed) (s i : ℕ) (f : ℕ → ℕ → List LinePoint) (g : ℕ → ℕ → List Numbered) → ((t j : ℕ) → map numbered (f t j) ≡ g t j) → map numbered (with_line_point s i x w f) ≡ with_numbered s i x g
 placed_point (words.Point c) w s i f g h = ap (λ (l : List Numbered). record { point = c; sequence = s; index = i } ∷ l) (h s (i + 1))
-placed_point (words.Tag name) w s i f g h = h s i
+placed_point (words.TypeName name) w s i f g h = h s i
 placed_point (words.Rule name) w s i f g h = h s i
 placed_point words.Mark w s i f g h = h s i
 placed_point words.Hyphen w s i f g h = h s i
 placed_point words.Bar w s i f g h = h (s + 1) 0
 placed_point words.Colon w s i f g h = h (s + 1) 0
-placed_point words.Comma w s i f g h = h s i
 placed_point words.Range w s i f g h = h s i
 placed_point words.As w s i f g h = h s i
 placed_point words.When w s i f g h = h s i
@@ -102,13 +101,9 @@ module _ (s : ℕ) where
   points_of [] c i rest ps h = ap (λ (l : List Numbered). record { point = c; sequence = s; index = i } ∷ l) (h (i + 1))
   points_of (d ∷ points) c i rest ps h = ap (λ (l : List Numbered). record { point = c; sequence = s; index = i } ∷ l) (points_of points d (i + 1) rest ps h)
 
-  names_points : (names : List (List ℕ)) (name : List ℕ) (i : ℕ) (rest : List Word) → points_at s i (names_words (name ∷ names) ++ rest) ≡ points_at s i rest
-  names_points [] name i rest = refl
-  names_points (other ∷ names) name i rest = names_points names other i rest
-
-  tags_points : (tags : List (List ℕ)) (i : ℕ) (rest : List Word) → points_at s i (tags_words tags ++ rest) ≡ points_at s i rest
-  tags_points [] i rest = refl
-  tags_points (tag ∷ tags) i rest = names_points tags tag i rest
+  type_points : (name : Option (List ℕ)) (i : ℕ) (rest : List Word) → points_at s i (type_words name ++ rest) ≡ points_at s i rest
+  type_points None i rest = refl
+  type_points (Some name) i rest = refl
 
   condition_points : (o : Option NamedCondition) (i : ℕ) (rest : List Word) → points_at s i (condition_words o ++ rest) ≡ points_at s i rest
   condition_points None i rest = refl
@@ -123,15 +118,15 @@ module _ (s : ℕ) where
 
   mapped_are : (m : Mapped) (rest : List Word) (ps : List Numbered) → IsMapped m → ((j : ℕ) → points_at s j rest ≡ ps) → points_at s 0 (mapped_words m None ++ rest) ≡ sequence_points s 0 m.points ++ ps
   mapped_are m rest ps is h =
-      ap (points_at s 0) (regroup (mark_words m.marked) (sequence_words m.points) [] (tags_words m.tags) (condition_words m.condition) rest)
+      ap (points_at s 0) (regroup (mark_words m.marked) (sequence_words m.points) [] (type_words m.type_name) (condition_words m.condition) rest)
       ∙ mark_points m.marked 0 (sequence_words m.points ++ others) ∙ by m.points is.sequence
     where
       others : List Word
-      others = tags_words m.tags ++ (condition_words m.condition ++ rest)
+      others = type_words m.type_name ++ (condition_words m.condition ++ rest)
 
       by : (points : List ℕ) → IsSequence points → points_at s 0 (sequence_words points ++ others) ≡ sequence_points s 0 points ++ ps
       by [] is = absurd is
-      by (c ∷ points) is = points_of points c 0 others ps (λ j. tags_points m.tags j (condition_words m.condition ++ rest) ∙ condition_points m.condition j rest ∙ h j)
+      by (c ∷ points) is = points_of points c 0 others ps (λ j. type_points m.type_name j (condition_words m.condition ++ rest) ∙ condition_points m.condition j rest ∙ h j)
 
   last_are : (m : Mapped) → IsMapped m → points_at s 0 (mapped_words m None) ≡ sequence_points s 0 m.points ++ []
   last_are m is = ap (points_at s 0) (sym (append-nil (mapped_words m None))) ∙ mapped_are m [] [] is (λ j. refl)
@@ -145,11 +140,11 @@ range_are m last first is =
     mark_points 0 m.marked 0 (sequence_words m.points ++ (words.Range ∷ words.Point last ∷ others))
     ∙ ap (λ points. points_at 0 0 (sequence_words points ++ (words.Range ∷ words.Point last ∷ others))) is
     ∙ ap (λ (l : List Numbered). record { point = first; sequence = 0; index = 0 } ∷ record { point = last; sequence = 0; index = 1 } ∷ l)
-    (tags_points 0 m.tags 2 (condition_words m.condition) ∙ ap (points_at 0 2) (sym (append-nil (condition_words m.condition))) ∙ condition_points 0 m.condition 2 [])
+    (type_points 0 m.type_name 2 (condition_words m.condition) ∙ ap (points_at 0 2) (sym (append-nil (condition_words m.condition))) ∙ condition_points 0 m.condition 2 [])
     ∙ ap (λ points. sequence_points 0 0 points ++ record { point = last; sequence = 0; index = 1 } ∷ []) (sym is)
   where
     others : List Word
-    others = tags_words m.tags ++ condition_words m.condition
+    others = type_words m.type_name ++ condition_words m.condition
 
 form_are : (ms : List Mapped) (last : Option ℕ) → IsForm ms last → points_at 0 0 (entry_words ms last) ≡ form_points last ms
 form_are [] last is = absurd is
@@ -263,7 +258,7 @@ form_past (m ∷ n ∷ ms) (Some last) is = absurd is
 
 module _ (d : Definitions) where
   abbrev unknown : Word → Bool
-  unknown (words.Tag name) = not (is_one_of d.tags name)
+  unknown (words.TypeName name) = not (is_one_of (type_names d) name)
   unknown (words.Rule name) = not (is_one_of d.rule_names name)
   unknown x = false
 
@@ -275,14 +270,13 @@ module _ (d : Definitions) where
       by false = refl
 
   word_unknown : (x : Word) (w : Placed) → is_some (unknown_place d x w) ≡ unknown x
-  word_unknown (words.Tag name) w = is_unknown d.tags name w
+  word_unknown (words.TypeName name) w = is_unknown (type_names d) name w
   word_unknown (words.Rule name) w = is_unknown d.rule_names name w
   word_unknown (words.Point c) w = refl
   word_unknown words.Mark w = refl
   word_unknown words.Hyphen w = refl
   word_unknown words.Bar w = refl
   word_unknown words.Colon w = refl
-  word_unknown words.Comma w = refl
   word_unknown words.Range w = refl
   word_unknown words.As w = refl
   word_unknown words.When w = refl
@@ -308,21 +302,9 @@ module _ (d : Definitions) where
   last_known None = refl
   last_known (Some c) = refl
 
-  names_unknown : (names : List (List ℕ)) (name : List ℕ) → list_any unknown (names_words (name ∷ names)) ≡ not (list_all (is_one_of d.tags) (name ∷ names))
-  names_unknown [] name = by (is_one_of d.tags name)
-    where
-      by : (b : Bool) → (not b || false) ≡ not (b && true)
-      by true = refl
-      by false = refl
-  names_unknown (other ∷ names) name = ap (λ b. not (is_one_of d.tags name) || b) (names_unknown names other) ∙ by (is_one_of d.tags name)
-    where
-      by : (b : Bool) → (not b || not (list_all (is_one_of d.tags) (other ∷ names))) ≡ not (b && list_all (is_one_of d.tags) (other ∷ names))
-      by true = refl
-      by false = refl
-
-  tags_unknown : (tags : List (List ℕ)) → list_any unknown (tags_words tags) ≡ not (list_all (is_one_of d.tags) tags)
-  tags_unknown [] = refl
-  tags_unknown (tag ∷ tags) = names_unknown tags tag
+  type_unknown : (name : Option (List ℕ)) → list_any unknown (type_words name) ≡ not (knows_type d name)
+  type_unknown None = refl
+  type_unknown (Some name) = or_false (not (is_one_of (type_names d) name))
 
   condition_unknown : (o : Option NamedCondition) → list_any unknown (condition_words o) ≡ not (knows_rule d o)
   condition_unknown None = refl
@@ -341,12 +323,12 @@ module _ (d : Definitions) where
 
   mapped_unknown : (m : Mapped) (last : Option ℕ) → list_any unknown (mapped_words m last) ≡ not (knows_names d m)
   mapped_unknown m last =
-      let names = tags_words m.tags ++ condition_words m.condition in
+      let names = type_words m.type_name ++ condition_words m.condition in
       none_before (mark_words m.marked) (sequence_words m.points ++ (last_words last ++ names)) (mark_known m.marked)
       ∙ none_before (sequence_words m.points) (last_words last ++ names) (points_known m.points) ∙ none_before (last_words last) names (last_known last)
-      ∙ list_any-append unknown (tags_words m.tags) (condition_words m.condition)
-      ∙ ap (λ b. b || list_any unknown (condition_words m.condition)) (tags_unknown m.tags) ∙ ap (λ b. not (list_all (is_one_of d.tags) m.tags) || b) (condition_unknown m.condition)
-      ∙ not_both (list_all (is_one_of d.tags) m.tags) (knows_rule d m.condition)
+      ∙ list_any-append unknown (type_words m.type_name) (condition_words m.condition)
+      ∙ ap (λ b. b || list_any unknown (condition_words m.condition)) (type_unknown m.type_name) ∙ ap (λ b. not (knows_type d m.type_name) || b) (condition_unknown m.condition)
+      ∙ not_both (knows_type d m.type_name) (knows_rule d m.condition)
 
   and_true : (a : Bool) → not a ≡ not (a && true)
   and_true true = refl
@@ -383,7 +365,7 @@ module _ (properties : Properties) where
   sequence_bad [] s i = refl
   sequence_bad (c ∷ cs) s i = ap (λ b. is_bad_point properties c || b) (sequence_bad cs s (i + 1))
 
-  mapped_bad : (ms : List Mapped) (d : Definitions) (s : ℕ) → list_any bad (mapped_points s ms) ≡ list_any (has_bad_point properties) (sequences_in (map (variant_of d) ms))
+  mapped_bad : (ms : List Mapped) (d : Definitions) (s : ℕ) → list_any bad (mapped_points s ms) ≡ list_any (has_bad_point properties) (sequences_in (map (variant_by variant_mark d) ms))
   mapped_bad [] d s = refl
   mapped_bad (m ∷ ms) d s =
       list_any-append bad (sequence_points s 0 m.points) (mapped_points (s + 1) ms) ∙ ap (λ b. b || list_any bad (mapped_points (s + 1) ms)) (sequence_bad m.points s 0)
@@ -508,7 +490,7 @@ form_again d (m ∷ n ∷ ms) (Some last) is = absurd is
 
 variants_counted : (d : Definitions) (ms : List Mapped) → 0 < length ms → length (itself (entry_of d ms) ∷ (entry_of d ms).variants) ≡ length ms
 variants_counted d [] l = absurd (omega (arith, l))
-variants_counted d (m ∷ ms) l = ap suc (length-map ms (variant_of d))
+variants_counted d (m ∷ ms) l = ap suc (length-map ms (variant_by variant_mark d))
 
 some_form : (ms : List Mapped) (last : Option ℕ) → IsForm ms last → 0 < length ms
 some_form [] last is = absurd is

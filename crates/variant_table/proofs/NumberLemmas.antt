@@ -1,19 +1,18 @@
 -- Names and their numbers.
-use Rattle.std.proofs.Common.{◌≡◌, ℕ, zero, suc, ◌+◌, ◌<◌, ◌≤◌, Bool, true, false, not, ◌||◌, cond, eqb, List, [], ◌∷◌, ◌++◌, length, map, Option, Some, None, refl, sym, ap, ◌∙◌, arith}
-use Rattle.std.specs.Prelude.{bytes_eq, ◌≢◌}
-use Rattle.std.specs.List.{AllByRecursion, All, AllPairs, IsDistinct, list_all, list_any}
+use Rattle.std.proofs.Common.{◌≡◌, ℕ, zero, suc, ◌+◌, ◌<◌, Bool, true, false, not, ◌||◌, cond, eqb, List, [], ◌∷◌, ◌++◌, length, map, Option, Some, None, refl, sym, ap, eq-eqb, ◌∙◌, arith}
+use Rattle.std.specs.Prelude.{bytes_eq, codes, slice_index_or}
+use Rattle.std.specs.List.{AllByRecursion, All, AllPairs}
 use Rattle.std.specs.Option.{option_map}
 use Rattle.std.proofs.lemmas.Bool.{and_parts, eqb-true, ne_eqb, false_from_ne_true}
-use Rattle.std.proofs.lemmas.List.Elements.{All-from_recursion, recursion_from_All}
-use Rattle.std.proofs.lemmas.List.Kept.{AllPairs-cons}
-use Rattle.std.proofs.lemmas.Map.Steps.{length-le_from_distinct_below}
 use Rattle.std.proofs.lemmas.Slice.Eq.{bytes_eq-Decides}
 use Rattle.std.proofs.Math.ListN.{get_or-append}
-use Rattle.ruleset_text.specs.declared.entry_form.NamedCondition.{NamedCondition}
-use Rattle.ruleset_text.specs.Definitions.{Definitions}
+use Rattle.ruleset_text.specs.declared.named_condition.NamedCondition.{NamedCondition}
+use Rattle.ruleset_text.specs.Definitions.{Definitions, type_name, type_names, type_number}
 use Rattle.ruleset_text.specs.Entries.{Mapped}
-use Rattle.ruleset_text.specs.Names.{is_name, is_one_of, number_of, AreNames}
-use Rattle.variant_table.specs.Forms.{knows_rule, knows_names, knows_all, numbered, name_at, named, variant_of, mapped_of}
+use Rattle.ruleset_text.specs.EntryText.{MayHaveType}
+use Rattle.ruleset_text.specs.Names.{is_name, is_one_of, number_of, predefined_types, AreNames}
+use Rattle.variant_table.specs.Forms.{knows_rule, knows_type, knows_names, knows_all, numbered, name_at, named, source_mark, variant_mark, type_by, variant_by, entry_of, is_type, unmarked_name, mapped_by, as_written, normal_by, normal}
+use Rattle.variant_table.specs.WellFormed.{HasItsType}
 
 -- ---- one name
 
@@ -88,42 +87,7 @@ pub names-after : (names more : List (List ℕ)) → AreNames (names ++ more) �
 names-after [] more h = h
 names-after (name ∷ names) more h = names-after names more h.2
 
--- ---- tags
-
-pub numbers_below : (names tags : List (List ℕ)) → list_all (is_one_of names) tags ≡ true → AllByRecursion (λ n. n < length names) (map (number_of names) tags)
-numbers_below names [] h = tt
-numbers_below names (tag ∷ tags) h =
-    let p = and_parts (is_one_of names tag) (list_all (is_one_of names) tags) h in
-    (number_below names tag p.0, numbers_below names tags p.1)
-
-pub names_back : (names tags : List (List ℕ)) → list_all (is_one_of names) tags ≡ true → map (name_at names) (map (number_of names) tags) ≡ tags
-names_back names [] h = refl
-names_back names (tag ∷ tags) h =
-    let p = and_parts (is_one_of names tag) (list_all (is_one_of names) tags) h in
-    ap (λ x. x ∷ map (name_at names) (map (number_of names) tags)) (name_back names tag p.0) ∙ ap (λ xs. tag ∷ xs) (names_back names tags p.1)
-
-pub numbers_back : (names : List (List ℕ)) (numbers : List ℕ) → AreNames names → AllByRecursion (λ n. n < length names) numbers → map (number_of names) (map (name_at names) numbers) ≡ numbers
-numbers_back names [] are h = refl
-numbers_back names (n ∷ numbers) are h =
-    ap (λ x. x ∷ map (number_of names) (map (name_at names) numbers)) (number_back names n are h.0) ∙ ap (λ xs. n ∷ xs) (numbers_back names numbers are h.1)
-
-other_numbers : (names : List (List ℕ)) (tag : List ℕ) (tags : List (List ℕ)) → is_one_of names tag ≡ true → AllByRecursion (λ other. tag ≡ other → ⊥) tags → list_all (is_one_of names) tags ≡ true
-    → AllByRecursion (λ n. number_of names tag ≢ n) (map (number_of names) tags)
-other_numbers names tag [] one apart h = tt
-other_numbers names tag (other ∷ tags) one apart h =
-    let p = and_parts (is_one_of names other) (list_all (is_one_of names) tags) h in
-    (λ e. apart.0 (sym (name_back names tag one) ∙ ap (name_at names) e ∙ name_back names other p.0), other_numbers names tag tags one apart.1 p.1)
-
--- different names have different numbers
-pub numbers_apart : (names tags : List (List ℕ)) → AreNames tags → list_all (is_one_of names) tags ≡ true → AllPairs (λ m n. m ≢ n) (map (number_of names) tags)
-numbers_apart names [] are h = λ i j d l k. absurd (omega (arith, k))
-numbers_apart names (tag ∷ tags) are h =
-    let p = and_parts (is_one_of names tag) (list_all (is_one_of names) tags) h in
-    AllPairs-cons (λ m n. m ≢ n) (number_of names tag) (map (number_of names) tags)
-    (All-from_recursion (λ n. number_of names tag ≢ n) (map (number_of names) tags) (other_numbers names tag tags p.0 are.1 p.1))
-    (numbers_apart names tags are.2 p.1)
-
--- ---- different numbers below a limit are no more than it
+-- ---- pairs
 
 pub pairs_head : {X : Type 0} (R : X → X → Type 0) (x : X) (xs : List X) → AllPairs R (x ∷ xs) → All (R x) xs
 pairs_head R x xs h = λ k d l. h 0 (suc k) d (omega arith) (omega (arith, l))
@@ -131,42 +95,81 @@ pairs_head R x xs h = λ k d l. h 0 (suc k) d (omega arith) (omega (arith, l))
 pub pairs_tail : {X : Type 0} (R : X → X → Type 0) (x : X) (xs : List X) → AllPairs R (x ∷ xs) → AllPairs R xs
 pairs_tail R x xs h = λ i j d l k. h (suc i) (suc j) d (omega (arith, l)) (omega (arith, k))
 
-unlike : (m : ℕ) (ns : List ℕ) → AllByRecursion (λ n. m ≢ n) ns → AllByRecursion (λ n. eqb m n ≡ false) ns
-unlike m [] h = tt
-unlike m (n ∷ ns) h = (ne_eqb m n h.0, unlike m ns h.1)
-
-distinct : (ns : List ℕ) → AllPairs (λ m n. m ≢ n) ns → IsDistinct eqb ns
-unfolding IsDistinct
-distinct [] h = tt
-distinct (n ∷ ns) h =
-    (unlike n ns (recursion_from_All (λ k. n ≢ k) ns (pairs_head (λ k m. k ≢ m) n ns h)), distinct ns (pairs_tail (λ k m. k ≢ m) n ns h))
-
-member_below : (limit : ℕ) (ns : List ℕ) (q : ℕ) → AllByRecursion (λ n. n < limit) ns → list_any (eqb q) ns ≡ true → q < limit
-member_below limit [] q h e = absurd cc
-member_below limit (n ∷ ns) q h e = by_first (eqb q n) refl e (member_below limit ns q h.1)
-  where
-    by_first : (b : Bool) → eqb q n ≡ b → (b || list_any (eqb q) ns) ≡ true → (list_any (eqb q) ns ≡ true → q < limit) → q < limit
-    by_first true f e rest = omega (arith, h.0, eqb-true q n f)
-    by_first false f e rest = rest e
-
-pub few_numbers : (limit : ℕ) (ns : List ℕ) → AllByRecursion (λ n. n < limit) ns → AllPairs (λ m n. m ≢ n) ns → length ns ≤ limit
-few_numbers limit ns h apart = length-le_from_distinct_below ns limit (distinct ns apart) (λ q e. member_below limit ns q h e)
-
 -- ---- a source or a variant
 
 rule_back : (d : Definitions) (c : Option NamedCondition) → knows_rule d c ≡ true → option_map (named d) (option_map (numbered d) c) ≡ c
 rule_back d None h = refl
 rule_back d (Some c) h = ap (λ x. Some (record c { rule = x })) (name_back d.rule_names c.rule h)
 
--- what is defined is written by its names
-pub mapped_back : (d : Definitions) (m : Mapped) → knows_names d m ≡ true → mapped_of d (variant_of d m) ≡ m
-mapped_back d m h =
-    let p = and_parts (list_all (is_one_of d.tags) m.tags) (knows_rule d m.condition) h in
-    ap (λ t. record m { tags = t; condition = option_map (named d) (option_map (numbered d) m.condition) }) (names_back d.tags m.tags p.0)
-    ∙ ap (λ c. record m { condition = c }) (rule_back d m.condition p.1)
+-- ---- types
 
-pub all_back : (d : Definitions) (mapped : List Mapped) → knows_all d mapped ≡ true → map (mapped_of d) (map (variant_of d) mapped) ≡ mapped
-all_back d [] h = refl
-all_back d (m ∷ mapped) h =
-    let p = and_parts (knows_names d m) (knows_all d mapped) h in
-    ap (λ x. x ∷ map (mapped_of d) (map (variant_of d) mapped)) (mapped_back d m p.0) ∙ ap (λ xs. m ∷ xs) (all_back d mapped p.1)
+-- '!' stands for the type of this number exactly where the name is that of the predefined one
+mark_is : (d : Definitions) (mark : ℕ) (name : List ℕ) → mark < 2 → eqb (type_number d name) mark ≡ bytes_eq (slice_index_or predefined_types mark []) name
+unfolding number_of
+mark_is d zero name l = by (bytes_eq (codes "invalid") name) (number_of (codes "blocked" ∷ codes "allocatable" ∷ codes "activated" ∷ codes "valid" ∷ d.types) name)
+  where
+    by : (b : Bool) (n : ℕ) → eqb (cond (not b) (1 + n) 0) 0 ≡ b
+    by true n = refl
+    by false n = ne_eqb (1 + n) 0 (λ e. omega (arith, e))
+mark_is d (suc zero) name l =
+    by (bytes_eq (codes "invalid") name) (bytes_eq (codes "blocked") name) (number_of (codes "allocatable" ∷ codes "activated" ∷ codes "valid" ∷ d.types) name)
+    (λ e. sym (ap (bytes_eq (codes "blocked")) ((bytes_eq-Decides (codes "invalid") name).0 e)))
+  where
+    by : (b c : Bool) (n : ℕ) → (b ≡ true → c ≡ false) → eqb (cond (not b) (1 + cond (not c) (1 + n) 0) 0) 1 ≡ c
+    by true c n h = sym (h refl)
+    by false true n h = refl
+    by false false n h = ne_eqb (1 + (1 + n)) 1 (λ e. omega (arith, e))
+mark_is d (suc (suc mark)) name l = absurd (omega (arith, l))
+
+-- what is marked has no type beside its mark
+abbrev pub MayBeTyped : Mapped → Type 0
+MayBeTyped m = MayHaveType m.marked m.type_name
+
+module _ (d : Definitions) (mark : ℕ) (is_mark : mark < 2) (points : List ℕ) where
+  abbrev written : Option ℕ → Option NamedCondition → Mapped
+  written type c = record { marked = is_type mark type; points = points; type_name = unmarked_name mark d type; condition = c }
+
+  abbrev from_line : Bool → Option (List ℕ) → Option NamedCondition → Mapped
+  from_line marked name c = record { marked = marked; points = points; type_name = name; condition = c }
+
+  type_back : (marked : Bool) (name : Option (List ℕ)) (c : Option NamedCondition) → MayHaveType marked name → knows_type d name ≡ true → written (type_by mark d marked name) c ≡ normal_by mark (from_line marked name c)
+  type_back true None c may known =
+      ap (λ b. from_line b (cond b None (Some (type_name d mark))) c) (eq-eqb mark mark refl)
+  type_back true (Some name) c may known = absurd (let f : true ≡ false = may.0 in cc)
+  type_back false None c may known = refl
+  type_back false (Some name) c may known =
+      let n : ℕ = type_number d name in
+      ap (λ b. from_line b (cond b None (Some (type_name d n))) c) (mark_is d mark name is_mark) ∙ by (bytes_eq (slice_index_or predefined_types mark []) name)
+    where
+      by : (b : Bool) → from_line b (cond b None (Some (type_name d (type_number d name)))) c ≡ cond b (from_line true None c) (from_line false (Some name) c)
+      by true = refl
+      by false = ap (λ x. from_line false (Some x) c) (name_back (type_names d) name known)
+
+-- what is defined is written by its names
+pub mapped_back : (d : Definitions) (mark : ℕ) (m : Mapped) → mark < 2 → MayBeTyped m → knows_names d m ≡ true → mapped_by mark d (variant_by mark d m) ≡ normal_by mark m
+mapped_back d mark m l may h =
+    let p = and_parts (knows_type d m.type_name) (knows_rule d m.condition) h in
+    ap (written d mark l m.points (type_by mark d m.marked m.type_name)) (rule_back d m.condition p.1) ∙ type_back d mark l m.points m.marked m.type_name m.condition may p.0
+
+variants_back : (d : Definitions) (variants : List Mapped) → AllByRecursion MayBeTyped variants → knows_all d variants ≡ true
+    → map (mapped_by variant_mark d) (map (variant_by variant_mark d) variants) ≡ map (normal_by variant_mark) variants
+variants_back d [] may h = refl
+variants_back d (m ∷ variants) may h =
+    let p = and_parts (knows_names d m) (knows_all d variants) h in
+    ap (λ x. x ∷ map (mapped_by variant_mark d) (map (variant_by variant_mark d) variants)) (mapped_back d variant_mark m (omega arith) may.0 p.0)
+    ∙ ap (λ xs. normal_by variant_mark m ∷ xs) (variants_back d variants may.1 p.1)
+
+pub all_back : (d : Definitions) (m : Mapped) (variants : List Mapped) → AllByRecursion MayBeTyped (m ∷ variants) → knows_all d (m ∷ variants) ≡ true → as_written d (entry_of d (m ∷ variants)) ≡ normal (m ∷ variants)
+all_back d m variants may h =
+    let p = and_parts (knows_names d m) (knows_all d variants) h in
+    ap (λ x. x ∷ map (mapped_by variant_mark d) (map (variant_by variant_mark d) variants)) (mapped_back d source_mark m (omega arith) may.0 p.0)
+    ∙ ap (λ xs. normal_by source_mark m ∷ xs) (variants_back d variants may.1 p.1)
+
+-- what is written by its names is read so
+pub type_read : (d : Definitions) (mark : ℕ) (type : Option ℕ) → AreNames (type_names d) → HasItsType d type → type_by mark d (is_type mark type) (unmarked_name mark d type) ≡ type
+type_read d mark None are h = refl
+type_read d mark (Some n) are h = by (eqb n mark) refl
+  where
+    by : (b : Bool) → eqb n mark ≡ b → type_by mark d b (cond b None (Some (type_name d n))) ≡ Some n
+    by true e = ap (λ k. Some k) (sym (eqb-true n mark e))
+    by false e = ap (λ k. Some k) (number_back (type_names d) n are h)

@@ -12,10 +12,9 @@ use Rattle.label_patterns.specs.declared.condition.Condition.{Condition}
 use Rattle.label_patterns.specs.declared.condition.ConditionKind.{ConditionKind}
 use Rattle.label_patterns.specs.declared.condition.ConditionKind.TheVariants.{When, Unless}
 use Rattle.variant_table.specs.Conditions.{is_same_kind, differ, first_again, is_again, has_repeat, stands_in}
-use Rattle.variant_table.specs.Entries.{Variant, Entry, entry_from, itself, sequences_in}
+use Rattle.variant_table.specs.Entries.{Variant, Entry, entry_from, itself, sequences_in, full_replacements}
 use Rattle.variant_table.specs.WellFormed.{AreOther, AreApart, IsEntry}
 use Rattle.variant_table.proofs.EntryLemmas.{sequence_found, variant_asked}
-use Rattle.variant_table.specs.inner.Held.{variants_of}
 use Rattle.variant_table.proofs.ListLemmas.{drop_all, drop_next, take_next}
 use Rattle.variant_table.proofs.NumberLemmas.{pairs_head, pairs_tail}
 
@@ -165,19 +164,19 @@ asked_other vs i s wanted d e f =
     (at.0, at.1, sym (ap (λ b. b && not (differ (at.0).condition d)) (ap (λ x. bytes_eq x wanted) at.2 ∙ f)))
 
 -- the source as a replacement of itself is the first of those that are compared, and the others are the variants
-pub variant_in : (ss : List Variant) (i : ℕ) (v : Variant) → 0 < i → slice_get ss i ≡ Some v → slice_get (variants_of (entry_from ss)) i ≡ Some v
+pub variant_in : (ss : List Variant) (i : ℕ) (v : Variant) → 0 < i → slice_get ss i ≡ Some v → slice_get (full_replacements (entry_from ss)) i ≡ Some v
 variant_in ss zero v l e = absurd (omega (arith, l))
 variant_in [] (suc i) v l e = absurd cc
 variant_in (x ∷ ss) (suc i) v l e = e
 
-pub source_stands : (ss : List Variant) (n : ℕ) (s : List ℕ) (v : Variant) → 0 < n → slice_get (sequences_in ss) 0 ≡ Some s → bytes_eq s v.sequence ≡ true → stands_in (take n (variants_of (entry_from ss))) v ≡ true
+pub source_stands : (ss : List Variant) (n : ℕ) (s : List ℕ) (v : Variant) → 0 < n → slice_get (sequences_in ss) 0 ≡ Some s → bytes_eq s v.sequence ≡ true → stands_in (take n (full_replacements (entry_from ss))) v ≡ true
 source_stands ss zero s v l e h = absurd (omega (arith, l))
 source_stands [] (suc n) s v l e h = absurd cc
 source_stands (x ∷ ss) (suc n) s v l e h =
     let same : x.sequence ≡ s = cc in
     ap (λ b. (b && true) || stands_in (take n ss) v) (ap (λ y. bytes_eq y v.sequence) same ∙ h)
 
-pub source_apart : (ss : List Variant) (s : List ℕ) (v : Variant) → slice_get (sequences_in ss) 0 ≡ Some s → bytes_eq s v.sequence ≡ false → stands_in (take 1 (variants_of (entry_from ss))) v ≡ false
+pub source_apart : (ss : List Variant) (s : List ℕ) (v : Variant) → slice_get (sequences_in ss) 0 ≡ Some s → bytes_eq s v.sequence ≡ false → stands_in (take 1 (full_replacements (entry_from ss))) v ≡ false
 source_apart [] s v e h = absurd cc
 source_apart (x ∷ ss) s v e h =
     let same : x.sequence ≡ s = cc in
@@ -218,7 +217,7 @@ module _ (xs : List Variant) (i : ℕ) (v : Variant) (at : slice_get xs i ≡ So
 pub again_none : (xs : List Variant) (i : ℕ) (all : Option ℕ) → length xs ≤ i → first_again (take i xs) (drop i xs) ≡ all → None ≡ all
 again_none xs i all l h = sym (ap (first_again (take i xs)) (drop_all xs i l)) ∙ h
 
-pub length-variants : (ss : List Variant) → 0 < length ss → length (variants_of (entry_from ss)) ≡ length ss
+pub length-variants : (ss : List Variant) → 0 < length ss → length (full_replacements (entry_from ss)) ≡ length ss
 length-variants [] l = absurd (omega (arith, l))
 length-variants (x ∷ ss) l = refl
 

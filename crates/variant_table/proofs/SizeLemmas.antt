@@ -16,7 +16,7 @@ use Rattle.ruleset_text.specs.Canonical.{point_text}
 use Rattle.ruleset_text.specs.Definitions.{Definitions}
 use Rattle.ruleset_text.specs.Entries.{Mapped}
 use Rattle.ruleset_text.specs.EntryText.{mark_text, sequence_text, mapped_text, variants_text, entry_text, IsForm}
-use Rattle.ruleset_text.specs.EntryWords.{Word, Point, Tag, Rule, Mark, Hyphen, Bar, Colon, Comma, Range, As, When, Unless, IsWord, AreWords, point_of, mark_words, sequence_words, mapped_words, variants_words, entry_words}
+use Rattle.ruleset_text.specs.EntryWords.{Word, Point, TypeName, Rule, Mark, Hyphen, Bar, Colon, Range, As, When, Unless, IsWord, AreWords, point_of, mark_words, sequence_words, mapped_words, variants_words, entry_words}
 use Rattle.ruleset_text.specs.Lexemes.{is_blank, is_joined, lexemes}
 use Rattle.ruleset_text.proofs.HexLemmas.{IsHex, hex_facts, length-point_text}
 use Rattle.variant_table.specs.declared.version.Notation.{Notation}
@@ -25,7 +25,7 @@ use Rattle.variant_table.specs.declared.version.Version.TheVariants.{One, Two, T
 use Rattle.variant_table.specs.DefinitionLines.{keyword_in, Defines}
 use Rattle.variant_table.specs.Entries.{Entry, TableValue, empty_table}
 use Rattle.variant_table.proofs.VersionLemmas.{is_plain, is_bare, is_form, form_parts}
-use Rattle.variant_table.specs.Forms.{written_to, entry_of, SpellsEntries}
+use Rattle.variant_table.specs.Forms.{source_mark, variant_mark, written_to, entry_of, SpellsEntries, is_name_of, normal_by, normal}
 use Rattle.variant_table.specs.Canonical.{canonical_line, canonical_text, table_text}
 use Rattle.variant_table.specs.Versions.{size_of, body_of, is_version_line}
 use Rattle.variant_table.specs.Texts.{LineSpells, LineAdds, LinesSpell}
@@ -110,7 +110,7 @@ unfolding total
 lexemes_fit [] = omega arith
 lexemes_fit (c ∷ cs) = fit_step c cs (is_blank c) (is_joined c cs) (lexemes_fit cs)
 
--- the text of a word of an entry without tags and conditions
+-- the text of a word of an entry without types and conditions
 word_text : Word → List ℕ
 word_text (Point c) = point_text c
 word_text Hyphen = 45 ∷ []
@@ -129,9 +129,8 @@ word_long Hyphen lexeme h = omega (arith, ap length h)
 word_long Bar lexeme h = omega (arith, ap length h)
 word_long Colon lexeme h = omega (arith, ap length h)
 word_long Mark lexeme h = omega (arith, ap length h)
-word_long (Tag name) lexeme h = omega arith
+word_long (TypeName name) lexeme h = omega arith
 word_long (Rule name) lexeme h = omega arith
-word_long Comma lexeme h = omega arith
 word_long Range lexeme h = omega arith
 word_long As lexeme h = omega arith
 word_long When lexeme h = omega arith
@@ -155,9 +154,9 @@ unfolding word_text
 mark_words-text true = refl
 mark_words-text false = refl
 
--- without tags and without a condition
+-- without a type by its name and without a condition
 abbrev plain_form : Mapped → Mapped
-plain_form m = record { marked = m.marked; points = m.points; tags = []; condition = None }
+plain_form m = record { marked = m.marked; points = m.points; type_name = None; condition = None }
 
 plain_words-text : (m : Mapped) → words_text (mapped_words (plain_form m) None) ≡ mapped_text (plain_form m) None
 plain_words-text m =
@@ -196,8 +195,24 @@ all_plain [] h = refl
 all_plain (m ∷ mapped) h =
     let p = and_parts (is_plain m) (list_all is_plain mapped) h in
     let q = plain_is m p.0 in
-    ap (λ t. record { marked = m.marked; points = m.points; tags = t; condition = None } ∷ map plain_form mapped) (sym q.0)
-    ∙ ap (λ c. record { marked = m.marked; points = m.points; tags = m.tags; condition = c } ∷ map plain_form mapped) (sym q.1) ∙ ap (λ xs. m ∷ xs) (all_plain mapped p.1)
+    ap (λ t. record { marked = m.marked; points = m.points; type_name = t; condition = None } ∷ map plain_form mapped) (sym q.0)
+    ∙ ap (λ c. record { marked = m.marked; points = m.points; type_name = m.type_name; condition = c } ∷ map plain_form mapped) (sym q.1) ∙ ap (λ xs. m ∷ xs) (all_plain mapped p.1)
+
+-- and is written as it stands
+normal_plain : (mark : ℕ) (m : Mapped) → is_plain m ≡ true → normal_by mark m ≡ m
+normal_plain mark m h = ap (λ n. cond (is_name_of mark n) (record m { marked = true; type_name = None }) m) (plain_is m h).0
+
+normals_plain : (ms : List Mapped) → list_all is_plain ms ≡ true → map (normal_by variant_mark) ms ≡ ms
+normals_plain [] h = refl
+normals_plain (m ∷ ms) h =
+    let p = and_parts (is_plain m) (list_all is_plain ms) h in
+    ap (λ x. x ∷ map (normal_by variant_mark) ms) (normal_plain variant_mark m p.0) ∙ ap (λ xs. m ∷ xs) (normals_plain ms p.1)
+
+normal-plain : (ms : List Mapped) → list_all is_plain ms ≡ true → normal ms ≡ ms
+normal-plain [] h = refl
+normal-plain (m ∷ ms) h =
+    let p = and_parts (is_plain m) (list_all is_plain ms) h in
+    ap (λ x. x ∷ map (normal_by variant_mark) ms) (normal_plain source_mark m p.0) ∙ ap (λ xs. m ∷ xs) (normals_plain ms p.1)
 
 -- the canonical text of an entry that a line spells is no longer than the line
 bare_long : (d : Definitions) (last : Option ℕ) (mapped : List Mapped) (line : List ℕ) → IsForm mapped last → AreWords (entry_words mapped last) (lexemes line) → is_form One (record { mapped = mapped; last = last }) ≡ true
@@ -214,6 +229,7 @@ bare_long d None (m ∷ mapped) line f w h =
       arith,
       ap length text,
       ap length (text_back d ((m ∷ mapped) ∷ []) known),
+      ap (λ ms. length ((entry_text ms None ++ 10 ∷ []) ++ [])) (normal-plain (m ∷ mapped) bare),
       words_long (entry_words (m ∷ mapped) None) (lexemes line) w,
       lexemes_fit line,
       length-append (entry_text (m ∷ mapped) None ++ 10 ∷ []) [],

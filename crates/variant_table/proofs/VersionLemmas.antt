@@ -4,14 +4,14 @@ use Rattle.std.specs.Prelude.{is_some}
 use Rattle.std.specs.List.{list_all}
 use Rattle.std.proofs.Math.Bool.{and-true}
 use Rattle.ruleset_text.specs.Entries.{Mapped, EntryForm}
-use Rattle.ruleset_text.specs.EntryParts.{is_within, are_within, has_tags}
+use Rattle.ruleset_text.specs.EntryParts.{is_within, are_within}
 use Rattle.variant_table.specs.declared.version.Version.{Version}
 use Rattle.variant_table.specs.declared.version.Version.TheVariants.{One, Two, Three}
 use Rattle.variant_table.specs.Forms.{parts_of, has_form}
 
--- neither tags nor a condition
+-- neither a type by its name nor a condition
 abbrev pub is_plain : Mapped → Bool
-is_plain m = not (has_tags m.tags) && not (is_some m.condition)
+is_plain m = not (is_some m.type_name) && not (is_some m.condition)
 
 -- no '!' either
 abbrev pub is_bare : Mapped → Bool

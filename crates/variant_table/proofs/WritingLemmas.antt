@@ -1,6 +1,6 @@
 -- The text of a sequence, point by point, and of an entry, variant by variant.
 use Rattle.std.proofs.Common.{◌≡◌, ℕ, zero, suc, ◌+◌, ◌-◌, ◌*◌, ◌≤◌, ◌<◌, arith, cond, List, [], ◌∷◌, ◌++◌, length, map, None, take, drop, get_or, Some, sym, ap, subst, ◌∙◌, append_assoc, length-append}
-use Rattle.std.specs.Prelude.{slice_get, codes}
+use Rattle.std.specs.Prelude.{slice_get}
 use Rattle.std.specs.List.{All}
 use Rattle.std.proofs.lemmas.List.Elements.{All-head, All-tail}
 use Rattle.std.proofs.lemmas.Bool.{ne_eqb}
@@ -9,12 +9,12 @@ use Rattle.std.proofs.lemmas.List.Concat.{flat_map-append}
 use Rattle.std.specs.List.{flat_map}
 use Rattle.ruleset_text.specs.Canonical.{point_text}
 use Rattle.ruleset_text.specs.EntryText as entries
-use Rattle.ruleset_text.specs.EntryText.{sequence_text, names_text, tags_text, mapped_text, entry_text}
+use Rattle.ruleset_text.specs.EntryText.{sequence_text, mapped_text, entry_text}
 use Rattle.ruleset_text.specs.Definitions.{Definitions}
 use Rattle.ruleset_text.specs.Entries.{Mapped}
 use Rattle.ruleset_text.proofs.HexLemmas.{length-point_text}
 use Rattle.variant_table.specs.Entries.{Entry, source_of}
-use Rattle.variant_table.specs.Forms.{name_at, mapped_of}
+use Rattle.variant_table.specs.Forms.{source_mark, variant_mark, mapped_by}
 use Rattle.variant_table.specs.Canonical.{separator, canonical_line, canonical_text}
 use Rattle.variant_table.proofs.ListLemmas.{take_next}
 
@@ -48,25 +48,6 @@ length-further_text (c ∷ points) = omega (arith, length-append (point_text c) 
 pub length-sequence_text : (s : List ℕ) → 0 < length s → length s ≤ 8 → length (sequence_text s) ≤ 55
 length-sequence_text [] l k = absurd (omega (arith, l))
 length-sequence_text (c ∷ points) l k = omega (arith, ap length (sequence_text-is c points), length-append (point_text c) (further_text points), length-point_text c, length-further_text points, k)
-
--- ---- names
-
--- ',' before each name
-abbrev pub further_names : List (List ℕ) → List ℕ → List ℕ
-further_names names ns = flat_map (λ n. 44 ∷ name_at names n) ns
-
-names_text-is : (names : List (List ℕ)) (n : ℕ) (ns : List ℕ) → names_text (map (name_at names) (n ∷ ns)) ≡ name_at names n ++ further_names names ns
-names_text-is names n [] = sym (append-nil (name_at names n))
-names_text-is names n (k ∷ ns) = ap (λ t. name_at names n ++ 44 ∷ t) (names_text-is names k ns)
-
-pub further_name : (names : List (List ℕ)) (ns : List ℕ) (i : ℕ) → i < length ns → further_names names (take (i + 1) ns) ≡ further_names names (take i ns) ++ 44 ∷ name_at names (get_or ns i 0)
-further_name names ns i l =
-    ap (further_names names) (take_more ns i 0 l) ∙ flat_map-append (λ n. 44 ∷ name_at names n) (take i ns) (get_or ns i 0 ∷ [])
-    ∙ ap (λ t. further_names names (take i ns) ++ 44 ∷ t) (append-nil (name_at names (get_or ns i 0)))
-
-pub whole_names : (names : List (List ℕ)) (ns : List ℕ) → 1 ≤ length ns → codes " as " ++ (name_at names (get_or ns 0 0) ++ further_names names (take (length ns - 1) (drop 1 ns))) ≡ tags_text (map (name_at names) ns)
-whole_names names [] l = absurd (omega (arith, l))
-whole_names names (n ∷ ns) l = ap (λ t. codes " as " ++ (name_at names n ++ further_names names t)) (take_rest (n ∷ ns) 1) ∙ ap (λ t. codes " as " ++ t) (sym (names_text-is names n ns))
 
 -- ---- an entry
 
@@ -109,8 +90,8 @@ pub entry_text-is : (source : Mapped) (variants : List Mapped) → entry_text (s
 entry_text-is source [] = sym (append-nil (piece_text source))
 entry_text-is source (m ∷ variants) = ap (λ t. piece_text source ++ 124 ∷ t) (further_from m variants)
 
-pub canonical_line-is : (d : Definitions) (e : Entry) → canonical_line d e ≡ piece_text (mapped_of d (source_of e)) ++ pieces_text (map (mapped_of d) e.variants)
-canonical_line-is d e = entry_text-is (mapped_of d (source_of e)) (map (mapped_of d) e.variants)
+pub canonical_line-is : (d : Definitions) (e : Entry) → canonical_line d e ≡ piece_text (mapped_by source_mark d (source_of e)) ++ pieces_text (map (mapped_by variant_mark d) e.variants)
+canonical_line-is d e = entry_text-is (mapped_by source_mark d (source_of e)) (map (mapped_by variant_mark d) e.variants)
 
 -- ---- a table
 

@@ -9,13 +9,13 @@ use Rattle.variant_table.specs.declared.version.Notation.TheVariants.{Table, Rul
 use Rattle.variant_table.specs.declared.version.Version.{Version}
 use Rattle.variant_table.specs.declared.version.Version.TheVariants.{One, Two, Three}
 use Rattle.variant_table.specs.Entries.{Entry}
-use Rattle.variant_table.specs.Forms.{as_written}
+use Rattle.variant_table.specs.Forms.{as_written, normal}
 
 -- what stands before the variant of this number, from 0: '|' before the first, ':' before each other one
 abbrev pub separator : ℕ → ℕ
 separator variant = if variant == 0 then 124 else 58
 
--- the canonical line of an entry, without its line feed; its tags and its conditions go by the names that are defined
+-- the canonical line of an entry, without its line feed; its types and its conditions go by the names that are defined
 abbrev pub canonical_line : Definitions → Entry → List ℕ
 canonical_line definitions e = entry_text (as_written definitions e) None
 
@@ -23,9 +23,9 @@ canonical_line definitions e = entry_text (as_written definitions e) None
 abbrev pub canonical_text : Definitions → List Entry → List ℕ
 canonical_text definitions table = flat_map (λ e. canonical_line definitions e ++ 10 ∷ []) table
 
--- that of entries with their names
+-- that of entries as lines write them
 abbrev pub written_text : List (List Mapped) → List ℕ
-written_text entries = flat_map (λ e. entry_text e None ++ 10 ∷ []) entries
+written_text entries = flat_map (λ e. entry_text (normal e) None ++ 10 ∷ []) entries
 
 -- the line that begins a text of version 2, and that of a ruleset
 abbrev pub version_line : Notation → List ℕ

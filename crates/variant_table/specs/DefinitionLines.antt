@@ -1,4 +1,4 @@
--- The lines of a ruleset that define something: a tag, a set, a rule or a demand.
+-- The lines of a ruleset that define something: a type, a set, a rule, a demand or an action.
 use Rattle.std.specs.Prelude.{◌≡◌, ℕ, ◌-◌, Ok, ◌++◌, length, Option, Some, None, List, [], ◌∷◌}
 use Rattle.ruleset_text.specs.declared.fault.DefinitionFault.{DefinitionFault}
 use Rattle.ruleset_text.specs.declared.fault.DefinitionFault.TheVariants as definitions

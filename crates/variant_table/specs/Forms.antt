@@ -1,27 +1,29 @@
 -- What the line of an entry or of a range says: which versions have its form, and its entries. Names become numbers here.
-use Rattle.std.specs.Prelude.{ℕ, Bool, true, false, ◌&&◌, Option, Some, None, List, [], ◌∷◌, map, slice_index, slice_index_or, IsTrue, ◌≡◌}
+use Rattle.std.specs.Prelude.{ℕ, Bool, true, false, ◌&&◌, ◌==◌, Option, Some, None, List, [], ◌∷◌, map, slice_index}
+use Rattle.std.specs.Prelude.{slice_index_or, bytes_eq, IsTrue, ◌≡◌, if◌then◌else◌}
 use Rattle.std.specs.List.{list_all, range_with_len}
 use Rattle.std.specs.Option.{option_map}
 use Rattle.label_patterns.specs.declared.condition.Condition.{Condition}
-use Rattle.ruleset_text.specs.declared.entry_form.NamedCondition.{NamedCondition}
-use Rattle.ruleset_text.specs.Definitions.{Definitions}
+use Rattle.ruleset_text.specs.declared.named_condition.NamedCondition.{NamedCondition}
+use Rattle.ruleset_text.specs.Definitions.{Definitions, type_name, type_names, type_number}
 use Rattle.ruleset_text.specs.Entries.{Mapped, EntryForm}
 use Rattle.ruleset_text.specs.EntryParts.{has_parts}
 use Rattle.ruleset_text.specs.EntryStops.{IsEntryOf}
 use Rattle.ruleset_text.specs.declared.entry_parts.EntryParts.{EntryParts}
-use Rattle.ruleset_text.specs.Names.{is_one_of, number_of}
+use Rattle.ruleset_text.specs.Names.{is_one_of, number_of, predefined_types}
 use Rattle.variant_table.specs.declared.version.Version.{Version}
 use Rattle.variant_table.specs.declared.version.Version.TheVariants.{One, Two, Three}
-use Rattle.variant_table.specs.Entries.{Variant, Entry, entry_from, whole}
+use Rattle.variant_table.specs.Entries.{Variant, Entry, entry_from, source_of}
 use Rattle.variant_table.specs.Ranges.{range_size}
 
 -- ---- the forms of each version
 
--- version 1 has no '!' and no ranges, version 2 no outside sources, and neither has tags or conditions; version 3 has all
+-- version 1 has no '!' and no ranges, version 2 no '!' before a source, and neither has types or conditions by their
+-- names; version 3 has all
 abbrev pub parts_of : Version → EntryParts
-parts_of One = record { outside = false; blocked = false; ranges = false; named = false }
-parts_of Two = record { outside = false; blocked = true; ranges = true; named = false }
-parts_of Three = record { outside = true; blocked = true; ranges = true; named = true }
+parts_of One = record { invalid = false; blocked = false; ranges = false; named = false }
+parts_of Two = record { invalid = false; blocked = true; ranges = true; named = false }
+parts_of Three = record { invalid = true; blocked = true; ranges = true; named = true }
 
 abbrev pub has_form : Version → EntryForm → Bool
 has_form version form = has_parts (parts_of version) form
@@ -52,9 +54,13 @@ abbrev pub knows_rule : Definitions → Option NamedCondition → Bool
 knows_rule definitions None = true
 knows_rule definitions (Some c) = is_one_of definitions.rule_names c.rule
 
--- the tags that a source or a variant names are defined, and so is its rule
+-- the type that a source or a variant names is defined
+abbrev pub knows_type : Definitions → Option (List ℕ) → Bool
+knows_type definitions None = true
+knows_type definitions (Some name) = is_one_of (type_names definitions) name
+
 abbrev pub knows_names : Definitions → Mapped → Bool
-knows_names definitions m = list_all (is_one_of definitions.tags) m.tags && knows_rule definitions m.condition
+knows_names definitions m = knows_type definitions m.type_name && knows_rule definitions m.condition
 
 -- all names of a source and its variants are
 abbrev pub knows_all : Definitions → List Mapped → Bool
@@ -74,12 +80,34 @@ named definitions c = record { kind = c.kind; rule = name_at definitions.rule_na
 
 -- ---- the entries of a form
 
-abbrev pub variant_of : Definitions → Mapped → Variant
-variant_of definitions m = record { sequence = m.points; marked = m.marked; tags = map (number_of definitions.tags) m.tags; condition = option_map (numbered definitions) m.condition }
+-- the numbers of the types that '!' stands for: before a source it is 'as invalid', and before a variant 'as blocked'
+abbrev pub source_mark : ℕ
+source_mark = 0
+
+abbrev pub variant_mark : ℕ
+variant_mark = 1
+
+-- the number of the type, where '!' stands for this one
+abbrev pub type_by : ℕ → Definitions → Bool → Option (List ℕ) → Option ℕ
+type_by mark definitions true name = Some mark
+type_by mark definitions false name = option_map (type_number definitions) name
+
+abbrev pub variant_by : ℕ → Definitions → Mapped → Variant
+variant_by mark definitions m = record {
+  sequence = m.points;
+  type = type_by mark definitions m.marked m.type_name;
+  condition = option_map (numbered definitions) m.condition;
+}
+
+-- a source and its variants
+abbrev pub sequences_of : Definitions → List Mapped → List Variant
+sequences_of definitions [] = []
+sequences_of definitions (source ∷ variants) =
+    variant_by source_mark definitions source ∷ map (variant_by variant_mark definitions) variants
 
 -- the entry of a source and its variants
 abbrev pub entry_of : Definitions → List Mapped → Entry
-entry_of definitions mapped = entry_from (map (variant_of definitions) mapped)
+entry_of definitions mapped = entry_from (sequences_of definitions mapped)
 
 abbrev pub entries_of : Definitions → EntryForm → List Entry
 entries_of definitions form = map (entry_of definitions) (written_out form)
@@ -91,10 +119,39 @@ SpellsEntries version definitions line entries =
 
 -- ---- an entry as a form
 
--- a source or a variant as a line writes it
-abbrev pub mapped_of : Definitions → Variant → Mapped
-mapped_of definitions v = record { marked = v.marked; points = v.sequence; tags = map (name_at definitions.tags) v.tags; condition = option_map (named definitions) v.condition }
+-- it is the type of this number
+abbrev pub is_type : ℕ → Option ℕ → Bool
+is_type mark None = false
+is_type mark (Some number) = number == mark
+
+-- the name of a type, unless '!' stands for it
+abbrev pub unmarked_name : ℕ → Definitions → Option ℕ → Option (List ℕ)
+unmarked_name mark definitions type = if is_type mark type then None else option_map (type_name definitions) type
+
+-- a source or a variant as a line writes it, where '!' stands for this type
+abbrev pub mapped_by : ℕ → Definitions → Variant → Mapped
+mapped_by mark definitions v = record {
+  marked = is_type mark v.type;
+  points = v.sequence;
+  type_name = unmarked_name mark definitions v.type;
+  condition = option_map (named definitions) v.condition;
+}
 
 -- the source and the variants of an entry
 abbrev pub as_written : Definitions → Entry → List Mapped
-as_written definitions e = map (mapped_of definitions) (whole e)
+as_written definitions e =
+    mapped_by source_mark definitions (source_of e) ∷ map (mapped_by variant_mark definitions) e.variants
+
+-- ---- the same from the form itself, which may have 'as blocked' or 'as invalid' where '!' may stand
+
+-- the name is that of this predefined type
+abbrev pub is_name_of : ℕ → Option (List ℕ) → Bool
+is_name_of mark None = false
+is_name_of mark (Some name) = bytes_eq (slice_index_or predefined_types mark []) name
+
+abbrev pub normal_by : ℕ → Mapped → Mapped
+normal_by mark m = if is_name_of mark m.type_name then record m { marked = true; type_name = None } else m
+
+abbrev pub normal : List Mapped → List Mapped
+normal [] = []
+normal (source ∷ variants) = normal_by source_mark source ∷ map (normal_by variant_mark) variants

@@ -19,6 +19,7 @@ pub mod FaultyLines
 pub mod PlaceExamples
 pub mod Gaps
 pub mod Differences
+pub mod IdleTypes
 pub mod Segmentations
 pub mod ExampleTables
 pub mod inner

@@ -57,9 +57,9 @@ class_by d mapped (Some last) notes = range_place notes.begins (bad_in d.propert
 abbrev pub class_place : Definitions → EntryForm → Notes → Option FaultPlace
 class_place d form notes = class_by d form.mapped form.last notes
 
--- of an entry or a range, by what is noted of its line: what goes past a limit, if it isn't the number of all entries or the canonical
--- text; a tag or a rule that isn't defined; a code point that no table may hold; where the first variant begins that is given again; and
--- where the source does
+-- of an entry or a range, by what is noted of its line: what goes past a limit, if it isn't the number of all entries or
+-- the canonical text; a type or a rule that isn't defined; a code point that no table may hold; where the first variant
+-- begins that is given again; and where the source does
 abbrev pub form_place : Definitions → TableFault → EntryForm → Notes → Option FaultPlace
 form_place d (tables.Limit number) form notes = notes.faults.limit
 form_place d (tables.NoSuchName number) form notes = notes.faults.name

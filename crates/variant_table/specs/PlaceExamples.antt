@@ -14,10 +14,10 @@ use Rattle.variant_table.specs.FaultyLines.{fault_place}
 use Rattle.variant_table.specs.LinePlaces.{read_place}
 use Rattle.idn_class.specs.declared.properties.Properties.TheVariants.{Profile}
 
--- the tag t, the set A, which is a, and the rule r
+-- the type t, the set A, which is a, and the rule r
 abbrev pub one_of_each : Definitions
 one_of_each = record (nothing_defined Profile) {
-  tags = codes "t" ∷ [];
+  types = codes "t" ∷ [];
   set_names = codes "A" ∷ [];
   sets = (span 97 97 ∷ []) ∷ [];
   rule_names = codes "r" ∷ [];
@@ -54,6 +54,6 @@ pub record ExamplesOfPlaces : Type 0 where
   pub in_range : told Two (tables.BadClass 1) (codes "007A..007C") ≡ Some (InRange 0 0x7B)
   pub point : told One (tables.BadClass 1) (codes "0061|007B:0041") ≡ Some (Point 5 0x7B)
   pub set_point : told Three (tables.BadClass 1) (codes "%set FB1D 0061 007B") ≡ Some (Point 15 0x7B)
-  pub unknown_tag : told Three (tables.NoSuchName 1) (codes "0061 as t, C") ≡ Some (Lexeme 11 1)
+  pub unknown_type : told Three (tables.NoSuchName 1) (codes "0061 as t|0062 as C") ≡ Some (Lexeme 18 1)
   pub unknown_rule : told Three (tables.NoSuchName 1) (codes "0061 as t when t") ≡ Some (Lexeme 15 1)
   pub no_definition : told Three (tables.Limit 1) (codes "%never ***") ≡ None

@@ -1,10 +1,10 @@
 -- Which tables are well-formed.
-use Rattle.std.specs.Prelude.{◌≡◌, ◌≢◌, ℕ, ◌<◌, ◌≤◌, true, IsTrue, Option, Some, None, List, [], ◌∷◌, length, All, AllPairs}
+use Rattle.std.specs.Prelude.{◌≡◌, ◌≢◌, ℕ, ◌<◌, ◌≤◌, IsTrue, Option, Some, None, List, ◌∷◌, length, All, AllPairs}
 use Rattle.idn_text.specs.Points.{IsScalarValue}
 use Rattle.idn_class.specs.Class.{class_of}
 use Rattle.label_patterns.specs.declared.condition.Condition.{Condition}
 use Rattle.ruleset_text.specs.Classes.{is_label_class}
-use Rattle.ruleset_text.specs.Definitions.{Definitions, nothing_defined}
+use Rattle.ruleset_text.specs.Definitions.{Definitions, nothing_defined, type_names}
 use Rattle.ruleset_text.specs.WellFormed.{AreDefinitions}
 use Rattle.variant_table.specs.declared.version.Version.{Version}
 use Rattle.variant_table.specs.declared.version.Version.TheVariants.{One, Two, Three}
@@ -57,11 +57,13 @@ abbrev pub HasItsRule : Definitions → Option Condition → Type 0
 HasItsRule definitions None = Unit {0}
 HasItsRule definitions (Some c) = c.rule < length definitions.rule_names
 
--- different tags that are defined, and none at what is blocked or outside; and a condition whose rule is defined
+-- the type is one of those that are predefined or defined
+abbrev pub HasItsType : Definitions → Option ℕ → Type 0
+HasItsType definitions None = Unit {0}
+HasItsType definitions (Some number) = number < length (type_names definitions)
+
 pub record HasItsNames (definitions : Definitions) (v : Variant) : Type 0 where
-  pub tags : All (λ n. n < length definitions.tags) v.tags
-  pub distinct : AllPairs (λ m n. m ≢ n) v.tags
-  pub unmarked : v.marked ≡ true → v.tags ≡ []
+  pub type : HasItsType definitions v.type
   pub condition : HasItsRule definitions v.condition
 
 -- the source and the variants have
@@ -74,7 +76,8 @@ AreOfVersion One definitions = definitions ≡ nothing_defined definitions.prope
 AreOfVersion Two definitions = definitions ≡ nothing_defined definitions.properties
 AreOfVersion Three definitions = Unit {0}
 
--- definitions without a fault and well-formed entries, as the version has them, whose tags and rules are defined; within its limits, the version line counted
+-- definitions without a fault and well-formed entries, as the version has them, whose types and rules are defined;
+-- within its limits, the version line counted
 pub record IsTable (table : TableValue) : Type 0 where
   pub without_fault : AreDefinitions table.definitions
   pub defined : AreOfVersion table.version table.definitions

@@ -1,16 +1,19 @@
 //! The canonical text of sequences and tables.
-ghost use Rattle.std.specs.Prelude.{◌≡◌, ◌+◌, ◌<◌, ◌≤◌, [], ◌∷◌, ◌++◌, length, map, OnOk};
+ghost use Rattle.std.specs.Prelude.{◌≡◌, ◌+◌, ◌<◌, ◌≤◌, [], ◌∷◌, ◌++◌, length, slice_get, None, Some, OnOk};
 ghost use Rattle.std.specs.Option.{option_map};
 ghost use Rattle.arrayvec.specs.ArrayVec.{array_vec_len};
 ghost use Rattle.idn_text.specs.Points.{AreScalarValues, IsScalarValue, four_digits, hex_digit};
 ghost use Rattle.ruleset_text.specs.Canonical as points;
 ghost use Rattle.ruleset_text.specs.EntryText as entries;
+ghost use Rattle.ruleset_text.specs.NamedConditions as conditions;
 ghost use Rattle.variant_table.specs.Canonical as text;
+ghost use Rattle.variant_table.specs.Entries.{Variant, replacements, whole};
 ghost use Rattle.variant_table.specs.Forms as forms;
 ghost use Rattle.variant_table.specs.inner.Held.{named_in};
 ghost use Rattle.variant_table.specs.WellFormed.{IsEntry, IsSequence};
 
 use crate::entry::Entry;
+use crate::forms::{SOURCE_MARK, VARIANT_MARK};
 use crate::version::Version;
 use arrayvec::ArrayVec;
 use idn_text::hex_digit;
@@ -93,7 +96,7 @@ pub fn push_head(out: &mut Vec<u8>, version: Version) -> Result<(), AllocError>
     Ok(())
 }
 
-/// Appends the canonical line of an entry and its line feed, with the names of its tags and rules.
+/// Appends the canonical line of an entry and its line feed, with the names of its types and rules.
 pub fn push_entry(
     out: &mut Vec<u8>,
     definitions: &Definitions,
@@ -103,21 +106,54 @@ pub fn push_entry(
     ensures { OnOk result (out.new.items ≡
         out.old.items ++ (text.canonical_line definitions.now entry.now ++ 10 ∷ [])) }
 {
-    push_mark(out, entry.is_outside())?;
-    push_sequence(out, entry.source())?;
-    push_names(out, definitions, entry.tags(0), entry.condition(0))?;
+    push_replacement(out, definitions, entry, 0, SOURCE_MARK)?;
     for number in 1..entry.replacements() {
         out.push(separator_before(number - 1))?;
-        push_mark(out, entry.blocked(number))?;
-        push_sequence(out, entry.replacement(number))?;
-        push_names(
-            out,
-            definitions,
-            entry.tags(number),
-            entry.condition(number),
-        )?;
+        push_replacement(out, definitions, entry, number, VARIANT_MARK)?;
     }
     out.push(b'\n')?;
+    Ok(())
+}
+
+/// Appends the source or the variant of this number, with its type and its condition. `!` stands for the type of the
+/// number `mark`.
+fn push_replacement(
+    out: &mut Vec<u8>,
+    definitions: &Definitions,
+    entry: &Entry,
+    number: usize,
+    mark: u8,
+) -> Result<(), AllocError>
+    requires entry { IsEntry entry.now }
+    requires number { number < length (replacements entry.now) }
+    ensures { (v : Variant) → slice_get (whole entry.now) number ≡ Some v → OnOk result (out.new.items ≡
+        out.old.items ++ entries.mapped_text (forms.mapped_by mark definitions.now v) None) }
+{
+    let variant_type = entry.variant_type(number);
+    push_mark(out, is_type(variant_type, mark))?;
+    push_sequence(out, entry.replacement(number))?;
+    push_type(out, definitions, variant_type, mark)?;
+    push_condition(out, definitions.rule_names(), entry.condition(number))?;
+    Ok(())
+}
+
+/// Whether it is the type of this number.
+fn is_type(variant_type: Option<u8>, mark: u8) -> bool
+    ensures { result ≡ forms.is_type mark variant_type }
+{
+    match variant_type {
+        Some(number) => number == mark,
+        None => false,
+    }
+}
+
+/// Appends `!`, if it stands there.
+fn push_mark(out: &mut Vec<u8>, marked: bool) -> Result<(), AllocError>
+    ensures { OnOk result (out.new.items ≡ out.old.items ++ entries.mark_text marked) }
+{
+    if marked {
+        out.push(b'!')?;
+    }
     Ok(())
 }
 
@@ -132,35 +168,24 @@ fn push_sequence(out: &mut Vec<u8>, sequence: &[u32]) -> Result<(), AllocError>
     Ok(())
 }
 
-/// Appends what stands after a sequence: its tags and its condition, by their names.
-fn push_names(
+/// Appends ` as ` and the name of a type, unless `!` stands for it.
+fn push_type(
     out: &mut Vec<u8>,
     definitions: &Definitions,
-    tags: &[u8],
-    condition: Option<Condition>,
+    variant_type: Option<u8>,
+    mark: u8,
 ) -> Result<(), AllocError>
     ensures { OnOk result (out.new.items ≡
-        out.old.items ++ (entries.tags_text (map (forms.name_at definitions.now.tags) tags.now)
-        ++ entries.condition_text (option_map (forms.named definitions.now) condition))) }
+        out.old.items ++ entries.type_text (forms.unmarked_name mark definitions.now variant_type)) }
 {
-    push_tags(out, definitions.tags(), tags)?;
-    push_condition(out, definitions.rule_names(), condition)
-}
-
-/// Appends ` as ` and the names of tags, with commas between them.
-fn push_tags(out: &mut Vec<u8>, names: &[Name], tags: &[u8]) -> Result<(), AllocError>
-    ensures { OnOk result (out.new.items ≡
-        out.old.items ++ entries.tags_text (map (forms.name_at names.now) tags.now)) }
-{
-    let [first, others @ ..] = tags else {
+    let Some(number) = variant_type else {
         return Ok(());
     };
-    out.extend_from_slice(b" as ")?;
-    push_name(out, names, *first)?;
-    for tag in others {
-        out.push(b',')?;
-        push_name(out, names, *tag)?;
+    if number == mark {
+        return Ok(());
     }
+    out.extend_from_slice(b" as ")?;
+    out.extend_from_slice(definitions.type_name(number as usize))?;
     Ok(())
 }
 
@@ -171,7 +196,7 @@ fn push_condition(
     condition: Option<Condition>,
 ) -> Result<(), AllocError>
     ensures { OnOk result (out.new.items ≡
-        out.old.items ++ entries.condition_text (option_map (named_in names.now) condition)) }
+        out.old.items ++ conditions.condition_text (option_map (named_in names.now) condition)) }
 {
     let Some(condition) = condition else {
         return Ok(());
@@ -182,7 +207,7 @@ fn push_condition(
 
 /// The word of a condition, with the blanks around it.
 fn condition_word(kind: ConditionKind) -> &'static [u8]
-    ensures { result.now ≡ entries.condition_word kind }
+    ensures { result.now ≡ conditions.condition_word kind }
 {
     match kind {
         ConditionKind::When => b" when ",
@@ -196,16 +221,6 @@ fn push_name(out: &mut Vec<u8>, names: &[Name], number: u8) -> Result<(), AllocE
 {
     if (number as usize) < names.len() {
         out.extend_from_slice(names[number as usize].as_slice())?;
-    }
-    Ok(())
-}
-
-/// Appends the mark of a blocked variant or an outside source, if it is one.
-fn push_mark(out: &mut Vec<u8>, marked: bool) -> Result<(), AllocError>
-    ensures { OnOk result (out.new.items ≡ out.old.items ++ entries.mark_text marked) }
-{
-    if marked {
-        out.push(b'!')?;
     }
     Ok(())
 }

@@ -3,8 +3,7 @@ ghost use Rattle.std.specs.Prelude.{◌≡◌, ◌&&◌, ◌+◌, ◌<◌, ◌�
 ghost use Rattle.std.specs.List.{range_with_len};
 ghost use Rattle.ruleset_text.specs.Classes.{is_bad_point as is_bad};
 ghost use Rattle.variant_table.specs.Conditions as conditions;
-ghost use Rattle.variant_table.specs.Entries.{Variant, entry_from};
-ghost use Rattle.variant_table.specs.inner.Held.{variants_of};
+ghost use Rattle.variant_table.specs.Entries.{Variant, entry_from, full_replacements};
 
 use crate::sequences::Sequences;
 use idn_class::Properties;
@@ -52,7 +51,7 @@ fn stands_before(sequences: &Sequences, number: usize) -> bool
     requires some { 0 < number }
     requires within { number < length sequences.now }
     ensures { (v : Variant) × (slice_get sequences.now number ≡ Some v) ×
-        (result ≡ conditions.stands_in (take number (variants_of (entry_from sequences.now))) v) }
+        (result ≡ conditions.stands_in (take number (full_replacements (entry_from sequences.now))) v) }
 {
     let wanted = sequences.get(number);
     if sequences.get(0) == wanted {

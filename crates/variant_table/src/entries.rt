@@ -1,6 +1,6 @@
 //! Entries in memory, in the order in which they were added.
-ghost use Rattle.std.specs.Prelude.{◌≡◌, ◌<◌, [], ◌∷◌, ◌++◌, length, slice_get, Some, IfOk, OnOk, OnErr};
-ghost use Rattle.variant_table.specs.Entries.{unblocked, unblocked_entry, entry_from};
+ghost use Rattle.std.specs.Prelude.{◌≡◌, ◌<◌, [], ◌∷◌, ◌++◌, length, slice_get, Some, OnOk, OnErr};
+ghost use Rattle.variant_table.specs.Entries.{entry_from};
 
 use crate::entry::Entry;
 use crate::sequences::{Sequences, Span};
@@ -62,42 +62,4 @@ impl Entries {
         self.spans.push(Span { start, end })?;
         Ok(())
     }
-
-    /// The entries without their blocked variants.
-    pub fn unblocked(&self, alloc: Global) -> Result<Entries, AllocError>
-        ensures { IfOk result (λ entries. entries ≡ unblocked self.now) }
-    {
-        let mut entries = Entries::new(alloc);
-        let mut sequences = Sequences::new(alloc);
-        for number in 0..self.len() {
-            take_unblocked(&mut sequences, &self.get(number))?;
-            entries.push(&sequences)?;
-        }
-        Ok(entries)
-    }
-}
-
-/// Puts the sequences of an entry that are not blocked, the source first, in place of what was there before.
-fn take_unblocked(sequences: &mut Sequences, entry: &Entry) -> Result<(), AllocError>
-    ensures entry { OnOk result (entry_from sequences.new ≡ unblocked_entry entry.now) }
-    ensures some { OnOk result (0 < length sequences.new) }
-{
-    sequences.clear();
-    sequences.push(
-        entry.source(),
-        entry.is_outside(),
-        entry.tags(0),
-        entry.condition(0),
-    )?;
-    for number in 1..entry.replacements() {
-        if !entry.blocked(number) {
-            sequences.push(
-                entry.replacement(number),
-                false,
-                entry.tags(number),
-                entry.condition(number),
-            )?;
-        }
-    }
-    Ok(())
 }

@@ -20,10 +20,10 @@ pub enum TableFault {
     /// Two equal variants, unless each has a condition and the two conditions differ; or a variant equal to its source.
     #[error("variant given twice")]
     SameVariant { line: u64 },
-    /// A tag, a set or a rule is named that no earlier line defines.
+    /// A type, a set or a rule is named that no earlier line defines.
     #[error("name not defined")]
     NoSuchName { line: u64 },
-    /// A tag, a set or a rule with the name of an earlier one.
+    /// A type, a set or a rule with the name of an earlier one.
     #[error("name given twice")]
     SameName { line: u64 },
     /// A code point whose class is none of PVALID, CONTEXTJ and CONTEXTO.

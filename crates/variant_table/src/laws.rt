@@ -1,6 +1,6 @@
 //! Laws of the definitions, each the contract of a function that does nothing.
-ghost use Rattle.std.specs.Prelude.{◌≡◌, ◌+◌, ◌↔◌, ◌⊎◌, ◌≤◌, ℕ, true, false, List, [], ◌∷◌, ◌++◌, length, All, Ok, Err};
-ghost use Rattle.std.specs.Prelude.{Some, codes, is_some, not};
+ghost use Rattle.std.specs.Prelude.{◌≡◌, ◌+◌, ◌↔◌, ◌⊎◌, ◌≤◌, ℕ, true, false, List, [], ◌∷◌, ◌++◌, length, Ok, Err};
+ghost use Rattle.std.specs.Prelude.{None, Some, codes, is_some, not};
 ghost use Rattle.std.specs.List.{list_any};
 ghost use Rattle.idn_text.specs.Lines.{raw_lines, with_last_feed};
 ghost use Rattle.variant_table.specs.Faults.{LineFault};
@@ -10,25 +10,23 @@ ghost use Rattle.idn_class.specs.declared.properties.Properties.{Properties};
 ghost use Rattle.idn_class.specs.declared.properties.Properties.TheVariants.{Profile};
 ghost use Rattle.ruleset_text.specs.Entries.{EntryForm};
 ghost use Rattle.ruleset_text.specs.WellFormed.{AreDefinitions};
-ghost use Rattle.variant_table.specs.Entries.{Entry, TableValue, IsOfVersion, IsPlain, entry_from, plain_variant};
-ghost use Rattle.variant_table.specs.Entries.{table_of, unblocked, whole};
+ghost use Rattle.variant_table.specs.Entries.{Entry, TableValue, IsOfVersion, entry_from, plain_variant, table_of};
 ghost use Rattle.ruleset_text.specs.Lexemes.{lexemes};
 ghost use Rattle.ruleset_text.specs.EntryFaults.{notes_of};
 ghost use Rattle.ruleset_text.specs.EntrySteps.{entry_in};
 ghost use Rattle.variant_table.specs.Conditions.{has_bad_class, has_repeat, is_too_large};
-ghost use Rattle.variant_table.specs.Forms.{HasForm, entries_of, knows_all, parts_of, written_out};
+ghost use Rattle.variant_table.specs.Forms.{HasForm, entries_of, knows_all, written_out};
 ghost use Rattle.variant_table.specs.LinePlaces.{IsSyntaxPlace, body_place, form_place};
 ghost use Rattle.variant_table.specs.PlaceExamples.{ExamplesOfPlaces};
 ghost use Rattle.variant_table.specs.declared.fault.TableFault.TheVariants as tables;
-ghost use Rattle.ruleset_text.specs.EntryStops.{FitsNames};
 ghost use Rattle.ruleset_text.specs.declared.fault.FaultPlace.{FaultPlace};
 ghost use Rattle.variant_table.specs.Reading.{form_in, table_of_text};
 ghost use Rattle.variant_table.specs.FaultyLines.{at_line, faulty_line};
 ghost use Rattle.variant_table.specs.Texts.{IsTextOf, IsFaultOf, IsFirstFaulty, LineSpells};
 ghost use Rattle.variant_table.specs.declared.version.Version.{Version};
 ghost use Rattle.variant_table.specs.Versions.{head_of, is_version_line, notation_of, size_of};
-ghost use Rattle.variant_table.specs.inner.Examples.{conditional, entries_in, repeated, spelled, tagged, text_told};
-ghost use Rattle.variant_table.specs.inner.Examples.{told, two_tags, written, EachTold};
+ghost use Rattle.variant_table.specs.inner.Examples.{conditional, entries_in, repeated, spelled, text_told};
+ghost use Rattle.variant_table.specs.inner.Examples.{told, two_types, written, EachTold};
 ghost use Rattle.label_patterns.specs.declared.condition.ConditionKind.TheVariants as kinds;
 ghost use Rattle.variant_table.specs.Ranges.{point_entry, point_variant};
 ghost use Rattle.variant_table.specs.declared.version.Notation.{Notation};
@@ -36,7 +34,7 @@ ghost use Rattle.variant_table.specs.declared.version.Notation.TheVariants as no
 ghost use Rattle.variant_table.specs.declared.version.Version.TheVariants as versions;
 ghost use Rattle.variant_table.specs.Differences.{AreDifferencesOf, differences_of};
 ghost use Rattle.variant_table.specs.Gaps.{AreGapsOf, gaps_of};
-ghost use Rattle.variant_table.specs.Limits.{text_limit};
+ghost use Rattle.variant_table.specs.Limits.{line_limit, text_limit};
 ghost use Rattle.variant_table.specs.Places.{entries_at};
 ghost use Rattle.variant_table.specs.Faults as faults;
 ghost use Rattle.variant_table.specs.WellFormed.{IsEntry, IsNamed, IsWellFormed, IsTable};
@@ -52,14 +50,14 @@ pub fn reading_a_line_is_exact()
 /// of the version or each definition ends, or its end.
 pub fn places_of_syntax_are_told()
     ensures { (definitions : Definitions) (number : ℕ) (version : Version) (line : List ℕ) (place : FaultPlace) →
-        FitsNames (parts_of version) line →
+        length line ≤ line_limit version →
         (body_place definitions (tables.Syntax number) version line ≡ Some place)
         ↔ IsSyntaxPlace definitions.set_names version line place }
 {}
 
 /// A place is told of an entry or of a range exactly where reading refuses it: past a limit, if it has too many variants
-/// or too long a sequence; for a name, if a tag or a rule that it names isn't defined; for a class, if some code point of
-/// its entries may not be held; for a variant, if one is given again; and always for a source that is given twice.
+/// or too long a sequence; for a name, if a type or a rule that it names isn't defined; for a class, if some code point
+/// of its entries may not be held; for a variant, if one is given again; and always for a source that is given twice.
 pub fn places_are_told_where_reading_refuses()
     ensures limit { (d : Definitions) (n : ℕ) (line : List ℕ) (form : EntryForm) →
         entry_in (lexemes line) ≡ Some form →
@@ -149,8 +147,7 @@ pub fn canonical_text_is_read_back()
 
 /// The canonical text of a table of version 1 is at most as long as any text that spells the table, a
 /// line feed added where the last line has none. In each version it is within the limit of a text, that of a ruleset
-/// within 8 MiB. A canonical line has at most 951 bytes in version 1, 967 in version 2, and in version 3 968 without
-/// tags and conditions, 6,170 with them.
+/// within 8 MiB. A canonical line has at most 951 bytes in version 1, 967 in version 2, and 2,243 in version 3.
 pub fn canonical_text_is_never_longer()
     ensures text { (properties : Properties) (notation : Notation) (text : List ℕ) (table : TableValue) →
         IsTextOf properties notation text table → table.version ≡ versions.One →
@@ -164,10 +161,8 @@ pub fn canonical_text_is_never_longer()
         length (canonical_line d e) ≤ 951 }
     ensures blocked { (d : Definitions) (e : Entry) → IsEntry e → IsOfVersion versions.Two e →
         length (canonical_line d e) ≤ 967 }
-    ensures marked { (d : Definitions) (e : Entry) → IsEntry e → All IsPlain (whole e) →
-        length (canonical_line d e) ≤ 968 }
     ensures named { (d : Definitions) (e : Entry) → AreDefinitions d → IsEntry e → IsNamed d e →
-        length (canonical_line d e) ≤ 6170 }
+        length (canonical_line d e) ≤ 2243 }
     ensures feeds { (text : List ℕ) → size_of (raw_lines text) ≡ length (with_last_feed text) }
 {}
 
@@ -184,13 +179,13 @@ pub fn differences_of_are_the_differences()
 /// Examples of version 1, which the definitions compute.
 pub fn definitions_compute_the_examples()
     ensures read { entries_in versions.One (nothing_defined Profile) (lexemes (codes "u+0061 | 0062 : 0063-0064")) ≡
-        Ok (entry_from (point_variant false 97 ∷ point_variant false 98 ∷ plain_variant false (99 ∷ 100 ∷ []) ∷ []) ∷
+        Ok (entry_from (point_variant None 97 ∷ point_variant None 98 ∷ plain_variant None (99 ∷ 100 ∷ []) ∷ []) ∷
         []) }
     ensures written { table_text versions.One (nothing_defined Profile)
-        (entry_from (point_variant false 97 ∷ point_variant false 98 ∷ plain_variant false (99 ∷ 100 ∷ []) ∷ []) ∷
+        (entry_from (point_variant None 97 ∷ point_variant None 98 ∷ plain_variant None (99 ∷ 100 ∷ []) ∷ []) ∷
         []) ≡ codes "0061|0062:0063-0064" ++ 10 ∷ [] }
     ensures six { canonical_line (nothing_defined Profile)
-        (entry_from (plain_variant false (0x10FFFF ∷ 0x4E2D ∷ []) ∷ [])) ≡ codes "10FFFF-4E2D" }
+        (entry_from (plain_variant None (0x10FFFF ∷ 0x4E2D ∷ []) ∷ [])) ≡ codes "10FFFF-4E2D" }
     ensures syntax { table_of_text Profile notations.Table (codes "0061|") ≡ Err (1, faults.Syntax) }
     ensures range { table_of_text Profile notations.Table (codes "0061..0063") ≡ Err (1, faults.Syntax) }
     ensures blocked { table_of_text Profile notations.Table (codes "0061|!0062") ≡ Err (1, faults.Syntax) }
@@ -202,45 +197,55 @@ pub fn definitions_compute_the_examples()
     ensures same_variant { table_of_text Profile notations.Table (codes "0061|0061") ≡ Err (1, faults.SameVariant) }
     ensures same_source { table_of_text Profile notations.Table (codes "0061" ++ 10 ∷ codes "0061") ≡
         Err (2, faults.SameSource) }
-    ensures gaps { gaps_of (entry_from (point_variant false 97 ∷ plain_variant false (97 ∷ 97 ∷ []) ∷ []) ∷ []) ≡
+    ensures gaps { gaps_of (entry_from (point_variant None 97 ∷ plain_variant None (97 ∷ 97 ∷ []) ∷ []) ∷ []) ≡
         (97 ∷ 97 ∷ [], 97 ∷ []) ∷ [] }
-    ensures chain { gaps_of (entry_from (point_variant false 97 ∷ point_variant false 98 ∷ []) ∷
-        entry_from (point_variant false 98 ∷ point_variant true 97 ∷ point_variant false 99 ∷ []) ∷
-        entry_from (point_variant false 99 ∷ point_variant false 98 ∷ []) ∷ [])
+    ensures chain { gaps_of (entry_from (point_variant None 97 ∷ point_variant None 98 ∷ []) ∷
+        entry_from (point_variant None 98 ∷ point_variant (Some 1) 97 ∷ point_variant None 99 ∷ []) ∷
+        entry_from (point_variant None 99 ∷ point_variant None 98 ∷ []) ∷ [])
         ≡ (97 ∷ [], 99 ∷ []) ∷ (99 ∷ [], 97 ∷ []) ∷ [] }
-    ensures places { entries_at (point_entry false 115 ∷
-        entry_from (plain_variant false (115 ∷ 115 ∷ []) ∷ point_variant false 0xDF ∷ []) ∷ []) (115 ∷ 115 ∷ 115 ∷ []) 2
-        ≡ point_entry false 115 ∷ [] }
+    ensures places { entries_at (point_entry None 115 ∷
+        entry_from (plain_variant None (115 ∷ 115 ∷ []) ∷ point_variant None 0xDF ∷ []) ∷ []) (115 ∷ 115 ∷ 115 ∷ []) 2
+        ≡ point_entry None 115 ∷ [] }
 {}
 
-/// Examples of tags and conditions: what is refused, in what order faults are told, what is read and how it is written.
+/// Examples of types and conditions: what is refused, in what order faults are told, what is read and how it is
+/// written.
 pub fn definitions_compute_the_examples_of_names()
     ensures syntax { EachTold faults.Syntax
-        (codes "!0061 as t" ∷ codes "0061|!0062 as t" ∷ codes "0061 as t,t" ∷ codes "0061 as" ∷ codes "0061 as t v" ∷
+        (codes "!0061 as t" ∷ codes "0061|!0062 as t" ∷ codes "0061 as t,v" ∷ codes "0061 as" ∷ codes "0061 as t v" ∷
         codes "0061 when r as t" ∷ codes "0061 when r unless r" ∷ codes "0061 when" ∷ codes "0061 when r|" ∷
         codes "when r" ∷ codes "0061-when" ∷ []) }
     ensures names { EachTold faults.NoSuchName
-        (codes "0061 when s" ∷ codes "0061 when A" ∷ codes "0061 as u" ∷ codes "0061 as r" ∷
-        codes "0061|0062 unless s" ∷ codes "0061|0062 as u" ∷ codes "0061..0063 when s" ∷ []) }
+        (codes "0061 when s" ∷ codes "0061 when A" ∷ codes "0061 as bloked" ∷ codes "0061 as r" ∷
+        codes "0061|0062 unless s" ∷ codes "0061 as t|0062 as u" ∷ codes "0061..0063 when s" ∷ []) }
     ensures before_limit { told (codes "0041-0041-0041-0041-0041-0041-0041-0041-0041 when nope" ∷ []) ≡
         Err (2, faults.Limit) }
     ensures before_class { told (codes "0041 when nope" ∷ []) ≡ Err (2, faults.NoSuchName) }
     ensures later { told (codes "0061 when r" ∷ codes "%rule r _" ∷ []) ≡ Err (2, faults.NoSuchName) }
     ensures conditions { spelled (codes "0061|0063 when r:0063 when s:!0063 unless r")
-        ≡ Ok (entry_from (point_variant false 0x61 ∷ conditional 0x63 false (Some (kinds.When, 0)) ∷
-        conditional 0x63 false (Some (kinds.When, 1)) ∷ conditional 0x63 true (Some (kinds.Unless, 0)) ∷ []) ∷ []) }
+        ≡ Ok (entry_from (point_variant None 0x61 ∷ conditional None 0x63 (kinds.When, 0) ∷
+        conditional None 0x63 (kinds.When, 1) ∷ conditional (Some 1) 0x63 (kinds.Unless, 0) ∷ []) ∷ []) }
     ensures range { spelled (codes "!0062..0063 when r") ≡
-        Ok (entry_from (conditional 0x62 true (Some (kinds.When, 0)) ∷ []) ∷
-        entry_from (conditional 0x63 true (Some (kinds.When, 0)) ∷ []) ∷ []) }
-    ensures tagged_range { spelled (codes "0061..0062 as trad") ≡
-        Ok (entry_from (tagged 0x61 (1 ∷ []) ∷ []) ∷ entry_from (tagged 0x62 (1 ∷ []) ∷ []) ∷ []) }
+        Ok (entry_from (conditional (Some 0) 0x62 (kinds.When, 0) ∷ []) ∷
+        entry_from (conditional (Some 0) 0x63 (kinds.When, 0) ∷ []) ∷ []) }
+    ensures typed_range { spelled (codes "0061..0062 as trad") ≡
+        Ok (point_entry (Some 6) 0x61 ∷ point_entry (Some 6) 0x62 ∷ []) }
+    ensures predefined { spelled (codes "0061 as valid|0062 as invalid:0063 as activated:0064 as allocatable") ≡
+        Ok (entry_from (point_variant (Some 4) 0x61 ∷ point_variant (Some 0) 0x62 ∷ point_variant (Some 3) 0x63 ∷
+        point_variant (Some 2) 0x64 ∷ []) ∷ []) }
+    ensures marks_are_types { spelled (codes "!0061|!0062") ≡ spelled (codes "0061 as invalid|0062 as blocked") }
     ensures apart { repeated (codes "0061|0063 when r:0063 when s:!0063 unless r") ≡ Ok false }
     ensures one_without { repeated (codes "0061|0063 when r:0063") ≡ Ok true }
     ensures the_other { repeated (codes "0061|0063:!0063 unless r") ≡ Ok true }
     ensures same { repeated (codes "0061|0063 when r:!0063 when r") ≡ Ok true }
+    ensures other_types { repeated (codes "0061|0062 as simp:0062 as trad") ≡ Ok true }
     ensures the_source { repeated (codes "0061 when s|0061 when r") ≡ Ok true }
-    ensures written { written (codes "56FD  as simp | 570b as trad ,simp when s") ≡
-        Ok (codes "56FD as simp|570B as trad,simp when s" ∷ []) }
+    ensures written { written (codes "56FD  as simp | 570b as trad  when s") ≡
+        Ok (codes "56FD as simp|570B as trad when s" ∷ []) }
+    ensures written_with_marks { written (codes "0430 as invalid | 0061 as blocked:0062 as invalid") ≡
+        Ok (codes "!0430|!0061:0062 as invalid" ∷ []) }
+    ensures written_without_marks { written (codes "0061 as blocked|0430 as valid") ≡
+        Ok (codes "0061 as blocked|0430 as valid" ∷ []) }
     ensures written_out { written (codes "!0061..0062 unless r") ≡
         Ok (codes "!0061 unless r" ∷ codes "!0062 unless r" ∷ []) }
 {}
@@ -251,17 +256,14 @@ pub fn definitions_compute_the_examples_of_version_2()
         (codes "%version 2" ++ 10 ∷ codes "0061..0063" ++ 10 ∷ codes "0078|!0079:007A") ≡ Ok (record {
           version = versions.Two;
           definitions = nothing_defined Profile;
-          entries = point_entry false 0x61 ∷ point_entry false 0x62 ∷ point_entry false 0x63 ∷
-              entry_from (point_variant false 0x78 ∷ point_variant true 0x79 ∷ point_variant false 0x7A ∷ []) ∷ [];
+          entries = point_entry None 0x61 ∷ point_entry None 0x62 ∷ point_entry None 0x63 ∷
+              entry_from (point_variant None 0x78 ∷ point_variant (Some 1) 0x79 ∷ point_variant None 0x7A ∷ []) ∷ [];
         }) }
     ensures written { table_text versions.Two (nothing_defined Profile)
-        (point_entry false 0x61 ∷ point_entry false 0x62 ∷ point_entry false 0x63 ∷
-        entry_from (point_variant false 0x78 ∷ point_variant true 0x79 ∷ point_variant false 0x7A ∷ []) ∷ [])
+        (point_entry None 0x61 ∷ point_entry None 0x62 ∷ point_entry None 0x63 ∷
+        entry_from (point_variant None 0x78 ∷ point_variant (Some 1) 0x79 ∷ point_variant None 0x7A ∷ []) ∷ [])
         ≡ codes "%version 2" ++ 10 ∷ codes "0061" ++ 10 ∷ codes "0062" ++ 10 ∷ codes "0063" ++ 10 ∷
         codes "0078|!0079:007A" ++ 10 ∷ [] }
-    ensures unblocked { unblocked (entry_from
-        (point_variant false 0x78 ∷ point_variant true 0x79 ∷ point_variant false 0x7A ∷ []) ∷ []) ≡
-        entry_from (point_variant false 0x78 ∷ point_variant false 0x7A ∷ []) ∷ [] }
     ensures empty { table_of_text Profile notations.Table (codes "%version 2" ++ 13 ∷ []) ≡
         Ok (table_of versions.Two (nothing_defined Profile) []) }
     ensures falling { table_of_text Profile notations.Table (codes "%version 2" ++ 10 ∷ codes "0063..0061") ≡
@@ -302,17 +304,17 @@ pub fn definitions_compute_the_examples_of_rulesets()
     ensures falling { table_of_text Profile notations.Ruleset (codes "%version 3" ++ 10 ∷ codes "0063..0061") ≡
         Err (2, faults.Syntax) }
     ensures defined { table_of_text Profile notations.Ruleset
-        (codes "%version 3" ++ 10 ∷ codes "%tag t" ++ 13 ∷ 10 ∷ codes " %tag" ++ 9 ∷ codes "v ") ≡
-        Ok (table_of versions.Three two_tags []) }
-    ensures defined_written { table_text versions.Three two_tags (point_entry false 0x61 ∷ []) ≡
-        codes "%version 3" ++ 10 ∷ codes "%tag t" ++ 10 ∷ codes "%tag v" ++ 10 ∷ codes "0061" ++ 10 ∷ [] }
-    ensures defined_in_version_2 { table_of_text Profile notations.Table (codes "%version 2" ++ 10 ∷ codes "%tag t") ≡
+        (codes "%version 3" ++ 10 ∷ codes "%type t" ++ 13 ∷ 10 ∷ codes " %type" ++ 9 ∷ codes "v ") ≡
+        Ok (table_of versions.Three two_types []) }
+    ensures defined_written { table_text versions.Three two_types (point_entry None 0x61 ∷ []) ≡
+        codes "%version 3" ++ 10 ∷ codes "%type t" ++ 10 ∷ codes "%type v" ++ 10 ∷ codes "0061" ++ 10 ∷ [] }
+    ensures defined_in_version_2 { table_of_text Profile notations.Table (codes "%version 2" ++ 10 ∷ codes "%type t") ≡
         Err (2, faults.Syntax) }
     ensures same_name { table_of_text Profile notations.Ruleset
-        (codes "%version 3" ++ 10 ∷ codes "%tag t" ++ 10 ∷ codes "%rule t _") ≡ Err (3, faults.SameName) }
+        (codes "%version 3" ++ 10 ∷ codes "%type t" ++ 10 ∷ codes "%rule t _") ≡ Err (3, faults.SameName) }
     ensures no_such_name { table_of_text Profile notations.Ruleset (codes "%version 3" ++ 10 ∷ codes "%rule r @A _") ≡
         Err (2, faults.NoSuchName) }
-    ensures no_name { table_of_text Profile notations.Ruleset (codes "%version 3" ++ 10 ∷ codes "%tag") ≡
+    ensures no_name { table_of_text Profile notations.Ruleset (codes "%version 3" ++ 10 ∷ codes "%type") ≡
         Err (2, faults.Syntax) }
     ensures stars { table_of_text Profile notations.Ruleset (codes "%version 3" ++ 10 ∷ codes "%rule r ((.*)*)* _") ≡
         Err (2, faults.Limit) }
@@ -322,11 +324,11 @@ pub fn definitions_compute_the_examples_of_rulesets()
         Err (2, faults.Syntax) }
     ensures later { table_of_text Profile notations.Table (codes "%version 2" ++ 10 ∷ codes "%version 3") ≡
         Err (2, faults.Syntax) }
-    ensures outside { entries_in versions.Three (nothing_defined Profile) (lexemes (codes "! 0061|!0062")) ≡
-        Ok (entry_from (point_variant true 0x61 ∷ point_variant true 0x62 ∷ []) ∷ []) }
-    ensures outside_range { entries_in versions.Three (nothing_defined Profile) (lexemes (codes "!0062..0063")) ≡
-        Ok (point_entry true 0x62 ∷ point_entry true 0x63 ∷ []) }
-    ensures outside_in_version_2 { form_in versions.Two (lexemes (codes "!0062..0063")) ≡ Err faults.Syntax }
+    ensures invalid { entries_in versions.Three (nothing_defined Profile) (lexemes (codes "! 0061|!0062")) ≡
+        Ok (entry_from (point_variant (Some 0) 0x61 ∷ point_variant (Some 1) 0x62 ∷ []) ∷ []) }
+    ensures invalid_range { entries_in versions.Three (nothing_defined Profile) (lexemes (codes "!0062..0063")) ≡
+        Ok (point_entry (Some 0) 0x62 ∷ point_entry (Some 0) 0x63 ∷ []) }
+    ensures invalid_in_version_2 { form_in versions.Two (lexemes (codes "!0062..0063")) ≡ Err faults.Syntax }
     ensures two_marks { table_of_text Profile notations.Ruleset (codes "%version 3" ++ 10 ∷ codes "!!0061") ≡
         Err (2, faults.Syntax) }
     ensures no_source { table_of_text Profile notations.Ruleset (codes "%version 3" ++ 10 ∷ codes "!|0061") ≡
@@ -334,32 +336,33 @@ pub fn definitions_compute_the_examples_of_rulesets()
     ensures limit { table_of_text Profile notations.Ruleset
         (codes "%version 3" ++ 10 ∷ codes "0041-0041-0041-0041-0041-0041-0041-0041-0041") ≡ Err (2, faults.Limit) }
     ensures written { table_text versions.Three (nothing_defined Profile)
-        (point_entry false 0x61 ∷ entry_from (point_variant false 0x78 ∷ point_variant true 0x79 ∷ []) ∷ [])
+        (point_entry None 0x61 ∷ entry_from (point_variant None 0x78 ∷ point_variant (Some 1) 0x79 ∷ []) ∷ [])
         ≡ codes "%version 3" ++ 10 ∷ codes "0061" ++ 10 ∷ codes "0078|!0079" ++ 10 ∷ [] }
     ensures marked { table_text versions.Three (nothing_defined Profile)
-        (entry_from (plain_variant true (0x61 ∷ 0x62 ∷ []) ∷ point_variant true 0x63 ∷ []) ∷ [])
+        (entry_from (plain_variant (Some 0) (0x61 ∷ 0x62 ∷ []) ∷ point_variant (Some 1) 0x63 ∷ []) ∷ [])
         ≡ codes "%version 3" ++ 10 ∷ codes "!0061-0062|!0063" ++ 10 ∷ [] }
-    ensures outside_gaps { gaps_of (entry_from (point_variant false 0x61 ∷ point_variant true 0x430 ∷ []) ∷
-        point_entry false 0x62 ∷ entry_from (point_variant true 0x430 ∷ point_variant true 0x61 ∷ []) ∷ []) ≡ [] }
-    ensures without_outside { gaps_of
-        (entry_from (point_variant false 0x61 ∷ point_variant true 0x430 ∷ []) ∷ point_entry false 0x62 ∷ []) ≡
+    ensures gaps { gaps_of
+        (entry_from (point_variant None 0x61 ∷ point_variant (Some 1) 0x430 ∷ []) ∷ point_entry None 0x62 ∷
+        entry_from (point_variant (Some 0) 0x430 ∷ point_variant (Some 1) 0x61 ∷ []) ∷ []) ≡ [] }
+    ensures without_source { gaps_of
+        (entry_from (point_variant None 0x61 ∷ point_variant (Some 1) 0x430 ∷ []) ∷ point_entry None 0x62 ∷ []) ≡
         (0x430 ∷ [], 0x61 ∷ []) ∷ [] }
     ensures conditional_differences { differences_of
-        (entry_from (point_variant false 0x3C3 ∷ conditional 0x3C2 false (Some (kinds.When, 0)) ∷ []) ∷
-        entry_from (point_variant false 0x3C2 ∷ point_variant false 0x3C3 ∷ []) ∷ [])
+        (entry_from (point_variant None 0x3C3 ∷ conditional None 0x3C2 (kinds.When, 0) ∷ []) ∷
+        entry_from (point_variant None 0x3C2 ∷ point_variant None 0x3C3 ∷ []) ∷ [])
         ≡ (0x3C2 ∷ [], 0x3C3 ∷ []) ∷ [] }
     ensures conditional_gaps { gaps_of
-        (entry_from (point_variant false 0x3C3 ∷ conditional 0x3C2 false (Some (kinds.When, 0)) ∷ []) ∷
-        entry_from (point_variant false 0x3C2 ∷ point_variant false 0x3C3 ∷ []) ∷ []) ≡ [] }
+        (entry_from (point_variant None 0x3C3 ∷ conditional None 0x3C2 (kinds.When, 0) ∷ []) ∷
+        entry_from (point_variant None 0x3C2 ∷ point_variant None 0x3C3 ∷ []) ∷ []) ≡ [] }
     ensures without_reverse { gaps_of
-        (entry_from (point_variant false 0x647 ∷ conditional 0x629 true (Some (kinds.Unless, 0)) ∷
-        conditional 0x629 false (Some (kinds.When, 0)) ∷ []) ∷ point_entry false 0x629 ∷ []) ≡
+        (entry_from (point_variant None 0x647 ∷ conditional (Some 1) 0x629 (kinds.Unless, 0) ∷
+        conditional None 0x629 (kinds.When, 0) ∷ []) ∷ point_entry None 0x629 ∷ []) ≡
         (0x629 ∷ [], 0x647 ∷ []) ∷ [] }
-    ensures tagged_gaps { gaps_of (entry_from (tagged 0x56FD (0 ∷ []) ∷ tagged 0x570B (1 ∷ []) ∷ []) ∷
-        entry_from (tagged 0x570B (1 ∷ []) ∷ tagged 0x56FD (0 ∷ []) ∷ []) ∷ []) ≡ [] }
+    ensures typed_gaps { gaps_of (entry_from (point_variant (Some 5) 0x56FD ∷ point_variant (Some 6) 0x570B ∷ []) ∷
+        entry_from (point_variant (Some 6) 0x570B ∷ point_variant (Some 5) 0x56FD ∷ []) ∷ []) ≡ [] }
     ensures condition_in_version_2 { table_of_text Profile notations.Table
         (codes "%version 2" ++ 10 ∷ codes "0061 when r") ≡ Err (2, faults.Syntax) }
-    ensures tag_in_version_2 { table_of_text Profile notations.Table (codes "%version 2" ++ 10 ∷ codes "0061 as t") ≡
+    ensures type_in_version_2 { table_of_text Profile notations.Table (codes "%version 2" ++ 10 ∷ codes "0061 as t") ≡
         Err (2, faults.Syntax) }
     ensures demand_in_version_2 { table_of_text Profile notations.Table
         (codes "%version 2" ++ 10 ∷ codes "%never 0061") ≡ Err (2, faults.Syntax) }

@@ -3,16 +3,17 @@ ghost use Rattle.std.specs.Prelude.{◌≡◌, ◌+◌, ◌<◌, ◌≤◌, ◌^
 ghost use Rattle.std.specs.List.{range_with_len};
 ghost use Rattle.ruleset_text.specs.Canonical.{point_text};
 ghost use Rattle.ruleset_text.specs.EntryForms.{mapped as form_of};
-ghost use Rattle.ruleset_text.specs.EntryText.{condition_text, condition_word, mapped_text, mark_text, sequence_text};
-ghost use Rattle.ruleset_text.specs.EntryText.{tags_text};
+ghost use Rattle.ruleset_text.specs.EntryText.{mapped_text, mark_text, sequence_text};
+ghost use Rattle.ruleset_text.specs.NamedConditions.{condition_text, condition_word};
 ghost use Rattle.variant_table.specs.Canonical.{written_text};
 ghost use Rattle.variant_table.specs.Conditions.{is_too_large};
-ghost use Rattle.variant_table.specs.Forms.{with_point};
-ghost use Rattle.variant_table.specs.inner.Held.{counted, HasNoEmptySequence, IsLeft};
+ghost use Rattle.variant_table.specs.Forms.{normal_by, with_point};
+ghost use Rattle.variant_table.specs.inner.Held.{counted, type_len, HasNoEmptySequence, IsLeft};
 
+use crate::forms::{SOURCE_MARK, VARIANT_MARK};
 use crate::version::Version;
 use label_patterns::ConditionKind;
-use ruleset_text::{Mapped, Name, NamedCondition};
+use ruleset_text::{Mapped, NamedCondition, predefined_type};
 
 /// How many of `left` bytes are left after the canonical line of a source and its variants, with its line feed: none
 /// if they are too few. Version 1 doesn't limit the canonical text.
@@ -36,44 +37,48 @@ fn left_after_line(entry: &[Mapped], left: usize) -> Option<usize>
     requires small { is_too_large (map form_of entry.now) ≡ false }
     ensures { IsLeft left (length (written_text (map form_of entry.now ∷ []))) result }
 {
-    let mut rest = left;
-    for mapped in entry {
-        rest = left_after_mapped(mapped, rest)?;
+    let [source, variants @ ..] = entry else {
+        return Some(left);
+    };
+    let mut rest = left_after_mapped(source, SOURCE_MARK, left)?;
+    for variant in variants {
+        rest = left_after_mapped(variant, VARIANT_MARK, rest)?;
     }
     Some(rest)
 }
 
-/// How many bytes are left after a source or a variant, and one byte more: that of what follows it.
-fn left_after_mapped(mapped: &Mapped, left: usize) -> Option<usize>
+/// How many bytes are left after a source or a variant, and one byte more: that of what follows it. `!` stands for the
+/// type of the number `mark`.
+fn left_after_mapped(mapped: &Mapped, mark: u8, left: usize) -> Option<usize>
     requires some { 0 < length mapped.now.points.items }
     requires short { length mapped.now.points.items ≤ 8 }
-    ensures { IsLeft left (length (mapped_text (form_of mapped.now) None) + 1) result }
+    ensures { IsLeft left (length (mapped_text (normal_by mark (form_of mapped.now)) None) + 1) result }
 {
-    let rest = left.checked_sub(mark_len(mapped.marked) + sequence_len(&mapped.points))?;
-    left_after_names(mapped, rest)
+    let rest = left.checked_sub(sequence_len(&mapped.points))?;
+    left_after_names(mapped, mark, rest)
 }
 
-/// How many bytes are left after the tags and the condition of a source or a variant.
-fn left_after_names(mapped: &Mapped, left: usize) -> Option<usize>
-    ensures { IsLeft left (length (tags_text (form_of mapped.now).tags ++
-        condition_text (form_of mapped.now).condition)) result }
+/// How many bytes are left after the type and the condition of a source or a variant.
+fn left_after_names(mapped: &Mapped, mark: u8, left: usize) -> Option<usize>
+    ensures { IsLeft left (type_len (normal_by mark (form_of mapped.now)) +
+        length (condition_text mapped.now.condition)) result }
 {
-    let rest = left_after_tags(&mapped.tags, left)?;
+    let rest = left_after_type(mapped, mark, left)?;
     left_after_condition(&mapped.condition, rest)
 }
 
-/// How many bytes are left after tags: ` as ` and their names, with commas between them.
-fn left_after_tags(tags: &[Name], left: usize) -> Option<usize>
-    ensures { IsLeft left (length (tags_text tags.now)) result }
+/// How many bytes are left after a type: `!`, or ` as ` and its name.
+fn left_after_type(mapped: &Mapped, mark: u8, left: usize) -> Option<usize>
+    ensures { IsLeft left (type_len (normal_by mark (form_of mapped.now))) result }
 {
-    if tags.is_empty() {
-        return Some(left);
+    let Some(name) = &mapped.type_name else {
+        return left.checked_sub(mark_len(mapped.marked));
+    };
+    if name.as_slice() == predefined_type(mark as usize) {
+        return left.checked_sub(1);
     }
-    let mut rest = left.checked_sub(3)?;
-    for tag in tags {
-        rest = rest.checked_sub(tag.as_slice().len() + 1)?;
-    }
-    Some(rest)
+    let rest = left.checked_sub(mark_len(mapped.marked) + 4)?;
+    rest.checked_sub(name.as_slice().len())
 }
 
 /// How many bytes are left after a condition.
@@ -99,7 +104,7 @@ fn word_len(kind: ConditionKind) -> usize
     }
 }
 
-/// How many bytes the mark of a blocked variant or an outside source has: none if it is neither.
+/// How many bytes `!` has, if it stands there.
 fn mark_len(marked: bool) -> usize
     ensures is { result ≡ length (mark_text marked) }
     ensures few { result ≤ 1 }
@@ -156,10 +161,11 @@ fn left_after_points(source: &Mapped, first: u32, count: usize, left: usize) -> 
 
 /// How many bytes are left after a source with this code point, and one byte more: that of the line feed.
 fn left_after_point(source: &Mapped, point: u32, left: usize) -> Option<usize>
-    ensures { IsLeft left (length (mapped_text (with_point (form_of source.now) point) None) + 1) result }
+    ensures { IsLeft left
+        (length (mapped_text (normal_by 0 (with_point (form_of source.now) point)) None) + 1) result }
 {
-    let rest = left.checked_sub(mark_len(source.marked) + point_len(point) + 1)?;
-    left_after_names(source, rest)
+    let rest = left.checked_sub(point_len(point) + 1)?;
+    left_after_names(source, SOURCE_MARK, rest)
 }
 
 /// How many bytes a code point has.

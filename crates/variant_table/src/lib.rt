@@ -1,5 +1,5 @@
-//! Variant tables of a registry: their notation, the entries that begin at a place of a label, the
-//! canonical text, and the pairs that a table lacks.
+//! Variant tables of a registry: their notation, the entries that begin at a place of a label, the canonical text, the
+//! pairs that a table lacks, and the types that no action names.
 #![tactic(auto)]
 
 mod canonical;
@@ -11,6 +11,7 @@ mod entry;
 mod fault;
 mod forms;
 mod gaps;
+mod idle_types;
 pub mod laws;
 mod lengths;
 mod ordered_entries;
@@ -18,12 +19,12 @@ mod places;
 mod reading;
 mod sequences;
 mod table;
-mod tags;
 mod version;
 
 pub use canonical::write_sequence;
 pub use entry::Entry;
 pub use fault::{TableFault, TableRefusal};
+pub use forms::look_up_condition;
 pub use places::EntriesAt;
 pub use table::Table;
 pub use version::{Head, Notation, Version, head_of};

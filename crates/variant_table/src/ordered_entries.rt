@@ -1,6 +1,6 @@
 //! Entries with different sources, and the order of their sources.
 ghost use Rattle.std.specs.Prelude.{◌≡◌, ◌↔◌, ◌<◌, ◌^◌, [], length, slice_get, Some, IfOk, OnErr, false};
-ghost use Rattle.variant_table.specs.Entries.{unblocked, entry_from};
+ghost use Rattle.variant_table.specs.Entries.{entry_from};
 ghost use Rattle.variant_table.specs.inner.Order.{IsOrderOf, IsPlaceFor, begins_at as begins_at_place, HasNoLonger};
 ghost use Rattle.variant_table.specs.Places.{entry_with};
 ghost use Rattle.variant_table.specs.inner.ReadingSteps.{if_new, with_new_source};
@@ -96,16 +96,6 @@ impl OrderedEntries {
         self.entries.push(sequences)?;
         self.order.insert(place, entry).unwrap();
         Ok(true)
-    }
-
-    /// The entries without their blocked variants. Their sources keep their order.
-    pub fn unblocked(&self, alloc: Global) -> Result<OrderedEntries, AllocError>
-        ensures { IfOk result (λ entries. entries ≡ unblocked self.now) }
-    {
-        Ok(OrderedEntries {
-            entries: self.entries.unblocked(alloc)?,
-            order: Vec::from_slice(alloc, &self.order)?,
-        })
     }
 }
 

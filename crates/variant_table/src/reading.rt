@@ -295,8 +295,8 @@ fn left_after_head(version: Version) -> usize
     version.text_limit() - version.head().len()
 }
 
-/// Adds the entries of `count` code points, from `first` on, with the mark, the tags and the condition of the first of
-/// the sequences, as long as their sources are new, and answers whether all of them are.
+/// Adds the entries of `count` code points, from `first` on, with the type and the condition of the first of the
+/// sequences, as long as their sources are new, and answers whether all of them are.
 fn push_points(
     alloc: Global,
     entries: &mut OrderedEntries,
@@ -315,8 +315,7 @@ fn push_points(
         sequences.clear();
         sequences.push(
             &[first + offset as u32],
-            range.is_marked(0),
-            range.tags(0),
+            range.variant_type(0),
             range.condition(0),
         )?;
         if !entries.push(&sequences)? {

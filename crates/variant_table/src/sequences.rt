@@ -1,10 +1,10 @@
 //! Sequences of code points, as parts of one vector.
 ghost use Rattle.std.specs.Prelude.{◌≡◌, ◌<◌, ◌≤◌, [], ◌∷◌, ◌++◌, length, OnOk, OnErr, slice_get, Some, drop, map};
 ghost use Rattle.std.specs.Prelude.{take};
+ghost use Rattle.variant_dispositions.specs.Kinds.{IsTypeNumber};
 ghost use Rattle.variant_table.specs.Entries.{sequences_in};
 ghost use Rattle.std.specs.Iterator.{YieldsFirstRef, item_count};
 
-use crate::tags::Tags;
 use label_patterns::Condition;
 use std::alloc::{AllocError, Global};
 use std::marker::Model;
@@ -16,19 +16,18 @@ pub struct Span {
     pub end: usize,
 }
 
-/// A sequence as a part of a vector of code points, whether it is marked with `!`, its tags and its condition. A
-/// ruleset may have a million of them, so one is kept within 32 bytes.
+/// A sequence as a part of a vector of code points, the number of its type, if it has one, and its condition. A ruleset
+/// may have a million of them, so one is kept within 24 bytes.
 #[derive(Drop)]
 pub struct HeldSequence {
     pub span: Span,
-    pub tags: Tags,
-    pub marked: bool,
+    pub variant_type: Option<u8>,
     pub condition: Option<Condition>,
 }
 
-const _: () = prove!(size_of::<HeldSequence>() == 32);
+const _: () = prove!(size_of::<HeldSequence>() == 24);
 
-/// Sequences of code points, each of which may be marked, and may have tags and a condition.
+/// Sequences of code points, each of which may have a type and a condition.
 #[derive(Drop)]
 pub struct Sequences {
     points: Vec<u32>,
@@ -38,13 +37,13 @@ pub struct Sequences {
 impl Model for Sequences {
     ghost use Rattle.std.specs.Prelude.{List, length};
     ghost use Rattle.variant_table.specs.Entries.{Variant as VariantValue};
-    ghost use Rattle.variant_table.specs.inner.Held.{parts_of, AreSpansBelow};
+    ghost use Rattle.variant_table.specs.inner.Held.{parts_of, ArePartsBelow};
 
     ghost Value = { List VariantValue };
 
     ghost view = { λ s. parts_of s.points.items s.parts.items };
 
-    ghost invariant = { λ s. AreSpansBelow (length s.points.items) s.parts.items };
+    ghost invariant = { λ s. ArePartsBelow (length s.points.items) s.parts.items };
 }
 
 impl Sequences {
@@ -71,21 +70,13 @@ impl Sequences {
         &self.points[span.start..span.end]
     }
 
-    /// Whether the sequence of this number is marked: a blocked variant, or an outside source.
-    pub fn is_marked(&self, index: usize) -> bool
+    /// The number of the type of the sequence of this number.
+    pub fn variant_type(&self, index: usize) -> Option<u8>
         requires { index < length self.now }
-        ensures { slice_get (map (λ v. v.marked) self.now) index ≡ Some result }
+        ensures is { slice_get (map (λ v. v.type) self.now) index ≡ Some result }
+        ensures small { IsTypeNumber result }
     {
-        self.parts[index].marked
-    }
-
-    /// The tags of the sequence of this number.
-    pub fn tags(&self, index: usize) -> &[u8]
-        requires { index < length self.now }
-        ensures tags { slice_get (map (λ v. v.tags) self.now) index ≡ Some result.now }
-        ensures few { length result.now ≤ 8 }
-    {
-        self.parts[index].tags.as_slice()
+        self.parts[index].variant_type
     }
 
     /// The condition of the sequence of this number.
@@ -123,14 +114,12 @@ impl Sequences {
     pub fn push(
         &mut self,
         sequence: &[u32],
-        marked: bool,
-        tags: &[u8],
+        variant_type: Option<u8>,
         condition: Option<Condition>,
     ) -> Result<(), AllocError>
-        requires { length tags.now ≤ 8 }
+        requires { IsTypeNumber variant_type }
         ensures ok { OnOk result (self.new ≡
-            self.old ++ record { sequence = sequence.now; marked = marked; tags = tags.now; condition = condition } ∷
-            []) }
+            self.old ++ record { sequence = sequence.now; type = variant_type; condition = condition } ∷ []) }
         ensures err { OnErr result (self.new ≡ self.old) }
     {
         let start = self.points.len();
@@ -138,8 +127,7 @@ impl Sequences {
         let end = self.points.len();
         self.parts.push(HeldSequence {
             span: Span { start, end },
-            tags: Tags::of(tags),
-            marked,
+            variant_type,
             condition,
         })?;
         Ok(())
@@ -153,8 +141,7 @@ impl Sequences {
         for index in 0..others.len() {
             self.push(
                 others.get(index),
-                others.is_marked(index),
-                others.tags(index),
+                others.variant_type(index),
                 others.condition(index),
             )?;
         }

@@ -10,8 +10,8 @@ ghost use Rattle.variant_table.specs.Versions.{version_number};
 use idn_text::{TextLines, without_carriage_return};
 use ruleset_text::EntryParts;
 
-/// Version 2 adds ranges of code points and blocked variants to version 1. Version 3, that of a ruleset, adds sources
-/// that are outside, conditions, tags and definitions, and has larger limits.
+/// Version 2 adds ranges of code points and blocked variants to version 1. Version 3, that of a ruleset, adds types,
+/// conditions and definitions, and has larger limits.
 #[derive(Clone, Copy, Debug, PartialEq, Eq)]
 pub enum Version {
     One,
@@ -81,13 +81,13 @@ impl Version {
     pub fn entry_parts(self) -> EntryParts
         ensures { result ≡ parts_of self }
     {
-        let (outside, blocked, ranges, named) = match self {
+        let (invalid, blocked, ranges, named) = match self {
             Version::One => (false, false, false, false),
             Version::Two => (false, true, true, false),
             Version::Three => (true, true, true, true),
         };
         EntryParts {
-            outside,
+            invalid,
             blocked,
             ranges,
             named,

@@ -1,5 +1,5 @@
 -- Definitions of examples.
-use Rattle.std.specs.Prelude.{◌≡◌, ℕ, Bool, false, List, Result, Ok, Err, Option, Some, None, [], ◌∷◌, ◌++◌, map, codes}
+use Rattle.std.specs.Prelude.{◌≡◌, ℕ, Bool, List, Result, Ok, Err, Option, Some, None, [], ◌∷◌, ◌++◌, map, codes}
 use Rattle.std.specs.List.{AllByRecursion, flat_map, list_any}
 use Rattle.label_patterns.specs.declared.condition.ConditionKind.{ConditionKind}
 use Rattle.ruleset_text.specs.Definitions.{Definitions, nothing_defined}
@@ -14,8 +14,8 @@ use Rattle.variant_table.specs.Faults.{LineFault}
 use Rattle.variant_table.specs.Reading.{◌>>=◌, form_in, named_entries, table_of_text}
 use Rattle.idn_class.specs.declared.properties.Properties.TheVariants.{Profile}
 
-abbrev pub two_tags : Definitions
-two_tags = record (nothing_defined Profile) { tags = codes "t" ∷ codes "v" ∷ [] }
+abbrev pub two_types : Definitions
+two_types = record (nothing_defined Profile) { types = codes "t" ∷ codes "v" ∷ [] }
 
 -- the entries of the lexemes of a line
 abbrev pub entries_in : Version → Definitions → List (List ℕ) → Result (List Entry) LineFault
@@ -33,17 +33,20 @@ abbrev pub text_told : Result TableValue (ℕ × LineFault) → Option (List ℕ
 text_told (Ok t) = Some (table_text t.version t.definitions t.entries)
 text_told (Err fault) = None
 
--- two tags and a rule
+-- two types and a rule
 abbrev pub three_lines : List (List ℕ)
-three_lines = codes "%tag t" ∷ codes "%tag v" ∷ codes "%rule r _" ∷ []
+three_lines = codes "%type t" ∷ codes "%type v" ∷ codes "%rule r _" ∷ []
 
 -- each of these lines has the fault after the three
 abbrev pub EachTold : LineFault → List (List ℕ) → Type 0
 EachTold fault lines = AllByRecursion (λ line. told (three_lines ++ line ∷ []) ≡ Err (5, fault)) lines
 
--- two tags and two rules by their names
+-- two types and two rules by their names
 abbrev pub four_names : Definitions
-four_names = record (nothing_defined Profile) { tags = codes "simp" ∷ codes "trad" ∷ []; rule_names = codes "r" ∷ codes "s" ∷ [] }
+four_names = record (nothing_defined Profile) {
+  types = codes "simp" ∷ codes "trad" ∷ [];
+  rule_names = codes "r" ∷ codes "s" ∷ [];
+}
 
 -- the entries that a line of a ruleset spells after these
 abbrev pub spelled : List ℕ → Result (List Entry) LineFault
@@ -57,11 +60,6 @@ repeated line = spelled line >>= λ entries. Ok (list_any has_repeat entries)
 abbrev pub written : List ℕ → Result (List (List ℕ)) LineFault
 written line = spelled line >>= λ entries. Ok (map (canonical_line four_names) entries)
 
--- a variant of one code point
-abbrev pub conditional : ℕ → Bool → Option (ConditionKind × ℕ) → Variant
-conditional c marked None = record { sequence = c ∷ []; marked = marked; tags = []; condition = None }
-conditional c marked (Some k) = record { sequence = c ∷ []; marked = marked; tags = []; condition = Some (record { kind = k.0; rule = k.1 }) }
-
--- one with tags
-abbrev pub tagged : ℕ → List ℕ → Variant
-tagged c tags = record { sequence = c ∷ []; marked = false; tags = tags; condition = None }
+-- a variant of one code point, or a source, under a condition
+abbrev pub conditional : Option ℕ → ℕ → ConditionKind × ℕ → Variant
+conditional type c k = record { sequence = c ∷ []; type = type; condition = Some (record { kind = k.0; rule = k.1 }) }

@@ -2,8 +2,7 @@ use Rattle.std.proofs.Common.{rules, tests, ◌≡◌, ◌+◌, ℕ, Bool, true,
 use Rattle.std.specs.Prelude.{bytes_eq, not, slice_get}
 use Rattle.label_patterns.specs.declared.condition.Condition.{Condition}
 use Rattle.variant_table.specs.Conditions.{differ, is_again, stands_in}
-use Rattle.variant_table.specs.Entries.{Variant, entry_from}
-use Rattle.variant_table.specs.inner.Held.{variants_of}
+use Rattle.variant_table.specs.Entries.{Variant, entry_from, full_replacements}
 use Rattle.variant_table.proofs.EntryLemmas.{sequence_found, variant_asked}
 use Rattle.variant_table.proofs.RepeatLemmas.{source_apart, source_stands, stands_next, still_stands, variant_in}
 use Rattle.variant_table.proofs.checks.stands_before.Goals as goal
@@ -34,7 +33,7 @@ again_of ss other u v wanted condition b s k is = ap (λ x. bytes_eq u.sequence 
 pub returns-then-is_again : goal.returns-then-is_again
 returns-then-is_again c =
     let ss = c.args.sequences.now in
-    let xs = variants_of (entry_from ss) in
+    let xs = full_replacements (entry_from ss) in
     let i : ℕ = c.loop-other.other in
     let at = variant_asked ss c.args.number c.get-wanted.result.now c.condition-condition.result c.get-wanted.ensures c.condition-condition.ensures in
     let earlier = c.is_again.ensures in
@@ -51,7 +50,7 @@ returns-then-is_again c =
 pub loop-other-preserved : goal.loop-other-preserved
 loop-other-preserved c = λ v e.
     let ss = c.args.sequences.now in
-    let xs = variants_of (entry_from ss) in
+    let xs = full_replacements (entry_from ss) in
     let i : ℕ = c.loop-other.other in
     let at = variant_asked ss c.args.number c.get-wanted.result.now c.condition-condition.result c.get-wanted.ensures c.condition-condition.ensures in
     let same : at.0 ≡ v = one_variant (slice_get ss c.args.number) at.0 v at.1 e in
@@ -63,7 +62,7 @@ loop-other-preserved c = λ v e.
 pub returns : goal.returns
 returns c =
     let ss = c.args.sequences.now in
-    let xs = variants_of (entry_from ss) in
+    let xs = full_replacements (entry_from ss) in
     let at = variant_asked ss c.args.number c.get-wanted.result.now c.condition-condition.result c.get-wanted.ensures c.condition-condition.ensures in
     let end : c.loop-other.other ≡ c.args.number = omega (arith, c.loop-other-test.false) in
     (at.0, at.1, sym (ap (λ n. stands_in (take n xs) at.0) (sym end) ∙ c.loop-other.invariant at.0 at.1))

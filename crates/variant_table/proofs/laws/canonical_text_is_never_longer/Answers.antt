@@ -1,6 +1,6 @@
 use Rattle.idn_text.specs.Lines.{raw_lines}
 use Rattle.variant_table.proofs.RulesetLemmas.{ruleset-within}
-use Rattle.variant_table.proofs.CanonicalLemmas.{length-canonical_line, length-blocked_line, length-marked_line, length-named_line}
+use Rattle.variant_table.proofs.CanonicalLemmas.{length-canonical_line, length-blocked_line, length-named_line}
 use Rattle.variant_table.proofs.SizeLemmas.{never_longer, size_of-raw_lines}
 use Rattle.variant_table.proofs.laws.canonical_text_is_never_longer.Goals as goal
 
@@ -18,9 +18,6 @@ returns-clause-line c = length-canonical_line
 
 pub returns-clause-blocked : goal.returns-clause-blocked
 returns-clause-blocked c = length-blocked_line
-
-pub returns-clause-marked : goal.returns-clause-marked
-returns-clause-marked c = length-marked_line
 
 pub returns-clause-named : goal.returns-clause-named
 returns-clause-named c = length-named_line

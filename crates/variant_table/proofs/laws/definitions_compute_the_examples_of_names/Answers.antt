@@ -39,10 +39,6 @@ pub returns-clause-range : goal.returns-clause-range
 unfolding point_of_hex point_text entry_in table_of_lines with_lines with_raw_line with_line with_form with_entries with_definition with_definition_of canonical_size all_atoms number_of pattern_of spans_in tokens_in
 returns-clause-range c = refl
 
-pub returns-clause-tagged_range : goal.returns-clause-tagged_range
-unfolding point_of_hex point_text entry_in table_of_lines with_lines with_raw_line with_line with_form with_entries with_definition with_definition_of canonical_size all_atoms number_of pattern_of spans_in tokens_in
-returns-clause-tagged_range c = refl
-
 pub returns-clause-apart : goal.returns-clause-apart
 unfolding point_of_hex point_text entry_in table_of_lines with_lines with_raw_line with_line with_form with_entries with_definition with_definition_of canonical_size all_atoms number_of pattern_of spans_in tokens_in
 returns-clause-apart c = refl
@@ -70,3 +66,27 @@ returns-clause-written c = refl
 pub returns-clause-written_out : goal.returns-clause-written_out
 unfolding point_of_hex point_text entry_in table_of_lines with_lines with_raw_line with_line with_form with_entries with_definition with_definition_of canonical_size all_atoms number_of pattern_of spans_in tokens_in
 returns-clause-written_out c = refl
+
+pub returns-clause-typed_range : goal.returns-clause-typed_range
+unfolding point_of_hex point_text entry_in table_of_lines with_lines with_raw_line with_line with_form with_entries with_definition with_definition_of canonical_size all_atoms number_of pattern_of spans_in tokens_in
+returns-clause-typed_range c = refl
+
+pub returns-clause-predefined : goal.returns-clause-predefined
+unfolding point_of_hex point_text entry_in table_of_lines with_lines with_raw_line with_line with_form with_entries with_definition with_definition_of canonical_size all_atoms number_of pattern_of spans_in tokens_in
+returns-clause-predefined c = refl
+
+pub returns-clause-marks_are_types : goal.returns-clause-marks_are_types
+unfolding point_of_hex point_text entry_in table_of_lines with_lines with_raw_line with_line with_form with_entries with_definition with_definition_of canonical_size all_atoms number_of pattern_of spans_in tokens_in
+returns-clause-marks_are_types c = refl
+
+pub returns-clause-other_types : goal.returns-clause-other_types
+unfolding point_of_hex point_text entry_in table_of_lines with_lines with_raw_line with_line with_form with_entries with_definition with_definition_of canonical_size all_atoms number_of pattern_of spans_in tokens_in
+returns-clause-other_types c = refl
+
+pub returns-clause-written_with_marks : goal.returns-clause-written_with_marks
+unfolding point_of_hex point_text entry_in table_of_lines with_lines with_raw_line with_line with_form with_entries with_definition with_definition_of canonical_size all_atoms number_of pattern_of spans_in tokens_in
+returns-clause-written_with_marks c = refl
+
+pub returns-clause-written_without_marks : goal.returns-clause-written_without_marks
+unfolding point_of_hex point_text entry_in table_of_lines with_lines with_raw_line with_line with_form with_entries with_definition with_definition_of canonical_size all_atoms number_of pattern_of spans_in tokens_in
+returns-clause-written_without_marks c = refl

@@ -59,18 +59,6 @@ pub returns-clause-written : goal.returns-clause-written
 unfolding point_of_hex point_text entry_in table_of_lines with_lines with_raw_line with_line with_form with_entries
 returns-clause-written c = refl
 
-pub returns-clause-outside : goal.returns-clause-outside
-unfolding point_of_hex point_text entry_in table_of_lines with_lines with_raw_line with_line with_form with_entries
-returns-clause-outside c = refl
-
-pub returns-clause-outside_range : goal.returns-clause-outside_range
-unfolding point_of_hex point_text entry_in table_of_lines with_lines with_raw_line with_line with_form with_entries
-returns-clause-outside_range c = refl
-
-pub returns-clause-outside_in_version_2 : goal.returns-clause-outside_in_version_2
-unfolding point_of_hex point_text entry_in table_of_lines with_lines with_raw_line with_line with_form with_entries
-returns-clause-outside_in_version_2 c = refl
-
 pub returns-clause-two_marks : goal.returns-clause-two_marks
 unfolding point_of_hex point_text entry_in table_of_lines with_lines with_raw_line with_line with_form with_entries
 returns-clause-two_marks c = refl
@@ -115,28 +103,15 @@ pub returns-clause-demand : goal.returns-clause-demand
 unfolding point_of_hex point_text entry_in table_of_lines with_lines with_raw_line with_line with_form with_entries with_definition with_definition_of canonical_size all_atoms number_of pattern_of spans_in tokens_in
 returns-clause-demand c = refl
 
-pub returns-clause-outside_gaps : goal.returns-clause-outside_gaps
-returns-clause-outside_gaps c = refl
-
-pub returns-clause-without_outside : goal.returns-clause-without_outside
-returns-clause-without_outside c = refl
-
 pub returns-clause-conditional_gaps : goal.returns-clause-conditional_gaps
 returns-clause-conditional_gaps c = refl
 
 pub returns-clause-without_reverse : goal.returns-clause-without_reverse
 returns-clause-without_reverse c = refl
 
-pub returns-clause-tagged_gaps : goal.returns-clause-tagged_gaps
-returns-clause-tagged_gaps c = refl
-
 pub returns-clause-condition_in_version_2 : goal.returns-clause-condition_in_version_2
 unfolding point_of_hex point_text entry_in table_of_lines with_lines with_raw_line with_line with_form with_entries with_definition with_definition_of canonical_size all_atoms number_of pattern_of spans_in tokens_in
 returns-clause-condition_in_version_2 c = refl
-
-pub returns-clause-tag_in_version_2 : goal.returns-clause-tag_in_version_2
-unfolding point_of_hex point_text entry_in table_of_lines with_lines with_raw_line with_line with_form with_entries with_definition with_definition_of canonical_size all_atoms number_of pattern_of spans_in tokens_in
-returns-clause-tag_in_version_2 c = refl
 
 pub returns-clause-demand_in_version_2 : goal.returns-clause-demand_in_version_2
 unfolding point_of_hex point_text entry_in table_of_lines with_lines with_raw_line with_line with_form with_entries with_definition with_definition_of canonical_size all_atoms number_of pattern_of spans_in tokens_in
@@ -145,3 +120,28 @@ returns-clause-demand_in_version_2 c = refl
 pub returns-clause-capital : goal.returns-clause-capital
 unfolding point_of_hex point_text entry_in table_of_lines with_lines with_raw_line with_line with_form with_entries with_definition with_definition_of canonical_size all_atoms number_of pattern_of spans_in tokens_in
 returns-clause-capital c = refl
+
+pub returns-clause-invalid : goal.returns-clause-invalid
+unfolding point_of_hex point_text entry_in table_of_lines with_lines with_raw_line with_line with_form with_entries with_definition with_definition_of canonical_size all_atoms number_of pattern_of spans_in tokens_in
+returns-clause-invalid c = refl
+
+pub returns-clause-invalid_range : goal.returns-clause-invalid_range
+unfolding point_of_hex point_text entry_in table_of_lines with_lines with_raw_line with_line with_form with_entries with_definition with_definition_of canonical_size all_atoms number_of pattern_of spans_in tokens_in
+returns-clause-invalid_range c = refl
+
+pub returns-clause-invalid_in_version_2 : goal.returns-clause-invalid_in_version_2
+unfolding point_of_hex point_text entry_in table_of_lines with_lines with_raw_line with_line with_form with_entries with_definition with_definition_of canonical_size all_atoms number_of pattern_of spans_in tokens_in
+returns-clause-invalid_in_version_2 c = refl
+
+pub returns-clause-gaps : goal.returns-clause-gaps
+returns-clause-gaps c = refl
+
+pub returns-clause-without_source : goal.returns-clause-without_source
+returns-clause-without_source c = refl
+
+pub returns-clause-typed_gaps : goal.returns-clause-typed_gaps
+returns-clause-typed_gaps c = refl
+
+pub returns-clause-type_in_version_2 : goal.returns-clause-type_in_version_2
+unfolding point_of_hex point_text entry_in table_of_lines with_lines with_raw_line with_line with_form with_entries with_definition with_definition_of canonical_size all_atoms number_of pattern_of spans_in tokens_in
+returns-clause-type_in_version_2 c = refl

@@ -1,5 +1,5 @@
 use Rattle.std.specs.Prelude.{codes}
-use Rattle.std.proofs.Common.{false, ℕ, ◌+◌, List, [], ◌∷◌, Result, Ok, refl, ap, ◌∙◌}
+use Rattle.std.proofs.Common.{None, ℕ, ◌+◌, List, [], ◌∷◌, Result, Ok, refl, ap, ◌∙◌}
 use Rattle.idn_text.specs.Points.{point_of_hex}
 use Rattle.variant_table.specs.Faults.{LineFault}
 use Rattle.variant_table.specs.declared.version.Version.TheVariants.{Two}
@@ -16,10 +16,6 @@ use Rattle.idn_class.specs.declared.properties.Properties.TheVariants.{Profile}
 pub returns-clause-written : goal.returns-clause-written
 unfolding point_of_hex point_text entry_in table_of_lines with_lines with_raw_line with_line with_form with_entries
 returns-clause-written c = refl
-
-pub returns-clause-unblocked : goal.returns-clause-unblocked
-unfolding point_of_hex point_text entry_in table_of_lines with_lines with_raw_line with_line with_form with_entries
-returns-clause-unblocked c = refl
 
 pub returns-clause-empty : goal.returns-clause-empty
 unfolding point_of_hex point_text entry_in table_of_lines with_lines with_raw_line with_line with_form with_entries
@@ -75,4 +71,4 @@ returns-clause-bad_class c = ap (read 2 (empty_table Profile Two)) with_form-fro
 
 pub returns-clause-same_source : goal.returns-clause-same_source
 unfolding point_of_hex entry_in table_of_lines with_lines with_raw_line with_line
-returns-clause-same_source c = ap (then 2 16 (codes "0061..0063")) with_form-b ∙ ap (read 3 (table_of Two (nothing_defined Profile) (point_entry false 0x62 ∷ []))) with_form-b_again
+returns-clause-same_source c = ap (then 2 16 (codes "0061..0063")) with_form-b ∙ ap (read 3 (table_of Two (nothing_defined Profile) (point_entry None 0x62 ∷ []))) with_form-b_again

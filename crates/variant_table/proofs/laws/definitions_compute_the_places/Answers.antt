@@ -35,7 +35,7 @@ returns c = record {
   in_range = range_told;
   point = point_told;
   set_point = set_told;
-  unknown_tag = refl;
+  unknown_type = refl;
   unknown_rule = refl;
   no_definition = refl;
 }

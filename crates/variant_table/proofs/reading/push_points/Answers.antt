@@ -13,9 +13,9 @@ pub returns-then-not-branch : goal.returns-then-not-branch
 returns-then-not-branch c =
     let first : ℕ = c.args.first in
     let v : Variant = source_of (entry_from c.args.range.now) in
-    let w : Variant = record { sequence = (first + c.loop-offset.offset) ∷ []; marked = c.is_marked.result; tags = c.tags.result.now; condition = c.condition.result } in
+    let w : Variant = record { sequence = (first + c.loop-offset.offset) ∷ []; type = c.variant_type.result; condition = c.condition.result } in
     let here : w ≡ record v { sequence = (first + c.loop-offset.offset) ∷ [] } =
-    of_source c.args.range.now ((first + c.loop-offset.offset) ∷ []) c.is_marked.result c.tags.result.now c.condition.result c.is_marked.ensures c.tags.ensures.tags c.condition.ensures in
+    of_source c.args.range.now ((first + c.loop-offset.offset) ∷ []) c.variant_type.result c.condition.result c.variant_type.ensures.is c.condition.ensures in
     let i : ℕ = c.loop-offset.offset in
     let t : List Entry = c.loop-offset.entries in
     let e : Entry = entry_in_range v (first + i) in
@@ -29,9 +29,9 @@ pub loop-offset-preserved : goal.loop-offset-preserved
 loop-offset-preserved c =
     let first : ℕ = c.args.first in
     let v : Variant = source_of (entry_from c.args.range.now) in
-    let w : Variant = record { sequence = (first + c.loop-offset.offset) ∷ []; marked = c.is_marked.result; tags = c.tags.result.now; condition = c.condition.result } in
+    let w : Variant = record { sequence = (first + c.loop-offset.offset) ∷ []; type = c.variant_type.result; condition = c.condition.result } in
     let here : w ≡ record v { sequence = (first + c.loop-offset.offset) ∷ [] } =
-    of_source c.args.range.now ((first + c.loop-offset.offset) ∷ []) c.is_marked.result c.tags.result.now c.condition.result c.is_marked.ensures c.tags.ensures.tags c.condition.ensures in
+    of_source c.args.range.now ((first + c.loop-offset.offset) ∷ []) c.variant_type.result c.condition.result c.variant_type.ensures.is c.condition.ensures in
     let i : ℕ = c.loop-offset.offset in
     let t : List Entry = c.loop-offset.entries in
     let t' : List Entry = c.push-in-loop-offset.new.self in

@@ -48,11 +48,8 @@ returns-then-is_some-3-clause-read c =
     (sym c.is_some.ensures ∙ c.if-is_some.false) c.in-Some.left c.in-Some.ensures
     (sym c.is_some-2.ensures ∙ c.if-is_some-2.false) (sym c.is_some-3.ensures ∙ c.if-is_some-3.true))
 
-pub take_sequences-requires-clause-mapped : goal.take_sequences-requires-clause-mapped
-take_sequences-requires-clause-mapped c = all_mapped None (map mapped c.args.mapped.now) c.requires.noted.form
-
-pub take_sequences-requires-clause-known : goal.take_sequences-requires-clause-known
-take_sequences-requires-clause-known c =
+pub take_sequences-requires : goal.take_sequences-requires
+take_sequences-requires c =
     entry_known c.self.view_is c.args.mapped.now c.requires.noted
     (omega (arith, c.if-len-entry_limit.false, c.len.ensures, c.entry_limit.ensures.limit))
     (sym c.is_some.ensures ∙ c.if-is_some.false) c.in-Some.left c.in-Some.ensures

@@ -43,8 +43,8 @@ returns-in-Some-2-clause-read c =
     c.in-Some.left c.in-Some.ensures (sym c.is_some.ensures ∙ c.if-is_some.false) c.properties.ensures _
     (c.in_ok-bad.ensures {u = tt}) (ap is_some c.in-Some-2.is))
 
-pub take_sequences-requires-clause-known : goal.take_sequences-requires-clause-known
-take_sequences-requires-clause-known c =
+pub take_sequences-requires : goal.take_sequences-requires
+take_sequences-requires c =
     range_known c.self.view_is c.args.mapped.now c.index-mapped-0.result c.index-first.result.now c.args.last
     c.requires.noted c.index-mapped-0.is c.index-first.ensures
     (omega (arith, c.entry_limit-limit.ensures.limit, c.if-count-limit.false, c.if-len-limit.false, c.len.ensures))
