@@ -14,7 +14,6 @@ use Rattle.ruleset_text.specs.Definitions.{Demand}
 use Rattle.variant_table.specs.Entries.{TableValue}
 use Rattle.variant_table.specs.Segmentations.{seen_under}
 use Rattle.variant_table.specs.WellFormed.{IsWellFormed}
-use Rattle.valid_labels.specs.declared.longest.Sources.TheVariants.{All}
 use Rattle.valid_labels.specs.Eligible.{IsEligible, LongestLeads}
 use Rattle.valid_labels.specs.Segments.{IsSegment, SegmentStands, SegmentMayStand, MayReach}
 use Rattle.valid_labels.specs.Demands.{IsWanted, IsMet}
@@ -27,10 +26,10 @@ use Rattle.valid_labels.proofs.RuleLemmas.{rules-before}
 use Rattle.valid_labels.proofs.TestLemmas.{segment-filled}
 
 -- the longest source that stands is a segment that does
-pub leads-segment : (table : TableValue) (label : List ℕ) → IsWellFormed table.entries → (i j : ℕ) → LongestLeads All table label i j → SegmentStands table label i j
+pub leads-segment : (table : TableValue) (label : List ℕ) → IsWellFormed table.entries → (i j : ℕ) → LongestLeads table label i j → SegmentStands table label i j
 leads-segment table label formed i j h =
-    let s = leads-entry All table label formed i j h in
-    (s.0.condition, (s.2, s.3, (s.0, s.1.0, sym s.4, refl)), s.5)
+    let s = leads-entry table label formed i j h in
+    (s.0.condition, (s.2, s.3, (s.0, s.1, sym s.4, refl)), s.5)
 
 -- what holds isn't barred
 pub stands-may : (table : TableValue) (label : List ℕ) → IsSound table → (i j : ℕ) → SegmentStands table label i j → SegmentMayStand table label i j
@@ -74,7 +73,7 @@ module _ (table : TableValue) (label more : List ℕ) (sound : IsSound table) wh
   nowhere-invalid some nowhere eligible =
       let n = length-append label more in
       let end : ℕ = length (label ++ more) in
-      let made = rounds-map (LongestLeads All table (label ++ more)) (SegmentStands table (label ++ more)) (leads-segment table (label ++ more) sound.entries) 0 end eligible in
+      let made = rounds-map (LongestLeads table (label ++ more)) (SegmentStands table (label ++ more)) (leads-segment table (label ++ more) sound.entries) 0 end eligible in
       let may = rounds-map (SegmentStands table (label ++ more)) (SegmentMayStand table (label ++ more)) (stands-may table (label ++ more) sound) 0 end made in
       let before = within nowhere end may in
       let last = last-segment end (omega (arith, n, some)) made in

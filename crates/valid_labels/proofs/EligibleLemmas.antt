@@ -1,6 +1,6 @@
 -- The longest-first cut of a label: there is one, and it is found.
 use Rattle.std.proofs.Common.{◌≡◌, ℕ, zero, suc, ◌+◌, ◌-◌, ◌<◌, ◌≤◌, ◌⊎◌, inl, inr, Bool, true, false, cond, eq-eqb, List, [], ◌∷◌, length, drop, refl, sym, ap, subst, ◌∙◌, arith, length-drop, length-append}
-use Rattle.std.specs.Prelude.{◌↔◌, IsTrue, Option, Some, None, AllPairs, not}
+use Rattle.std.specs.Prelude.{◌↔◌, IsTrue, Option, Some, None, AllPairs}
 use Rattle.std.specs.List.{Contains, slice_range}
 use Rattle.std.proofs.lemmas.Bool.{eqb-true}
 use Rattle.std.proofs.lemmas.List.Elements.{All-contains, All-from_recursion}
@@ -15,16 +15,14 @@ use Rattle.variant_table.proofs.BeginningLemmas.{entries_are_at, same_entry}
 use Rattle.variant_table.proofs.MemberLemmas.{Contains-head, Contains-later, Contains-none, Contains-cases}
 use Rattle.variant_table.proofs.NumberLemmas.{pairs_tail}
 use Rattle.variant_table.specs.Segmentations.{HasSegmentation, seen_under}
-use Rattle.valid_labels.specs.declared.longest.Sources.{Sources}
-use Rattle.valid_labels.specs.declared.longest.Sources.TheVariants.{All, Inside}
-use Rattle.valid_labels.specs.Eligible.{Stands, IsLongest, IsOf, LongestLeads, CutLeadsTo, IsEligibleBy, IsCutEnd}
-use Rattle.valid_labels.specs.Tests.{holds_in, last_standing, longest_at, is_of, place_after, advanced, cut_after, cut_end, is_eligible_by}
+use Rattle.valid_labels.specs.Eligible.{Stands, IsLongest, LongestLeads, CutLeadsTo, IsEligible, IsCutEnd}
+use Rattle.valid_labels.specs.Tests.{holds_in, last_standing, longest_at, place_after, advanced, cut_after, cut_end, is_eligible}
 use Rattle.valid_labels.specs.Validity.{IsOfPoints}
 use Rattle.valid_labels.specs.Laws.{LongestFirst, OneCut}
 use Rattle.valid_labels.proofs.CutLemmas.{EntryStands, rounds-map, sequence-filled, cut-steps, steps-cut}
 use Rattle.valid_labels.proofs.EndLemmas.{part-begins}
 use Rattle.valid_labels.proofs.PartLemmas.{part-length, first-part, first-inside}
-use Rattle.valid_labels.proofs.SegmentationLemmas.{IsInside, HoldsIn, segmentation-cut}
+use Rattle.valid_labels.proofs.SegmentationLemmas.{HoldsIn, segmentation-cut}
 
 pub opposite : {P : Type 0} (b : Bool) → b ≡ true → b ≡ false → P
 opposite b t f = absurd (let g : true ≡ false = sym t ∙ f in cc)
@@ -170,159 +168,139 @@ one-longest table label place e f formed first second =
 
 -- ---- one step of the cut
 
-of-agrees : (sources : Sources) (e : Entry) → IsTrue (is_of sources e) ↔ IsOf sources e
-of-agrees All e = (λ h. tt, λ h. refl)
-of-agrees Inside e = by_mark e.outside refl
-  where
-    by_mark : (b : Bool) → e.outside ≡ b → IsTrue (not b) ↔ (e.outside ≡ false)
-    by_mark true is = (λ h. (let f : false ≡ true = h in cc), λ h. opposite e.outside is h)
-    by_mark false is = (λ h. is, λ h. refl)
-
-module _ (sources : Sources) (table : TableValue) (label : List ℕ) where
+module _ (table : TableValue) (label : List ℕ) where
   abbrev R : ℕ → ℕ → Type 0
-  R i j = LongestLeads sources table label i j
+  R i j = LongestLeads table label i j
 
-  pub leads-one : (i j k : ℕ) → LongestLeads sources table label i j → LongestLeads sources table label i k → j ≡ k
+  pub leads-one : (i j k : ℕ) → LongestLeads table label i j → LongestLeads table label i k → j ≡ k
   leads-one i j k a b =
       let l = a.1.longest b.0 b.1.stands in
       let m = b.1.longest a.0 a.1.stands in
-      let x = a.3 in
-      let y = b.3 in
+      let x = a.2 in
+      let y = b.2 in
       omega (arith, l, m, x, y)
 
-  pub ends-one : (a b : ℕ) → IsCutEnd sources table label a → IsCutEnd sources table label b → a ≡ b
+  pub ends-one : (a b : ℕ) → IsCutEnd table label a → IsCutEnd table label b → a ≡ b
   ends-one a b first second = one-end R leads-one 0 a b first.reached first.last second.reached second.last
 
   module _ (formed : IsWellFormed table.entries) where
-    pub leads-on : (i j : ℕ) → LongestLeads sources table label i j → (i < j) × (j ≤ length label)
+    pub leads-on : (i j : ℕ) → LongestLeads table label i j → (i < j) × (j ≤ length label)
     leads-on i j h =
         let some = source-filled table.entries h.0 formed h.1.stands.of_table in
         let within = begins-within label i h.0 some h.1.stands.begins in
-        let end = h.3 in
+        let end = h.2 in
         (omega (arith, some, end), omega (arith, within, end))
 
-    pub cut-within : (j : ℕ) → CutLeadsTo sources table label j → j ≤ length label
+    pub cut-within : (j : ℕ) → CutLeadsTo table label j → j ≤ length label
     cut-within _ no_round = omega arith
     cut-within _ (one_more i j rounds step) = (leads-on i j step).1
 
     -- the cut ends where its last source ends with the label
-    pub whole-end : IsEligibleBy sources table label → IsCutEnd sources table label (length label)
+    pub whole-end : IsEligible table label → IsCutEnd table label (length label)
     whole-end h = record { reached = h; last = λ j step. (let l = leads-on (length label) j step in let m = l.0 in let n = l.1 in omega (arith, m, n)) }
 
-    -- it goes no further where nothing stands, or only by a source by which the label may not be cut
-    pub none-leads : (place : ℕ) → longest_at table label place ≡ None → (j : ℕ) → LongestLeads sources table label place j → ⊥
+    -- it goes no further where nothing stands
+    pub none-leads : (place : ℕ) → longest_at table label place ≡ None → (j : ℕ) → LongestLeads table label place j → ⊥
     none-leads place none j h = elim (longest-is table label place formed) [
       | inl a ↦ a.1 h.0 h.1.stands
       | inr b ↦ absurd (let f : None ≡ Some b.0 = sym none ∙ b.1 in cc)
     ]
 
-    pub other-leads : (place : ℕ) (e : Entry) → longest_at table label place ≡ Some e → (IsOf sources e → ⊥) → (j : ℕ) → LongestLeads sources table label place j → ⊥
-    other-leads place e some other j h = elim (longest-is table label place formed) [
+    pub some-leads : (place : ℕ) (e : Entry) → longest_at table label place ≡ Some e → LongestLeads table label place (place + length e.source)
+    some-leads place e some = elim (longest-is table label place formed) [
       | inl a ↦ absurd (let f : None ≡ Some e = sym a.0 ∙ some in cc)
-      | inr b ↦
-          let same : b.0 ≡ e = same_Some b.0 e (sym b.1 ∙ some) in
-          other (subst (IsOf sources) (one-longest table label place h.0 b.0 formed h.1 b.2 ∙ same) h.2)
-    ]
-
-    pub some-leads : (place : ℕ) (e : Entry) → longest_at table label place ≡ Some e → IsOf sources e → LongestLeads sources table label place (place + length e.source)
-    some-leads place e some of = elim (longest-is table label place formed) [
-      | inl a ↦ absurd (let f : None ≡ Some e = sym a.0 ∙ some in cc)
-      | inr b ↦ (e, subst (IsLongest table label place) (same_Some b.0 e (sym b.1 ∙ some)) b.2, of, refl)
+      | inr b ↦ (e, subst (IsLongest table label place) (same_Some b.0 e (sym b.1 ∙ some)) b.2, refl)
     ]
 
     -- ---- the cut as it computes
 
-    advanced-is : (place : ℕ) → LongestLeads sources table label place (advanced sources table label place) ⊎ ((advanced sources table label place ≡ place) × ((j : ℕ) → LongestLeads sources table label place j → ⊥))
+    advanced-is : (place : ℕ) → LongestLeads table label place (advanced table label place) ⊎ ((advanced table label place ≡ place) × ((j : ℕ) → LongestLeads table label place j → ⊥))
     advanced-is place = by_longest (longest_at table label place) refl
       where
-        by_longest : (o : Option Entry) → longest_at table label place ≡ o → LongestLeads sources table label place (place_after sources place o) ⊎ ((place_after sources place o ≡ place) × ((j : ℕ) → LongestLeads sources table label place j → ⊥))
+        by_longest : (o : Option Entry) → longest_at table label place ≡ o → LongestLeads table label place (place_after place o) ⊎ ((place_after place o ≡ place) × ((j : ℕ) → LongestLeads table label place j → ⊥))
         by_longest None is = inr (refl, none-leads place is)
-        by_longest (Some e) is = by_of (is_of sources e) refl
-          where
-            by_of : (b : Bool) → is_of sources e ≡ b → LongestLeads sources table label place (cond b (place + length e.source) place) ⊎ ((cond b (place + length e.source) place ≡ place) × ((j : ℕ) → LongestLeads sources table label place j → ⊥))
-            by_of true of = inl (some-leads place e is ((of-agrees sources e).0 of))
-            by_of false of = inr (refl, other-leads place e is (λ h. opposite (is_of sources e) ((of-agrees sources e).1 h) of))
+        by_longest (Some e) is = inl (some-leads place e is)
 
-    after-is : (n : ℕ) → CutLeadsTo sources table label (cut_after sources table label n) × ((n ≤ cut_after sources table label n) ⊎ ((j : ℕ) → LongestLeads sources table label (cut_after sources table label n) j → ⊥))
+    after-is : (n : ℕ) → CutLeadsTo table label (cut_after table label n) × ((n ≤ cut_after table label n) ⊎ ((j : ℕ) → LongestLeads table label (cut_after table label n) j → ⊥))
     after-is zero = (no_round, inl (omega arith))
     after-is (suc n) =
         let before = after-is n in
-        let place = cut_after sources table label n in
+        let place = cut_after table label n in
         elim (advanced-is place) [
           | inl step ↦ (
-            one_more place (advanced sources table label place) before.0 step,
+            one_more place (advanced table label place) before.0 step,
             elim before.1 [
-              | inl l ↦ inl (let m = (leads-on place (advanced sources table label place) step).0 in omega (arith, l, m))
-              | inr last ↦ absurd (last (advanced sources table label place) step)
+              | inl l ↦ inl (let m = (leads-on place (advanced table label place) step).0 in omega (arith, l, m))
+              | inr last ↦ absurd (last (advanced table label place) step)
             ],
           )
-          | inr same ↦ (subst (CutLeadsTo sources table label) (sym same.0) before.0, inr (λ j step. same.1 j (subst (λ p. LongestLeads sources table label p j) same.0 step)))
+          | inr same ↦ (subst (CutLeadsTo table label) (sym same.0) before.0, inr (λ j step. same.1 j (subst (λ p. LongestLeads table label p j) same.0 step)))
         ]
 
-    pub cut-end-is : IsCutEnd sources table label (cut_end sources table label)
+    pub cut-end-is : IsCutEnd table label (cut_end table label)
     cut-end-is =
         let is = after-is (length label) in
         record {
           reached = is.0;
           last = λ j step. elim is.1 [
-            | inl l ↦ (let on = leads-on (cut_end sources table label) j step in let m = on.0 in let n = on.1 in absurd (omega (arith, l, m, n)))
+            | inl l ↦ (let on = leads-on (cut_end table label) j step in let m = on.0 in let n = on.1 in absurd (omega (arith, l, m, n)))
             | inr last ↦ last j step
           ];
         }
 
-    pub end-told : (place : ℕ) → IsCutEnd sources table label place ↔ (place ≡ cut_end sources table label)
+    pub end-told : (place : ℕ) → IsCutEnd table label place ↔ (place ≡ cut_end table label)
     end-told place = (
-      λ is. ends-one place (cut_end sources table label) is cut-end-is,
-      λ e. subst (IsCutEnd sources table label) (sym e) cut-end-is,
+      λ is. ends-one place (cut_end table label) is cut-end-is,
+      λ e. subst (IsCutEnd table label) (sym e) cut-end-is,
     )
 
-    pub eligible-whole : IsEligibleBy sources table label ↔ IsCutEnd sources table label (length label)
+    pub eligible-whole : IsEligible table label ↔ IsCutEnd table label (length label)
     eligible-whole = (whole-end, λ is. is.reached)
 
-    pub eligible-agrees : IsTrue (is_eligible_by sources table label) ↔ IsEligibleBy sources table label
+    pub eligible-agrees : IsTrue (is_eligible table label) ↔ IsEligible table label
     eligible-agrees = (
-      λ h. eligible-whole.1 ((end-told (length label)).1 (sym (eqb-true (cut_end sources table label) (length label) h))),
-      λ h. eq-eqb (cut_end sources table label) (length label) (sym ((end-told (length label)).0 (whole-end h))),
+      λ h. eligible-whole.1 ((end-told (length label)).1 (sym (eqb-true (cut_end table label) (length label) h))),
+      λ h. eq-eqb (cut_end table label) (length label) (sym ((end-told (length label)).0 (whole-end h))),
     )
 
 -- a place at which a cut ends tells whether the label is eligible
-pub end-tests : (sources : Sources) (table : TableValue) (label : List ℕ) (place : ℕ) (b : Bool) → IsWellFormed table.entries → IsCutEnd sources table label place → IsTrue b ↔ (place ≡ length label) → IsTrue b ↔ IsEligibleBy sources table label
-end-tests sources table label place b formed is tells = (
-  λ h. subst (CutLeadsTo sources table label) (tells.0 h) is.reached,
-  λ h. tells.1 (ends-one sources table label place (length label) is (whole-end sources table label formed h)),
+pub end-tests : (table : TableValue) (label : List ℕ) (place : ℕ) (b : Bool) → IsWellFormed table.entries → IsCutEnd table label place → IsTrue b ↔ (place ≡ length label) → IsTrue b ↔ IsEligible table label
+end-tests table label place b formed is tells = (
+  λ h. subst (CutLeadsTo table label) (tells.0 h) is.reached,
+  λ h. tells.1 (ends-one table label place (length label) is (whole-end table label formed h)),
 )
 
 -- ---- the cut among others
 
 -- what stands at a place is there from it to its end
-pub leads-entry : (sources : Sources) (table : TableValue) (label : List ℕ) → IsWellFormed table.entries → (i j : ℕ) → LongestLeads sources table label i j
-    → EntryStands (λ e. Contains table.entries e × IsOf sources e) (HoldsIn table label) label i j
-leads-entry sources table label formed i j h =
-    let on = leads-on sources table label formed i j h in
+pub leads-entry : (table : TableValue) (label : List ℕ) → IsWellFormed table.entries → (i j : ℕ) → LongestLeads table label i j
+    → EntryStands (Contains table.entries) (HoldsIn table label) label i j
+leads-entry table label formed i j h =
+    let on = leads-on table label formed i j h in
     let begins = h.1.stands.begins in
     let less = on.0 in (
       h.0,
-      (h.1.stands.of_table, h.2),
+      h.1.stands.of_table,
       omega (arith, less),
       on.1,
-      ap (slice_range label i) h.3 ∙ first-part label i h.0.source begins.0 begins.1,
-      subst (HoldsIn table label h.0.condition i) (sym h.3) h.1.stands.holds,
+      ap (slice_range label i) h.2 ∙ first-part label i h.0.source begins.0 begins.1,
+      subst (HoldsIn table label h.0.condition i) (sym h.2) h.1.stands.holds,
     )
 
 -- the sources of the cut are there one after the other
-eligible-entries : (sources : Sources) (table : TableValue) (label : List ℕ) (j : ℕ) → CutLeadsTo sources table label j
-    → (j ≤ length label) × Rounds (EntryStands (λ e. Contains table.entries e × IsOf sources e) (HoldsIn table label) label) 0 j
-eligible-entries sources table label _ no_round = (omega arith, no_round)
-eligible-entries sources table label _ (one_more i j rounds h) =
-    let before = eligible-entries sources table label i rounds in
+eligible-entries : (table : TableValue) (label : List ℕ) (j : ℕ) → CutLeadsTo table label j
+    → (j ≤ length label) × Rounds (EntryStands (Contains table.entries) (HoldsIn table label) label) 0 j
+eligible-entries table label _ no_round = (omega arith, no_round)
+eligible-entries table label _ (one_more i j rounds h) =
+    let before = eligible-entries table label i rounds in
     let e = h.0 in
     let begins = h.1.stands.begins in
-    let end = h.3 in
+    let end = h.2 in
     let inside = first-inside label i e.source begins.0 before.0 begins.1 in (
       omega (arith, inside, end),
       one_more i j before.1 (
         e,
-        (h.1.stands.of_table, h.2),
+        h.1.stands.of_table,
         omega (arith, end),
         omega (arith, inside, end),
         ap (slice_range label i) end ∙ first-part label i e.source begins.0 begins.1,
@@ -330,12 +308,12 @@ eligible-entries sources table label _ (one_more i j rounds h) =
       ),
     )
 
-pub eligible-segmentation : (table : TableValue) (label : List ℕ) → IsEligibleBy Inside table label → HasSegmentation table label
-eligible-segmentation table label h = (segmentation-cut table label).1 (steps-cut (IsInside table) (HoldsIn table label) label (eligible-entries Inside table label (length label) h).1)
+pub eligible-segmentation : (table : TableValue) (label : List ℕ) → IsEligible table label → HasSegmentation table label
+eligible-segmentation table label h = (segmentation-cut table label).1 (steps-cut (Contains table.entries) (HoldsIn table label) label (eligible-entries table label (length label) h).1)
 
 -- a source of one code point is the longest where each is one
-pub point-leads : (sources : Sources) (table : TableValue) (label : List ℕ) → IsOfPoints table → (i j : ℕ) → EntryStands (λ e. Contains table.entries e × IsOf sources e) (HoldsIn table label) label i j → LongestLeads sources table label i j
-point-leads sources table label points i j s =
+pub point-leads : (table : TableValue) (label : List ℕ) → IsOfPoints table → (i j : ℕ) → EntryStands (Contains table.entries) (HoldsIn table label) label i j → LongestLeads table label i j
+point-leads table label points i j s =
     let e = s.0 in
     let le = s.2 in
     let size : length e.source ≡ j - i = ap length (sym s.4) ∙ part-length label i j s.2 s.3 in
@@ -343,21 +321,16 @@ point-leads sources table label points i j s =
     let one = λ (f : Entry) (h : Contains table.entries f). All-contains (λ (x : Entry). length x.source ≡ 1) table.entries f (All-from_recursion (λ (x : Entry). length x.source ≡ 1) table.entries points) h in (
       e,
       record {
-        stands = record { of_table = s.1.0; begins = part-begins label i j e s.4; holds = subst (HoldsIn table label e.condition i) end s.5 };
-        longest = λ f stands. (let a = one f stands.of_table in let b = one e s.1.0 in omega (arith, a, b));
+        stands = record { of_table = s.1; begins = part-begins label i j e s.4; holds = subst (HoldsIn table label e.condition i) end s.5 };
+        longest = λ f stands. (let a = one f stands.of_table in let b = one e s.1 in omega (arith, a, b));
       },
-      s.1.1,
       end,
     )
 
-pub points-eligible : (table : TableValue) (label : List ℕ) → IsOfPoints table → HasSegmentation table label → IsEligibleBy Inside table label
+pub points-eligible : (table : TableValue) (label : List ℕ) → IsOfPoints table → HasSegmentation table label → IsEligible table label
 points-eligible table label points h =
-    rounds-map (EntryStands (IsInside table) (HoldsIn table label) label) (LongestLeads Inside table label) (point-leads Inside table label points) 0 (length label)
-    (cut-steps (IsInside table) (HoldsIn table label) label ((segmentation-cut table label).0 h))
-
--- each source of the cut of a label that is asked about is a source of its cut as a variant
-pub inside-eligible : (table : TableValue) (label : List ℕ) → IsEligibleBy Inside table label → IsEligibleBy All table label
-inside-eligible table label h = rounds-map (LongestLeads Inside table label) (LongestLeads All table label) (λ i j s. (s.0, s.1, tt, s.3)) 0 (length label) h
+    rounds-map (EntryStands (Contains table.entries) (HoldsIn table label) label) (LongestLeads table label) (point-leads table label points) 0 (length label)
+    (cut-steps (Contains table.entries) (HoldsIn table label) label ((segmentation-cut table label).0 h))
 
 pub longest-first : LongestFirst
 longest-first = record { no_more = eligible-segmentation; of_points = points-eligible }
@@ -365,6 +338,6 @@ longest-first = record { no_more = eligible-segmentation; of_points = points-eli
 pub one-cut : OneCut
 one-cut = record {
   source = one-longest;
-  told = λ sources table label place formed. end-told sources table label formed place;
-  whole = λ sources table label formed. eligible-whole sources table label formed;
+  told = λ table label place formed. end-told table label formed place;
+  whole = λ table label formed. eligible-whole table label formed;
 }

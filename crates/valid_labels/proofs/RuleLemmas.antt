@@ -1,19 +1,20 @@
 -- No rule of a table asks for the end of a label before '_'.
-use Rattle.std.proofs.Common.{◌≡◌, ℕ, inl, inr, Bool, true, false, not, cond, ◌&&◌, List, [], ◌∷◌, length, refl, arith}
+use Rattle.std.proofs.Common.{◌≡◌, ℕ, inl, inr, Bool, true, false, not, cond, ◌&&◌, ◌||◌, List, [], ◌∷◌, length, refl, sym, ap, ◌∙◌, arith}
 use Rattle.std.specs.Prelude.{IsTrue}
 use Rattle.std.specs.List.{AllByRecursion}
 use Rattle.std.proofs.lemmas.Bool.{or_parts}
-use Rattle.label_patterns.specs.Laws.{IgnoresEnd, IgnoresEndBefore}
+use Rattle.label_patterns.specs.Laws.{ContextsIgnoreEnd, IgnoresEnd, IgnoresEndBefore}
 use Rattle.label_patterns.specs.Patterns.{Pattern, Point, Set, Any, Start, End, Anchor, Group, Optional, Many, Then, Either}
 use Rattle.label_patterns.specs.Rules as rules
 use Rattle.label_patterns.specs.Rules.{branches}
 use Rattle.ruleset_text.specs.Signs as sign
 use Rattle.ruleset_text.specs.Definition as definition
 use Rattle.ruleset_text.specs.Definitions.{Definitions, named}
-use Rattle.ruleset_text.specs.Rules.{has, is_anchor, is_before, is_after, is_context, is_rule}
+use Rattle.ruleset_text.specs.Rules.{has, is_anchor, is_before, is_after, is_context, is_rule, is_rule_or_whole}
 use Rattle.idn_class.specs.declared.properties.Properties.{Properties}
 use Rattle.ruleset_text.specs.WellFormed.{IsDefinition, AreDefinitions}
-use Rattle.ruleset_text.proofs.KnownPatternLemmas.{all_before, rules_in, demands_in, patterns}
+use Rattle.ruleset_text.proofs.FormLemmas.{whole_rule}
+use Rattle.ruleset_text.proofs.KnownPatternLemmas.{rules_are}
 use Rattle.variant_table.proofs.MemberLists.{not-true}
 use Rattle.label_patterns.proofs.TestLemmas.{and-both}
 
@@ -84,12 +85,23 @@ rule-before (Many p) h = (tt, tt)
 rule-before (Then p q) h = (item-before p q (context-before q) h, tt)
 rule-before (Either p q) h = let two = (and-both (is_context p) (is_rule q)).0 h in (context-before p two.0, rule-before q two.1)
 
+-- a whole-label rule has no '_'
+rule-ignores : (p : Pattern) → is_rule_or_whole p ≡ true → ContextsIgnoreEnd p
+rule-ignores p h asked = by (is_rule p) refl
+  where
+    by : (b : Bool) → is_rule p ≡ b → AllByRecursion IgnoresEndBefore (branches p)
+    by true is = rule-before p is
+    by false is =
+        let none : not (has sign.Anchor p) ≡ true = sym (ap (λ b. b || not (has sign.Anchor p)) is) ∙ h in
+        let both : true ≡ false = sym asked ∙ whole_rule p (not-is (has sign.Anchor p) none) in
+        absurd cc
+
 rules-from : (properties : Properties) (sets names : List (List ℕ)) (rules : List Pattern) → length names ≡ length rules → AllByRecursion (IsDefinition properties sets) (named definition.Rule names rules)
-    → AllByRecursion (λ rule. AllByRecursion IgnoresEndBefore (branches rule)) rules
+    → AllByRecursion ContextsIgnoreEnd rules
 rules-from properties sets [] [] same all = tt
 rules-from properties sets [] (p ∷ rules) same all = absurd (omega (arith, same))
 rules-from properties sets (name ∷ names) [] same all = tt
-rules-from properties sets (name ∷ names) (p ∷ rules) same all = (rule-before p all.0.parts.1, rules-from properties sets names rules (omega (arith, same)) all.1)
+rules-from properties sets (name ∷ names) (p ∷ rules) same all = (rule-ignores p all.0.parts.1, rules-from properties sets names rules (omega (arith, same)) all.1)
 
-pub rules-before : (d : Definitions) → AreDefinitions d → AllByRecursion (λ rule. AllByRecursion IgnoresEndBefore (branches rule)) d.rules
-rules-before d are = rules-from d.properties d.set_names d.rule_names d.rules are.named_rules (all_before (IsDefinition d.properties d.set_names) (rules_in d) (demands_in d) (patterns d are))
+pub rules-before : (d : Definitions) → AreDefinitions d → AllByRecursion ContextsIgnoreEnd d.rules
+rules-before d are = rules-from d.properties d.set_names d.rule_names d.rules are.named_rules (rules_are d are)

@@ -1,9 +1,7 @@
 -- Segmentations, and what a label is made of.
 use Rattle.std.proofs.Common.{◌≡◌, ℕ, ◌+◌, List, [], ◌∷◌, length, sym, subst}
-use Rattle.std.specs.Prelude.{◌↔◌, Option, None, false, Contains}
+use Rattle.std.specs.Prelude.{◌↔◌, Option, None, Contains}
 use Rattle.label_patterns.specs.declared.condition.Condition.{Condition}
-use Rattle.valid_labels.specs.Segments.{IsCovered}
-use Rattle.variant_table.proofs.MemberLists.{all-map}
 use Rattle.valid_labels.proofs.CutLemmas.{AllAsked, IsCut}
 use Rattle.std.specs.List.{AllByRecursion}
 use Rattle.std.proofs.lemmas.List.Elements.{All-contains, All-from_recursion}
@@ -27,24 +25,19 @@ all-hold rules seen place (e ∷ segmentation) none = (
 )
 
 pub made-from_segmentation : (table : TableValue) (label : List ℕ) → HasSegmentation table label → IsMadeOfSources table label
-made-from_segmentation table label (entries, is) = (entries, record { of_table = is.of_table; inside = is.inside; joined = is.joined })
+made-from_segmentation table label (entries, is) = (entries, record { of_table = is.of_table; joined = is.joined })
 
 pub segmentation-free : (table : TableValue) (label : List ℕ) → HasNoConditions table → IsMadeOfSources table label → HasSegmentation table label
 segmentation-free table label none (entries, is) = (
   entries,
   record {
     of_table = is.of_table;
-    inside = is.inside;
     joined = is.joined;
     held = all-hold table.definitions.rules (seen_under table label) 0 entries (all-among (λ e. e.condition ≡ None) table.entries entries none is.of_table);
   },
 )
 
 -- ---- segmentations as cuts
-
--- an entry of the table that is not outside
-abbrev pub IsInside : TableValue → Entry → Type 0
-IsInside table e = Contains table.entries e × (e.outside ≡ false)
 
 abbrev pub NotAsked : Option Condition → ℕ → ℕ → Type 0
 NotAsked c i j = Unit {0}
@@ -62,42 +55,14 @@ asked-hold table label place (e ∷ es) =
     let rest = asked-hold table label (place + length e.source) es in
     (λ h. (h.0, rest.0 h.1), λ h. (h.0, rest.1 h.1))
 
-pub both : (P Q : Entry → Type 0) (es : List Entry) → AllByRecursion P es → AllByRecursion Q es → AllByRecursion (λ e. P e × Q e) es
-both P Q [] p q = tt
-both P Q (e ∷ es) p q = ((p.0, q.0), both P Q es p.1 q.1)
-
-inside-each : (table : TableValue) (es : List Entry) → AllByRecursion (Contains table.entries) es → AllByRecursion (λ e. e.outside ≡ false) es → AllByRecursion (IsInside table) es
-inside-each table es = both (Contains table.entries) (λ e. e.outside ≡ false) es
-
-pub made-cut : (table : TableValue) (label : List ℕ) → IsMadeOfSources table label ↔ ((es : List Entry) × IsCut (IsInside table) NotAsked label es)
+pub made-cut : (table : TableValue) (label : List ℕ) → IsMadeOfSources table label ↔ ((es : List Entry) × IsCut (Contains table.entries) NotAsked label es)
 made-cut table label = (
-  λ h. (h.0, record { each = inside-each table h.0 h.1.of_table h.1.inside; joined = h.1.joined; asked = asked-free 0 h.0 }),
-  λ h. (
-    h.0,
-    record {
-      of_table = all-map (IsInside table) (Contains table.entries) h.0 (λ e p. p.0) h.1.each;
-      inside = all-map (IsInside table) (λ (e : Entry). e.outside ≡ false) h.0 (λ e p. p.1) h.1.each;
-      joined = h.1.joined;
-    },
-  ),
+  λ h. (h.0, record { each = h.1.of_table; joined = h.1.joined; asked = asked-free 0 h.0 }),
+  λ h. (h.0, record { of_table = h.1.each; joined = h.1.joined }),
 )
 
-pub segmentation-cut : (table : TableValue) (label : List ℕ) → HasSegmentation table label ↔ ((es : List Entry) × IsCut (IsInside table) (HoldsIn table label) label es)
+pub segmentation-cut : (table : TableValue) (label : List ℕ) → HasSegmentation table label ↔ ((es : List Entry) × IsCut (Contains table.entries) (HoldsIn table label) label es)
 segmentation-cut table label = (
-  λ h. (h.0, record { each = inside-each table h.0 h.1.of_table h.1.inside; joined = h.1.joined; asked = (asked-hold table label 0 h.0).0 h.1.held }),
-  λ h. (
-    h.0,
-    record {
-      of_table = all-map (IsInside table) (Contains table.entries) h.0 (λ e p. p.0) h.1.each;
-      inside = all-map (IsInside table) (λ (e : Entry). e.outside ≡ false) h.0 (λ e p. p.1) h.1.each;
-      joined = h.1.joined;
-      held = (asked-hold table label 0 h.0).1 h.1.asked;
-    },
-  ),
-)
-
-pub covered-cut : (table : TableValue) (points : List ℕ) → IsCovered table points ↔ ((es : List Entry) × IsCut (Contains table.entries) NotAsked points es)
-covered-cut table points = (
-  λ h. (h.0, record { each = h.1; joined = h.2; asked = asked-free 0 h.0 }),
-  λ h. (h.0, h.1.each, h.1.joined),
+  λ h. (h.0, record { each = h.1.of_table; joined = h.1.joined; asked = (asked-hold table label 0 h.0).0 h.1.held }),
+  λ h. (h.0, record { of_table = h.1.each; joined = h.1.joined; held = (asked-hold table label 0 h.0).1 h.1.asked }),
 )

@@ -24,7 +24,6 @@ use Rattle.valid_labels.specs.declared.cutting.SingleSteps.{SingleSteps}
 use Rattle.variant_table.specs.Segmentations.{seen_under}
 use Rattle.valid_labels.specs.inner.Singles.{asked_at, places_of_kind, AreHoldingSteps, AreSingles, IsSingle}
 use Rattle.valid_labels.specs.inner.Steps.{AreSteps, SourceIs}
-use Rattle.valid_labels.specs.declared.longest.Sources.TheVariants.{All}
 use Rattle.valid_labels.specs.Eligible.{LongestLeads}
 use Rattle.valid_labels.proofs.EligibleLemmas.{begins-within, source-filled, leads-entry}
 use Rattle.valid_labels.proofs.EndLemmas.{part-begins}
@@ -47,10 +46,10 @@ single-point table point e formed single = record {
 -- ---- steps from single places
 
 -- from a single code point the longest source that stands is that code point, if it may stand there
-single-longest : (table : TableValue) (label : List ℕ) → IsWellFormed table.entries → (i : ℕ) (d : Option Condition) → i < length label → IsSingle table (get_or label i 0) d → (j : ℕ) → LongestLeads All table label i j ↔ ((j ≡ i + 1) × HoldsIn table label d i (i + 1))
+single-longest : (table : TableValue) (label : List ℕ) → IsWellFormed table.entries → (i : ℕ) (d : Option Condition) → i < length label → IsSingle table (get_or label i 0) d → (j : ℕ) → LongestLeads table label i j ↔ ((j ≡ i + 1) × HoldsIn table label d i (i + 1))
 single-longest table label formed i d l single j =
     let steps = λ (k : ℕ). single-steps (HoldsIn table label) table label i d l single k in (
-      λ h. (let s = leads-entry All table label formed i j h in (steps j).0 (s.0, s.1.0, s.2, s.3, s.4, s.5)),
+      λ h. (let s = leads-entry table label formed i j h in (steps j).0 s),
       λ h.
           let s = (steps j).1 h in
           let e = s.0 in
@@ -66,7 +65,6 @@ single-longest table label formed i d l single j =
                   let here = h.0 in
                   omega (arith, one, here, end);
             },
-            tt,
             end,
           ),
     )
@@ -91,13 +89,13 @@ steps-of A R table label places steps lead singles known leading i h =
 
 -- the same by the values that the program holds: where conditions hold
 pub holding-steps : (table T : TableValue) (D : Definitions) (S : Seen) (label : List ℕ) (places : SinglePlaces) (steps : SingleSteps) → IsWellFormed table.entries → T ≡ table → D ≡ T.definitions → S ≡ seen_under table label → AreSingles (length label) table label places
-    → AreHoldingSteps D.rules S places steps → AreSteps (LongestLeads All T label) (length label) steps
+    → AreHoldingSteps D.rules S places steps → AreSteps (LongestLeads T label) (length label) steps
 holding-steps table T D S label places steps formed t d s singles holding =
     let same : D ≡ table.definitions = d ∙ ap (λ (x : TableValue). x.definitions) t in
     let of_table : AreHoldingSteps table.definitions.rules (seen_under table label) places steps =
     subst (λ y. AreHoldingSteps y.rules (seen_under table label) places steps) same (subst (λ z. AreHoldingSteps D.rules z places steps) s holding) in
-    subst (λ x. AreSteps (LongestLeads All x label) (length label) steps) (sym t)
-    (steps-of (HoldsIn table label) (LongestLeads All table label) table label places steps (single-longest table label formed) singles of_table.known of_table.leading)
+    subst (λ x. AreSteps (LongestLeads x label) (length label) steps) (sym t)
+    (steps-of (HoldsIn table label) (LongestLeads table label) table label places steps (single-longest table label formed) singles of_table.known of_table.leading)
 
 -- and where conditions aren't barred, if nothing is asked
 pub unbarred-steps : (table T : TableValue) (D : Definitions) (S : Seen) (label : List ℕ) (places : SinglePlaces) (steps : SingleSteps) → T ≡ table → D ≡ T.definitions → S ≡ seen_under table label → AreSingles (length label) table label places

@@ -1,38 +1,27 @@
 -- Labels that are made of sources, by their steps; how far sources reach.
 use Rattle.std.proofs.Common.{◌≡◌, ℕ, zero, suc, ◌<◌, ◌≤◌, inl, inr, Bool, true, false, cond, List, [], ◌++◌, length, take, drop, refl, sym, ap, subst, ◌∙◌, arith, length-append}
-use Rattle.std.specs.Prelude.{◌↔◌, IsTrue, Option}
+use Rattle.std.specs.Prelude.{◌↔◌, IsTrue}
 use Rattle.std.specs.List.{Contains}
 use Rattle.std.proofs.lemmas.Bool.{cases_order}
 use Rattle.std.proofs.lemmas.List.{take-append-drop, length-take-le, take_all}
-use Rattle.label_patterns.specs.declared.condition.Condition.{Condition}
 use Rattle.label_patterns.specs.Matches.{Rounds, no_round, one_more}
 use Rattle.variant_table.specs.Entries.{Entry, TableValue}
 use Rattle.variant_table.specs.WellFormed.{IsWellFormed}
 use Rattle.variant_table.specs.Segmentations.{IsMadeOfSources}
-use Rattle.valid_labels.specs.Segments.{IsCovered}
 use Rattle.valid_labels.specs.Tests.{is_made_of_sources}
 use Rattle.valid_labels.specs.Furthest.{furthest, furthest_within, IsFurthest, FurthestIsTold}
 use Rattle.valid_labels.specs.inner.Steps.{SourceIs}
 use Rattle.valid_labels.proofs.CutLemmas.{EntryStands, cut-steps, steps-cut, rounds-map}
 use Rattle.valid_labels.proofs.PartLemmas.{part-stays}
-use Rattle.valid_labels.proofs.SegmentationLemmas.{IsInside, NotAsked, made-cut, covered-cut}
+use Rattle.valid_labels.proofs.SegmentationLemmas.{NotAsked, made-cut}
 use Rattle.valid_labels.proofs.TestLemmas.{made-agrees}
 
--- steps by sources
-pub source-steps : (asks : Entry → ℕ → ℕ → Type 0) (Q : Entry → Type 0) (A : Option Condition → ℕ → ℕ → Type 0) (entries : List Entry) (label : List ℕ)
-    → ((e : Entry) (i j : ℕ) → (Contains entries e × asks e i j) ↔ (Q e × A e.condition i j)) → (j : ℕ) → Rounds (SourceIs asks entries label) 0 j ↔ Rounds (EntryStands Q A label) 0 j
-source-steps asks Q A entries label same j = (
-  rounds-map (SourceIs asks entries label) (EntryStands Q A label) (λ a b s. let q = (same s.0 a b).0 (s.1, s.5) in (s.0, q.0, s.2, s.3, s.4, q.1)) 0 j,
-  rounds-map (EntryStands Q A label) (SourceIs asks entries label) (λ a b s. let q = (same s.0 a b).1 (s.1, s.5) in (s.0, q.0, s.2, s.3, s.4, q.1)) 0 j,
+-- steps by sources of which nothing is asked
+pub source-steps : (entries : List Entry) (label : List ℕ) (j : ℕ) → Rounds (SourceIs (λ _ _ _. Unit {0}) entries label) 0 j ↔ Rounds (EntryStands (Contains entries) NotAsked label) 0 j
+source-steps entries label j = (
+  rounds-map (SourceIs (λ _ _ _. Unit {0}) entries label) (EntryStands (Contains entries) NotAsked label) (λ a b s. s) 0 j,
+  rounds-map (EntryStands (Contains entries) NotAsked label) (SourceIs (λ _ _ _. Unit {0}) entries label) (λ a b s. s) 0 j,
 )
-
-pub covered-steps : (table : TableValue) (points : List ℕ) → Rounds (SourceIs (λ _ _ _. Unit {0}) table.entries points) 0 (length points) ↔ IsCovered table points
-covered-steps table points =
-    let s = source-steps (λ _ _ _. Unit {0}) (Contains table.entries) NotAsked table.entries points (λ e i j. (λ h. h, λ h. h)) (length points) in
-    let c = covered-cut table points in (
-      λ h. c.1 (steps-cut (Contains table.entries) NotAsked points (s.0 h)),
-      λ h. s.1 (cut-steps (Contains table.entries) NotAsked points (c.0 h)),
-    )
 
 -- steps of a beginning are steps of the label, and the other way round
 module _ (Q : Entry → Type 0) (label more : List ℕ) where
@@ -47,10 +36,10 @@ module _ (Q : Entry → Type 0) (label more : List ℕ) where
   pub beginning-steps : (j : ℕ) → j ≤ length label → Rounds (EntryStands Q NotAsked (label ++ more)) 0 j ↔ Rounds (EntryStands Q NotAsked label) 0 j
   beginning-steps j l = (shorter j l, rounds-map (EntryStands Q NotAsked label) (EntryStands Q NotAsked (label ++ more)) longer 0 j)
 
-pub made-steps : (table : TableValue) (label : List ℕ) (j : ℕ) → j ≤ length label → Rounds (SourceIs (λ e _ _. e.outside ≡ false) table.entries label) 0 j ↔ IsMadeOfSources table (take j label)
+pub made-steps : (table : TableValue) (label : List ℕ) (j : ℕ) → j ≤ length label → Rounds (SourceIs (λ _ _ _. Unit {0}) table.entries label) 0 j ↔ IsMadeOfSources table (take j label)
 made-steps table label j l =
-    let Q : Entry → Type 0 = IsInside table in
-    let s = source-steps (λ e _ _. e.outside ≡ false) Q NotAsked table.entries label (λ e a b. (λ h. ((h.0, h.1), tt), λ h. (h.0.0, h.0.1))) j in
+    let Q : Entry → Type 0 = Contains table.entries in
+    let s = source-steps table.entries label j in
     let size = length-take-le j label l in
     let short = beginning-steps Q (take j label) (drop j label) j (omega (arith, size)) in
     let whole = take-append-drop j label in
@@ -64,7 +53,7 @@ made-steps table label j l =
 -- ---- how far they reach
 
 pub nothing-made : (table : TableValue) (label : List ℕ) → IsMadeOfSources table (take 0 label)
-nothing-made table label = ([], record { of_table = tt; inside = tt; joined = refl })
+nothing-made table label = ([], record { of_table = tt; joined = refl })
 
 -- the greatest number up to a count
 record IsGreatest (table : TableValue) (label : List ℕ) (count place : ℕ) : Type 0 where

@@ -1,5 +1,5 @@
 -- The tests that compute are true where the definitions hold.
-use Rattle.std.proofs.Common.{◌≡◌, ℕ, zero, suc, ◌+◌, ◌<◌, ◌≤◌, inl, inr, Bool, true, false, not, ◌&&◌, ◌||◌, eqb, eq-eqb, ltb, List, [], ◌∷◌, length, refl, sym, ap, subst, ◌∙◌, arith}
+use Rattle.std.proofs.Common.{◌≡◌, ℕ, zero, suc, ◌+◌, ◌<◌, ◌≤◌, ◌⊎◌, inl, inr, Bool, true, false, not, ◌&&◌, ◌||◌, eqb, eq-eqb, ltb, List, [], ◌∷◌, length, refl, sym, ap, subst, ◌∙◌, arith}
 use Rattle.std.specs.Prelude.{◌↔◌, ◌≢◌, IsTrue, Option, Some, None}
 use Rattle.std.specs.Option.{is_some}
 use Rattle.std.specs.List.{list_any, AllByRecursion, Contains, slice_range}
@@ -12,24 +12,33 @@ use Rattle.label_patterns.specs.Tests.{has_place, condition_barred, ignores_end,
 use Rattle.label_patterns.proofs.TestLemmas.{condition-agrees, barred-agrees, occurs-agrees, no-end-agrees, place-tested, and-both, or-one, not-false}
 use Rattle.ruleset_text.specs.declared.definition.DemandKind.{DemandKind}
 use Rattle.ruleset_text.specs.declared.definition.DemandKind.TheVariants.{Never, Always}
+use Rattle.ruleset_text.specs.Actions.{NamedAction, NamedTrigger}
+use Rattle.ruleset_text.specs.declared.named_condition.NamedCondition.{NamedCondition}
 use Rattle.ruleset_text.specs.Definitions.{Demand}
+use Rattle.variant_dispositions.specs.declared.disposition.Disposition.{Disposition}
+use Rattle.variant_dispositions.specs.declared.disposition.Disposition.TheVariants.{Invalid, Blocked, Allocatable, Activated, Valid}
+use Rattle.variant_dispositions.specs.declared.variant.VariantDisposition.{VariantDisposition}
+use Rattle.variant_dispositions.specs.declared.variant.VariantDisposition.TheVariants.{Clear, Unclear}
 use Rattle.variant_table.specs.declared.version.Version.{Version}
 use Rattle.variant_table.specs.declared.version.Version.TheVariants.{One, Two, Three}
 use Rattle.variant_table.specs.Entries.{Entry, TableValue, sequences_in}
 use Rattle.variant_table.specs.WellFormed.{IsWellFormed}
-use Rattle.valid_labels.specs.declared.longest.Sources.TheVariants.{All, Inside}
 use Rattle.variant_table.proofs.MemberLemmas.{Contains-head}
-use Rattle.variant_table.specs.Segmentations.{IsMadeOfSources, HasNoConditions, seen_under, inside_of}
-use Rattle.valid_labels.specs.Segments.{IsCovered, IsSegment, SegmentIs, MayReach}
+use Rattle.variant_table.specs.Segmentations.{IsMadeOfSources, HasNoConditions, HasSegmentation, seen_under}
+use Rattle.valid_labels.specs.Segments.{IsSegment, SegmentIs, MayReach}
 use Rattle.valid_labels.specs.Demands.{IsMet, IsWanted, MeetsDemands}
-use Rattle.valid_labels.specs.Validity.{AllowsAnyCut, AsksNothing, IsAdmitted, IsValid, IsRefused, LeadsNowhere, IsDeadUnder}
-use Rattle.valid_labels.specs.Tests.{Segment, cut_places, not_asked, sources_of, is_covered, segments_of, holds_in, may_hold_in, is_made_of_sources, is_eligible_by, may_reach, is_wanted, are_met, meets_demands, is_unconditional, is_three, allows_any_cut, is_admitted, is_valid, is_never, is_refused, leads_past, one_up_to, leads_on, is_dead_under, is_open, asks_nothing}
+use Rattle.valid_labels.specs.Dispositions.{IsClearItself, IsOwnDisposition, told_itself}
+use Rattle.valid_labels.specs.Eligible.{IsEligible}
+use Rattle.valid_labels.specs.Validity.{AllowsAnyCut, AsksNothing, AsksTypesAlone, IsAdmitted, IsSound, IsValid, IsRefused, LeadsNowhere, IsDeadUnder}
+use Rattle.valid_labels.specs.Tests.{Segment, cut_places, not_asked, sources_of, segments_of, holds_in, may_hold_in, is_made_of_sources, is_eligible, may_reach, is_wanted, are_met, meets_demands, is_unconditional, is_three, allows_any_cut, is_admitted, is_invalid, is_let_in, is_valid, asks_a_rule, is_never, is_refused, leads_past, one_up_to, leads_on, is_dead_under, is_open, asks_nothing}
 use Rattle.valid_labels.specs.Laws.{TestsAgree}
 use Rattle.valid_labels.proofs.CutLemmas.{EntryStands, rounds-map, sequence-filled, cut-steps, steps-cut}
 use Rattle.valid_labels.proofs.EligibleLemmas.{eligible-agrees}
-use Rattle.variant_table.proofs.MemberLists.{Contains-map, Contains-filter, not-true, any-one, all-members}
+use Rattle.valid_labels.proofs.ItselfLemmas.{one-disposition, told-clear, told-none, told-unclear}
+use Rattle.valid_labels.proofs.NothingLemmas.{cut-segmentation}
+use Rattle.variant_table.proofs.MemberLists.{Contains-map, not-true, any-one, all-members}
 use Rattle.valid_labels.proofs.SegmentLemmas.{OneStands, IsFilled, Tells, cut-places-are}
-use Rattle.valid_labels.proofs.SegmentationLemmas.{IsInside, NotAsked, HoldsIn, made-cut, covered-cut}
+use Rattle.valid_labels.proofs.SegmentationLemmas.{NotAsked, HoldsIn, made-cut}
 
 -- ---- sources
 
@@ -65,35 +74,15 @@ sources-agree asked A Q es label tells filled are j =
 not-asked-tells : (n : ℕ) → Tells n not_asked NotAsked
 not-asked-tells n c i j l m = (λ h. tt, λ h. refl)
 
-pub covered-agrees : (table : TableValue) (points : List ℕ) → IsWellFormed table.entries → IsTrue (is_covered table points) ↔ IsCovered table points
-covered-agrees table points formed =
-    let s = sources-agree not_asked NotAsked (Contains table.entries) table.entries points (not-asked-tells (length points)) (sources-filled table.entries table.entries formed (λ e h. h)) (λ e. (λ h. h, λ h. h)) (length points) in
-    let c = covered-cut table points in (
-      λ h. c.1 (steps-cut (Contains table.entries) NotAsked points (s.0 h)),
-      λ h. s.1 (cut-steps (Contains table.entries) NotAsked points (c.0 h)),
-    )
-
-pub inside-are : (table : TableValue) (e : Entry) → Contains (inside_of table.entries) e ↔ IsInside table e
-inside-are table e =
-    let f = Contains-filter (λ (x : Entry). not x.outside) table.entries e in
-    (λ h. (let g = f.0 h in (g.0, mark e.outside g.1)), λ h. f.1 (h.0, ap not h.1))
-  where
-    mark : (b : Bool) → not b ≡ true → b ≡ false
-    mark true h = not-true h
-    mark false h = refl
-
-pub inside-filled : (table : TableValue) → IsWellFormed table.entries → AllByRecursion IsFilled (sources_of (inside_of table.entries))
-inside-filled table formed = sources-filled table.entries (inside_of table.entries) formed (λ e h. ((inside-are table e).0 h).0)
-
 pub holds-tells : (table : TableValue) (label : List ℕ) → Tells (length label) (holds_in table label) (HoldsIn table label)
 holds-tells table label c i j l m = condition-agrees table.definitions.rules (seen_under table label) c i j l m
 
 pub made-agrees : (table : TableValue) (label : List ℕ) → IsWellFormed table.entries → IsTrue (is_made_of_sources table label) ↔ IsMadeOfSources table label
 made-agrees table label formed =
-    let s = sources-agree not_asked NotAsked (IsInside table) (inside_of table.entries) label (not-asked-tells (length label)) (inside-filled table formed) (inside-are table) (length label) in
+    let s = sources-agree not_asked NotAsked (Contains table.entries) table.entries label (not-asked-tells (length label)) (sources-filled table.entries table.entries formed (λ e h. h)) (λ e. (λ h. h, λ h. h)) (length label) in
     let c = made-cut table label in (
-      λ h. c.1 (steps-cut (IsInside table) NotAsked label (s.0 h)),
-      λ h. s.1 (cut-steps (IsInside table) NotAsked label (c.0 h)),
+      λ h. c.1 (steps-cut (Contains table.entries) NotAsked label (s.0 h)),
+      λ h. s.1 (cut-steps (Contains table.entries) NotAsked label (c.0 h)),
     )
 
 -- ---- segments
@@ -248,12 +237,56 @@ no-conditions (e ∷ entries) = by_condition e.condition refl (no-conditions ent
     by_condition None is rest = (λ h. (is, rest.0 h), λ h. rest.1 h.1)
     by_condition (Some c) is rest = (λ h. not-true h, λ h. absurd (let f : Some c ≡ None = sym is ∙ h.0 in cc))
 
-unconditional-agrees : (table : TableValue) → IsTrue (is_unconditional table) ↔ (HasNoConditions table × (table.definitions.demands ≡ []))
+no-types : (entries : List Entry) → IsTrue (not (list_any (λ (e : Entry). is_some e.type) entries)) ↔ AllByRecursion (λ (e : Entry). e.type ≡ None) entries
+no-types [] = (λ h. tt, λ h. refl)
+no-types (e ∷ entries) = by_type e.type refl (no-types entries)
+  where
+    by_type : (t : Option ℕ) → e.type ≡ t → IsTrue (not (list_any (λ (x : Entry). is_some x.type) entries)) ↔ AllByRecursion (λ (x : Entry). x.type ≡ None) entries
+        → IsTrue (not (is_some t || list_any (λ (x : Entry). is_some x.type) entries)) ↔ ((e.type ≡ None) × AllByRecursion (λ (x : Entry). x.type ≡ None) entries)
+    by_type None is rest = (λ h. (is, rest.0 h), λ h. rest.1 h.1)
+    by_type (Some t) is rest = (λ h. not-true h, λ h. absurd (let f : Some t ≡ None = sym is ∙ h.0 in cc))
+
+types-alone : (actions : List NamedAction) → IsTrue (not (list_any asks_a_rule actions)) ↔ AllByRecursion AsksTypesAlone actions
+types-alone [] = (λ h. tt, λ h. refl)
+types-alone (a ∷ actions) = by_parts a.condition a.trigger refl refl (types-alone actions)
+  where
+    by_parts : (c : Option NamedCondition) (t : Option NamedTrigger) → a.condition ≡ c → a.trigger ≡ t → IsTrue (not (list_any asks_a_rule actions)) ↔ AllByRecursion AsksTypesAlone actions
+        → IsTrue (not ((is_some c || not (is_some t)) || list_any asks_a_rule actions)) ↔ (AsksTypesAlone a × AllByRecursion AsksTypesAlone actions)
+    by_parts (Some c) t is has rest = (λ h. not-true h, λ h. absurd (let f : Some c ≡ None = sym is ∙ h.0.0 in cc))
+    by_parts None None is has rest = (λ h. not-true h, λ h. absurd (h.0.1 has))
+    by_parts None (Some t) is has rest = (
+      λ h. ((is, λ none. absurd (let f : Some t ≡ None = sym has ∙ none in cc)), rest.0 h),
+      λ h. rest.1 h.1,
+    )
+
+-- ---- what is asked besides cuts
+
+pub record AsksCutsAlone (table : TableValue) : Type 0 where
+  pub conditions : HasNoConditions table
+  pub demands : table.definitions.demands ≡ []
+  pub types : AllByRecursion (λ (e : Entry). e.type ≡ None) table.entries
+  pub actions : AllByRecursion AsksTypesAlone table.definitions.actions
+
+unconditional-agrees : (table : TableValue) → IsTrue (is_unconditional table) ↔ AsksCutsAlone table
 unconditional-agrees table =
-    let two = and-both (not (list_any (λ (e : Entry). is_some e.condition) table.entries)) (eqb (length table.definitions.demands) 0) in
+    let first = not (list_any (λ (e : Entry). is_some e.condition) table.entries) in
+    let second = eqb (length table.definitions.demands) 0 in
+    let third = not (list_any (λ (e : Entry). is_some e.type) table.entries) in
+    let last = not (list_any asks_a_rule table.definitions.actions) in
+    let one = and-both first (second && (third && last)) in
+    let two = and-both second (third && last) in
+    let three = and-both third last in
     let conditions = no-conditions table.entries in
     let demands = nil-is table.definitions.demands in
-    (λ h. (let b = two.0 h in (conditions.0 b.0, demands.0 b.1)), λ h. two.1 (conditions.1 h.0, demands.1 h.1))
+    let types = no-types table.entries in
+    let actions = types-alone table.definitions.actions in (
+      λ h.
+          let a = one.0 h in
+          let b = two.0 a.1 in
+          let c = three.0 b.1 in
+          record { conditions = conditions.0 a.0; demands = demands.0 b.0; types = types.0 c.0; actions = actions.0 c.1 },
+      λ h. one.1 (conditions.1 h.conditions, two.1 (demands.1 h.demands, three.1 (types.1 h.types, actions.1 h.actions))),
+    )
 
 earlier-agrees : (v : Version) → IsTrue (not (is_three v)) ↔ (v ≢ Three)
 earlier-agrees One = (λ h e. (let f : One ≡ Three = e in cc), λ h. refl)
@@ -265,8 +298,8 @@ any-cut-agrees table =
     let two = and-both (not (is_three table.version)) (is_unconditional table) in
     let v = earlier-agrees table.version in
     let u = unconditional-agrees table in (
-      λ h. (let b = two.0 h in let n = u.0 b.1 in record { earlier = v.0 b.0; conditions = n.0; demands = n.1 }),
-      λ h. two.1 (v.1 h.earlier, u.1 (h.conditions, h.demands)),
+      λ h. (let b = two.0 h in let n = u.0 b.1 in record { earlier = v.0 b.0; conditions = n.conditions; demands = n.demands; types = n.types; actions = n.actions }),
+      λ h. two.1 (v.1 h.earlier, u.1 (record { conditions = h.conditions; demands = h.demands; types = h.types; actions = h.actions })),
     )
 
 pub dead-agrees : (table : TableValue) (label : List ℕ) → IsWellFormed table.entries → IsTrue (is_dead_under table label) ↔ IsDeadUnder table label
@@ -286,39 +319,70 @@ dead-agrees table label formed =
 
 -- ---- all of them
 
-admitted-agrees : (table : TableValue) (label : List ℕ) → IsWellFormed table.entries → IsTrue (is_admitted table label) ↔ IsAdmitted table label
-admitted-agrees table label formed =
-    let two = and-both ((allows_any_cut table && is_made_of_sources table label) || is_eligible_by Inside table label) (meets_demands table label) in
-    let either = or-one (allows_any_cut table && is_made_of_sources table label) (is_eligible_by Inside table label) in
+pub invalid-agrees : (d : Disposition) → IsTrue (is_invalid d) ↔ (d ≡ Invalid)
+invalid-agrees Invalid = (λ h. refl, λ h. refl)
+invalid-agrees Blocked = (λ h. not-true h, λ h. ap is_invalid h)
+invalid-agrees Allocatable = (λ h. not-true h, λ h. ap is_invalid h)
+invalid-agrees Activated = (λ h. not-true h, λ h. ap is_invalid h)
+invalid-agrees Valid = (λ h. not-true h, λ h. ap is_invalid h)
+
+-- by what is told of the label itself
+let-in-agrees : (table : TableValue) (label : List ℕ) → IsSound table → HasSegmentation table label
+    → IsTrue (is_let_in (told_itself table label)) ↔ (IsClearItself table label × (¬ IsOwnDisposition table label Invalid))
+let-in-agrees table label sound has = by_value (told_itself table label) refl
+  where
+    by_value : (o : Option VariantDisposition) → told_itself table label ≡ o → IsTrue (is_let_in o) ↔ (IsClearItself table label × (¬ IsOwnDisposition table label Invalid))
+    by_value None is = (λ h. not-true h, λ h. absurd ((told-none table label sound).0 is has))
+    by_value (Some Unclear) is = (λ h. not-true h, λ h. absurd ((told-unclear table label sound).0 is h.0))
+    by_value (Some (Clear d)) is =
+        let t = (told-clear table label sound d).0 is in
+        let invalid = not-false (is_invalid d) (d ≡ Invalid) (invalid-agrees d) in (
+          λ h. (t.0, λ other. invalid.0 h (one-disposition table label d Invalid t.0 t.1 other)),
+          λ h. invalid.1 (λ e. h.1 (subst (IsOwnDisposition table label) e t.1)),
+        )
+
+admitted-agrees : (table : TableValue) (label : List ℕ) → IsSound table → IsTrue (is_admitted table label) ↔ IsAdmitted table label
+admitted-agrees table label sound =
+    let cuts = (allows_any_cut table && is_made_of_sources table label) || is_eligible table label in
+    let two = and-both cuts (meets_demands table label && is_let_in (told_itself table label)) in
+    let more = and-both (meets_demands table label) (is_let_in (told_itself table label)) in
+    let either = or-one (allows_any_cut table && is_made_of_sources table label) (is_eligible table label) in
     let any = and-both (allows_any_cut table) (is_made_of_sources table label) in
     let a = any-cut-agrees table in
-    let m = made-agrees table label formed in
-    let s = eligible-agrees Inside table label formed in
+    let m = made-agrees table label sound.entries in
+    let s = eligible-agrees table label sound.entries in
     let d = demands-agree table label in (
       λ h.
           let b = two.0 h in
-          record { cut = elim (either.0 b.0) [ inl x ↦ inl (let y = any.0 x in (a.0 y.0, m.0 y.1)) | inr y ↦ inr (s.0 y) ]; met = d.0 b.1 },
-      λ h. two.1 (either.1 (elim h.cut [ inl x ↦ inl (any.1 (a.1 x.0, m.1 x.1)) | inr y ↦ inr (s.1 y) ]), d.1 h.met),
+          let c = more.0 b.1 in
+          let cut : (AllowsAnyCut table × IsMadeOfSources table label) ⊎ IsEligible table label =
+          elim (either.0 b.0) [ inl x ↦ inl (let y = any.0 x in (a.0 y.0, m.0 y.1)) | inr y ↦ inr (s.0 y) ] in
+          let own = (let-in-agrees table label sound (cut-segmentation table label cut)).0 c.1 in
+          record { cut = cut; met = d.0 c.0; clear = own.0; not_invalid = own.1 },
+      λ h. two.1 (
+        either.1 (elim h.cut [ inl x ↦ inl (any.1 (a.1 x.0, m.1 x.1)) | inr y ↦ inr (s.1 y) ]),
+        more.1 (d.1 h.met, (let-in-agrees table label sound (cut-segmentation table label h.cut)).1 (h.clear, h.not_invalid)),
+      ),
     )
 
 valid-agrees : (table : TableValue) (label : List ℕ) → IsWellFormed table.entries → IsTrue (is_valid table label) ↔ IsValid table label
 valid-agrees table label formed =
-    let two = and-both (allows_any_cut table || is_eligible_by All table label) (meets_demands table label) in
-    let either = or-one (allows_any_cut table) (is_eligible_by All table label) in
+    let two = and-both (allows_any_cut table || is_eligible table label) (meets_demands table label) in
+    let either = or-one (allows_any_cut table) (is_eligible table label) in
     let a = any-cut-agrees table in
-    let s = eligible-agrees All table label formed in
+    let s = eligible-agrees table label formed in
     let d = demands-agree table label in (
       λ h. (let b = two.0 h in record { cut = elim (either.0 b.0) [ inl x ↦ inl (a.0 x) | inr y ↦ inr (s.0 y) ]; met = d.0 b.1 }),
       λ h. two.1 (either.1 (elim h.cut [ inl x ↦ inl (a.1 x) | inr y ↦ inr (s.1 y) ]), d.1 h.met),
     )
 
 -- no variant is open where each is made of sources
-covered-all : (table : TableValue) (ss : List (List ℕ)) → IsWellFormed table.entries → IsTrue (not (list_any (λ s. not (is_covered table s)) ss)) ↔ AllByRecursion (IsCovered table) ss
-covered-all table [] formed = (λ h. tt, λ h. refl)
-covered-all table (s ∷ ss) formed = by_test (is_covered table s) refl (covered-agrees table s formed) (covered-all table ss formed)
+made-all : (table : TableValue) (ss : List (List ℕ)) → IsWellFormed table.entries → IsTrue (not (list_any (λ s. not (is_made_of_sources table s)) ss)) ↔ AllByRecursion (IsMadeOfSources table) ss
+made-all table [] formed = (λ h. tt, λ h. refl)
+made-all table (s ∷ ss) formed = by_test (is_made_of_sources table s) refl (made-agrees table s formed) (made-all table ss formed)
   where
-    by_test : (b : Bool) → is_covered table s ≡ b → IsTrue (is_covered table s) ↔ IsCovered table s → IsTrue (not (list_any (λ v. not (is_covered table v)) ss)) ↔ AllByRecursion (IsCovered table) ss
-        → IsTrue (not (not b || list_any (λ v. not (is_covered table v)) ss)) ↔ (IsCovered table s × AllByRecursion (IsCovered table) ss)
+    by_test : (b : Bool) → is_made_of_sources table s ≡ b → IsTrue (is_made_of_sources table s) ↔ IsMadeOfSources table s → IsTrue (not (list_any (λ v. not (is_made_of_sources table v)) ss)) ↔ AllByRecursion (IsMadeOfSources table) ss
+        → IsTrue (not (not b || list_any (λ v. not (is_made_of_sources table v)) ss)) ↔ (IsMadeOfSources table s × AllByRecursion (IsMadeOfSources table) ss)
     by_test true is agrees rest = (λ h. (agrees.0 is, rest.0 h), λ h. rest.1 h.1)
     by_test false is agrees rest = (λ h. not-true h, λ h. absurd (let f : true ≡ false = sym (agrees.1 h.0) ∙ is in cc))
 
@@ -327,16 +391,16 @@ not-or true b = (λ h. (refl, h), λ h. h.1)
 not-or false b = (λ h. not-true h, λ h. absurd (let f : false ≡ true = h.0 in cc))
 
 abbrev Singles : TableValue → List Entry → Type 0
-Singles table es = AllByRecursion (λ (e : Entry). length e.source ≡ 1) es × AllByRecursion (λ (e : Entry). AllByRecursion (IsCovered table) (sequences_in e.variants)) es
+Singles table es = AllByRecursion (λ (e : Entry). length e.source ≡ 1) es × AllByRecursion (λ (e : Entry). AllByRecursion (IsMadeOfSources table) (sequences_in e.variants)) es
 
 none-open : (table : TableValue) (es : List Entry) → IsWellFormed table.entries → IsTrue (not (list_any (is_open table) es)) ↔ Singles table es
 none-open table [] formed = (λ h. (tt, tt), λ h. refl)
 none-open table (e ∷ es) formed =
-    let one = not-or (eqb (length e.source) 1) (list_any (λ s. not (is_covered table s)) (sequences_in e.variants)) in
-    let variants = covered-all table (sequences_in e.variants) formed in
+    let one = not-or (eqb (length e.source) 1) (list_any (λ s. not (is_made_of_sources table s)) (sequences_in e.variants)) in
+    let variants = made-all table (sequences_in e.variants) formed in
     by_test (is_open table e) refl one variants (none-open table es formed)
   where
-    by_test : (b : Bool) → is_open table e ≡ b → IsTrue (not (is_open table e)) ↔ (IsTrue (eqb (length e.source) 1) × IsTrue (not (list_any (λ s. not (is_covered table s)) (sequences_in e.variants)))) → IsTrue (not (list_any (λ s. not (is_covered table s)) (sequences_in e.variants))) ↔ AllByRecursion (IsCovered table) (sequences_in e.variants)
+    by_test : (b : Bool) → is_open table e ≡ b → IsTrue (not (is_open table e)) ↔ (IsTrue (eqb (length e.source) 1) × IsTrue (not (list_any (λ s. not (is_made_of_sources table s)) (sequences_in e.variants)))) → IsTrue (not (list_any (λ s. not (is_made_of_sources table s)) (sequences_in e.variants))) ↔ AllByRecursion (IsMadeOfSources table) (sequences_in e.variants)
         → IsTrue (not (list_any (is_open table) es)) ↔ Singles table es → IsTrue (not (b || list_any (is_open table) es)) ↔ Singles table (e ∷ es)
     by_test true is one variants rest = (
       λ h. not-true h,
@@ -362,15 +426,18 @@ nothing-agrees table formed =
       λ h.
           let b = two.0 h in
           let n = u.0 b.0 in
-          record { conditions = n.0; demands = n.1; cuts = elim (either.0 b.1) [ inl x ↦ inl (v.0 x) | inr y ↦ inr (s.0 y) ] },
-      λ h. two.1 (u.1 (h.conditions, h.demands), either.1 (elim h.cuts [ inl x ↦ inl (v.1 x) | inr y ↦ inr (s.1 y) ])),
+          record { conditions = n.conditions; demands = n.demands; types = n.types; actions = n.actions; cuts = elim (either.0 b.1) [ inl x ↦ inl (v.0 x) | inr y ↦ inr (s.0 y) ] },
+      λ h. two.1 (
+        u.1 (record { conditions = h.conditions; demands = h.demands; types = h.types; actions = h.actions }),
+        either.1 (elim h.cuts [ inl x ↦ inl (v.1 x) | inr y ↦ inr (s.1 y) ]),
+      ),
     )
 
 pub tests-agree : TestsAgree
 tests-agree = record {
   made_of_sources = λ table label sound. made-agrees table label sound.entries;
-  eligible = λ sources table label sound. eligible-agrees sources table label sound.entries;
-  admitted = λ table label sound. admitted-agrees table label sound.entries;
+  eligible = λ table label sound. eligible-agrees table label sound.entries;
+  admitted = λ table label sound. admitted-agrees table label sound;
   valid = λ table label sound. valid-agrees table label sound.entries;
   nothing = nothing-agrees;
   dead = λ table label sound. dead-agrees table label sound.entries;

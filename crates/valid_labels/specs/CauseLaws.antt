@@ -8,5 +8,7 @@ use Rattle.valid_labels.specs.Validity.{IsSound, IsAdmitted}
 
 -- the cause that is told is the one that there is; and a label that may not be asked about has one
 pub record CauseIsExact : Type 0 where
-  pub exactly : (table : TableValue) (label : List ℕ) (cause : ValidityCause) → IsSound table → (cause_of table label ≡ Some cause) ↔ IsCause table label cause
-  pub told : (table : TableValue) (label : List ℕ) → IsSound table → ¬ IsAdmitted table label → is_some (cause_of table label) ≡ true
+  pub exactly : (table : TableValue) (label : List ℕ) (cause : ValidityCause) → IsSound table
+      → (cause_of table label ≡ Some cause) ↔ IsCause table label cause
+  pub told : (table : TableValue) (label : List ℕ) → IsSound table → ¬ IsAdmitted table label
+      → is_some (cause_of table label) ≡ true

@@ -1,5 +1,6 @@
 -- The definitions as tests that compute. A set of places of a label is a number, as in label_patterns.
-use Rattle.std.specs.Prelude.{ℕ, zero, suc, ◌+◌, ◌^◌, ◌&&◌, ◌||◌, nat_eq, nat_lt, Bool, true, false, not, List, [], ◌∷◌, Option, Some, None, length, map, if◌then◌else◌, bytes_eq}
+use Rattle.std.specs.Prelude.{ℕ, zero, suc, ◌+◌, ◌^◌, ◌&&◌, ◌||◌, nat_eq, nat_lt, Bool, true, false, not, List, [], ◌∷◌}
+use Rattle.std.specs.Prelude.{Option, Some, None, length, map, if◌then◌else◌, bytes_eq}
 use Rattle.std.specs.Int.RustNames.{bit_or}
 use Rattle.std.specs.Option.{is_some}
 use Rattle.std.specs.List.{list_any, slice_range}
@@ -9,13 +10,18 @@ use Rattle.label_patterns.specs.Tests.{has_place, condition_holds, condition_bar
 use Rattle.ruleset_text.specs.declared.definition.DemandKind.{DemandKind}
 use Rattle.ruleset_text.specs.declared.definition.DemandKind.TheVariants.{Never, Always}
 use Rattle.ruleset_text.specs.Definitions.{Demand}
+use Rattle.ruleset_text.specs.Actions.{NamedAction}
+use Rattle.variant_dispositions.specs.declared.disposition.Disposition.{Disposition}
+use Rattle.variant_dispositions.specs.declared.disposition.Disposition.TheVariants.{Invalid, Blocked, Allocatable}
+use Rattle.variant_dispositions.specs.declared.disposition.Disposition.TheVariants.{Activated, Valid}
+use Rattle.variant_dispositions.specs.declared.variant.VariantDisposition.{VariantDisposition}
+use Rattle.variant_dispositions.specs.declared.variant.VariantDisposition.TheVariants.{Clear, Unclear}
 use Rattle.variant_table.specs.declared.version.Version.{Version}
 use Rattle.variant_table.specs.declared.version.Version.TheVariants.{Three}
 use Rattle.variant_table.specs.Entries.{Entry, TableValue, sequences_in}
 use Rattle.variant_table.specs.Places.{entries_at}
-use Rattle.valid_labels.specs.declared.longest.Sources.{Sources}
-use Rattle.valid_labels.specs.declared.longest.Sources.TheVariants.{All, Inside}
-use Rattle.variant_table.specs.Segmentations.{seen_under, inside_of}
+use Rattle.variant_table.specs.Segmentations.{seen_under}
+use Rattle.valid_labels.specs.Dispositions.{told_itself}
 
 -- ---- sets of places that steps lead to
 
@@ -38,13 +44,15 @@ pub record Segment : Type 0 where
 -- a segment stands at the place, and what is asked of it is so
 abbrev pub stands_at : (Option Condition → ℕ → ℕ → Bool) → List ℕ → ℕ → Segment → Bool
 stands_at asked label place p =
-    bytes_eq (slice_range label place (place + length p.points)) p.points && asked p.condition place (place + length p.points)
+    bytes_eq (slice_range label place (place + length p.points)) p.points
+    && asked p.condition place (place + length p.points)
 
 -- the places where those of some segments end that stand at this place
 abbrev pub segment_ends : (Option Condition → ℕ → ℕ → Bool) → List Segment → List ℕ → ℕ → ℕ
 segment_ends asked [] label place = 0
 segment_ends asked (p ∷ segments) label place =
-    if stands_at asked label place p then bit_or (segment_ends asked segments label place) (2 ^ (place + length p.points)) else segment_ends asked segments label place
+    if stands_at asked label place p then bit_or (segment_ends asked segments label place)
+    (2 ^ (place + length p.points)) else segment_ends asked segments label place
 
 -- the places up to which a label can be cut into such segments
 abbrev pub cut_places : (Option Condition → ℕ → ℕ → Bool) → List Segment → List ℕ → ℕ
@@ -57,10 +65,6 @@ not_asked c i j = true
 -- sources as segments
 abbrev pub sources_of : List Entry → List Segment
 sources_of entries = map (λ e. record { points = e.source; condition = e.condition }) entries
-
--- a sequence is made of sources of the table, of outside ones too
-abbrev pub is_covered : TableValue → List ℕ → Bool
-is_covered table points = has_place (cut_places not_asked (sources_of table.entries) points) (length points)
 
 -- the segments of a table
 abbrev pub segments_of : TableValue → List Segment
@@ -77,7 +81,7 @@ may_hold_in table label c i j = not (condition_barred table.definitions.rules (s
 
 -- the label is made of sources
 abbrev pub is_made_of_sources : TableValue → List ℕ → Bool
-is_made_of_sources table label = has_place (cut_places not_asked (sources_of (inside_of table.entries)) label) (length label)
+is_made_of_sources table label = has_place (cut_places not_asked (segments_of table) label) (length label)
 
 -- the places up to which the label may be cut
 abbrev pub may_reach : TableValue → List ℕ → ℕ
@@ -89,35 +93,32 @@ may_reach table label = cut_places (may_hold_in table label) (segments_of table)
 abbrev pub last_standing : TableValue → List ℕ → ℕ → Option Entry → List Entry → Option Entry
 last_standing table label place found [] = found
 last_standing table label place found (e ∷ entries) =
-    last_standing table label place (if holds_in table label e.condition place (place + length e.source) then Some e else found) entries
+    last_standing table label place (if holds_in table label e.condition place (place + length e.source) then Some e
+    else found) entries
 
 -- the longest entry that stands at the place
 abbrev pub longest_at : TableValue → List ℕ → ℕ → Option Entry
 longest_at table label place = last_standing table label place None (entries_at table.entries label place)
 
-abbrev pub is_of : Sources → Entry → Bool
-is_of All e = true
-is_of Inside e = not e.outside
-
 -- the place after such an entry, or the same place
-abbrev pub place_after : Sources → ℕ → Option Entry → ℕ
-place_after sources place None = place
-place_after sources place (Some e) = if is_of sources e then place + length e.source else place
+abbrev pub place_after : ℕ → Option Entry → ℕ
+place_after place None = place
+place_after place (Some e) = place + length e.source
 
-abbrev pub advanced : Sources → TableValue → List ℕ → ℕ → ℕ
-advanced sources table label place = place_after sources place (longest_at table label place)
+abbrev pub advanced : TableValue → List ℕ → ℕ → ℕ
+advanced table label place = place_after place (longest_at table label place)
 
 -- the place after the first n sources of the cut, or the one at which it ends
-abbrev pub cut_after : Sources → TableValue → List ℕ → ℕ → ℕ
-cut_after sources table label zero = 0
-cut_after sources table label (suc n) = advanced sources table label (cut_after sources table label n)
+abbrev pub cut_after : TableValue → List ℕ → ℕ → ℕ
+cut_after table label zero = 0
+cut_after table label (suc n) = advanced table label (cut_after table label n)
 
 -- the place at which the cut ends
-abbrev pub cut_end : Sources → TableValue → List ℕ → ℕ
-cut_end sources table label = cut_after sources table label (length label)
+abbrev pub cut_end : TableValue → List ℕ → ℕ
+cut_end table label = cut_after table label (length label)
 
-abbrev pub is_eligible_by : Sources → TableValue → List ℕ → Bool
-is_eligible_by sources table label = nat_eq (cut_end sources table label) (length label)
+abbrev pub is_eligible : TableValue → List ℕ → Bool
+is_eligible table label = nat_eq (cut_end table label) (length label)
 
 -- ---- demands
 
@@ -134,9 +135,15 @@ meets_demands table label = are_met (seen_under table label) table.definitions.d
 
 -- ---- labels
 
--- no source has a condition, and there is no demand
+-- the action asks for a rule, or for no type
+abbrev pub asks_a_rule : NamedAction → Bool
+asks_a_rule a = is_some a.condition || not (is_some a.trigger)
+
+-- no source has a condition or a type, there is no demand, and each action asks for types alone
 abbrev pub is_unconditional : TableValue → Bool
-is_unconditional table = not (list_any (λ e. is_some e.condition) table.entries) && nat_eq (length table.definitions.demands) 0
+is_unconditional table =
+    not (list_any (λ e. is_some e.condition) table.entries) && (nat_eq (length table.definitions.demands) 0
+    && (not (list_any (λ e. is_some e.type) table.entries) && not (list_any asks_a_rule table.definitions.actions)))
 
 abbrev pub is_three : Version → Bool
 is_three Three = true
@@ -146,12 +153,30 @@ is_three earlier = false
 abbrev pub allows_any_cut : TableValue → Bool
 allows_any_cut table = not (is_three table.version) && is_unconditional table
 
--- the label may be asked about; it is valid
+-- ---- what is told of the label itself
+
+abbrev pub is_invalid : Disposition → Bool
+is_invalid Invalid = true
+is_invalid Blocked = false
+is_invalid Allocatable = false
+is_invalid Activated = false
+is_invalid Valid = false
+
+-- it is clear, and not invalid
+abbrev pub is_let_in : Option VariantDisposition → Bool
+is_let_in None = false
+is_let_in (Some Unclear) = false
+is_let_in (Some (Clear d)) = not (is_invalid d)
+
+-- ---- which labels may be asked about, and which are valid
+
 abbrev pub is_admitted : TableValue → List ℕ → Bool
-is_admitted table label = ((allows_any_cut table && is_made_of_sources table label) || is_eligible_by Inside table label) && meets_demands table label
+is_admitted table label =
+    ((allows_any_cut table && is_made_of_sources table label) || is_eligible table label)
+    && (meets_demands table label && is_let_in (told_itself table label))
 
 abbrev pub is_valid : TableValue → List ℕ → Bool
-is_valid table label = (allows_any_cut table || is_eligible_by All table label) && meets_demands table label
+is_valid table label = (allows_any_cut table || is_eligible table label) && meets_demands table label
 
 -- ---- what is dead
 
@@ -160,7 +185,9 @@ is_never Never = true
 is_never Always = false
 
 abbrev pub is_refused : TableValue → List ℕ → Bool
-is_refused table label = list_any (λ d. is_never d.kind && (ignores_end d.pattern && occurs_in (seen_under table label) d.pattern)) table.definitions.demands
+is_refused table label =
+    list_any (λ d. is_never d.kind && (ignores_end d.pattern && occurs_in (seen_under table label) d.pattern))
+    table.definitions.demands
 
 -- the test is true of a place up to n
 abbrev pub one_up_to : ℕ → (ℕ → Bool) → Bool
@@ -179,12 +206,15 @@ leads_on table label =
 
 -- neither the label nor any label that begins with it is valid
 abbrev pub is_dead_under : TableValue → List ℕ → Bool
-is_dead_under table label = not (allows_any_cut table) && (nat_lt 0 (length label) && (is_refused table label || not (leads_on table label)))
+is_dead_under table label =
+    not (allows_any_cut table) && (nat_lt 0 (length label) && (is_refused table label || not (leads_on table label)))
 
 -- the source is more than one code point, or a variant is not made of sources
 abbrev pub is_open : TableValue → Entry → Bool
-is_open table e = not (nat_eq (length e.source) 1) || list_any (λ s. not (is_covered table s)) (sequences_in e.variants)
+is_open table e =
+    not (nat_eq (length e.source) 1) || list_any (λ s. not (is_made_of_sources table s)) (sequences_in e.variants)
 
 -- the table asks nothing of its labels
 abbrev pub asks_nothing : TableValue → Bool
-asks_nothing table = is_unconditional table && (not (is_three table.version) || not (list_any (is_open table) table.entries))
+asks_nothing table =
+    is_unconditional table && (not (is_three table.version) || not (list_any (is_open table) table.entries))

@@ -1,9 +1,11 @@
 //! Laws of the definitions, each the contract of a function that does nothing.
 ghost use Rattle.valid_labels.specs.CauseLaws.{CauseIsExact};
+ghost use Rattle.valid_labels.specs.DispositionExamples.{DispositionsOfExamples};
 ghost use Rattle.valid_labels.specs.Examples.{ValidityOfExamples};
 ghost use Rattle.valid_labels.specs.Furthest.{FurthestIsTold};
 ghost use Rattle.valid_labels.specs.Laws.{AdmittedAreValid, DeadForGood, LongestFirst, NothingIsAsked, OneCut};
-ghost use Rattle.valid_labels.specs.Laws.{SegmentationsAgree, TestsAgree};
+ghost use Rattle.valid_labels.specs.Laws.{LabelsAreToldThemselves, ReadingsAreTold, SegmentationsAgree, TestsAgree};
+ghost use Rattle.valid_labels.specs.Laws.{TypelessAreClear};
 
 /// Longest first accepts no more labels than any cut, and the same where each source is one code point.
 pub fn longest_first()
@@ -30,7 +32,8 @@ pub fn dead_for_good()
     ensures { DeadForGood }
 {}
 
-/// A label that may be asked about is valid, and can be cut into sources that may stand where they do.
+/// A label that may be asked about is valid, can be cut into sources that may stand where they do, and has one
+/// disposition.
 pub fn admitted_are_valid()
     ensures { AdmittedAreValid }
 {}
@@ -41,9 +44,29 @@ pub fn nothing_is_asked()
     ensures { NothingIsAsked }
 {}
 
+/// What is told of a label by its readings is so.
+pub fn readings_are_told()
+    ensures { ReadingsAreTold }
+{}
+
+/// What is told of a label itself is so by its segmentations.
+pub fn labels_are_told_themselves()
+    ensures { LabelsAreToldThemselves }
+{}
+
+/// Where no source has a type, each label is clear.
+pub fn typeless_are_clear()
+    ensures { TypelessAreClear }
+{}
+
 /// Worked examples hold, by computation.
 pub fn examples_hold()
     ensures { ValidityOfExamples }
+{}
+
+/// So do those of dispositions.
+pub fn dispositions_of_examples_hold()
+    ensures { DispositionsOfExamples }
 {}
 
 /// The place up to which sources reach is the one that is told.

@@ -1,7 +1,7 @@
 //! The longest-first cut of a label (RFC 7940, section 8.1).
 ghost use Rattle.std.specs.Prelude.{◌≡◌, ◌↔◌, ◌+◌, ◌<◌, ◌≤◌, ℕ, length, IsTrue, MatchOption};
 ghost use Rattle.variant_table.specs.Segmentations.{seen_under};
-ghost use Rattle.valid_labels.specs.Eligible.{IsCutEnd, IsOf, LongestLeads};
+ghost use Rattle.valid_labels.specs.Eligible.{IsCutEnd, LongestLeads};
 ghost use Rattle.valid_labels.specs.Tests.{holds_in, longest_at as longest_at_place};
 ghost use Rattle.valid_labels.specs.inner.Steps.{AreSteps};
 
@@ -10,35 +10,25 @@ use crate::source_predicate::holds;
 use label_patterns::{SeenLabel, has};
 use variant_table::{Entry, Table};
 
-/// The sources by which a label may be cut.
-#[derive(Clone, Copy, Debug, PartialEq, Eq)]
-pub enum Sources {
-    /// Each source, as in a variant.
-    All,
-    /// Those that are not outside, as in a label that is asked about.
-    Inside,
-}
-
 /// The place at which the longest-first cut of a label ends. It is known of some places whether one code point leads on
 /// from there, and that nothing else does.
 pub(crate) fn cut_end(
     table: &Table,
     seen: &SeenLabel<'_>,
     label: &[u32],
-    sources: Sources,
     steps: SingleSteps,
 ) -> usize
     requires short { length label.now ≤ 63 }
     requires seen { seen.now ≡ seen_under table.now label.now }
-    requires steps { AreSteps (LongestLeads sources table.now label.now) (length label.now) steps }
+    requires steps { AreSteps (LongestLeads table.now label.now) (length label.now) steps }
     ensures within { result ≤ length label.now }
-    ensures end { IsCutEnd sources table.now label.now result }
+    ensures end { IsCutEnd table.now label.now result }
 {
     // Only for the proof: the contract of `len` says that a table is well-formed.
     let _entries = table.len();
     let mut place = 0;
     for _ in 0..label.len() {
-        match next_place(table, seen, label, place, sources, steps) {
+        match next_place(table, seen, label, place, steps) {
             Some(next) => place = next,
             None => return place,
         }
@@ -46,21 +36,20 @@ pub(crate) fn cut_end(
     place
 }
 
-/// The place at which the longest source ends that stands at this one, if the label may be cut by it.
+/// The place at which the longest source ends that stands at this one.
 fn next_place(
     table: &Table,
     seen: &SeenLabel<'_>,
     label: &[u32],
     place: usize,
-    sources: Sources,
     steps: SingleSteps,
 ) -> Option<usize>
     requires short { length label.now ≤ 63 }
     requires place { place ≤ length label.now }
     requires seen { seen.now ≡ seen_under table.now label.now }
-    requires steps { AreSteps (LongestLeads sources table.now label.now) (length label.now) steps }
-    ensures next { MatchOption result ((j : ℕ) → ¬ LongestLeads sources table.now label.now place j)
-        (LongestLeads sources table.now label.now place) }
+    requires steps { AreSteps (LongestLeads table.now label.now) (length label.now) steps }
+    ensures next { MatchOption result ((j : ℕ) → ¬ LongestLeads table.now label.now place j)
+        (LongestLeads table.now label.now place) }
     ensures on { MatchOption result (Unit {0}) (λ j. (place < j) × (j ≤ length label.now)) }
 {
     if has(steps.known, place) {
@@ -73,24 +62,12 @@ fn next_place(
     }
     // Only for the proof: the contract of `len` says that a table is well-formed.
     let _entries = table.len();
-    match longest_at(table, seen, label, place) {
-        Some(entry) if is_of(sources, &entry) => Some(place + entry.source().len()),
-        _ => None,
-    }
-}
-
-/// Whether a label may be cut by a source.
-fn is_of(sources: Sources, entry: &Entry<'_>) -> bool
-    ensures { IsTrue result ↔ IsOf sources entry.now }
-{
-    match sources {
-        Sources::All => true,
-        Sources::Inside => !entry.is_outside(),
-    }
+    let entry = longest_at(table, seen, label, place)?;
+    Some(place + entry.source().len())
 }
 
 /// The entry with the longest source that stands at a place.
-fn longest_at<'a>(
+pub(crate) fn longest_at<'a>(
     table: &'a Table,
     seen: &SeenLabel<'_>,
     label: &'a [u32],

@@ -1,5 +1,5 @@
 //! What is asked of a source that stands in a label.
-ghost use Rattle.std.specs.Prelude.{◌≡◌, ◌↔◌, ◌≤◌, ℕ, false, length, IsTrue};
+ghost use Rattle.std.specs.Prelude.{◌≡◌, ◌↔◌, ◌≤◌, ℕ, length, IsTrue};
 ghost use Rattle.label_patterns.specs.Barring.{IsBarred};
 ghost use Rattle.label_patterns.specs.Conditions.{ConditionHolds};
 ghost use Rattle.variant_table.specs.Places.{EntryValue};
@@ -32,19 +32,6 @@ impl SourcePredicate for AnySource {
 
     fn holds(&self, _entry: &Entry<'_>, _start: usize, _end: usize) -> bool {
         true
-    }
-}
-
-/// It is asked that the source is not outside.
-pub struct InsideSource;
-
-impl SourcePredicate for InsideSource {
-    ghost asks = { λ _ e _ _. e.outside ≡ false };
-
-    ghost can_ask = { λ _ _. Unit {0} };
-
-    fn holds(&self, entry: &Entry<'_>, _start: usize, _end: usize) -> bool {
-        !entry.is_outside()
     }
 }
 

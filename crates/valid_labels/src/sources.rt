@@ -1,26 +1,26 @@
 //! Labels that are made of sources.
-ghost use Rattle.std.specs.Prelude.{◌≡◌, ◌↔◌, ◌<◌, ◌≤◌, ℕ, length, take, IsTrue};
+ghost use Rattle.std.specs.Prelude.{◌≡◌, ◌↔◌, ◌<◌, ◌≤◌, ℕ, length, map, take, IsTrue, None};
 ghost use Rattle.std.specs.List.{AllByRecursion};
 ghost use Rattle.label_patterns.specs.Places.{Has};
+ghost use Rattle.ruleset_text.specs.ActionForms.{action};
 ghost use Rattle.variant_table.specs.WellFormed.{IsWellFormed};
 ghost use Rattle.valid_labels.specs.Furthest.{furthest as furthest_place};
 ghost use Rattle.variant_table.specs.Entries.{sequences_in};
 ghost use Rattle.variant_table.specs.Segmentations.{HasNoConditions, IsMadeOfSources};
-ghost use Rattle.valid_labels.specs.Segments.{IsCovered};
-ghost use Rattle.valid_labels.specs.Validity.{AsksNothing, HasCoveredVariants, IsOfPoints};
+ghost use Rattle.valid_labels.specs.Validity.{AsksNothing, AsksTypesAlone, HasVariantsOfSources, IsOfPoints};
 
 use crate::cutting::{NO_STEPS, reached};
-use crate::source_predicate::{AnySource, InsideSource};
+use crate::source_predicate::AnySource;
 use label_patterns::has;
+use ruleset_text::NamedAction;
 use variant_table::{Entry, Table};
 
-/// Whether a label of at most 63 code points is made of sources of a table, none of them outside. Where they may stand
-/// is not asked.
+/// Whether a label of at most 63 code points is made of sources of a table. Where they may stand is not asked.
 pub fn is_made_of_sources(table: &Table, label: &[u32]) -> bool
     requires { length label.now ≤ 63 }
     ensures { IsTrue result ↔ IsMadeOfSources table.now label.now }
 {
-    has(inside_places(table, label), label.len())
+    has(source_places(table, label), label.len())
 }
 
 /// How many of the first code points of a label of at most 63 are made of sources, at the most. Where the label isn't
@@ -29,21 +29,11 @@ pub fn furthest(table: &Table, label: &[u32]) -> usize
     requires { length label.now ≤ 63 }
     ensures { result ≡ furthest_place table.now label.now }
 {
-    last_place(inside_places(table, label), label.len())
+    last_place(source_places(table, label), label.len())
 }
 
-/// Whether a sequence is made of sources of a table, of outside ones too.
-pub(crate) fn is_covered(table: &Table, points: &[u32]) -> bool
-    requires { length points.now ≤ 63 }
-    ensures { IsTrue result ↔ IsCovered table.now points.now }
-{
-    // Only for the proof: the contract of `len` says that a table is well-formed.
-    let _entries = table.len();
-    has(reached(table, points, &AnySource, NO_STEPS), points.len())
-}
-
-/// The places up to which a label is made of sources that are not outside.
-fn inside_places(table: &Table, label: &[u32]) -> u64
+/// The places up to which a label is made of sources.
+fn source_places(table: &Table, label: &[u32]) -> u64
     requires { length label.now ≤ 63 }
     ensures well_formed { IsWellFormed table.now.entries }
     ensures start { Has result 0 }
@@ -51,7 +41,7 @@ fn inside_places(table: &Table, label: &[u32]) -> u64
 {
     // Only for the proof: the contract of `len` says that a table is well-formed.
     let _entries = table.len();
-    reached(table, label, &InsideSource, NO_STEPS)
+    reached(table, label, &AnySource, NO_STEPS)
 }
 
 /// The greatest of the places up to `len` that are in a set. Place 0 must be.
@@ -68,23 +58,44 @@ pub(crate) fn last_place(places: u64, len: usize) -> usize
     place
 }
 
-/// Whether a table asks nothing of its labels: no source has a condition, there is no demand, and it is of version 1 or
-/// 2, or each source is one code point and each variant is made of sources. Then each label that is made of sources may
-/// be asked about, and each label that it spells is valid.
+/// Whether a table asks nothing of its labels: no source has a condition or a type, there is no demand, each action
+/// asks for types alone, and it is of version 1 or 2, or each source is one code point and each variant is made of
+/// sources. Then each label that is made of sources may be asked about, and each label that it spells is valid.
 pub fn asks_nothing(table: &Table) -> bool
     ensures { IsTrue result ↔ AsksNothing table.now }
 {
     table.definitions().demands().is_empty()
-        && has_no_conditions(table)
+        && ask_types_alone(table.definitions().actions())
+        && has_plain_sources(table)
         && (table.version() != 3 || has_single_sources(table))
 }
 
-/// Whether no source has a condition.
-fn has_no_conditions(table: &Table) -> bool
-    ensures { IsTrue result ↔ HasNoConditions table.now }
+/// Whether each of these actions asks for types, and for no rule.
+fn ask_types_alone(actions: &[NamedAction]) -> bool
+    ensures { IsTrue result ↔ AllByRecursion AsksTypesAlone (map action actions.now) }
+{
+    for action in actions {
+        if !asks_types_alone(action) {
+            return false;
+        }
+    }
+    true
+}
+
+/// Whether an action asks for types, and for no rule.
+fn asks_types_alone(named: &NamedAction) -> bool
+    ensures { IsTrue result ↔ AsksTypesAlone (action named.now) }
+{
+    named.condition.is_none() && named.trigger.is_some()
+}
+
+/// Whether no source has a condition or a type.
+fn has_plain_sources(table: &Table) -> bool
+    ensures { IsTrue result ↔ (HasNoConditions table.now × AllByRecursion (λ e. e.type ≡ None) table.now.entries) }
 {
     for number in 0..table.len() {
-        if table.entry(number).condition(0).is_some() {
+        let entry = table.entry(number);
+        if entry.condition(0).is_some() || entry.variant_type(0).is_some() {
             return false;
         }
     }
@@ -93,11 +104,11 @@ fn has_no_conditions(table: &Table) -> bool
 
 /// Whether each source is one code point, and each variant is made of sources.
 fn has_single_sources(table: &Table) -> bool
-    ensures { IsTrue result ↔ (IsOfPoints table.now × HasCoveredVariants table.now) }
+    ensures { IsTrue result ↔ (IsOfPoints table.now × HasVariantsOfSources table.now) }
 {
     for number in 0..table.len() {
         let entry = table.entry(number);
-        if entry.source().len() != 1 || !has_covered_variants(table, &entry) {
+        if entry.source().len() != 1 || !has_variants_of_sources(table, &entry) {
             return false;
         }
     }
@@ -105,13 +116,13 @@ fn has_single_sources(table: &Table) -> bool
 }
 
 /// Whether each variant of an entry is made of sources.
-fn has_covered_variants(table: &Table, entry: &Entry<'_>) -> bool
+fn has_variants_of_sources(table: &Table, entry: &Entry<'_>) -> bool
     requires short { AllByRecursion (λ s. length s ≤ 63) (sequences_in entry.now.variants) }
-    ensures { IsTrue result ↔ AllByRecursion (IsCovered table.now) (sequences_in entry.now.variants) }
+    ensures { IsTrue result ↔ AllByRecursion (IsMadeOfSources table.now) (sequences_in entry.now.variants) }
 {
     // The source is the first of the replacements.
     for number in 0..entry.replacements() - 1 {
-        if !is_covered(table, entry.replacement(number + 1)) {
+        if !is_made_of_sources(table, entry.replacement(number + 1)) {
             return false;
         }
     }

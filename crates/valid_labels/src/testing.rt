@@ -1,14 +1,16 @@
 //! Tests of labels under a table.
+use crate::label_rules::RulesOfLabel;
 use crate::segments::Segments;
 use crate::single_places::SinglePlaces;
 use crate::single_points::SinglePoints;
 use crate::sources::is_made_of_sources;
-use crate::valid::{is_admitted, validity};
+use crate::valid::{admission, validity};
 use crate::validity::{Admission, Validity};
 use idn_class::CachedLabel;
 use label_patterns::renew_masks;
 use std::alloc::{AllocError, Global};
 use std::marker::Model;
+use variant_dispositions::Action;
 
 /// A test of labels under a table. It keeps what it found of the last label, so that the next one costs less where both
 /// begin alike. That changes no answer.
@@ -42,6 +44,7 @@ impl<'a> Model for ValidityTest<'a> {
 
 impl<'a> ValidityTest<'a> {
     ghost use Rattle.std.specs.Prelude.{◌≡◌, ◌≤◌, [], length, IfOk};
+    ghost use Rattle.valid_labels.specs.Actions.{actions_of, rules_of};
     ghost use Rattle.valid_labels.specs.Testing.{IsAdmission, IsValidity, SharesCached};
 
     /// A test of labels under the table of these segments. It is an `Err` only where memory was refused.
@@ -59,29 +62,39 @@ impl<'a> ValidityTest<'a> {
         })
     }
 
-    /// Whether a label of at most 63 code points may be asked about. What is cached of the label that was tested last
-    /// stays as it is. It takes no memory.
-    pub fn admission(&mut self, label: &[u32]) -> Admission
+    /// Whether a label of at most 63 code points may be asked about; the actions are those of the table. What is cached
+    /// of the label that was tested last stays as it is. It is an `Err` only where memory was refused.
+    pub fn admission(
+        &mut self,
+        alloc: Global,
+        actions: &[Action],
+        label: &[u32],
+    ) -> Result<Admission, AllocError>
         requires short { length label.now ≤ 63 }
-        ensures admission { IsAdmission self.old.table label.now result }
+        requires actions { actions.now ≡ actions_of self.old.table.definitions }
+        ensures admission { IfOk result (IsAdmission self.old.table label.now) }
         ensures same { self.new ≡ self.old }
     {
         let segments = self.points.segments();
         segments.recall_soundness();
         let table = segments.table();
         if !is_made_of_sources(table, label) {
-            return Admission::NotCut;
+            return Ok(Admission::NotCut);
         }
         let sets = table.definitions().sets();
         renew_masks(sets, label, 0, &mut self.masks);
-        let admitted = is_admitted(table, sets, label, &self.masks);
+        let admission = admission(alloc, table, actions, label, &self.masks);
         // The masks are again those of the label that is cached.
         renew_masks(sets, self.cached.as_slice(), 0, &mut self.masks);
-        if admitted {
-            Admission::Admitted
-        } else {
-            Admission::NotAdmitted
-        }
+        admission
+    }
+
+    /// The rules of the table, asked of the label that was tested last.
+    pub fn rules(&self) -> RulesOfLabel<'_>
+        ensures { result ≡ rules_of self.now.table self.now.cached }
+    {
+        let table = self.points.segments().table();
+        RulesOfLabel::new(table, self.cached.as_slice(), &self.masks)
     }
 
     /// Whether a label of at most 63 code points is valid, and if it isn't, how long its shortest dead prefix is. It

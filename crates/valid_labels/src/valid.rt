@@ -1,35 +1,65 @@
 //! Which labels may be asked about, and which are valid.
-ghost use Rattle.std.specs.Prelude.{◌≡◌, ◌↔◌, ◌≤◌, length, IsTrue};
+ghost use Rattle.std.specs.Prelude.{◌≡◌, ◌↔◌, ◌≤◌, length, IfOk, IsTrue};
 ghost use Rattle.std.specs.List.{AllByRecursion};
 ghost use Rattle.label_patterns.specs.inner.Masks.{AreMasks};
+ghost use Rattle.valid_labels.specs.Causes.{IsDisposed};
 ghost use Rattle.valid_labels.specs.Demands.{IsMet};
-ghost use Rattle.valid_labels.specs.Eligible.{IsEligible, IsEligibleBy};
-ghost use Rattle.variant_table.specs.Segmentations.{seen_under};
-ghost use Rattle.valid_labels.specs.Testing.{IsValidity};
-ghost use Rattle.valid_labels.specs.Validity.{AsksNothing, IsAdmitted, IsValid};
+ghost use Rattle.valid_labels.specs.Eligible.{IsEligible};
+ghost use Rattle.valid_labels.specs.Actions.{actions_of};
+ghost use Rattle.variant_table.specs.Segmentations.{IsMadeOfSources, seen_under};
+ghost use Rattle.valid_labels.specs.Testing.{IsAdmission, IsValidity, admission_of};
+ghost use Rattle.valid_labels.specs.Validity.{AsksNothing, IsValid};
 ghost use Rattle.valid_labels.specs.inner.Singles.{AreSingles, HasRoom};
 
 use crate::cutting::NO_STEPS;
 use crate::dead_prefix::shortest_dead_prefix;
 use crate::demands::are_met;
-use crate::longest::{Sources, cut_end};
-use crate::segments::Segments;
+use crate::itself::{disposition_of_itself, is_invalid};
+use crate::label_rules::RulesOfLabel;
+use crate::longest::cut_end;
+use crate::segments::{Segments, recall_soundness};
 use crate::single_places::SinglePlaces;
-use crate::validity::Validity;
+use crate::validity::{Admission, Validity};
 use label_patterns::{PointSet, SeenLabel};
+use std::alloc::{AllocError, Global};
+use variant_dispositions::{Action, VariantDisposition};
 use variant_table::Table;
 
-/// Whether a label may be asked about, under a table that asks something. `masks` has the places of each of the table's
-/// sets in it.
-pub fn is_admitted(table: &Table, sets: &[PointSet], label: &[u32], masks: &[u64]) -> bool
+/// Whether a label that is made of sources may be asked about, under a table that asks something. The actions are those
+/// of the table; `masks` has the places of each of its sets in the label. It is an `Err` only where memory was refused.
+pub fn admission(
+    alloc: Global,
+    table: &Table,
+    actions: &[Action],
+    label: &[u32],
+    masks: &[u64],
+) -> Result<Admission, AllocError>
     requires asks { ¬ AsksNothing table.now }
     requires short { length label.now ≤ 63 }
-    requires sets { sets.now ≡ table.now.definitions.sets }
-    requires masks { AreMasks sets.now label.now masks.now }
-    ensures { IsTrue result ↔ IsAdmitted table.now label.now }
+    requires made { IsMadeOfSources table.now label.now }
+    requires actions { actions.now ≡ actions_of table.now.definitions }
+    requires masks { AreMasks table.now.definitions.sets label.now masks.now }
+    ensures { IfOk result (IsAdmission table.now label.now) }
 {
-    let seen = SeenLabel::of_masks(sets, label, masks);
-    is_eligible_inside(table, &seen, label) && meets_demands(table, &seen)
+    recall_soundness(table);
+    let rules = RulesOfLabel::new(table, label, masks);
+    if !is_disposed(table, rules.seen(), label) {
+        return Ok(Admission::NotAdmitted);
+    }
+    let told = disposition_of_itself(alloc, table, &rules, label, actions)?;
+    Ok(admission_told(told))
+}
+
+/// Whether a label may be asked about of which nothing else is left to ask than what is told of itself.
+fn admission_told(told: Option<VariantDisposition>) -> Admission
+    ensures { result ≡ admission_of told }
+{
+    match told {
+        Some(VariantDisposition::Clear(disposition)) if !is_invalid(disposition) => {
+            Admission::Admitted(disposition)
+        }
+        _ => Admission::NotAdmitted,
+    }
 }
 
 /// Whether a label is valid, and if it isn't, how long its shortest dead prefix is. `masks` has the places of each of
@@ -76,15 +106,24 @@ fn is_valid(
     is_eligible(segments, seen, label, singles) && meets_demands(segments.table(), seen)
 }
 
-/// Whether a label is eligible by sources that are not outside.
-fn is_eligible_inside(table: &Table, seen: &SeenLabel<'_>, label: &[u32]) -> bool
+/// Whether a label is eligible, and meets the demands, so that its disposition counts.
+fn is_disposed(table: &Table, seen: &SeenLabel<'_>, label: &[u32]) -> bool
     requires short { length label.now ≤ 63 }
     requires seen { seen.now ≡ seen_under table.now label.now }
-    ensures { IsTrue result ↔ IsEligibleBy Sources.Inside table.now label.now }
+    ensures { IsTrue result ↔ IsDisposed table.now label.now }
+{
+    is_eligible_anew(table, seen, label) && meets_demands(table, seen)
+}
+
+/// Whether a label is eligible, of which nothing is kept.
+fn is_eligible_anew(table: &Table, seen: &SeenLabel<'_>, label: &[u32]) -> bool
+    requires short { length label.now ≤ 63 }
+    requires seen { seen.now ≡ seen_under table.now label.now }
+    ensures { IsTrue result ↔ IsEligible table.now label.now }
 {
     // Only for the proof: the contract of `len` says that a table is well-formed.
     let _entries = table.len();
-    cut_end(table, seen, label, Sources::Inside, NO_STEPS) == label.len()
+    cut_end(table, seen, label, NO_STEPS) == label.len()
 }
 
 /// Whether a label is eligible.
@@ -103,7 +142,7 @@ fn is_eligible(
     segments.recall_soundness();
     let table = segments.table();
     let steps = singles.holding_steps(table.definitions().rules(), seen);
-    cut_end(table, seen, label, Sources::All, steps) == label.len()
+    cut_end(table, seen, label, steps) == label.len()
 }
 
 /// Whether a label meets the demands of a table.

@@ -1,14 +1,16 @@
 //! What a test says of a label.
 
+use variant_dispositions::Disposition;
+
 /// Whether a label may be asked about.
 #[derive(Clone, Copy, Debug, PartialEq, Eq)]
 pub enum Admission {
-    /// The label can't be cut into sources of the table, whatever their conditions. Outside sources don't count.
+    /// The label can't be cut into sources of the table, whatever their conditions.
     NotCut,
-    /// The label can be cut into sources, but not so that their conditions hold; or it breaks a demand.
+    /// The label can be cut into sources, but isn't eligible, breaks a demand, is unclear or invalid.
     NotAdmitted,
-    /// The label may be asked about.
-    Admitted,
+    /// The label may be asked about, and has this disposition, which isn't invalid.
+    Admitted(Disposition),
 }
 
 /// Whether a label is valid.

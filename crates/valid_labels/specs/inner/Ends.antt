@@ -18,7 +18,8 @@ NoneRefuses seen demands = (d : Demand) → Contains demands d → IsRefusing d 
 -- a part that such a pattern matches ends at this place, and none ends before it
 pub record IsRefusedAt (seen : Seen) (demands : List Demand) (end : ℕ) : Type 0 where
   pub some : (d : Demand) × Contains demands d × IsRefusing d × IsFirstEnd seen d.pattern end
-  pub least : (d : Demand) (i j : ℕ) → Contains demands d → IsRefusing d → i ≤ length seen.label → Matches seen d.pattern i j → end ≤ j
+  pub least : (d : Demand) (i j : ℕ) → Contains demands d → IsRefusing d → i ≤ length seen.label
+      → Matches seen d.pattern i j → end ≤ j
 
 -- the lesser one of two numbers, each of which may be missing
 abbrev pub lesser_of : Option ℕ → Option ℕ → Option ℕ

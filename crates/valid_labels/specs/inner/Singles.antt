@@ -38,11 +38,17 @@ asked_at places (Some c) = slice_index (places_of_kind c.kind places) c.rule
 abbrev pub HasRoom : ℕ → SinglePlaces → Type 0
 HasRoom rules places = (length places.when.items ≡ rules) × (length places.unless.items ≡ rules)
 
--- these places are among the first n of a label; at each a single code point stands, with the condition that is asked there
+-- these places are among the first n of a label; at each a single code point stands,
+-- with the condition that is asked there
 abbrev pub AreSingles : ℕ → TableValue → List ℕ → SinglePlaces → Type 0
-AreSingles n table label places = (i : ℕ) (c : Option Condition) → Has (asked_at places c) i → (i < n) × IsSingle table (slice_index label i) c
+AreSingles n table label places =
+    (i : ℕ) (c : Option Condition) → Has (asked_at places c) i → (i < n) × IsSingle table (slice_index label i) c
 
--- at each known place something is asked, and where it is so, the place leads on; at each place that leads on something is asked that is so
-pub record AreHoldingSteps (rules : List Pattern) (seen : Seen) (places : SinglePlaces) (steps : SingleSteps) : Type 0 where
-  pub known : (i : ℕ) → Has steps.known i → (c : Option Condition) × Has (asked_at places c) i × (ConditionHolds rules seen c i (i + 1) → Has steps.leading i)
-  pub leading : (i : ℕ) → Has steps.leading i → (c : Option Condition) × Has (asked_at places c) i × ConditionHolds rules seen c i (i + 1)
+-- at each known place something is asked, and where it is so, the place leads on;
+-- at each place that leads on something is asked that is so
+pub record AreHoldingSteps (rules : List Pattern) (seen : Seen) (places : SinglePlaces)
+    (steps : SingleSteps) : Type 0 where
+  pub known : (i : ℕ) → Has steps.known i → (c : Option Condition) × Has (asked_at places c) i
+      × (ConditionHolds rules seen c i (i + 1) → Has steps.leading i)
+  pub leading : (i : ℕ) → Has steps.leading i → (c : Option Condition) × Has (asked_at places c) i
+      × ConditionHolds rules seen c i (i + 1)

@@ -1,7 +1,9 @@
 use Rattle.std.proofs.Common.{refl}
+use Rattle.variant_dispositions.specs.Kinds.{kinds_in}
 use Rattle.valid_labels.proofs.laws.examples_hold.Goals as goal
 
 pub returns : goal.returns
+unfolding kinds_in
 returns c = record {
   sign = refl;
   sign_after_nukta = refl;
@@ -47,17 +49,17 @@ returns c = record {
   shorter_fails_first = refl;
   longer_stands = refl;
   longer_after_it = refl;
-  outside_longest = refl;
-  outside_variant = refl;
+  invalid_longest = refl;
+  invalid_variant = refl;
   sign_after_vowel = refl;
   consonant_after_vowel = refl;
   two_leads = refl;
   two_kinds_made = refl;
   two_a = refl;
   two_a_dead = refl;
-  outside_arises = refl;
-  outside_at_end = refl;
-  outside_not_made = refl;
+  invalid_arises = refl;
+  invalid_at_end = refl;
+  invalid_made = refl;
   half_before_ya = refl;
   half_before_ka = refl;
   half_before_ka_made = refl;

@@ -36,4 +36,4 @@ returns-clause-end c =
     let within = c.loop.invariant.within in
     let far = c.loop.invariant.far in
     let whole : c.loop.place ≡ length label = omega (arith, within, far, c.loop-test.false) in
-    subst (IsCutEnd c.args.sources table label) (sym whole) (whole-end c.args.sources table label c.len-entries.ensures.well_formed (subst (CutLeadsTo c.args.sources table label) whole c.loop.invariant.reached))
+    subst (IsCutEnd table label) (sym whole) (whole-end table label c.len-entries.ensures.well_formed (subst (CutLeadsTo table label) whole c.loop.invariant.reached))

@@ -2,7 +2,6 @@ use Rattle.std.proofs.Common.{eqb, eq-eqb, length, subst}
 use Rattle.std.proofs.lemmas.Bool.{eqb-true}
 use Rattle.valid_labels.specs.inner.Singles.{AreHoldingSteps}
 use Rattle.variant_table.specs.Entries.{TableValue}
-use Rattle.valid_labels.specs.declared.longest.Sources.TheVariants.{All}
 use Rattle.valid_labels.specs.Eligible.{IsCutEnd}
 use Rattle.valid_labels.proofs.EligibleLemmas.{end-tests}
 use Rattle.valid_labels.proofs.SingleLemmas.{holding-steps}
@@ -18,5 +17,5 @@ pub returns : goal.returns
 returns c =
     let place = c.cut_end.result in
     let label = c.args.label.now in
-    end-tests All c.args.segments.now label place (eqb place (length label)) c.recall_soundness.ensures.sound.entries
-    (subst (λ (t : TableValue). IsCutEnd All t label place) c.table-table.ensures c.cut_end.ensures.end) (eqb-true place (length label), eq-eqb place (length label))
+    end-tests c.args.segments.now label place (eqb place (length label)) c.recall_soundness.ensures.sound.entries
+    (subst (λ (t : TableValue). IsCutEnd t label place) c.table-table.ensures c.cut_end.ensures.end) (eqb-true place (length label), eq-eqb place (length label))

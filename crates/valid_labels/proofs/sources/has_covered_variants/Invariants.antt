@@ -1,9 +1,0 @@
-use Rattle.std.proofs.Common.{take}
-use Rattle.std.specs.List.{AllByRecursion}
-use Rattle.variant_table.specs.Entries.{sequences_in}
-use Rattle.valid_labels.specs.Segments.{IsCovered}
-use Rattle.valid_labels.proofs.sources.has_covered_variants.Given as goal
-
--- the variants so far are made of sources
-abbrev pub invariant-loop-number : goal.invariant-loop-number
-invariant-loop-number l = AllByRecursion (IsCovered l.table) (take l.number (sequences_in l.entry.variants))
