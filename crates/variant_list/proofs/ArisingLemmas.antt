@@ -5,16 +5,15 @@ use Rattle.std.specs.List.{Contains, AllByRecursion, flat_map}
 use Rattle.std.specs.Option.{option_map, option_to_list}
 use Rattle.std.proofs.lemmas.List.{length-map, map-append}
 use Rattle.std.proofs.lemmas.List.Elements.{recursion_from_All, All-from_recursion}
-use Rattle.variant_table.specs.Entries.{Entry, TableValue, Variant}
+use Rattle.variant_table.specs.Entries.{Entry, TableValue}
 use Rattle.variant_table.specs.Places.{entry_with, entries_from, entries_at}
-use Rattle.variant_table.specs.Segmentations.{AllHold, IsSegmentation, seen_under}
+use Rattle.variant_table.specs.Segmentations.{AllHold, seen_under}
 use Rattle.variant_table.specs.WellFormed.{IsEntry, IsWellFormed}
 use Rattle.variant_table.proofs.MemberLists.{Contains-map}
-use Rattle.reading_kinds.specs.Readings.{Substitution, AreSubstitutions, SubstitutionsSpell}
+use Rattle.reading_kinds.specs.Readings.{Substitution, SubstitutionsSpell}
 use Rattle.variant_list.specs.declared.substitutions.Cuts.{Cuts}
 use Rattle.variant_list.specs.declared.substitutions.Cuts.TheVariants.{Segmentations, Anyhow}
-use Rattle.variant_list.specs.Arising.{IsCutAnyhow, Arises, Gives, table_for, unasked, unasked_entry}
-use Rattle.variant_list.specs.Parts.Part.{Whole}
+use Rattle.variant_list.specs.Arising.{Arises, Gives, table_for, unasked, unasked_entry}
 use Rattle.variant_list.specs.Spelling.{Replaces, JoinsReplacements, Spells}
 use Rattle.variant_list.specs.Substitutions.{may_stand, substitutions_at, substitutions_of, substitutions_of_entry}
 use Rattle.variant_list.specs.inner.Standing.{stands_by}
@@ -71,20 +70,20 @@ entries_at-unasked entries label place = from [] (take 8 (drop place label))
 
 -- the substitutions at a place, by what is asked of the entries there
 pub substitutions_at-cuts : (cuts : Cuts) (table : TableValue) (label : List ℕ) (place : ℕ)
-    → flat_map (substitutions_of_entry Whole table label place) (filter (stands_by cuts table label place) (entries_at table.entries label place)) ≡ substitutions_at Whole (table_for cuts table) label place
+    → flat_map (substitutions_of_entry table label place) (filter (stands_by cuts table label place) (entries_at table.entries label place)) ≡ substitutions_at (table_for cuts table) label place
 substitutions_at-cuts Segmentations table label place = refl
 substitutions_at-cuts Anyhow table label place =
     all (entries_at table.entries label place) ∙ ap (λ es. flat_map gives (filter stands es)) (sym (entries_at-unasked table.entries label place))
   where
     gives : Entry → List Substitution
-    gives = substitutions_of_entry Whole (unasked table) label place
+    gives = substitutions_of_entry (unasked table) label place
 
     stands : Entry → Bool
     stands = may_stand (unasked table) label place
 
-    all : (es : List Entry) → flat_map (substitutions_of_entry Whole table label place) (filter (stands_by Anyhow table label place) es) ≡ flat_map gives (filter stands (map unasked_entry es))
+    all : (es : List Entry) → flat_map (substitutions_of_entry table label place) (filter (stands_by Anyhow table label place) es) ≡ flat_map gives (filter stands (map unasked_entry es))
     all [] = refl
-    all (e ∷ es) = ap (λ us. substitutions_of_entry Whole table label place e ++ us) (all es)
+    all (e ∷ es) = ap (λ us. substitutions_of_entry table label place e ++ us) (all es)
 
 -- ---- what arises is what that table spells
 
@@ -97,21 +96,17 @@ module _ (table : TableValue) (label : List ℕ) where
   of_unasked [] h = tt
   of_unasked (e ∷ cut) h = ((Contains-map unasked_entry table.entries (unasked_entry e)).1 (e, h.0, refl), of_unasked cut h.1)
 
-  inside : (cut : List Entry) → AllByRecursion (λ (e : Entry). e.outside ≡ false) (map unasked_entry cut)
-  inside [] = tt
-  inside (e ∷ cut) = (refl, inside cut)
-
   held : (place : ℕ) (cut : List Entry) → AllHold (unasked table).definitions.rules (seen_under (unasked table) label) place (map unasked_entry cut)
   held place [] = tt
   held place (e ∷ cut) = (tt, held (place + length e.source) cut)
 
-  joined : (place : ℕ) (cut : List Entry) (v : List ℕ) → JoinsReplacements Whole table label place cut v → JoinsReplacements Whole (unasked table) label place (map unasked_entry cut) v
+  joined : (place : ℕ) (cut : List Entry) (v : List ℕ) → JoinsReplacements table label place cut v → JoinsReplacements (unasked table) label place (map unasked_entry cut) v
   joined place [] v joins = joins
   joined place (e ∷ cut) v joins =
       let r = joins.2 in (
         joins.0,
         joins.1,
-        record { replacement = r.replacement; of_entry = r.of_entry; of_part = r.of_part; held = r.held; is = r.is },
+        record { replacement = r.replacement; of_entry = r.of_entry; held = r.held; is = r.is },
         joined (place + length e.source) cut joins.1 joins.3,
         joins.4,
       )
@@ -121,15 +116,15 @@ module _ (table : TableValue) (label : List ℕ) where
     cut : List Entry
     of_table : AllByRecursion (Contains table.entries) cut
     sources : flat_map (λ (e : Entry). e.source) cut ≡ flat_map (λ (e : Entry). e.source) segmentation
-    joins : JoinsReplacements Whole table label place cut v
+    joins : JoinsReplacements table label place cut v
 
-  cut_for : (segmentation : List Entry) (place : ℕ) (v : List ℕ) → AllByRecursion (Contains (unasked table).entries) segmentation → JoinsReplacements Whole (unasked table) label place segmentation v → IsCutFor segmentation place v
+  cut_for : (segmentation : List Entry) (place : ℕ) (v : List ℕ) → AllByRecursion (Contains (unasked table).entries) segmentation → JoinsReplacements (unasked table) label place segmentation v → IsCutFor segmentation place v
   cut_for [] place v of joins = record { cut = []; of_table = tt; sources = refl; joins = joins }
   cut_for (f ∷ segmentation) place v of joins =
       let m = (Contains-map unasked_entry table.entries f).0 of.0 in
       let e : Entry = m.0 in
-      let replaces : Replaces Whole (unasked table) label place (unasked_entry e) joins.0 = subst (λ x. Replaces Whole (unasked table) label place x joins.0) m.2 joins.2 in
-      let goes_on : JoinsReplacements Whole (unasked table) label (place + length e.source) segmentation joins.1 = subst (λ (x : Entry). JoinsReplacements Whole (unasked table) label (place + length x.source) segmentation joins.1) m.2 joins.3 in
+      let replaces : Replaces (unasked table) label place (unasked_entry e) joins.0 = subst (λ x. Replaces (unasked table) label place x joins.0) m.2 joins.2 in
+      let goes_on : JoinsReplacements (unasked table) label (place + length e.source) segmentation joins.1 = subst (λ (x : Entry). JoinsReplacements (unasked table) label (place + length x.source) segmentation joins.1) m.2 joins.3 in
       let rest = cut_for segmentation (place + length e.source) joins.1 of.1 goes_on in
       record {
         cut = e ∷ rest.cut;
@@ -138,7 +133,7 @@ module _ (table : TableValue) (label : List ℕ) where
         joins = (
           joins.0,
           joins.1,
-          record { replacement = replaces.replacement; of_entry = replaces.of_entry; of_part = replaces.of_part; held = replaces.held; is = replaces.is },
+          record { replacement = replaces.replacement; of_entry = replaces.of_entry; held = replaces.held; is = replaces.is },
           rest.joins,
           joins.4,
         );
@@ -148,7 +143,7 @@ module _ (table : TableValue) (label : List ℕ) where
   Arises-unasked v = (
     λ a. (
       map unasked_entry a.0,
-      record { of_table = of_unasked a.0 a.1.0; inside = inside a.0; joined = sources_same a.0 ∙ a.1.1; held = held 0 a.0 },
+      record { of_table = of_unasked a.0 a.1.0; joined = sources_same a.0 ∙ a.1.1; held = held 0 a.0 },
       joined 0 a.0 v a.2,
     ),
     λ s. (let c = cut_for s.0 0 v s.1.of_table s.2 in (c.cut, (c.of_table, c.sources ∙ s.1.joined), c.joins)),
@@ -170,9 +165,9 @@ pub IsWellFormed-cuts : (cuts : Cuts) (table : TableValue) → IsWellFormed tabl
 IsWellFormed-cuts Segmentations table formed = formed
 IsWellFormed-cuts Anyhow table formed = IsWellFormed-unasked table formed
 
-pub SubstitutionsSpell-cuts : (cuts : Cuts) (table : TableValue) (label : List ℕ) → IsWellFormed table.entries → (v : List ℕ) → SubstitutionsSpell (substitutions_of Whole (table_for cuts table) label) v ↔ Gives cuts table label v
-SubstitutionsSpell-cuts Segmentations table label formed v = SubstitutionsSpell-label Whole table label formed v
+pub SubstitutionsSpell-cuts : (cuts : Cuts) (table : TableValue) (label : List ℕ) → IsWellFormed table.entries → (v : List ℕ) → SubstitutionsSpell (substitutions_of (table_for cuts table) label) v ↔ Gives cuts table label v
+SubstitutionsSpell-cuts Segmentations table label formed v = SubstitutionsSpell-label table label formed v
 SubstitutionsSpell-cuts Anyhow table label formed v =
-    let spelled = SubstitutionsSpell-label Whole (unasked table) label (IsWellFormed-unasked table formed) v in
+    let spelled = SubstitutionsSpell-label (unasked table) label (IsWellFormed-unasked table formed) v in
     let arises = Arises-unasked table label v in
     (λ s. arises.1 (spelled.0 s), λ a. spelled.1 (arises.0 a))

@@ -1,12 +1,11 @@
 -- Where each sequence has few sources, none is crowded.
-use Rattle.std.proofs.Common.{◌≡◌, ◌≢◌, ◌⊎◌, ◌↔◌, inl, inr, ℕ, zero, suc, ◌<◌, ◌≤◌, List, [], ◌∷◌, All, Contains, length, map, take, get_or, min, refl, sym, ap, subst, ◌∙◌, arith, length-take}
+use Rattle.std.proofs.Common.{◌≡◌, ◌≢◌, ◌⊎◌, ◌↔◌, inl, inr, ℕ, zero, suc, ◌≤◌, List, [], ◌∷◌, All, Contains, length, map, take, get_or, refl, sym, ap, subst, ◌∙◌, arith, length-take}
 use Rattle.std.specs.Prelude.{AllPairs}
 use Rattle.std.specs.List.{flat_map}
 use Rattle.std.proofs.lemmas.Bool.{cases_lt}
 use Rattle.std.proofs.lemmas.List.Elements.{All-contains, All-head, All-tail, All-take, Contains-get_or}
 use Rattle.std.proofs.lemmas.List.Kept.{AllPairs-cons}
 use Rattle.variant_table.specs.Entries.{Entry, sequences_in}
-use Rattle.variant_table.specs.Gaps.{IsPair}
 use Rattle.variant_table.specs.WellFormed.{IsWellFormed}
 use Rattle.variant_table.proofs.MemberLists.{Contains-map, Contains-flat_map}
 use Rattle.variant_list.proofs.MutualLemmas.{IsPair-decided}

@@ -1,5 +1,5 @@
 -- Where conditions hold, as tests tell it.
-use Rattle.std.proofs.Common.{◌≡◌, ℕ, zero, suc, ◌+◌, ◌<◌, ◌≤◌, Bool, true, false, ◌&&◌, List, length, get_or, map, Option, None, Some, slice_get, refl, sym, ap, ◌∙◌, ◌↔◌, arith}
+use Rattle.std.proofs.Common.{◌≡◌, ℕ, ◌+◌, ◌<◌, ◌≤◌, Bool, true, false, List, length, get_or, map, Option, None, Some, slice_get, refl, sym, ap, ◌∙◌, ◌↔◌, arith}
 use Rattle.std.specs.List.{All}
 use Rattle.std.specs.Option.{option_map}
 use Rattle.std.proofs.lemmas.List.{length-map}
@@ -7,11 +7,10 @@ use Rattle.std.proofs.lemmas.Option.{slice_get-map, slice_get-get_or}
 use Rattle.label_patterns.specs.declared.condition.Condition.{Condition}
 use Rattle.label_patterns.specs.Conditions.{ConditionHolds}
 use Rattle.label_patterns.proofs.TestLemmas.{condition-agrees}
-use Rattle.variant_table.specs.Entries.{Entry, TableValue, Variant, itself, source_of, whole, replacements}
+use Rattle.variant_table.specs.Entries.{Entry, TableValue, Variant, source_of, whole, replacements}
 use Rattle.variant_table.specs.Segmentations.{seen_under}
-use Rattle.variant_list.specs.Parts.{Part, full_replacements, part_has}
-use Rattle.variant_list.specs.Substitutions.{holds_for, may_replace}
-use Rattle.variant_list.proofs.PartLemmas.{mapped-at, mapped-same}
+use Rattle.variant_list.specs.Substitutions.{holds_for}
+use Rattle.variant_list.proofs.ListMembers.{mapped-at}
 
 pub held_by : (table : TableValue) (label : List ℕ) (place : ℕ) (e : Entry) (condition : Option Condition) → place + length e.source ≤ length label
     → (holds_for table label place e condition ≡ true) ↔ ConditionHolds table.definitions.rules (seen_under table label) condition place (place + length e.source)
@@ -39,27 +38,3 @@ held-free table label place e i free inside =
     let at : slice_get (whole e) i ≡ Some (get_or (whole e) i (source_of e)) = slice_get-get_or (whole e) i (source_of e) (omega (arith, count, inside)) in
     let none : (get_or (whole e) i (source_of e)).condition ≡ None = free i (source_of e) (omega (arith, count, inside)) in
     slice_get-map (λ (r : Variant). holds_for table label place e r.condition) (whole e) i ∙ ap (option_map (λ (r : Variant). holds_for table label place e r.condition)) at ∙ ap (λ c. Some (holds_for table label place e c)) none
-
--- the condition of a source is not asked of it as a replacement of itself, and that of a variant is
-pub held-full_replacements : (table : TableValue) (label : List ℕ) (place : ℕ) (e : Entry) (i : ℕ) (held : Bool) → 0 < i → slice_get (map (λ (r : Variant). holds_for table label place e r.condition) (whole e)) i ≡ Some held
-    → slice_get (map (λ (r : Variant). holds_for table label place e r.condition) (full_replacements e)) i ≡ Some held
-held-full_replacements table label place e zero held l at = absurd (omega (arith, l))
-held-full_replacements table label place e (suc i) held l at = at
-
-pub replace-held : (part : Part) (table : TableValue) (label : List ℕ) (place : ℕ) (e : Entry) (i : ℕ) (has held : Bool) → slice_get (map (part_has part) (full_replacements e)) i ≡ Some has
-    → slice_get (map (λ (r : Variant). holds_for table label place e r.condition) (full_replacements e)) i ≡ Some held → slice_get (map (may_replace part table label place e) (full_replacements e)) i ≡ Some (has && held)
-replace-held part table label place e i has held at also =
-    let m = mapped-at (part_has part) (full_replacements e) i has at in
-    let same = mapped-same (λ (r : Variant). holds_for table label place e r.condition) (full_replacements e) i m.0 held m.1 also in
-    slice_get-map (may_replace part table label place e) (full_replacements e) i ∙ ap (option_map (may_replace part table label place e)) m.1
-    ∙ ap (λ t. Some (t && holds_for table label place e (m.0).condition)) m.2 ∙ ap (λ t. Some (has && t)) same
-
--- the source as a replacement of itself is asked nothing more
-pub replace-first : (part : Part) (table : TableValue) (label : List ℕ) (place : ℕ) (e : Entry) (i : ℕ) → slice_get (map (part_has part) (full_replacements e)) i ≡ Some true → i ≡ 0
-    → slice_get (map (may_replace part table label place e) (full_replacements e)) i ≡ Some true
-replace-first part table label place e zero at first = at-first (part_has part (itself e)) at
-  where
-    at-first : (b : Bool) → Some b ≡ Some true → Some (b && true) ≡ Some true
-    at-first true same = refl
-    at-first false same = same
-replace-first part table label place e (suc i) at first = absurd (omega (arith, first))

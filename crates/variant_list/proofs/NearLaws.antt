@@ -6,11 +6,10 @@ use Rattle.variant_table.specs.Segmentations.{IsMadeOfSources}
 use Rattle.variant_table.proofs.MemberLemmas.{Contains-head}
 use Rattle.variant_list.specs.Arising.{Arises}
 use Rattle.variant_list.specs.Closure.{GoTogether, PairUp, AreNear}
-use Rattle.variant_list.specs.Parts.Part.{Whole}
 use Rattle.variant_list.specs.Spelling.{JoinsReplacements}
-use Rattle.variant_list.proofs.PartLemmas.{Replaces-of_entry}
+use Rattle.variant_list.proofs.SpellingLemmas.{Replaces-of_entry}
 
-joins_near : (table : TableValue) (label : List ℕ) (segmentation : List Entry) (place : ℕ) (v : List ℕ) → AllByRecursion (Contains table.entries) segmentation → JoinsReplacements Whole table label place segmentation v
+joins_near : (table : TableValue) (label : List ℕ) (segmentation : List Entry) (place : ℕ) (v : List ℕ) → AllByRecursion (Contains table.entries) segmentation → JoinsReplacements table label place segmentation v
     → (parts : List (List ℕ)) × (others : List (List ℕ)) × PairUp table parts others × (flat_map (λ a. a) parts ≡ flat_map (λ (e : Entry). e.source) segmentation) × (flat_map (λ b. b) others ≡ v)
 joins_near table label [] place v of joins = ([], [], tt, refl, sym joins)
 joins_near table label (e ∷ segmentation) place v of joins =
@@ -18,7 +17,7 @@ joins_near table label (e ∷ segmentation) place v of joins =
     let rest = joins_near table label segmentation (place + length e.source) joins.1 of.1 joins.3 in (
       e.source ∷ rest.0,
       r ∷ rest.1,
-      ((e, of.0, inl (refl, Replaces-of_entry Whole table label place e r joins.2)), rest.2),
+      ((e, of.0, inl (refl, Replaces-of_entry table label place e r joins.2)), rest.2),
       ap (λ w. e.source ++ w) rest.3,
       ap (λ w. r ++ w) rest.4 ∙ sym joins.4,
     )

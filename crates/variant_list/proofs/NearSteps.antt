@@ -1,7 +1,6 @@
 -- What goes together with the parts of a label, taken one after the other.
-use Rattle.std.proofs.Common.{◌≡◌, ℕ, zero, suc, ◌+◌, true, List, [], ◌∷◌, ◌++◌, map, take, length, Some, refl, sym, ap, ◌∙◌, subst, arith, Vec, Global, append-nil}
+use Rattle.std.proofs.Common.{◌≡◌, ℕ, zero, suc, ◌+◌, true, List, [], ◌∷◌, ◌++◌, take, Some, refl, sym, ap, ◌∙◌, arith}
 use Rattle.std.specs.Prelude.{slice_get, filter}
-use Rattle.std.specs.List.{flat_map}
 use Rattle.std.proofs.lemmas.List.{map-append}
 use Rattle.variant_table.proofs.ListLemmas.{take_next}
 use Rattle.variant_table.specs.Entries.{Entry, TableValue}
@@ -9,7 +8,6 @@ use Rattle.reading_kinds.specs.Drafts.{Draft, with_substitutions}
 use Rattle.reading_kinds.specs.Readings.{Substitution}
 use Rattle.variant_list.specs.Reversed.{Group}
 use Rattle.variant_list.specs.inner.NearSubstitutions.{put_for, near_at, near_from}
-use Rattle.variant_list.specs.inner.Turned.{sequences_of}
 use Rattle.variant_list.proofs.TakenSubstitutions.{with_substitutions-twice}
 
 -- one sequence more

@@ -4,37 +4,36 @@ use Rattle.ruleset_text.specs.Definitions.{Definitions}
 use Rattle.variant_table.specs.declared.version.Version.{Version}
 use Rattle.variant_table.specs.Entries.{Entry, TableValue, table_of}
 use Rattle.variant_table.specs.Segmentations.{IsSegmentation}
-use Rattle.variant_list.specs.Parts.{Part}
-use Rattle.variant_list.specs.Spelling.{JoinsReplacements, PartSpells, Replaces}
+use Rattle.variant_list.specs.Spelling.{JoinsReplacements, Spells, Replaces}
 use Rattle.variant_list.specs.RulesetLaws.{RulesetsListTheSame, as_ruleset}
 
-module _ (part : Part) (definitions : Definitions) (entries : List Entry) (m n : Version) (label : List ℕ) where
-  joins-version : (place : ℕ) (es : List Entry) (v : List ℕ) → JoinsReplacements part (table_of m definitions entries) label place es v → JoinsReplacements part (table_of n definitions entries) label place es v
+module _ (definitions : Definitions) (entries : List Entry) (m n : Version) (label : List ℕ) where
+  joins-version : (place : ℕ) (es : List Entry) (v : List ℕ) → JoinsReplacements (table_of m definitions entries) label place es v → JoinsReplacements (table_of n definitions entries) label place es v
   joins-version place [] v joins = joins
   joins-version place (e ∷ es) v joins =
-      let r : Replaces part (table_of m definitions entries) label place e joins.0 = joins.2 in (
+      let r : Replaces (table_of m definitions entries) label place e joins.0 = joins.2 in (
         joins.0,
         joins.1,
-        record { replacement = r.replacement; of_entry = r.of_entry; of_part = r.of_part; held = r.held; is = r.is },
+        record { replacement = r.replacement; of_entry = r.of_entry; held = r.held; is = r.is },
         joins-version (place + length e.source) es joins.1 joins.3,
         joins.4,
       )
 
-  spells-version : (v : List ℕ) → PartSpells part (table_of m definitions entries) label v → PartSpells part (table_of n definitions entries) label v
+  spells-version : (v : List ℕ) → Spells (table_of m definitions entries) label v → Spells (table_of n definitions entries) label v
   spells-version v spells =
       let cut : IsSegmentation (table_of m definitions entries) spells.0 label = spells.1 in
-      (spells.0, record { of_table = cut.of_table; inside = cut.inside; joined = cut.joined; held = cut.held }, joins-version 0 spells.0 v spells.2)
+      (spells.0, record { of_table = cut.of_table; joined = cut.joined; held = cut.held }, joins-version 0 spells.0 v spells.2)
 
-pub PartSpells-as_ruleset : (part : Part) (table : TableValue) (label v : List ℕ) → PartSpells part table label v ↔ PartSpells part (as_ruleset table) label v
-PartSpells-as_ruleset part table label v = (
-  spells-version part table.definitions table.entries table.version (as_ruleset table).version label v,
-  spells-version part table.definitions table.entries (as_ruleset table).version table.version label v,
+pub Spells-as_ruleset : (table : TableValue) (label v : List ℕ) → Spells table label v ↔ Spells (as_ruleset table) label v
+Spells-as_ruleset table label v = (
+  spells-version table.definitions table.entries table.version (as_ruleset table).version label v,
+  spells-version table.definitions table.entries (as_ruleset table).version table.version label v,
 )
 
 pub rulesets_list_the_same : RulesetsListTheSame
 rulesets_list_the_same = record {
-  spells = PartSpells-as_ruleset;
-  spelled = λ part table label. refl;
+  spells = Spells-as_ruleset;
+  spelled = λ table label. refl;
   listed = λ accepts table label after. refl;
   tried = λ hopeless table label after. refl;
 }

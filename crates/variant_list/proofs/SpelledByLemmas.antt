@@ -9,17 +9,15 @@ use Rattle.variant_table.specs.Entries.{Entry, TableValue, Variant, replacements
 use Rattle.variant_table.specs.Places.{AreEntriesAt, entries_at}
 use Rattle.variant_table.specs.WellFormed.{IsSequence, IsEntry, IsWellFormed}
 use Rattle.variant_table.proofs.BeginningLemmas.{entries_are_at}
-use Rattle.variant_list.specs.Parts.{Part, full_replacements}
-use Rattle.variant_list.specs.Parts.Part.{Whole}
-use Rattle.variant_list.specs.Spelled.{part_spelled, spelled}
-use Rattle.variant_list.specs.Spelling.{PartSpells, Spells}
+use Rattle.variant_list.specs.Spelled.{spelled}
+use Rattle.variant_list.specs.Spelling.{Spells}
 use Rattle.variant_list.specs.inner.LabelSets.{SomeGives}
 use Rattle.variant_list.specs.inner.Layouts.{SubstitutionSpells}
 use Rattle.reading_kinds.specs.Readings.{Substitution, IsSubstitution, AreSubstitutions, SubstitutionsSpell}
 use Rattle.variant_list.specs.Substitutions.{spelled_from_each, spelled_by, substitution_of, may_stand, may_replace, substitutions_of_entry, substitutions_at, substitutions_from, substitutions_of}
 use Rattle.variant_list.proofs.ListMembers.{Contains-filter, filter-few}
 use Rattle.variant_list.proofs.SubstitutionLemmas.{nothing_spelled, SubstitutionsSpell-here, SubstitutionsSpell-label, IsSubstitutionOf-fits, substitutions_at-IsSubstitutionOf, length-substitutions_from}
-use Rattle.variant_list.proofs.PartLemmas.{Replaces-of_entry}
+use Rattle.variant_list.proofs.SpellingLemmas.{Replaces-of_entry}
 use Rattle.variant_table.proofs.MemberLemmas.{Contains-head, Contains-one}
 use Rattle.variant_table.proofs.MemberLists.{Contains-map, Contains-flat_map}
 
@@ -69,58 +67,55 @@ length-of_flat_map f h each (x ∷ xs) =
     length-append (f x) (flat_map f xs) ∙ ap (λ n. n + length (flat_map f xs)) (each x) ∙ ap (λ n. h x + n) (length-of_flat_map f h each xs) ∙ sym (sum_by-cons h x xs)
 
 -- the substitutions under a well-formed table end within the label, and are few
-module _ (part : Part) (table : TableValue) (label : List ℕ) (formed : IsWellFormed table.entries) where
-  is_substitution : (place n : ℕ) (u : Substitution) → place + suc n ≡ length label → Contains (substitutions_at part table label place) u → IsSubstitution (length (substitutions_from part table label (suc place) n) + 1) u
+module _ (table : TableValue) (label : List ℕ) (formed : IsWellFormed table.entries) where
+  is_substitution : (place n : ℕ) (u : Substitution) → place + suc n ≡ length label → Contains (substitutions_at table label place) u → IsSubstitution (length (substitutions_from table label (suc place) n) + 1) u
   is_substitution place n u whole m =
-      let is = (substitutions_at-IsSubstitutionOf part table label formed place u).0 m in
+      let is = substitutions_at-IsSubstitutionOf table label formed place u m in
       let here = ((entries_are_at table.entries label place formed).members is.entry).0 is.at in
-      let fit = IsSubstitutionOf-fits part table label formed place u is in
+      let fit = IsSubstitutionOf-fits table label formed place u is in
       let each : IsEntry is.entry = All-contains IsEntry table.entries is.entry formed.entries here.0 in
-      let one : IsSequence u.points = All-contains IsSequence (replacements is.entry) u.points each.sequences (Replaces-of_entry part table label place is.entry u.points is.replaces) in
+      let one : IsSequence u.points = All-contains IsSequence (replacements is.entry) u.points each.sequences (Replaces-of_entry table label place is.entry u.points is.replaces) in
       record {
         some = fit.0;
-        within = omega (arith, fit.1, whole, length-substitutions_from part table label n (suc place));
+        within = omega (arith, fit.1, whole, length-substitutions_from table label n (suc place));
         filled = one.filled;
         short = one.short;
       }
 
-  few_substitutions : (place : ℕ) → length (substitutions_at part table label place) ≤ 136
+  few_substitutions : (place : ℕ) → length (substitutions_at table label place) ≤ 136
   few_substitutions place =
       let all : List Entry = entries_at table.entries label place in
       let here : List Entry = filter (may_stand table label place) all in
       let at : AreEntriesAt table.entries label place all = entries_are_at table.entries label place formed in
-      let of_entry : (e : Entry) → IsEntry e → length (substitutions_of_entry part table label place e) ≤ 17 = λ (e : Entry) is.
-      (let kept : List Variant = filter (may_replace part table label place e) (full_replacements e) in
-      omega (arith, length-map kept (substitution_of e), filter-few (may_replace part table label place e) (full_replacements e), is.few)) in
-      let each : (k : ℕ) (d : Entry) → k < length here → length (substitutions_of_entry part table label place (get_or here k d)) ≤ 17 = λ (k : ℕ) (d : Entry) l.
+      let of_entry : (e : Entry) → IsEntry e → length (substitutions_of_entry table label place e) ≤ 17 = λ (e : Entry) is.
+      (let kept : List Variant = filter (may_replace table label place e) e.variants in
+      omega (arith, length-map kept (substitution_of e), filter-few (may_replace table label place e) e.variants, is.few)) in
+      let each : (k : ℕ) (d : Entry) → k < length here → length (substitutions_of_entry table label place (get_or here k d)) ≤ 17 = λ (k : ℕ) (d : Entry) l.
       (let e : Entry = get_or here k d in
       of_entry e (All-contains IsEntry table.entries e formed.entries ((at.members e).0 ((Contains-filter (may_stand table label place) all e).0 (Contains-get_or here k d l)).0).0)) in
       omega (
         arith,
-        sum_by-le (λ (e : Entry). length (substitutions_of_entry part table label place e)) 17 here each,
-        length-of_flat_map (substitutions_of_entry part table label place) (λ (e : Entry). length (substitutions_of_entry part table label place e)) (λ (e : Entry). refl) here,
+        sum_by-le (λ (e : Entry). length (substitutions_of_entry table label place e)) 17 here each,
+        length-of_flat_map (substitutions_of_entry table label place) (λ (e : Entry). length (substitutions_of_entry table label place e)) (λ (e : Entry). refl) here,
         filter-few (may_stand table label place) all,
         at.few,
       )
 
-  AreSubstitutions-from : (place n : ℕ) → place + n ≡ length label → AreSubstitutions (substitutions_from part table label place n)
+  AreSubstitutions-from : (place n : ℕ) → place + n ≡ length label → AreSubstitutions (substitutions_from table label place n)
   AreSubstitutions-from place zero whole = tt
   AreSubstitutions-from place (suc n) whole = (
-    λ k d l. is_substitution place n (get_or (substitutions_at part table label place) k d) whole (Contains-get_or (substitutions_at part table label place) k d l),
+    λ k d l. is_substitution place n (get_or (substitutions_at table label place) k d) whole (Contains-get_or (substitutions_at table label place) k d l),
     omega (arith, few_substitutions place),
     AreSubstitutions-from (suc place) n (omega (arith, whole)),
   )
 
-  pub AreSubstitutions-label : AreSubstitutions (substitutions_of part table label)
+  pub AreSubstitutions-label : AreSubstitutions (substitutions_of table label)
   AreSubstitutions-label = AreSubstitutions-from 0 (length label) (omega arith)
 
 -- ---- what a label spells, as it computes
 
-pub part_spelled-PartSpells : (part : Part) (table : TableValue) (label v : List ℕ) → IsWellFormed table.entries → Contains (part_spelled part table label) v ↔ PartSpells part table label v
-part_spelled-PartSpells part table label v formed =
-    let listed = spelled_by-SubstitutionsSpell (substitutions_of part table label) v (AreSubstitutions-label part table label formed) in
-    let same = SubstitutionsSpell-label part table label formed v in
-    (λ m. same.0 (listed.0 m), λ s. listed.1 (same.1 s))
-
 pub spelled-Spells : (table : TableValue) (label v : List ℕ) → IsWellFormed table.entries → Contains (spelled table label) v ↔ Spells table label v
-spelled-Spells = part_spelled-PartSpells Whole
+spelled-Spells table label v formed =
+    let listed = spelled_by-SubstitutionsSpell (substitutions_of table label) v (AreSubstitutions-label table label formed) in
+    let same = SubstitutionsSpell-label table label formed v in
+    (λ m. same.0 (listed.0 m), λ s. listed.1 (same.1 s))

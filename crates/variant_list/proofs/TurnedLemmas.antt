@@ -1,6 +1,6 @@
 -- The turned pairs of a table as a map keeps them, and one more.
-use Rattle.std.proofs.Common.{◌≡◌, ◌≢◌, ◌⊎◌, ◌↔◌, inl, inr, ℕ, zero, suc, ◌+◌, ◌<◌, ◌≤◌, Bool, true, false, cond, List, [], ◌∷◌, ◌++◌, length, map, Option, Some, None, refl, sym, ap, ◌∙◌, subst, arith, Vec, Global, Ordering, length-append}
-use Rattle.std.specs.Prelude.{bytes_eq, slice_get, AllPairs, All, Contains}
+use Rattle.std.proofs.Common.{◌≡◌, ◌≢◌, ◌⊎◌, ◌↔◌, inl, inr, ℕ, zero, suc, ◌+◌, ◌≤◌, Bool, true, false, cond, List, [], ◌∷◌, ◌++◌, length, Option, Some, None, refl, sym, ap, ◌∙◌, subst, arith, Vec, Global, Ordering, length-append}
+use Rattle.std.specs.Prelude.{bytes_eq, slice_get, AllPairs, Contains}
 use Rattle.std.specs.declared.cmp.Ordering.TheVariants.{Less, Equal, Greater}
 use Rattle.std.specs.Ordering.{nat_cmp, is_eq, match_ordering}
 use Rattle.std.specs.Cmp.Lexicographic.{slice_cmp}

@@ -1,11 +1,13 @@
 -- Beginnings of labels: the shortest dead prefix, and the labels at which a listing meets a new one.
-use Rattle.std.specs.Prelude.{◌≡◌, ◌==◌, ◌<◌, ◌≤◌, ◌&&◌, ℕ, zero, suc, Bool, true, false, not, List, [], ◌∷◌, length, take, Option, Some, None, if◌then◌else◌}
+use Rattle.std.specs.Prelude.{◌≡◌, ◌==◌, ◌<◌, ◌≤◌, ◌&&◌, ℕ, zero, suc, Bool, true, false, not, List, [], ◌∷◌, length}
+use Rattle.std.specs.Prelude.{take, Option, Some, None, if◌then◌else◌}
 use Rattle.std.specs.Option.{option_map, is_none}
 
 -- how many code points the shortest dead prefix of a label has, of one code point or more, as it computes
 abbrev pub shortest_hopeless : (List ℕ → Bool) → List ℕ → Option ℕ
 shortest_hopeless hopeless [] = None
-shortest_hopeless hopeless (c ∷ v) = if hopeless (c ∷ []) then Some 1 else option_map suc (shortest_hopeless (λ w. hopeless (c ∷ w)) v)
+shortest_hopeless hopeless (c ∷ v) =
+    if hopeless (c ∷ []) then Some 1 else option_map suc (shortest_hopeless (λ w. hopeless (c ∷ w)) v)
 
 -- the label has no dead prefix, as it computes
 abbrev pub has_no_dead_prefix : (List ℕ → Bool) → List ℕ → Bool
@@ -39,4 +41,5 @@ is_new (Some u) v (Some n) = not (shares n u v)
 abbrev pub dead_prefixes : (List ℕ → Bool) → Option (List ℕ) → List (List ℕ) → List (List ℕ)
 dead_prefixes hopeless before [] = []
 dead_prefixes hopeless before (v ∷ vs) =
-    if is_new before v (shortest_hopeless hopeless v) then v ∷ dead_prefixes hopeless (Some v) vs else dead_prefixes hopeless (Some v) vs
+    if is_new before v (shortest_hopeless hopeless v) then v ∷ dead_prefixes hopeless (Some v) vs
+    else dead_prefixes hopeless (Some v) vs

@@ -1,5 +1,5 @@
--- Which labels may collide at all under a table (RFC 7940, section 5.1): those that are cut into parts which go together,
--- whichever has the other as a variant. Conditions, marks and tags are set aside here.
+-- Which labels may collide at all under a table (RFC 7940, section 5.1): those that are cut into parts which go
+-- together, whichever has the other as a variant. Conditions and types are set aside here.
 use Rattle.std.specs.Prelude.{◌≡◌, ◌⊎◌, ℕ, zero, suc, List, [], ◌∷◌, ◌++◌, length, map, Contains}
 use Rattle.std.specs.Prelude.{bytes_eq, if◌then◌else◌}
 use Rattle.std.specs.List.{flat_map, list_any}

@@ -35,8 +35,8 @@ candidates_among_from labels text = filter (λ v. fits_label v && not (is_lt (la
 abbrev pub candidates_from : TableValue → List ℕ → List ℕ → List (List ℕ)
 candidates_from table label text = candidates_among_from (spelled table label) text
 
--- the cursor went to the least candidate that is no less than the text; or there is none, and it goes on after the first 63 code
--- points of the text
+-- the cursor went to the least candidate that is no less than the text; or there is none, and it goes on after the
+-- first 63 code points of the text
 pub record Jumps (old : Position) (text : List ℕ) (is_found : Bool) (new : Position) : Type 0 where
   pub net : new.net ≡ old.net
   pub found : OnTrue is_found (IsLeastFrom (IsCandidate (Contains old.net.spelled)) text new.last)

@@ -22,10 +22,11 @@ pub record IsAsked (accepts : List ℕ → Bool) (table : TableValue) (after lab
   pub cut : HasSegmentation table label
   pub greater : IsBelow after label
 
--- of two such labels one is a variant of the other exactly where they have the same variants, and exactly where the least one is the
--- same: vs are the variants of the label, and ws those of the other one
+-- of two such labels one is a variant of the other exactly where they have the same variants, and exactly where the
+-- least one is the same: vs are the variants of the label, and ws those of the other one
 abbrev pub VariantsAreMutual : Type 0
 VariantsAreMutual =
     (accepts : List ℕ → Bool) (table : TableValue) (after label other : List ℕ) (vs ws : List (List ℕ)) →
-    IsMutual table → IsAsked accepts table after label → IsAsked accepts table after other → AreVariants accepts table label after vs → AreVariants accepts table other after ws →
+    IsMutual table → IsAsked accepts table after label → IsAsked accepts table after other →
+    AreVariants accepts table label after vs → AreVariants accepts table other after ws →
     (Contains vs other ↔ (vs ≡ ws)) × (Contains vs other ↔ (slice_get vs 0 ≡ slice_get ws 0))

@@ -1,5 +1,6 @@
 -- How far a call of `seek` goes, counted in steps.
-use Rattle.std.specs.Prelude.{◌≡◌, ℕ, ◌*◌, ◌<◌, ◌≤◌, Bool, List, length, take, drop, Option, Some, IfSome, Result, Ok, Err}
+use Rattle.std.specs.Prelude.{◌≡◌, ℕ, ◌*◌, ◌<◌, ◌≤◌, Bool, List, length, take, drop, Option, Some, IfSome, Result, Ok}
+use Rattle.std.specs.Prelude.{Err}
 use Rattle.std.specs.declared.alloc.AllocError.{AllocError}
 use Rattle.variant_list.specs.Positions.{Position}
 use Rattle.variant_list.specs.Steps.{last_of}
@@ -8,16 +9,18 @@ use Rattle.variant_list.specs.declared.cursor.Outcome.{Outcome}
 use Rattle.variant_list.specs.declared.cursor.Outcome.TheVariants as outcome
 
 -- after so many steps the cursor stands at the label visited with the last of them, and goes on with those after it
-pub record Visits (hopeless : List ℕ → Bool) (old : Position) (steps : Option ℕ) (new : Position) (left : Option ℕ) : Type 0 where
+pub record Visits (hopeless : List ℕ → Bool) (old : Position) (steps : Option ℕ) (new : Position)
+    (left : Option ℕ) : Type 0 where
   pub taken : ℕ
   pub takes : TakesSteps steps taken left
   pub there : taken ≤ length (visited_ahead hopeless old)
   pub last : new.last ≡ last_of old.last (take taken (visited_ahead hopeless old))
   pub ahead : visited_ahead hopeless new ≡ drop taken (visited_ahead hopeless old)
 
--- all steps were used: the cursor stands at the label visited with the last of them, tested or passed over, and looked at most
--- 256 times at each edge for each step
-pub record UsesAllSteps (hopeless : List ℕ → Bool) (old : Position) (steps : Option ℕ) (new : Position) (left : Option ℕ) : Type 0 where
+-- all steps were used: the cursor stands at the label visited with the last of them, tested or passed over, and looked
+-- at most 256 times at each edge for each step
+pub record UsesAllSteps (hopeless : List ℕ → Bool) (old : Position) (steps : Option ℕ) (new : Position)
+    (left : Option ℕ) : Type 0 where
   pub count : ℕ
   pub all : steps ≡ Some count
   pub none : left ≡ Some 0

@@ -1,6 +1,7 @@
 -- The substitutions of a label under a table: what may stand in the place of which of its code points. The variant
 -- graph of a label is laid out from them.
-use Rattle.std.specs.Prelude.{ℕ, zero, suc, ◌+◌, ◌-◌, Bool, not, ◌&&◌, Option, List, [], ◌∷◌, ◌++◌, length, map, filter, sum_by, slice_index_or}
+use Rattle.std.specs.Prelude.{ℕ, zero, suc, ◌+◌, ◌-◌, ◌^◌, Bool, Option, List, [], ◌∷◌, ◌++◌, length, map, filter}
+use Rattle.std.specs.Prelude.{sum_by, slice_index_or}
 use Rattle.std.specs.List.{flat_map}
 use Rattle.label_patterns.specs.declared.condition.Condition.{Condition}
 use Rattle.label_patterns.specs.Tests.{condition_holds}
@@ -8,13 +9,14 @@ use Rattle.variant_table.specs.Entries.{Entry, TableValue, Variant}
 use Rattle.variant_table.specs.Places.{entries_at}
 use Rattle.variant_table.specs.Segmentations.{seen_under}
 use Rattle.reading_kinds.specs.Readings.{Substitution}
-use Rattle.variant_list.specs.Parts.{Part, full_replacements, kinds_of, part_has}
+use Rattle.variant_dispositions.specs.Kinds.{bit_of, kind_of_source, kind_of_variant}
 
 -- what substitutions spell, as a list that computes: from each place on what they spell, and at the end the empty label
 abbrev pub spelled_from_each : List (List Substitution) → List (List (List ℕ))
 spelled_from_each [] = ([] ∷ []) ∷ []
 spelled_from_each (here ∷ later) =
-    flat_map (λ u. map (λ w. u.points ++ w) (slice_index_or (spelled_from_each later) (u.covers - 1) [])) here ∷ spelled_from_each later
+    flat_map (λ u. map (λ w. u.points ++ w) (slice_index_or (spelled_from_each later) (u.covers - 1) [])) here
+    ∷ spelled_from_each later
 
 abbrev pub spelled_by : List (List Substitution) → List (List ℕ)
 spelled_by substitutions = slice_index_or (spelled_from_each substitutions) 0 []
@@ -32,13 +34,19 @@ substitution_edges = sum_by points_in
 -- how many places their variant graph has: before, between and after the code points of the label, and between those of
 -- each substitution
 abbrev pub substitution_places : List (List Substitution) → ℕ
-substitution_places substitutions = length substitutions + 1 + substitution_edges substitutions - substitution_count substitutions
+substitution_places substitutions =
+    length substitutions + 1 + substitution_edges substitutions - substitution_count substitutions
 
--- ---- the substitutions of a label under a part of a table
+-- ---- the substitutions of a label under a table
 
--- a replacement of the entry may stand in the place of its source
+-- the source stays as it is
+abbrev pub staying : Entry → Substitution
+staying e = record { covers = length e.source; kinds = 2 ^ bit_of (kind_of_source e.type); points = e.source }
+
+-- a variant of the entry stands in the place of its source
 abbrev pub substitution_of : Entry → Variant → Substitution
-substitution_of e r = record { covers = length e.source; kinds = kinds_of r; points = r.sequence }
+substitution_of e v =
+    record { covers = length e.source; kinds = 2 ^ bit_of (kind_of_variant v.type); points = v.sequence }
 
 -- whether a condition holds in the label for the source of the entry, from the place on
 abbrev pub holds_for : TableValue → List ℕ → ℕ → Entry → Option Condition → Bool
@@ -47,24 +55,27 @@ holds_for table label place e condition =
 
 -- whether the entry may be in a segmentation of the label, with its source at the place
 abbrev pub may_stand : TableValue → List ℕ → ℕ → Entry → Bool
-may_stand table label place e = not e.outside && holds_for table label place e e.condition
+may_stand table label place e = holds_for table label place e e.condition
 
--- whether the replacement may then be put in the place of the source
-abbrev pub may_replace : Part → TableValue → List ℕ → ℕ → Entry → Variant → Bool
-may_replace part table label place e r = part_has part r && holds_for table label place e r.condition
+-- whether the variant may then be put in the place of the source
+abbrev pub may_replace : TableValue → List ℕ → ℕ → Entry → Variant → Bool
+may_replace table label place e v = holds_for table label place e v.condition
 
-abbrev pub substitutions_of_entry : Part → TableValue → List ℕ → ℕ → Entry → List Substitution
-substitutions_of_entry part table label place e = map (substitution_of e) (filter (may_replace part table label place e) (full_replacements e))
+abbrev pub substitutions_of_entry : TableValue → List ℕ → ℕ → Entry → List Substitution
+substitutions_of_entry table label place e =
+    staying e ∷ map (substitution_of e) (filter (may_replace table label place e) e.variants)
 
 -- those at a place of the label
-abbrev pub substitutions_at : Part → TableValue → List ℕ → ℕ → List Substitution
-substitutions_at part table label place =
-    flat_map (substitutions_of_entry part table label place) (filter (may_stand table label place) (entries_at table.entries label place))
+abbrev pub substitutions_at : TableValue → List ℕ → ℕ → List Substitution
+substitutions_at table label place =
+    flat_map (substitutions_of_entry table label place)
+    (filter (may_stand table label place) (entries_at table.entries label place))
 
 -- those at so many places, from this one on
-abbrev pub substitutions_from : Part → TableValue → List ℕ → ℕ → ℕ → List (List Substitution)
-substitutions_from part table label place zero = []
-substitutions_from part table label place (suc n) = substitutions_at part table label place ∷ substitutions_from part table label (suc place) n
+abbrev pub substitutions_from : TableValue → List ℕ → ℕ → ℕ → List (List Substitution)
+substitutions_from table label place zero = []
+substitutions_from table label place (suc n) =
+    substitutions_at table label place ∷ substitutions_from table label (suc place) n
 
-abbrev pub substitutions_of : Part → TableValue → List ℕ → List (List Substitution)
-substitutions_of part table label = substitutions_from part table label 0 (length label)
+abbrev pub substitutions_of : TableValue → List ℕ → List (List Substitution)
+substitutions_of table label = substitutions_from table label 0 (length label)

@@ -21,4 +21,5 @@ dead_prefixes_after hopeless labels after = dead_prefixes hopeless None (candida
 
 -- those among the candidates below a label
 abbrev pub dead_prefixes_between : (List ℕ → Bool) → List (List ℕ) → List ℕ → List ℕ → List (List ℕ)
-dead_prefixes_between hopeless labels after v = dead_prefixes hopeless None (filter (λ u. is_lt (label_cmp u v)) (candidates_among labels after))
+dead_prefixes_between hopeless labels after v =
+    dead_prefixes hopeless None (filter (λ u. is_lt (label_cmp u v)) (candidates_among labels after))

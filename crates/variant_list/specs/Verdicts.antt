@@ -12,5 +12,7 @@ IsAnswer accepts tells label false = accepts label ≡ false
 -- the verdict on a label: its shortest dead prefix, or whether it is accepted
 abbrev pub IsVerdict : (List ℕ → Bool) → (List ℕ → Bool) → (List ℕ → Type 0) → List ℕ → Verdict → Type 0
 IsVerdict accepts hopeless tells label (DeadPrefix count) = shortest_hopeless hopeless label ≡ Some count
-IsVerdict accepts hopeless tells label Accepted = (shortest_hopeless hopeless label ≡ None) × IsAnswer accepts tells label true
-IsVerdict accepts hopeless tells label NotAccepted = (shortest_hopeless hopeless label ≡ None) × IsAnswer accepts tells label false
+IsVerdict accepts hopeless tells label Accepted =
+    (shortest_hopeless hopeless label ≡ None) × IsAnswer accepts tells label true
+IsVerdict accepts hopeless tells label NotAccepted =
+    (shortest_hopeless hopeless label ≡ None) × IsAnswer accepts tells label false

@@ -1,5 +1,6 @@
 -- The labels that a listing comes to, one for each step of its search, and how many steps are left.
-use Rattle.std.specs.Prelude.{◌≡◌, ℕ, ◌-◌, ◌≤◌, ◌||◌, nat_lt, Bool, true, List, [], ◌∷◌, Option, Some, None, IfSome, if◌then◌else◌}
+use Rattle.std.specs.Prelude.{◌≡◌, ℕ, ◌-◌, ◌≤◌, ◌||◌, nat_lt, Bool, true, List, [], ◌∷◌, Option, Some, None, IfSome}
+use Rattle.std.specs.Prelude.{if◌then◌else◌}
 use Rattle.variant_list.specs.Beginnings.{shortest_hopeless, has_no_dead_prefix, is_new}
 use Rattle.variant_list.specs.Positions.{Position, candidates_ahead}
 

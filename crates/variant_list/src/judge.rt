@@ -18,6 +18,9 @@ pub trait Judge {
     /// Which prefixes are dead: no accepted label begins with one.
     ghost dead: { Self → List ℕ → Bool };
 
+    /// In which class a label is. Like the two above it depends on the label alone.
+    ghost class_of: { Self → List ℕ → ℕ } = { λ _ _. 0 };
+
     /// What the judge, once it accepted a label, tells of it.
     ghost tells: { Self → List ℕ → Type 0 };
 
@@ -38,7 +41,8 @@ pub trait Judge {
         ensures no_memory { needs_none self.old label.now → IsOk result }
         ensures same_needs { (v : List ℕ) → needs_none self.old v → needs_none self.new v }
         ensures same_labels { accepted self.new ≡ accepted self.old }
-        ensures same_beginnings { dead self.new ≡ dead self.old };
+        ensures same_beginnings { dead self.new ≡ dead self.old }
+        ensures same_classes { class_of self.new ≡ class_of self.old };
 
     /// No accepted label begins with a dead prefix.
     ghost dead_for_good: { (judge : Self) (w z : List ℕ) → IsTrue (dead judge w) → accepted judge (w ++ z) ≡ false };

@@ -1,7 +1,8 @@
 //! The pairs of a table that lack their reverse, turned round.
-ghost use Rattle.std.specs.Prelude.{◌≡◌, ◌≤◌, ◌↔◌, ℕ, [], ◌∷◌, ◌++◌, List, length, Contains, IsTrue, IfOk, IfErr, OnOk};
+ghost use Rattle.std.specs.Prelude.{◌≡◌, ◌≤◌, ◌↔◌, ℕ, [], ◌∷◌, ◌++◌, List, length, Contains, IsTrue};
+ghost use Rattle.std.specs.Prelude.{IsOk, IfOk, IfErr, OnOk};
 ghost use Rattle.variant_table.specs.Gaps.{IsPair};
-ghost use Rattle.variant_list.specs.Reversed.{AreReversedOf, AreFew, IsCrowded, sources_of};
+ghost use Rattle.variant_list.specs.Reversed.{AreReversedOf, AreFew, IsCrowded, IsReversed, sources_of};
 ghost use Rattle.variant_list.specs.declared.reversed.ReversedFault.TheVariants.{TooManySources};
 ghost use Rattle.variant_list.specs.inner.Turned.{sequences_of, groups_of, AreSound, AreTurned, Adds, Puts, Turns};
 ghost use Rattle.variant_list.specs.inner.Turned.{HasNoRoom};
@@ -60,13 +61,15 @@ impl From<AllocError> for ReversedFault {
 
 impl Reversed {
     /// The pairs of a table. `TooManySources` comes exactly where a sequence is a variant of more than 64 sources that
-    /// aren't variants of it, and `Memory` only where memory was refused.
+    /// aren't variants of it, and `Memory` only where memory was refused: none is taken for a table in which each pair
+    /// has its reverse.
     pub fn of_table(alloc: Global, table: &Table) -> Result<Reversed, ReversedFault>
         ensures pairs { IfOk result (AreReversedOf table.now.entries) }
         ensures few { IfOk result AreFew }
         ensures uncrowded { IfOk result (λ _. (a : List ℕ) → ¬ IsCrowded table.now.entries a) }
         ensures crowded { IfErr result
             (λ fault. fault ≡ TooManySources → (a : List ℕ) × IsCrowded table.now.entries a) }
+        ensures no_memory { ((a b : List ℕ) → ¬ IsReversed table.now.entries a b) → IsOk result }
     {
         let mut sources = BTreeMap::new(alloc);
         for number in 0..table.len() {
@@ -101,6 +104,7 @@ fn add_entry(
         (Adds (groups_of sources.old.entries) (groups_of sources.new.entries) (Turns table.now.entries entry.now)) }
     ensures sound { OnOk result (AreSound (groups_of sources.new.entries)) }
     ensures crowded { IfErr result (λ fault. fault ≡ TooManySources → (a : List ℕ) × IsCrowded table.now.entries a) }
+    ensures no_memory { ((a b : List ℕ) → ¬ IsReversed table.now.entries a b) → IsOk result }
 {
     let source = entry.source();
     for number in 1..entry.replacements() {

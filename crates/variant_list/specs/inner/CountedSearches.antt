@@ -1,5 +1,6 @@
 -- A search for a tested label of which the steps are counted: words of the cursor's inner steps.
-use Rattle.std.specs.Prelude.{◌≡◌, ◌+◌, ◌*◌, ◌≤◌, ℕ, Bool, true, false, List, length, take, Option, None, Result, Ok, Err}
+use Rattle.std.specs.Prelude.{◌≡◌, ◌+◌, ◌*◌, ◌≤◌, ℕ, Bool, true, false, List, length, take, Option, None, Result, Ok}
+use Rattle.std.specs.Prelude.{Err}
 use Rattle.std.specs.declared.alloc.AllocError.{AllocError}
 use Rattle.variant_list.specs.Beginnings.{dead_prefixes}
 use Rattle.variant_list.specs.Positions.{Position, candidates_ahead, tested_ahead}
@@ -18,18 +19,21 @@ pub record StandsAfter (hopeless : List ℕ → Bool) (old : Position) (taken : 
   pub looks : new.edge_tests ≤ old.edge_tests + 126 * (edges_of_net old * taken)
 
 -- a step for each dead prefix before the candidate without a dead prefix, and one for it
-pub record FindsTestedIn (hopeless : List ℕ → Bool) (old : Position) (steps : Option ℕ) (new : Position) (left : Option ℕ) : Type 0 where
+pub record FindsTestedIn (hopeless : List ℕ → Bool) (old : Position) (steps : Option ℕ) (new : Position)
+    (left : Option ℕ) : Type 0 where
   pub finds : FindsTested hopeless old new
   pub takes : TakesSteps steps (length (dead_prefixes hopeless None finds.passed) + 1) left
 
 -- a step for each dead prefix, and another could be taken
-pub record FindsNoneIn (hopeless : List ℕ → Bool) (old : Position) (steps : Option ℕ) (new : Position) (left : Option ℕ) : Type 0 where
+pub record FindsNoneIn (hopeless : List ℕ → Bool) (old : Position) (steps : Option ℕ) (new : Position)
+    (left : Option ℕ) : Type 0 where
   pub finds : FindsNone hopeless old new
   pub takes : TakesSteps steps (length (dead_prefixes hopeless None (candidates_ahead old))) left
   pub more : has_step left ≡ true
 
 -- all steps came to dead prefixes
-pub record UsesAllStepsIn (hopeless : List ℕ → Bool) (old : Position) (steps : Option ℕ) (new : Position) (left : Option ℕ) : Type 0 where
+pub record UsesAllStepsIn (hopeless : List ℕ → Bool) (old : Position) (steps : Option ℕ) (new : Position)
+    (left : Option ℕ) : Type 0 where
   pub taken : ℕ
   pub takes : TakesSteps steps taken left
   pub none : has_step left ≡ false

@@ -1,26 +1,27 @@
 -- What sets of labels hold, and what a step of the plain lister adds to them.
-use Rattle.std.specs.Prelude.{◌≡◌, ℕ, false, ◌+◌, ◌-◌, ◌<◌, ◌⊎◌, ◌↔◌, List, ◌++◌, length, Contains, slice_index_or, Option, Vec}
+use Rattle.std.specs.Prelude.{◌≡◌, ℕ, ◌+◌, ◌-◌, ◌<◌, ◌⊎◌, ◌↔◌, List, ◌++◌, length, Contains, slice_index_or, Option}
+use Rattle.std.specs.Prelude.{Vec}
 use Rattle.std.specs.declared.alloc.Global.{Global}
 use Rattle.std.specs.BTreeSet.{BTreeSet}
 use Rattle.label_patterns.specs.declared.condition.Condition.{Condition}
 use Rattle.label_patterns.specs.Conditions.{ConditionHolds}
-use Rattle.variant_table.specs.Entries.{Entry, TableValue, Variant}
+use Rattle.variant_table.specs.Entries.{Entry, TableValue, Variant, full_replacements}
 use Rattle.variant_table.specs.Segmentations.{seen_under}
 use Rattle.variant_list.specs.Labels.{IsRising}
-use Rattle.variant_list.specs.Parts.Part.{Whole}
-use Rattle.variant_list.specs.Parts.{full_replacements}
 use Rattle.variant_list.specs.inner.Places.{SpellsFrom}
 use Rattle.variant_list.specs.LabelSet.{labels_of}
 
 -- the set holds exactly what the code points of the label from a place on spell, in label order
-pub record HoldsSpelled (table : TableValue) (label : List ℕ) (place : ℕ) (labels : BTreeSet (Vec ℕ Global)) : Type 0 where
-  pub spelled : (v : List ℕ) → Contains (labels_of labels) v ↔ SpellsFrom Whole table label place v
+pub record HoldsSpelled (table : TableValue) (label : List ℕ) (place : ℕ)
+    (labels : BTreeSet (Vec ℕ Global)) : Type 0 where
+  pub spelled : (v : List ℕ) → Contains (labels_of labels) v ↔ SpellsFrom table label place v
   pub rising : IsRising (labels_of labels)
 
 -- the sets hold what the last code points of the label spell: none of them, one, two, and so on
 abbrev pub HoldEndings : TableValue → List ℕ → List (BTreeSet (Vec ℕ Global)) → Type 0
 HoldEndings table label sets =
-    (n : ℕ) (d : BTreeSet (Vec ℕ Global)) → n < length sets → HoldsSpelled table label (length label - n) (slice_index_or sets n d)
+    (n : ℕ) (d : BTreeSet (Vec ℕ Global)) → n < length sets →
+    HoldsSpelled table label (length label - n) (slice_index_or sets n d)
 
 -- new has the labels of old and those of which P holds
 abbrev pub Adds : (List ℕ → Type 0) → List (List ℕ) → List (List ℕ) → Type 0
@@ -41,9 +42,11 @@ HoldsFor table label place e condition =
 
 -- q is this replacement of the entry, whose condition holds, and then one of the endings
 abbrev pub ReplacementGives : TableValue → List ℕ → ℕ → Entry → List (List ℕ) → Variant → List ℕ → Type 0
-ReplacementGives table label place e endings r q = HoldsFor table label place e r.condition × JoinsEnding endings r.sequence q
+ReplacementGives table label place e endings r q =
+    HoldsFor table label place e r.condition × JoinsEnding endings r.sequence q
 
--- q is a replacement of the entry, which is not outside and may stand there, and then one of the endings
+-- q is a replacement of the entry, which may stand there, and then one of the endings
 abbrev pub EntryGives : TableValue → List ℕ → ℕ → List (List ℕ) → Entry → List ℕ → Type 0
 EntryGives table label place endings e q =
-    (e.outside ≡ false) × HoldsFor table label place e e.condition × SomeGives (ReplacementGives table label place e endings) (full_replacements e) q
+    HoldsFor table label place e e.condition
+    × SomeGives (ReplacementGives table label place e endings) (full_replacements e) q

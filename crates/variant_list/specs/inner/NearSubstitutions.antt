@@ -26,9 +26,11 @@ near_variants groups label place (suc n) = near_variants groups label place n ++
 -- all that begin at a place
 abbrev pub near_at : TableValue → List Group → List ℕ → ℕ → List Substitution
 near_at table groups label place =
-    flat_map near_source (entries_at table.entries label place) ++ near_variants groups label place (min (length label - place) 8)
+    flat_map near_source (entries_at table.entries label place)
+    ++ near_variants groups label place (min (length label - place) 8)
 
 -- those at so many places, from this one on
 abbrev pub near_from : TableValue → List Group → List ℕ → ℕ → ℕ → List (List Substitution)
 near_from table groups label place zero = []
-near_from table groups label place (suc n) = near_at table groups label place ∷ near_from table groups label (suc place) n
+near_from table groups label place (suc n) =
+    near_at table groups label place ∷ near_from table groups label (suc place) n

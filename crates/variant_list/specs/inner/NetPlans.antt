@@ -1,5 +1,6 @@
 -- The variant graph of a label as places and edges, and the labels that it spells as a list.
-use Rattle.std.specs.Prelude.{◌≡◌, ℕ, zero, suc, ◌+◌, ◌-◌, ◌≤◌, ◌↔◌, List, [], ◌∷◌, ◌++◌, length, take, drop, map, slice_index}
+use Rattle.std.specs.Prelude.{◌≡◌, ℕ, zero, suc, ◌+◌, ◌-◌, ◌≤◌, ◌↔◌, List, [], ◌∷◌, ◌++◌, length, take, drop, map}
+use Rattle.std.specs.Prelude.{slice_index}
 use Rattle.std.specs.List.{flat_map}
 use Rattle.reading_kinds.specs.Readings.{Substitution, SubstitutionsSpell}
 use Rattle.variant_list.specs.Substitutions.{substitution_edges, substitution_count}
@@ -25,7 +26,9 @@ pub record IsNet (plan : Plan) : Type 0 where
 
 -- the edges that begin at a place
 abbrev pub edges_at : Plan → ℕ → List Edge
-edges_at plan place = take (slice_index plan.starts (place + 1) - slice_index plan.starts place) (drop (slice_index plan.starts place) plan.edges)
+edges_at plan place =
+    take (slice_index plan.starts (place + 1) - slice_index plan.starts place)
+    (drop (slice_index plan.starts place) plan.edges)
 
 -- the empty label, at the end
 abbrev pub spelled_at_end : ℕ → List (List ℕ)
@@ -35,7 +38,8 @@ spelled_at_end (suc place) = []
 -- what paths of at most n edges from a place to the end spell
 abbrev pub spelled_in : ℕ → Plan → ℕ → List (List ℕ)
 spelled_in zero plan place = spelled_at_end place
-spelled_in (suc n) plan place = spelled_at_end place ++ flat_map (λ e. map (λ w. e.point ∷ w) (spelled_in n plan e.place)) (edges_at plan place)
+spelled_in (suc n) plan place =
+    spelled_at_end place ++ flat_map (λ e. map (λ w. e.point ∷ w) (spelled_in n plan e.place)) (edges_at plan place)
 
 abbrev pub spelled_of : Plan → List (List ℕ)
 spelled_of plan = spelled_in 504 plan (first_place plan)

@@ -1,5 +1,6 @@
 -- The turned pairs of a table as a map keeps them, and one more.
-use Rattle.std.specs.Prelude.{◌≡◌, ◌≢◌, ◌⊎◌, ◌↔◌, ℕ, ◌<◌, ◌≤◌, List, length, map, slice_get, Some, AllPairs, Contains, Vec}
+use Rattle.std.specs.Prelude.{◌≡◌, ◌≢◌, ◌⊎◌, ◌↔◌, ℕ, ◌<◌, ◌≤◌, List, length, map, slice_get, Some, AllPairs, Contains}
+use Rattle.std.specs.Prelude.{Vec}
 use Rattle.std.specs.declared.alloc.Global.{Global}
 use Rattle.variant_table.specs.Entries.{Entry, sequences_in}
 use Rattle.variant_table.specs.Gaps.{IsPair}

@@ -1,6 +1,5 @@
-use Rattle.std.proofs.Common.{◌≡◌, true, refl, subst, ap, ◌∙◌}
+use Rattle.std.proofs.Common.{true, refl, ap, ◌∙◌}
 use Rattle.std.specs.List.{flat_map}
-use Rattle.variant_table.specs.Places.{entries_at}
 use Rattle.reading_kinds.specs.Drafts.{with_substitutions}
 use Rattle.variant_list.specs.inner.NearSubstitutions.{near_source}
 use Rattle.variant_list.proofs.TakenSubstitutions.{HasEntries-none, HasEntries-more, HasEntries-all}

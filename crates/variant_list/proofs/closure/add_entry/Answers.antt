@@ -1,4 +1,4 @@
-use Rattle.std.proofs.Common.{◌≡◌, ◌≤◌, ℕ, List, length, take, take_all, sym, ap, subst, ◌∙◌, arith}
+use Rattle.std.proofs.Common.{◌≡◌, ◌≤◌, ℕ, List, length, take_all, ap, subst, ◌∙◌, arith}
 use Rattle.variant_table.specs.Entries.{Entry, replacements}
 use Rattle.reading_kinds.specs.Drafts.{with_substitutions}
 use Rattle.variant_list.specs.inner.NearSubstitutions.{put_for}

@@ -1,4 +1,4 @@
-use Rattle.std.proofs.Common.{◌≡◌, ◌≤◌, ℕ, length, take, take_all, sym, ap, subst, refl, ◌∙◌, arith, Some, Vec, Global}
+use Rattle.std.proofs.Common.{◌≡◌, ◌≤◌, ℕ, length, take_all, sym, ap, subst, refl, ◌∙◌, arith, Some, Vec, Global}
 use Rattle.std.proofs.lemmas.List.{length-map}
 use Rattle.std.proofs.lemmas.Option.{slice_get-get_or}
 use Rattle.reading_kinds.specs.Drafts.{with_substitutions}

@@ -4,7 +4,7 @@ use Rattle.variant_list.proofs.laws.substitutions_agree.Goals as goal
 
 pub returns : goal.returns
 returns c = record {
-  spells = λ part table label v formed. SubstitutionsSpell-label part table label formed v;
+  spells = λ table label v formed. SubstitutionsSpell-label table label formed v;
   computes = spelled_by-SubstitutionsSpell;
   fit = AreSubstitutions-label;
 }

@@ -8,7 +8,7 @@ use Rattle.label_patterns.specs.Patterns.{Pattern}
 use Rattle.ruleset_text.specs.Definitions.{Definitions}
 use Rattle.variant_table.specs.Entries.{Entry, TableValue, Variant, whole}
 use Rattle.variant_table.specs.Segmentations.{seen_under}
-use Rattle.variant_list.proofs.PartLemmas.{mapped-same}
+use Rattle.variant_list.proofs.ListMembers.{mapped-same}
 use Rattle.variant_list.proofs.plain.holds_for.Goals as goal
 
 pub condition_holds-requires-clause-known : goal.condition_holds-requires-clause-known

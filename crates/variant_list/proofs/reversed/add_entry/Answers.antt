@@ -1,6 +1,5 @@
-use Rattle.std.proofs.Common.{◌≡◌, ℕ, ◌+◌, ◌-◌, List, length, true, false, ap, sym, subst, refl, ◌∙◌, arith, Some}
+use Rattle.std.proofs.Common.{◌≡◌, ℕ, ◌+◌, ◌-◌, List, length, true, false, sym, subst, refl, ◌∙◌, arith, Some}
 use Rattle.std.specs.Prelude.{slice_get}
-use Rattle.std.specs.List.{Contains}
 use Rattle.std.proofs.lemmas.List.{length-map}
 use Rattle.std.proofs.lemmas.Result.{err_from_is_err_and}
 use Rattle.variant_table.specs.Entries.{Entry, Variant, sequences_in}
@@ -50,6 +49,16 @@ returns-clause-adds c =
     let e : Entry = c.args.entry.now in
     let all : c.loop-number.number - 1 ≡ length e.variants = omega (arith, c.replacements-number-end.ensures, length-map e.variants (λ (v : Variant). v.sequence), c.loop-number-test.false, c.loop-number.auto.number-end, c.loop-number.auto.number) in
     subst (λ k. Adds (groups_of c.args.sources.now.entries) (groups_of c.loop-number.sources.entries) (TurnsUpTo c.args.table.now.entries e k)) all c.loop-number.invariant.1
+
+pub returns-in_err-add-clause-no_memory : goal.returns-in_err-add-clause-no_memory
+returns-in_err-add-clause-no_memory c = λ none.
+    let entries : List Entry = c.args.table.now.entries in
+    let e : Entry = c.args.entry.now in
+    let n : ℕ = c.loop-number.number in
+    let v : List ℕ = c.replacement-variant.result.now in
+    let at : slice_get (sequences_in e.variants) (n - 1) ≡ Some v = sym (slice_get-later e.source (sequences_in e.variants) n (omega arith)) ∙ c.replacement-variant.ensures in
+    let lacking : ¬ IsPair entries v e.source = λ p. (let t : true ≡ false = sym (c.is_pair.ensures.1 (subst (λ s. IsPair entries v s) (sym c.source-source.ensures) p)) ∙ c.if-not-is_pair.true in absurd cc) in
+    absurd (none v e.source (record { pair = (e, c.requires.in_table, refl, Contains-at (sequences_in e.variants) (n - 1) v at); lacking = lacking }))
 
 pub returns-in_err-add-clause-crowded : goal.returns-in_err-add-clause-crowded
 returns-in_err-add-clause-crowded c =

@@ -1,7 +1,6 @@
-use Rattle.std.proofs.Common.{◌≡◌, true, ap, sym, subst, ◌∙◌, ℕ, List, Some, None}
+use Rattle.std.proofs.Common.{◌≡◌, sym, subst, ◌∙◌, List, Some, None}
 use Rattle.std.specs.List.{Contains}
 use Rattle.variant_table.specs.Entries.{Entry, sequences_in}
-use Rattle.variant_table.specs.Gaps.{has_variant}
 use Rattle.variant_table.specs.Places.{entry_with}
 use Rattle.variant_table.proofs.BeginningLemmas.{same_entry, entry_with-found, entry_with-of}
 use Rattle.variant_table.proofs.GapLemmas.{any-cases, any-member}

@@ -1,4 +1,4 @@
-use Rattle.std.proofs.Common.{◌≡◌, ap, sym, ◌∙◌, ℕ, List, Vec, Global}
+use Rattle.std.proofs.Common.{◌≡◌, ap, sym, ◌∙◌, ℕ, Vec, Global}
 use Rattle.std.specs.BTreeMap.{insert_entry}
 use Rattle.variant_list.specs.Reversed.{sources_of}
 use Rattle.variant_list.specs.inner.Turned.{groups_of}

@@ -4,7 +4,6 @@ use Rattle.variant_table.specs.Entries.{TableValue}
 use Rattle.variant_table.specs.WellFormed.{IsWellFormed}
 use Rattle.variant_list.specs.declared.substitutions.Cuts.{Cuts}
 use Rattle.variant_list.specs.Arising.{Gives, table_for}
-use Rattle.variant_list.specs.Parts.Part.{Whole}
 use Rattle.variant_list.specs.Substitutions.{substitutions_of}
 use Rattle.variant_list.proofs.ArisingLemmas.{IsWellFormed-cuts, SubstitutionsSpell-cuts}
 use Rattle.variant_list.proofs.SpelledByLemmas.{AreSubstitutions-label}
@@ -13,14 +12,14 @@ use Rattle.variant_list.proofs.substitutions.substitutions_of.Goals as goal
 
 -- what is found is what the definition computes
 abbrev IsFound : {E : Type 0} → Result (List (List Substitution)) E → Cuts → TableValue → List ℕ → Type 0
-IsFound r cuts table label = IfOk r (λ substitutions. substitutions ≡ substitutions_of Whole (table_for cuts table) label)
+IsFound r cuts table label = IfOk r (λ substitutions. substitutions ≡ substitutions_of (table_for cuts table) label)
 
 are_fit : {E : Type 0} (r : Result (List (List Substitution)) E) (cuts : Cuts) (table : TableValue) (label : List ℕ) → IsWellFormed table.entries → IsFound r cuts table label → IfOk r (λ substitutions. AreSubstitutions substitutions)
-are_fit {E} (Ok substitutions) cuts table label formed is = subst AreSubstitutions (sym is) (AreSubstitutions-label Whole (table_for cuts table) label (IsWellFormed-cuts cuts table formed))
+are_fit {E} (Ok substitutions) cuts table label formed is = subst AreSubstitutions (sym is) (AreSubstitutions-label (table_for cuts table) label (IsWellFormed-cuts cuts table formed))
 are_fit {E} (Err fault) cuts table label formed is = tt
 
 are_so_many : {E : Type 0} (r : Result (List (List Substitution)) E) (cuts : Cuts) (table : TableValue) (label : List ℕ) → IsFound r cuts table label → IfOk r (λ substitutions. length substitutions ≡ length label)
-are_so_many {E} (Ok substitutions) cuts table label is = ap length is ∙ length-substitutions_from Whole (table_for cuts table) label (length label) 0
+are_so_many {E} (Ok substitutions) cuts table label is = ap length is ∙ length-substitutions_from (table_for cuts table) label (length label) 0
 are_so_many {E} (Err fault) cuts table label is = tt
 
 give : {E : Type 0} (r : Result (List (List Substitution)) E) (cuts : Cuts) (table : TableValue) (label : List ℕ) → IsWellFormed table.entries → IsFound r cuts table label

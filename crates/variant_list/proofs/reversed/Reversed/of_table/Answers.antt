@@ -1,5 +1,4 @@
-use Rattle.std.proofs.Common.{◌≡◌, ◌≤◌, ℕ, [], List, length, ap, sym, subst, ◌∙◌, arith}
-use Rattle.variant_table.specs.Entries.{Entry}
+use Rattle.std.proofs.Common.{◌≡◌, ◌≤◌, [], length, ap, arith}
 use Rattle.variant_list.specs.inner.Turned.{groups_of}
 use Rattle.variant_list.proofs.PlanLemmas.{Contains-at}
 use Rattle.variant_list.proofs.TurnedLemmas.{AreOfFirst-none, AreSound-none, AreOfFirst-next, AreTurned-first, AreReversedOf-all, sound_few}

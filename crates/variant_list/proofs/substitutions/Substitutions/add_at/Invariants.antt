@@ -1,4 +1,3 @@
-use Rattle.variant_list.specs.Parts.Part.{Whole}
 use Rattle.variant_list.specs.Substitutions.{substitutions_of_entry}
 use Rattle.variant_list.specs.inner.Standing.{stands_by}
 use Rattle.variant_list.proofs.TakenSubstitutions.{HasEntries}
@@ -6,4 +5,4 @@ use Rattle.variant_list.proofs.substitutions.Substitutions.add_at.Given as goal
 
 -- the substitutions of the entries so far
 abbrev pub invariant-loop-entry : goal.invariant-loop-entry
-invariant-loop-entry l = HasEntries (stands_by l.self.cuts l.self.table.now l.self.label.now l.place) (substitutions_of_entry Whole l.self.table.now l.self.label.now l.place) l.initial.entry-iterator l.entry-iterator l.fn.draft l.draft
+invariant-loop-entry l = HasEntries (stands_by l.self.cuts l.self.table.now l.self.label.now l.place) (substitutions_of_entry l.self.table.now l.self.label.now l.place) l.initial.entry-iterator l.entry-iterator l.fn.draft l.draft
