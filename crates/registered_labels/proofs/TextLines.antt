@@ -1,5 +1,5 @@
 -- The lines of a text, one after another, and the first that is wrong.
-use Rattle.std.proofs.Common.{◌≡◌, ◌≢◌, ◌⊎◌, inl, inr, ℕ, zero, suc, ◌+◌, ◌-◌, ◌<◌, ◌≤◌, ◌^◌, Bool, true, false, cond, Option, Some, None, unwrap_or, List, [], ◌∷◌, ◌++◌, length, map, take, drop, get_or, eqb, refl, sym, ap, subst, ◌∙◌, arith, add-one, append_assoc, length-append, length-take, length-drop, drop-cons}
+use Rattle.std.proofs.Common.{◌≡◌, ◌≢◌, ◌⊎◌, inl, inr, ℕ, zero, suc, ◌+◌, ◌-◌, ◌<◌, ◌≤◌, ◌^◌, Bool, true, false, cond, Some, None, List, [], ◌∷◌, ◌++◌, length, take, drop, get_or, eqb, refl, sym, ap, subst, ◌∙◌, arith, add-one, append_assoc, length-append, length-take, length-drop, drop-cons}
 use Rattle.std.specs.List.{slice_range}
 use Rattle.std.specs.Ordering.{is_lt}
 use Rattle.std.specs.declared.cmp.Ordering.{Ordering}
@@ -7,24 +7,21 @@ use Rattle.std.specs.declared.cmp.Ordering.TheVariants.{Less}
 use Rattle.std.specs.Str.{chars}
 use Rattle.std.specs.Str.Lines.{strip_carriage_return}
 use Rattle.std.proofs.lemmas.Bool.{cases_lt}
-use Rattle.std.proofs.lemmas.List.{append-nil, map-append, same_from_push, take-append-drop, take_all, take_min}
-use Rattle.idn_text.specs.Points.{IsUtf8Of, utf8_of}
+use Rattle.std.proofs.lemmas.List.{append-nil, same_from_push, take-append-drop, take_all, take_min}
+use Rattle.idn_text.specs.Points.{utf8_of}
 use Rattle.idn_text.specs.Lines.{raw_lines, joined_lines, body_of}
 use Rattle.idn_text.specs.declared.refusal.Refusal.{Refusal}
 use Rattle.idn_text.specs.declared.refusal.Refusal.TheVariants as refusals
 use Rattle.idn_text.proofs.TakingLemmas.{is_long_line-short}
-use Rattle.idn_text.proofs.Utf8Lemmas.{points_from_utf8}
 use Rattle.idn_text.proofs.NumberingLemmas.{raw_lines-then, raw_lines-rest}
-use Rattle.idn_label.specs.FirstFault.{utf8_fault}
-use Rattle.idn_label.proofs.ALabels.{registrable_scalars}
-use Rattle.idn_label.proofs.AnswerLemmas.{utf8_fault-none, utf8_fault-points}
-use Rattle.idn_label.proofs.RequirementLemmas.{MeetsRequirements-registrable}
+use Rattle.idn_label.proofs.OldNameLemmas.{in_zone-some}
 use Rattle.variant_list.specs.Labels.{IsBelow, label_cmp}
 use Rattle.variant_list.proofs.OrderLemmas.{Less_from_below}
 use Rattle.registered_labels.proofs.Utf8Order.{utf8_of-cmp}
 use Rattle.registered_labels.specs.Registered.{AreRegistered}
-use Rattle.registered_labels.specs.Texts.{AreLinesOf, IsTextOf, line_refusal, IsFirstWrong, IsOutOfOrder, IsWrongBy, IsFaultOf, fault_of}
+use Rattle.registered_labels.specs.Texts.{AreLinesOf, IsTextOf, label_fault, line_refusal, IsFirstWrong, IsOutOfOrder, IsWrongBy, IsFaultOf, fault_of}
 use Rattle.registered_labels.specs.inner.Readings.{IsLineEnd, IsReadAs}
+use Rattle.registered_labels.proofs.MarkedLines.{AreLinesOf-push, in_zone-line, same_label}
 use Rattle.variant_table.proofs.ListLemmas.{drop_all}
 use Rattle.idn_class.specs.declared.properties.Properties.{Properties}
 
@@ -34,7 +31,7 @@ pub body_of-short : (line : List ℕ) → length line ≤ 1024 → body_of line 
 body_of-short line few = ap (λ b. cond b None (Some (strip_carriage_return line))) (is_long_line-short line few)
 
 module _ (properties : Properties) where
-  pub refused_body : (line body : List ℕ) (refusal : Refusal) → length line ≤ 1024 → body ≡ strip_carriage_return line → utf8_fault properties body ≡ Some refusal → line_refusal properties (body_of line) ≡ Some refusal
+  pub refused_body : (line body : List ℕ) (refusal : Refusal) → length line ≤ 1024 → body ≡ strip_carriage_return line → label_fault properties body ≡ Some refusal → line_refusal properties (body_of line) ≡ Some refusal
   refused_body line body refusal few is fault = ap (line_refusal properties) (body_of-short line few ∙ ap Some (sym is)) ∙ fault
 
 -- the body of a line stands at its front
@@ -44,20 +41,6 @@ stripped_front line = by_test (eqb (get_or line (length line - 1) 0) 13)
     by_test : (b : Bool) → cond b (take (length line - 1) line) line ≡ take (length (cond b (take (length line - 1) line) line)) line
     by_test true = sym (ap (λ n. take n line) (length-take (length line - 1) line) ∙ take_min (length line - 1) line)
     by_test false = sym (take_all (length line) line (omega arith))
-
-module _ (properties : Properties) where
-  -- a body without a fault is the UTF-8 of a label that may be registered
-  pub IsReadAs-body : (line body : List ℕ) (len : ℕ) → length line ≤ 1024 → body ≡ strip_carriage_return line → len ≡ length body → utf8_fault properties body ≡ None → IsReadAs properties line len (chars (take len line))
-  IsReadAs-body line body len few is count none =
-      let front : body ≡ take (length body) line = is ∙ stripped_front line ∙ ap (λ (b : List ℕ). take (length b) line) (sym is) in
-      let here : take len line ≡ body = ap (λ n. take n line) count ∙ sym front in
-      let label = utf8_fault-none properties body none in
-      subst (λ (b : List ℕ). IsReadAs properties line len (chars b)) (sym here) (record {
-        within = omega (arith, count, ap length front, length-take (length body) line);
-        body = body_of-short line few ∙ ap Some (sym is ∙ sym here);
-        read = subst (λ (b : List ℕ). IsUtf8Of b (chars body)) (sym here) label.0;
-        registrable = label.1;
-      })
 
 -- ---- the lines so far
 
@@ -96,15 +79,15 @@ module _ (text : List ℕ) (at end : ℕ) (more : at < length text) (is : IsLine
   ]
 
 -- so many lines were read, which are these labels, and the next begins at this place
-pub record HasRead (text : List ℕ) (at number : ℕ) (labels : List (List ℕ)) : Type 0 where
+pub record HasRead (properties : Properties) (text : List ℕ) (at number : ℕ) (labels : List (List ℕ)) : Type 0 where
   pub front : List (List ℕ)
   pub split : raw_lines text ≡ front ++ raw_lines (drop at text)
-  pub read : AreLinesOf front labels
+  pub read : AreLinesOf properties front labels
   pub counted : number ≡ length front
   pub placed : at ≡ length (joined_lines front)
 
-pub HasRead-none : (text : List ℕ) → HasRead text 0 0 []
-HasRead-none text = record { front = []; split = refl; read = refl; counted = refl; placed = refl }
+pub HasRead-none : (properties : Properties) (text : List ℕ) → HasRead properties text 0 0 []
+HasRead-none properties text = record { front = []; split = refl; read = tt; counted = refl; placed = refl }
 
 -- a line and its line feed more
 length-joined : (lines : List (List ℕ)) (line : List ℕ) → length (joined_lines (lines ++ line ∷ [])) ≡ length (joined_lines lines) + length line + 1
@@ -116,28 +99,27 @@ pub length-next : (text : List ℕ) (at end : ℕ) → IsLineEnd text at end →
 length-next text at end is = omega (arith, is.reached, is.within, length-take (end - at) (drop at text), length-drop at text)
 
 module _ (properties : Properties) where
-  pub HasRead-more : (text : List ℕ) (at end number len : ℕ) (labels : List (List ℕ)) (label : List ℕ) → at < length text → IsLineEnd text at end → IsReadAs properties (slice_range text at end) len label → HasRead text at number labels → HasRead text (end + 1) (number + 1) (labels ++ label ∷ [])
+  pub HasRead-more : (text : List ℕ) (at end number len : ℕ) (labels : List (List ℕ)) (label : List ℕ) → at < length text → IsLineEnd text at end → IsReadAs properties (slice_range text at end) len label → HasRead properties text at number labels → HasRead properties text (end + 1) (number + 1) (labels ++ label ∷ [])
   HasRead-more text at end number len labels label more is read h =
       let line : List ℕ = slice_range text at end in
-      let body : body_of line ≡ Some (utf8_of label) = read.body ∙ ap Some (sym (read.read).encoded) in
       record {
         front = h.front ++ line ∷ [];
         split = h.split ∙ ap (λ xs. h.front ++ xs) (raw_lines-next text at end more is) ∙ sym (append_assoc h.front (line ∷ []) (raw_lines (drop (end + 1) text)));
-        read = map-append body_of h.front (line ∷ []) ∙ ap (λ xs. xs ++ body_of line ∷ []) h.read ∙ ap (λ o. map (λ v. Some (utf8_of v)) labels ++ o ∷ []) body ∙ sym (map-append (λ v. Some (utf8_of v)) labels (label ∷ []));
+        read = AreLinesOf-push properties h.front labels line label h.read read.is;
         counted = omega (arith, h.counted, length-append h.front (line ∷ []));
         placed = omega (arith, is.reached, h.placed, length-joined h.front line, length-next text at end is);
       }
 
-  pub IsTextOf-read : (text : List ℕ) (at number : ℕ) (labels : List (List ℕ)) → length text ≤ at → at ≤ 2 ^ 32 → HasRead text at number labels → AreRegistered properties labels → IsTextOf properties text labels
+  pub IsTextOf-read : (text : List ℕ) (at number : ℕ) (labels : List (List ℕ)) → length text ≤ at → at ≤ 2 ^ 32 → HasRead properties text at number labels → AreRegistered properties labels → IsTextOf properties text labels
   IsTextOf-read text at number labels past few h all =
       let whole : raw_lines text ≡ h.front = h.split ∙ ap (λ xs. h.front ++ raw_lines xs) (drop_all text at past) ∙ append-nil h.front in
       record {
-        lines = ap (map body_of) whole ∙ h.read;
+        lines = subst (λ (ls : List (List ℕ)). AreLinesOf properties ls labels) (sym whole) h.read;
         registered = all;
         in_time = omega (arith, few, h.placed, ap (λ ls. length (joined_lines ls)) whole);
       }
 
-  pub IsFirstWrong-here : (text : List ℕ) (at end number : ℕ) (labels : List (List ℕ)) (W : ℕ → List (List ℕ) → List ℕ → Type 0) → at < length text → at ≤ 2 ^ 32 → IsLineEnd text at end → HasRead text at number labels → AreRegistered properties labels → W at labels (slice_range text at end) → IsFirstWrong properties text (number + 1) W
+  pub IsFirstWrong-here : (text : List ℕ) (at end number : ℕ) (labels : List (List ℕ)) (W : ℕ → List (List ℕ) → List ℕ → Type 0) → at < length text → at ≤ 2 ^ 32 → IsLineEnd text at end → HasRead properties text at number labels → AreRegistered properties labels → W at labels (slice_range text at end) → IsFirstWrong properties text (number + 1) W
   IsFirstWrong-here text at end number labels W more few is h all wrong = record {
     before = h.front;
     line = slice_range text at end;
@@ -163,13 +145,12 @@ not_lt v w o b e f t below =
     let clash : true ≡ false = sym (ap is_lt less) ∙ sym f ∙ t in cc
 
 module _ (properties : Properties) where
-  pub IsOutOfOrder-seen : (line : List ℕ) (len : ℕ) (labels : List (List ℕ)) (last label : List ℕ) (o : Ordering) (b : Bool) → IsReadAs properties line len label → IsLastOf labels last → o ≡ label_cmp last label → b ≡ is_lt o → b ≡ false → IsOutOfOrder properties labels (body_of line)
+  pub IsOutOfOrder-seen : (line : List ℕ) (len : ℕ) (labels : List (List ℕ)) (last label : List ℕ) (o : Ordering) (b : Bool) → IsReadAs properties line len label → IsLastOf labels last → o ≡ label_cmp last label → b ≡ is_lt o → b ≡ false → IsOutOfOrder properties labels line
   IsOutOfOrder-seen line len labels last label o b read is e f t = elim is [
-    | inl none ↦ absurd (not_lt last label o b e f t (subst (λ v. IsBelow v label) (sym none.1) (above_nothing label ((MeetsRequirements-registrable properties label read.registrable).some))))
+    | inl none ↦ absurd (not_lt last label o b e f t (subst (λ v. IsBelow v label) (sym none.1) (above_nothing label (in_zone-some properties label (in_zone-line properties line label read.is)))))
     | inr some ↦ record {
       label = label;
-      is = read.body ∙ ap Some (sym (read.read).encoded);
-      registrable = read.registrable;
+      is = read.is;
       front = some.0;
       last = last;
       ending = some.1;
@@ -182,7 +163,7 @@ module _ (properties : Properties) where
       above_nothing (x ∷ v) h = tt
 
   -- a label that is greater than the last one is in order
-  pub in_order : (line : List ℕ) (len : ℕ) (labels : List (List ℕ)) (last label : List ℕ) → IsReadAs properties line len label → IsLastOf labels last → IsBelow last label → IsOutOfOrder properties labels (body_of line) → ⊥
+  pub in_order : (line : List ℕ) (len : ℕ) (labels : List (List ℕ)) (last label : List ℕ) → IsReadAs properties line len label → IsLastOf labels last → IsBelow last label → IsOutOfOrder properties labels line → ⊥
   in_order line len labels last label read is below out = elim is [
     | inl none ↦ omega (arith, length-append out.front (out.last ∷ []), ap length (sym out.ending ∙ none.0))
     | inr some ↦
@@ -190,17 +171,8 @@ module _ (properties : Properties) where
         out.not_greater (subst (λ v. IsBelow v out.label) (sym before) (subst (λ v. IsBelow last v) (sym same) below))
   ]
     where
-      bytes : utf8_of out.label ≡ take len line
-      bytes = ap (λ (o : Option (List ℕ)). unwrap_or o []) (sym out.is ∙ read.body)
-
       same : out.label ≡ label
-      same =
-          sym (points_from_utf8 (take len line) out.label (record { scalar_values = registrable_scalars properties out.label out.registrable; encoded = bytes }))
-          ∙ points_from_utf8 (take len line) label read.read
-
-  -- a label that may be registered is right by itself
-  pub accepted_label : (line : List ℕ) (len : ℕ) (label : List ℕ) → IsReadAs properties line len label → line_refusal properties (body_of line) ≡ None
-  accepted_label line len label is = ap (line_refusal properties) is.body ∙ utf8_fault-points properties (take len line) label is.read ∙ is.registrable
+      same = same_label properties line out.label label out.is read.is
 
   pub IsFaultOf-refused : (text : List ℕ) (line : ℕ) (refusal : Refusal) → (refusal ≢ refusals.Memory → IsFirstWrong properties text line (IsWrongBy properties refusal)) → IsFaultOf properties text (fault_of line refusal)
   IsFaultOf-refused text line refusals.Memory h = tt

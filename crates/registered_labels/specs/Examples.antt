@@ -1,9 +1,10 @@
 -- Worked examples of the definitions, by computation.
-use Rattle.std.specs.Prelude.{◌≡◌, ℕ, List, [], ◌∷◌, ◌++◌, Some, None, true, codes}
-use Rattle.idn_text.specs.declared.refusal.Refusal.TheVariants.{Empty, LineTooLong, NotUtf8}
+use Rattle.std.specs.Prelude.{◌≡◌, ℕ, List, [], ◌∷◌, ◌++◌, Some, None, codes}
+use Rattle.idn_text.specs.declared.refusal.Refusal.TheVariants.{Empty, LineTooLong, NotUtf8, Disallowed, Hyphen}
+use Rattle.idn_label.specs.OldNames.{mark}
 use Rattle.variant_table.specs.declared.version.Version.TheVariants.{Two}
 use Rattle.variant_table.specs.Entries.{Entry, TableValue, empty_table, plain_variant}
-use Rattle.variant_list.specs.Examples.{allocatable, entry}
+use Rattle.variant_list.specs.Examples.{entry, untyped}
 use Rattle.variant_list.specs.Spelled.{spelled}
 use Rattle.registered_labels.specs.Collisions.{collisions}
 use Rattle.registered_labels.specs.Texts.{line_refusal}
@@ -14,7 +15,7 @@ abbrev pub plain : List ℕ → Entry
 plain source = entry source []
 
 abbrev pub pair : List ℕ → List ℕ → Entry
-pair source variant = entry source (allocatable variant ∷ [])
+pair source variant = entry source (untyped variant ∷ [])
 
 -- a table of version 2
 abbrev pub version_two : List Entry → TableValue
@@ -35,8 +36,8 @@ german =
 abbrev pub alike : TableValue
 alike =
     version_two
-    (plain (codes "0") ∷ entry (codes "o") (plain_variant true (codes "0") ∷ []) ∷ plain (codes "s") ∷ plain (codes "t")
-    ∷ pair (codes "ss") sharp ∷ [])
+    (plain (codes "0") ∷ entry (codes "o") (plain_variant (Some 1) (codes "0") ∷ []) ∷ plain (codes "s")
+    ∷ plain (codes "t") ∷ pair (codes "ss") sharp ∷ [])
 
 -- two characters for China, of which the second has two forms
 abbrev pub han : TableValue
@@ -77,8 +78,13 @@ pub record ExamplesOfCollisions : Type 0 where
   pub over_a_gap : found gap (codes "a") (codes "b" ∷ []) [] ≡ codes "b" ∷ []
   pub back_over_a_gap : found gap (codes "b") (codes "a" ∷ []) [] ≡ []
 
--- what is wrong with a line by itself: it is too long, no UTF-8, or empty
+-- what is wrong with a line by itself: it is too long, no UTF-8, or empty; and with the mark: nothing, a capital, a name that
+-- stands for another label, or no label before it
 pub record ExamplesOfLines : Type 0 where
   pub too_long : line_refusal Profile None ≡ Some LineTooLong
   pub not_utf8 : line_refusal Profile (Some (0xFF ∷ [])) ≡ Some NotUtf8
   pub empty : line_refusal Profile (Some []) ≡ Some Empty
+  pub old : line_refusal Profile (Some (codes "ab--c" ++ mark)) ≡ None
+  pub capital : line_refusal Profile (Some (codes "Haus" ++ mark)) ≡ Some Disallowed
+  pub decoded : line_refusal Profile (Some (codes "xn--fa-hia" ++ mark)) ≡ Some Hyphen
+  pub mark_alone : line_refusal Profile (Some mark) ≡ Some Empty

@@ -1,6 +1,6 @@
 //! Registered labels in memory.
 ghost use Rattle.std.specs.Prelude.{◌≡◌, ◌≢◌, ◌<◌, ◌≤◌, ℕ, List, length, take, chars, slice_get, slice_range};
-ghost use Rattle.std.specs.Prelude.{option_map, true, Some, [], IfOk, IfErr, IsOk};
+ghost use Rattle.std.specs.Prelude.{option_map, false, true, Some, [], IfOk, IfErr, IfSome, IfNone, IsOk};
 ghost use Rattle.idn_text.specs.Lines.{body_of};
 ghost use Rattle.std.specs.Ordering.{is_lt};
 ghost use Rattle.std.specs.List.{list_all};
@@ -15,7 +15,7 @@ ghost use Rattle.registered_labels.specs.inner.Readings.{IsLineEnd, IsReadAs};
 use crate::order::order_of;
 use arrayvec::ArrayVec;
 use idn_class::{MAX_LABEL_LEN, Properties};
-use idn_label::{ldh_end, test_utf8};
+use idn_label::{before_mark, ldh_end, test_old_utf8, test_utf8};
 use idn_text::{MAX_LINE_LEN, Refusal, decode_points, put_points, without_carriage_return};
 use memchr::memchr;
 use std::alloc::{AllocError, AllocFailed, Global};
@@ -30,8 +30,8 @@ const MAX_TEXT_LEN: usize = 0xFFFF_FFFF;
 /// Why a text is not read as registered labels. Lines are numbered from 1.
 #[derive(Clone, Copy, Debug, PartialEq, Eq)]
 pub enum RegisteredFileFault {
-    /// The first line that is wrong: it is no label that may be registered, it is not greater than the one before it,
-    /// or it ends after byte 4,294,967,295 of the text.
+    /// The first line that is wrong: it is no label that may be registered, nor an old one with the mark; it is not
+    /// greater than the one before it; or it ends after byte 4,294,967,295 of the text.
     Refused { line: u64, refusal: Refusal },
     /// Memory was refused.
     Memory,
@@ -75,8 +75,8 @@ impl<'a> Model for RegisteredLabels<'a> {
 impl<'a> RegisteredLabels<'a> {
     ghost use Rattle.registered_labels.specs.Texts.{IsTextOf, IsFaultOf};
 
-    /// The labels of a text, one on each line, each greater than the one before; or the first fault of the text. An
-    /// empty text takes no memory.
+    /// The labels of a text, one on each line, each greater than the one before; or the first fault of the text. On the
+    /// line of an old label a tab and `old` stand after it. An empty text takes no memory.
     pub fn read(
         alloc: Global,
         text: &'a [u8],
@@ -226,6 +226,7 @@ impl<'a> RegisteredLabels<'a> {
     }
 }
 
+ghost use Rattle.idn_label.specs.OldNames.{before_mark, has_mark};
 ghost use Rattle.registered_labels.specs.Texts.{line_refusal, fault_of};
 
 /// The end of a line, and whether it is known to have only lower-case letters, digits and hyphens of ASCII.
@@ -266,8 +267,8 @@ fn feed_from(text: &[u8], at: usize) -> usize
     }
 }
 
-/// Tests a line as a label that may be registered, and returns how many of its bytes are the label: one carriage return
-/// at its end doesn't count. Of some lines it is known that they are lower-case letters, digits and hyphens of ASCII.
+/// Tests a line as a label that may be registered, or as an old one if it ends in the mark, and returns how many of its
+/// bytes are the label: one carriage return at its end doesn't count. Of some lines it is known that they are lower-case letters, digits and hyphens of ASCII.
 /// `room` is room for the work.
 fn read_label(
     alloc: Global,
@@ -285,10 +286,27 @@ fn read_label(
         return Err(Refusal::LineTooLong);
     }
     let body = without_carriage_return(line);
-    match test_utf8(alloc, body, is_ldh, room, properties) {
-        Ok(()) => Ok(body.len()),
-        Err(refusal) => Err(refusal),
+    match marked_label(body, is_ldh) {
+        Some(label) => match test_old_utf8(label, room) {
+            Ok(()) => Ok(label.len()),
+            Err(refusal) => Err(refusal),
+        },
+        None => match test_utf8(alloc, body, is_ldh, room, properties) {
+            Ok(()) => Ok(body.len()),
+            Err(refusal) => Err(refusal),
+        },
     }
+}
+
+/// What stands before the mark of an old label, if a body ends in it. Of some bodies it is known that they are lower-case
+/// letters, digits and hyphens of ASCII, so that they don't.
+#[inline]
+fn marked_label(body: &[u8], is_ldh: bool) -> Option<&[u8]>
+    requires { is_ldh ≡ true → list_all is_ldh_point body.now ≡ true }
+    ensures marked { IfSome result (λ label. (has_mark body.now ≡ true) × (label.now ≡ before_mark body.now)) }
+    ensures other { IfNone result (has_mark body.now ≡ false) }
+{
+    if is_ldh { None } else { before_mark(body) }
 }
 
 /// The fault of a line that is refused. Lack of memory is no fault of a line.

@@ -1,6 +1,10 @@
 use Rattle.std.proofs.Common.{refl}
 use Rattle.std.specs.Str.{chars, is_utf8}
+use Rattle.idna.specs.Validity.{has_ace_prefix}
+use Rattle.idna.proofs.Computing.{idna}
+use Rattle.idn_label.specs.ALabel.{a_label_of}
 use Rattle.idn_label.specs.FirstFault.{first_fault, utf8_fault}
+use Rattle.idn_label.specs.OldNames.{old_fault, old_utf8_fault, stands_for}
 use Rattle.registered_labels.proofs.laws.examples_hold.Goals as goal
 
 pub returns-clause-collisions : goal.returns-clause-collisions
@@ -21,5 +25,13 @@ returns-clause-collisions c = record {
 }
 
 pub returns-clause-lines : goal.returns-clause-lines
-unfolding is_utf8 chars utf8_fault first_fault
-returns-clause-lines c = record { too_long = refl; not_utf8 = refl; empty = refl }
+unfolding is_utf8 chars utf8_fault first_fault old_utf8_fault old_fault stands_for has_ace_prefix a_label_of idna
+returns-clause-lines c = record {
+  too_long = refl;
+  not_utf8 = refl;
+  empty = refl;
+  old = refl;
+  capital = refl;
+  decoded = refl;
+  mark_alone = refl;
+}

@@ -11,7 +11,7 @@ use Rattle.registered_labels.proofs.ReadLabels.{IsAboveAll, AreLabelsIn-more, Is
 use Rattle.idn_text.specs.declared.refusal.Refusal.TheVariants.{OutOfOrder, FileTooLong}
 use Rattle.registered_labels.specs.Texts.{IsWrongBy, IsFaultOf}
 use Rattle.registered_labels.proofs.LabelLists.{AreRegistered-in}
-use Rattle.registered_labels.proofs.TextLines.{HasRead, HasRead-none, HasRead-more, IsTextOf-read, IsFirstWrong-here, IsFaultOf-refused, IsLastOf, IsLastOf-more, IsOutOfOrder-seen, accepted_label, in_order, compared_bytes, length-next}
+use Rattle.registered_labels.proofs.TextLines.{HasRead, HasRead-none, HasRead-more, IsTextOf-read, IsFirstWrong-here, IsFaultOf-refused, IsLastOf, IsLastOf-more, IsOutOfOrder-seen, in_order, compared_bytes, length-next}
 use Rattle.registered_labels.proofs.ReadLabels.{AreLabelsIn-none}
 use Rattle.registered_labels.proofs.labels.RegisteredLabels.read.Goals as goal
 
@@ -55,7 +55,7 @@ loop-at-preserved c =
           (subst (λ (ss : List Span). IsAboveAll (labels_at text ss) label) (sym pushed) (IsAboveAll-more c.args.properties text at end len label few reached within read spans last c.loop-at.invariant.labels c.loop-at.invariant.last greater));
       counted = omega (arith, c.loop-at.invariant.counted, reached);
       in_time = omega (arith, c.if-end-gt-MAX_TEXT_LEN.false);
-      lines = subst (HasRead text (end + 1) (c.loop-at.number + 1)) (sym labels) (HasRead-more c.args.properties text at end c.loop-at.number len (labels_at text spans) label c.loop-at-test.true c.line_end-line.ensures.end read c.loop-at.invariant.lines);
+      lines = subst (HasRead c.args.properties text (end + 1) (c.loop-at.number + 1)) (sym labels) (HasRead-more c.args.properties text at end c.loop-at.number len (labels_at text spans) label c.loop-at-test.true c.line_end-line.ensures.end read c.loop-at.invariant.lines);
       last_label = subst (IsLastOf (labels_at text c.push.new.self.items)) now (subst (λ (ls : List (List ℕ)). IsLastOf ls label) (sym labels) (IsLastOf-more (labels_at text spans) label));
     }
 
@@ -67,7 +67,7 @@ loop-at-init c = record {
   last = subst (λ spans. IsAboveAll (labels_at c.args.text.now spans) (chars [])) (sym c.new-spans.ensures.items) (λ w b. tt);
   counted = omega arith;
   in_time = omega arith;
-  lines = subst (λ spans. HasRead c.args.text.now 0 0 (labels_at c.args.text.now spans)) (sym c.new-spans.ensures.items) (HasRead-none c.args.text.now);
+  lines = subst (λ spans. HasRead c.args.properties c.args.text.now 0 0 (labels_at c.args.text.now spans)) (sym c.new-spans.ensures.items) (HasRead-none c.args.properties c.args.text.now);
   last_label = subst (λ spans. IsLastOf (labels_at c.args.text.now spans) (chars [])) (sym c.new-spans.ensures.items) (inl (refl, chars-nil));
 }
 
@@ -116,7 +116,7 @@ returns-then-end-gt-MAX_TEXT_LEN-clause-fault c =
     subst (IsFaultOf c.args.properties text) (sym c.refused-then-end-gt-MAX_TEXT_LEN.ensures)
     (IsFirstWrong-here c.args.properties text at end c.loop-at.number labels (IsWrongBy c.args.properties FileTooLong)
     c.loop-at-test.true c.loop-at.invariant.in_time c.line_end-line.ensures.end c.loop-at.invariant.lines (AreRegistered-in c.args.properties text c.loop-at.spans.items c.loop-at.invariant.labels)
-    (inr (inr (refl, accepted_label c.args.properties line len label read, in_order c.args.properties line len labels last label read c.loop-at.invariant.last_label greater, omega (arith, c.line_end-line.ensures.end.reached, length-next text at end c.line_end-line.ensures.end)))))
+    (inr (inr (refl, read.right, in_order c.args.properties line len labels last label read c.loop-at.invariant.last_label greater, omega (arith, c.line_end-line.ensures.end.reached, length-next text at end c.line_end-line.ensures.end)))))
 
 pub returns-clause-labels : goal.returns-clause-labels
 returns-clause-labels c =
