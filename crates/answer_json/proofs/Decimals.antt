@@ -34,3 +34,6 @@ decimal_21 = two_digits 21 (omega arith) (omega arith)
 
 pub decimal_30 : decimal 30 ≡ 51 ∷ 48 ∷ []
 decimal_30 = two_digits 30 (omega arith) (omega arith)
+
+pub decimal_41 : decimal 41 ≡ 52 ∷ 49 ∷ []
+decimal_41 = two_digits 41 (omega arith) (omega arith)

@@ -27,6 +27,14 @@ pub record Details : Type 0 where
   pub demand : Option ℕ
   -- its kind: 'never' or 'always'
   pub kind : Option (List ℕ)
+  -- the number of the action of a ruleset that a label triggers, from 1
+  pub action : Option ℕ
+  -- the same among the default actions (RFC 7940, section 7.6)
+  pub default_action : Option ℕ
+  -- the name of the type that triggers the action
+  pub type_name : Option (List ℕ)
+  -- the readings of a label have different kinds
+  pub unclear : Bool
   -- how many code points the label has
   pub code_points : Option ℕ
   -- how many octets the A-label has, or the label of a name, or the name
@@ -52,6 +60,10 @@ no_details =
       nfc = None;
       demand = None;
       kind = None;
+      action = None;
+      default_action = None;
+      type_name = None;
+      unclear = false;
       code_points = None;
       octets = None;
       alabel = None;
@@ -63,13 +75,14 @@ no_details =
 abbrev pub point : ℕ → Value
 point c = text (point_text c)
 
-abbrev pub decoded_field : Bool → List Field
-decoded_field decoded = if decoded then (codes "decoded", flag true) ∷ [] else []
+-- a member that is there only where it is true
+abbrev pub flag_if : List ℕ → Bool → List Field
+flag_if name holds = if holds then (name, flag true) ∷ [] else []
 
 -- in the order in which they are told: which label and where, by which rule, and what stands there
 abbrev pub where_fields : Details → List Field
 where_fields details =
-    if_given (codes "label") count details.label ++ decoded_field details.decoded
+    if_given (codes "label") count details.label ++ flag_if (codes "decoded") details.decoded
     ++ if_given (codes "code_point") point details.code_point ++ if_given (codes "place") count details.place
 
 abbrev pub rule_fields : Details → List Field
@@ -80,6 +93,11 @@ rule_fields details =
 abbrev pub demand_fields : Details → List Field
 demand_fields details = if_given (codes "demand") count details.demand ++ if_given (codes "kind") text details.kind
 
+abbrev pub action_fields : Details → List Field
+action_fields details =
+    if_given (codes "action") count details.action ++ if_given (codes "default_action") count details.default_action
+    ++ if_given (codes "type") text details.type_name ++ flag_if (codes "unclear") details.unclear
+
 abbrev pub length_fields : Details → List Field
 length_fields details =
     if_given (codes "code_points") count details.code_points ++ if_given (codes "octets") count details.octets
@@ -87,7 +105,8 @@ length_fields details =
     ++ if_given (codes "ulabel") text details.ulabel
 
 abbrev pub details_fields : Details → List Field
-details_fields details = where_fields details ++ rule_fields details ++ demand_fields details ++ length_fields details
+details_fields details =
+    where_fields details ++ rule_fields details ++ demand_fields details ++ action_fields details ++ length_fields details
 
 -- {"number":10,"text":"disallowed code point","code_point":"U+0046","place":1,"rule":"RFC 5892 2.2"}
 abbrev pub refusal_fields : Refusal → Details → List Field
@@ -104,6 +123,7 @@ pub record HasShortTexts (details : Details) : Type 0 where
   pub rule : given_len details.rule ≤ 64
   pub bidi_class : given_len details.bidi_class ≤ 64
   pub kind : given_len details.kind ≤ 8
+  pub type_name : given_len details.type_name ≤ 32
   pub alabel : given_len details.alabel ≤ 252
   pub ulabel : given_len details.ulabel ≤ 252
 
@@ -122,6 +142,10 @@ details_of members =
       nfc = members.nfc;
       demand = members.demand;
       kind = option_copied members.kind;
+      action = members.action;
+      default_action = members.default_action;
+      type_name = option_copied members.type_name;
+      unclear = members.unclear;
       code_points = members.code_points;
       octets = members.octets;
       alabel = option_copied members.alabel;

@@ -1,13 +1,13 @@
 -- Texts of answers, computed from the definitions.
 use Rattle.std.specs.Prelude.{◌≡◌, ℕ, true, List, [], ◌∷◌, ◌++◌, codes, None, Some}
 use Rattle.idn_text.specs.Points.{utf8_of}
-use Rattle.idn_text.specs.declared.refusal.Refusal.TheVariants.{NotUtf8, LineTooLong, Disallowed, NotNfc, Bidi, BadALabel, LookupLength, Syntax}
+use Rattle.idn_text.specs.declared.refusal.Refusal.TheVariants.{NotUtf8, LineTooLong, Disallowed, NotNfc, Bidi, BadALabel, LookupLength, NotValid, Syntax}
 use Rattle.answer_json.specs.Answers.{Answer, json_of, text_of}
 use Rattle.answer_json.specs.Details.{Details, no_details}
 use Rattle.answer_json.specs.Inputs.{as_text, as_octets, not_kept}
-use Rattle.answer_json.specs.Objects.{looked_up, registered, decoded, refused, variant, trailer, pair, checked, table_fault}
+use Rattle.answer_json.specs.Objects.{looked_up, registered, decoded, refused, variant, trailer, pair, idle, checked, table_fault}
 use Rattle.answer_json.specs.Objects.{collision}
-use Rattle.answer_json.specs.declared.block.Disposition.TheVariants.{Allocatable}
+use Rattle.answer_json.specs.declared.block.Disposition.TheVariants.{Allocatable, Unclear}
 use Rattle.answer_json.specs.declared.collision.Regard.TheVariants.{NoVariant}
 use Rattle.answer_json.specs.declared.collision.Regard.TheVariants as regard
 use Rattle.answer_json.specs.declared.checked.PairFinding.TheVariants.{Missing, Differs}
@@ -72,6 +72,10 @@ answers =
     ∷ record {
       answer = variant 1 (utf8_of (codes "straße")) (codes "xn--strae-oqa") (Some Allocatable);
       text = utf8_of (codes "{\"line\":1,\"ulabel\":\"straße\",\"alabel\":\"xn--strae-oqa\",\"disposition\":\"allocatable\"}");
+    }
+    ∷ record {
+      answer = variant 1 (codes "cb") (codes "cb") (Some Unclear);
+      text = codes "{\"line\":1,\"ulabel\":\"cb\",\"alabel\":\"cb\",\"disposition\":\"blocked\",\"unclear\":true}";
     }
     ∷ record {
       answer = variant 1 (utf8_of (codes "中国")) (codes "xn--fiqs8s") None;
@@ -147,12 +151,41 @@ refusals =
     }
     ∷ []
 
+-- ---- refusals by a ruleset
+
+-- of this line by this cause, which is told so
+abbrev pub not_valid : List ℕ → Details → List ℕ → Row
+not_valid label details told =
+    record {
+      answer = refused 1 (as_text (utf8_of label)) NotValid details;
+      text =
+          codes "{\"line\":1,\"input\":\"" ++ utf8_of label
+          ++ codes "\",\"refusal\":{\"number\":41,\"text\":\"not valid under the table\"," ++ told ++ codes "}}";
+    }
+
+-- a code point at a place
+abbrev pub found : ℕ → ℕ → Details
+found point place = record no_details { code_point = Some point; place = Some place }
+
+abbrev pub by_rulesets : List Row
+by_rulesets =
+    not_valid (0x430 ∷ 0x62 ∷ []) (record (found 0x430 1) { default_action = Some 1; type_name = Some (codes "invalid") })
+    (codes "\"code_point\":\"U+0430\",\"place\":1,\"default_action\":1,\"type\":\"invalid\"")
+    ∷ not_valid (0x62 ∷ 0x430 ∷ []) (record (found 0x430 2) { action = Some 1; type_name = Some (codes "oor") })
+    (codes "\"code_point\":\"U+0430\",\"place\":2,\"action\":1,\"type\":\"oor\"")
+    ∷ not_valid (0x31 ∷ 0x968 ∷ []) (record no_details { condition = Some (codes "when"); rule = Some (codes "mixed"); action = Some 1 })
+    (codes "\"condition\":\"when\",\"rule\":\"mixed\",\"action\":1")
+    ∷ not_valid (codes "a") (record no_details { action = Some 2 }) (codes "\"action\":2")
+    ∷ not_valid (codes "ab") (record no_details { unclear = true }) (codes "\"unclear\":true")
+    ∷ []
+
 -- ---- tables
 
 abbrev pub tables : List Row
 tables =
     record { answer = pair Missing (codes "00DF") (codes "0073-0073"); text = codes "{\"source\":\"00DF\",\"missing\":\"0073-0073\"}" }
     ∷ record { answer = pair Differs (codes "03C2") (codes "03C3"); text = codes "{\"source\":\"03C2\",\"differs\":\"03C3\"}" }
+    ∷ record { answer = idle (codes "t"); text = codes "{\"idle\":\"t\"}" }
     ∷ record { answer = checked 2 1; text = codes "{\"entries\":2,\"gaps\":1}" }
     ∷ record {
       answer = table_fault 2 Syntax no_details;

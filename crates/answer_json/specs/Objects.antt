@@ -1,13 +1,13 @@
 -- The object of each kind of answer, with its members in order.
-use Rattle.std.specs.Prelude.{ℕ, true, false, List, [], ◌∷◌, codes, Option, Some, None}
+use Rattle.std.specs.Prelude.{ℕ, Bool, true, false, List, [], ◌∷◌, codes, Option, Some, None}
 use Rattle.idn_text.specs.declared.refusal.Refusal.{Refusal}
-use Rattle.answer_json.specs.Answers.{Field, Answer, if_given, count, text, flag, nothing}
-use Rattle.answer_json.specs.Details.{Details, refusal_fields}
+use Rattle.answer_json.specs.Answers.{Field, Answer, count, text, flag, nothing}
+use Rattle.answer_json.specs.Details.{Details, flag_if, refusal_fields}
 use Rattle.answer_json.specs.Inputs.{Told, input_field}
 use Rattle.answer_json.specs.declared.checked.PairFinding.{PairFinding}
 use Rattle.answer_json.specs.declared.checked.PairFinding.TheVariants.{Missing, Differs}
 use Rattle.answer_json.specs.declared.block.Disposition.{Disposition}
-use Rattle.answer_json.specs.declared.block.Disposition.TheVariants.{Allocatable, Blocked}
+use Rattle.answer_json.specs.declared.block.Disposition.TheVariants.{Allocatable, Blocked, Unclear}
 use Rattle.answer_json.specs.declared.collision.Regard.{Regard}
 use Rattle.answer_json.specs.declared.collision.Regard.TheVariants.{NoVariant, Variant}
 use Rattle.answer_json.specs.declared.collision.Regard.TheVariants as regard
@@ -36,6 +36,11 @@ registered line input ulabel alabel =
 abbrev pub decoded : ℕ → Told → List ℕ → Answer
 decoded line input unicode = answered (line_field line ∷ input_field input ∷ (codes "unicode", text unicode) ∷ [])
 
+-- {"line":1,"input":"xn--ls8h","unicode":"💩","old":true}
+abbrev pub old_label : ℕ → Told → List ℕ → Answer
+old_label line input unicode =
+    answered (line_field line ∷ input_field input ∷ (codes "unicode", text unicode) ∷ (codes "old", flag true) ∷ [])
+
 -- {"line":1,"input":"Faß","refusal":{"number":10,"text":"disallowed code point","code_point":"U+0046","place":1,"rule":"RFC 5892 2.2"}}
 abbrev pub refused : ℕ → Told → Refusal → Details → Answer
 refused line input refusal details =
@@ -43,16 +48,28 @@ refused line input refusal details =
 
 -- ---- the block of a label: its variants, and a trailer
 
--- whether a variant may be allocated (RFC 7940, section 7.3)
+-- whether a variant may be allocated (RFC 7940, section 7.3); one that is unclear is blocked
 abbrev pub disposition_text : Disposition → List ℕ
 disposition_text Allocatable = codes "allocatable"
 disposition_text Blocked = codes "blocked"
+disposition_text Unclear = codes "blocked"
 
--- {"line":1,"ulabel":"straße","alabel":"xn--strae-oqa","disposition":"allocatable"}; some tables have no dispositions
+-- its readings have different kinds (section 8.4)
+abbrev pub is_unclear : Disposition → Bool
+is_unclear Allocatable = false
+is_unclear Blocked = false
+is_unclear Unclear = true
+
+-- what a table says of a variant; one of version 1 says nothing
+abbrev pub disposition_fields : Option Disposition → List Field
+disposition_fields None = []
+disposition_fields (Some disposition) =
+    (codes "disposition", text (disposition_text disposition)) ∷ flag_if (codes "unclear") (is_unclear disposition)
+
+-- {"line":1,"ulabel":"straße","alabel":"xn--strae-oqa","disposition":"allocatable"}, or with "unclear":true after that
 abbrev pub variant : ℕ → List ℕ → List ℕ → Option Disposition → Answer
 variant line ulabel alabel disposition =
-    answered (line_field line ∷ (codes "ulabel", text ulabel) ∷ (codes "alabel", text alabel)
-    ∷ if_given (codes "disposition") (λ d. text (disposition_text d)) disposition)
+    answered (line_field line ∷ (codes "ulabel", text ulabel) ∷ (codes "alabel", text alabel) ∷ disposition_fields disposition)
 
 -- ---- the block of a label that is asked among registered ones: those that collide with it, and a trailer
 
@@ -102,6 +119,10 @@ word_of Differs = codes "differs"
 -- {"source":"00DF","missing":"0073-0073"}
 abbrev pub pair : PairFinding → List ℕ → List ℕ → Answer
 pair finding source other = answered ((codes "source", text source) ∷ (word_of finding, text other) ∷ [])
+
+-- {"idle":"trad"}: a type of a ruleset's own that no action names
+abbrev pub idle : List ℕ → Answer
+idle name = answered ((codes "idle", text name) ∷ [])
 
 -- {"entries":2,"gaps":1}
 abbrev pub checked : ℕ → ℕ → Answer

@@ -4,12 +4,12 @@
 ghost use Rattle.std.specs.Prelude.{◌≡◌, ◌≤◌, length, Some, None};
 ghost use Rattle.answer_json.specs.Answers.{line_of};
 ghost use Rattle.answer_json.specs.Inputs.{told, told_len};
-ghost use Rattle.answer_json.specs.Objects.{decoded, least, looked_up, registered};
+ghost use Rattle.answer_json.specs.Objects.{decoded, least, looked_up, old_label, registered};
 
 use crate::collision::{Regards, put_regards};
 use crate::ends::{begin_line, end_line};
 use crate::input::Input;
-use crate::member::{put_null, put_text};
+use crate::member::{put_flag, put_null, put_text};
 use crate::room::ObjectRoom;
 
 /// Writes the object of a line that is looked up, and a line feed.
@@ -63,6 +63,24 @@ pub fn write_decoded<'a>(
 {
     let at = begin_line(out, line, input);
     let end = put_text(out, at, ",\"unicode\":", unicode);
+    end_line(out, end)
+}
+
+/// Writes the object of a label of a zone that is answered by an old label, and a line feed.
+#[inline(always)]
+pub fn write_old_label<'a>(
+    out: &'a mut ObjectRoom,
+    line: u64,
+    input: &Input,
+    unicode: &[u8],
+) -> &'a [u8]
+    requires input { told_len input.now ≤ 1024 }
+    requires unicode { length unicode.now ≤ 252 }
+    ensures { result.now ≡ line_of (old_label line (told input.now) unicode.now) }
+{
+    let at = begin_line(out, line, input);
+    let next = put_text(out, at, ",\"unicode\":", unicode);
+    let end = put_flag(out, next, ",\"old\":", true);
     end_line(out, end)
 }
 

@@ -1,12 +1,13 @@
 //! The objects of the block of a label: one for each of its variants, and a trailer.
-ghost use Rattle.std.specs.Prelude.{◌≡◌, ◌≤◌, ◌+◌, ◌++◌, [], length, codes, take};
+ghost use Rattle.std.specs.Prelude.{◌≡◌, ◌≤◌, ◌+◌, ◌++◌, [], length, take};
 ghost use Rattle.std.specs.Option.{option_copied};
-ghost use Rattle.answer_json.specs.Answers.{if_given, line_of, text};
+ghost use Rattle.answer_json.specs.Answers.{line_of};
 ghost use Rattle.answer_json.specs.Inputs.{told, told_len};
-ghost use Rattle.answer_json.specs.Objects.{disposition_text, end_fields, trailer, variant};
+ghost use Rattle.answer_json.specs.Objects.{disposition_fields, end_fields, trailer, variant};
 ghost use Rattle.answer_json.specs.Details.{given_len};
 ghost use Rattle.answer_json.specs.inner.Texts.{fields_text};
 
+use crate::details::put_flag_if;
 use crate::ends::{begin_line, end_line};
 use crate::input::Input;
 use crate::member::{put_flag, put_number, put_text};
@@ -17,10 +18,12 @@ use crate::room::{MAX_OBJECT_LEN, ObjectRoom};
 pub enum Disposition {
     Allocatable,
     Blocked,
+    /// Blocked, since its readings have different kinds (section 8.4).
+    Unclear,
 }
 
 impl Disposition {
-    ghost use Rattle.answer_json.specs.Objects.{disposition_text};
+    ghost use Rattle.answer_json.specs.Objects.{disposition_text, is_unclear};
 
     /// The text of the disposition.
     fn text(self) -> &'static str
@@ -29,8 +32,15 @@ impl Disposition {
     {
         match self {
             Disposition::Allocatable => "allocatable",
-            Disposition::Blocked => "blocked",
+            Disposition::Blocked | Disposition::Unclear => "blocked",
         }
+    }
+
+    /// Whether the readings have different kinds.
+    fn is_unclear(self) -> bool
+        ensures { result ≡ is_unclear self }
+    {
+        self == Disposition::Unclear
     }
 }
 
@@ -53,16 +63,18 @@ pub fn write_variant<'a>(
     end_line(out, end)
 }
 
-/// Writes a disposition as a member, where there is one.
+/// Writes a disposition, where there is one, and that it is unclear, where it is.
 #[tactic(auto, using(crate::proofs::Members::one_field))]
 fn put_disposition(out: &mut ObjectRoom, at: usize, disposition: Option<Disposition>) -> usize
-    requires { at + 100 ≤ MAX_OBJECT_LEN }
-    ensures field { take result out.new ≡ take at out.old
-        ++ fields_text (if_given (codes "disposition") (λ d. text (disposition_text d)) disposition) [] }
-    ensures end { result ≤ at + 100 }
+    requires { at + 120 ≤ MAX_OBJECT_LEN }
+    ensures fields { take result out.new ≡ take at out.old ++ fields_text (disposition_fields disposition) [] }
+    ensures end { result ≤ at + 120 }
 {
     match disposition {
-        Some(disposition) => put_text(out, at, ",\"disposition\":", disposition.text().as_bytes()),
+        Some(disposition) => {
+            let next = put_text(out, at, ",\"disposition\":", disposition.text().as_bytes());
+            put_flag_if(out, next, ",\"unclear\":", disposition.is_unclear())
+        }
         None => at,
     }
 }

@@ -1,7 +1,7 @@
-//! The objects of the check of a table: one for each pair that is found, and one that counts.
+//! The objects of the check of a table: one for each pair that is found and each type that is idle, and one that counts.
 ghost use Rattle.std.specs.Prelude.{◌≡◌, ◌≤◌, length, slice_index};
 ghost use Rattle.answer_json.specs.Answers.{line_of};
-ghost use Rattle.answer_json.specs.Objects.{checked, pair, word_of};
+ghost use Rattle.answer_json.specs.Objects.{checked, idle, pair, word_of};
 ghost use Rattle.answer_json.specs.inner.Openings.{IsOpening, name_in};
 
 use crate::ends::end_line;
@@ -56,6 +56,15 @@ pub fn write_pair<'a>(
 {
     let at = put_text(out, 0, "{\"source\":", source);
     let end = put_text(out, at, finding.opening(), other);
+    end_line(out, end)
+}
+
+/// Writes the object of a type of a ruleset's own that no action names, and a line feed.
+pub fn write_idle<'a>(out: &'a mut ObjectRoom, name: &[u8]) -> &'a [u8]
+    requires { length name.now ≤ 32 }
+    ensures { result.now ≡ line_of (idle name.now) }
+{
+    let end = put_text(out, 0, "{\"idle\":", name);
     end_line(out, end)
 }
 

@@ -2,8 +2,8 @@
 ghost use Rattle.std.specs.Prelude.{◌≡◌, ◌≤◌, ◌+◌, ◌*◌, ◌++◌, [], length, slice_index, take};
 ghost use Rattle.std.specs.Option.{option_copied};
 ghost use Rattle.answer_json.specs.Answers.{count, if_given, text};
-ghost use Rattle.answer_json.specs.Details.{HasShortTexts, decoded_field, demand_fields, details_of, given_len};
-ghost use Rattle.answer_json.specs.Details.{length_fields, point, rule_fields, where_fields};
+ghost use Rattle.answer_json.specs.Details.{HasShortTexts, action_fields, demand_fields, details_of, flag_if};
+ghost use Rattle.answer_json.specs.Details.{given_len, length_fields, point, rule_fields, where_fields};
 ghost use Rattle.answer_json.specs.inner.Openings.{IsOpening, name_in};
 ghost use Rattle.answer_json.specs.inner.Texts.{fields_text};
 
@@ -18,7 +18,7 @@ pub(crate) fn put_where(out: &mut ObjectRoom, at: usize, members: &RefusalMember
     ensures end { result ≤ at + 192 }
 {
     let decoded = put_number_if(out, at, ",\"label\":", members.label);
-    let code_point = put_decoded(out, decoded, members.decoded);
+    let code_point = put_flag_if(out, decoded, ",\"decoded\":", members.decoded);
     let place = put_point_if(out, code_point, ",\"code_point\":", members.code_point);
     put_number_if(out, place, ",\"place\":", members.place)
 }
@@ -47,6 +47,24 @@ pub(crate) fn put_demand(out: &mut ObjectRoom, at: usize, members: &RefusalMembe
     put_text_if(out, kind, ",\"kind\":", members.kind)
 }
 
+/// Writes which action is triggered, and what it is triggered by.
+pub(crate) fn put_action(out: &mut ObjectRoom, at: usize, members: &RefusalMembers) -> usize
+    requires texts { HasShortTexts (details_of members.now) }
+    requires room { at + 384 ≤ MAX_OBJECT_LEN }
+    ensures fields { take result out.new ≡ take at out.old ++ fields_text (action_fields (details_of members.now)) [] }
+    ensures end { result ≤ at + 384 }
+{
+    let default_action = put_number_if(out, at, ",\"action\":", members.action);
+    let type_name = put_number_if(
+        out,
+        default_action,
+        ",\"default_action\":",
+        members.default_action,
+    );
+    let unclear = put_text_if(out, type_name, ",\"type\":", members.type_name);
+    put_flag_if(out, unclear, ",\"unclear\":", members.unclear)
+}
+
 /// Writes how long what is refused is, and which other A-label, byte or U-label it has.
 pub(crate) fn put_lengths(out: &mut ObjectRoom, at: usize, members: &RefusalMembers) -> usize
     requires texts { HasShortTexts (details_of members.now) }
@@ -61,15 +79,17 @@ pub(crate) fn put_lengths(out: &mut ObjectRoom, at: usize, members: &RefusalMemb
     put_text_if(out, ulabel, ",\"ulabel\":", members.ulabel)
 }
 
-/// Writes that the cause is of what an A-label stands for, where it is.
+/// Writes a member that is there only where it is true.
 #[tactic(auto, using(crate::proofs::Members::one_field))]
-fn put_decoded(out: &mut ObjectRoom, at: usize, decoded: bool) -> usize
-    requires { at + 16 ≤ MAX_OBJECT_LEN }
-    ensures field { take result out.new ≡ take at out.old ++ fields_text (decoded_field decoded) [] }
-    ensures end { result ≤ at + 16 }
+pub(crate) fn put_flag_if(out: &mut ObjectRoom, at: usize, opening: &str, holds: bool) -> usize
+    requires room { at + length opening.now + 5 ≤ MAX_OBJECT_LEN }
+    requires opening { IsOpening opening.now }
+    requires comma { slice_index opening.now 0 ≡ 44 }
+    ensures field { take result out.new ≡ take at out.old ++ fields_text (flag_if (name_in opening.now) holds) [] }
+    ensures end { result ≤ at + (length opening.now + 5) }
 {
-    if decoded {
-        put_flag(out, at, ",\"decoded\":", true)
+    if holds {
+        put_flag(out, at, opening, true)
     } else {
         at
     }

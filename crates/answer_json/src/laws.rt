@@ -3,7 +3,7 @@ ghost use Rattle.std.specs.Prelude.{◌≡◌, Some, true, IsUtf8};
 ghost use Rattle.json.specs.Json.{document};
 ghost use Rattle.answer_json.specs.Answers.{Answer, HasSmallNumbers, json_of, text_of};
 ghost use Rattle.answer_json.specs.Clear.{is_clear};
-ghost use Rattle.answer_json.specs.Examples.{HaveTexts, answers, escapes, refusals, tables};
+ghost use Rattle.answer_json.specs.Examples.{HaveTexts, answers, by_rulesets, escapes, refusals, tables};
 ghost use Rattle.answer_json.specs.Unicode.{HasUnicodeTexts};
 
 /// The text of each answer is read back as the object that is meant, by the grammar of JSON (RFC 8259), whatever its
@@ -27,5 +27,6 @@ pub fn objects_have_texts()
     ensures escapes { HaveTexts escapes }
     ensures answers { HaveTexts answers }
     ensures refusals { HaveTexts refusals }
+    ensures by_rulesets { HaveTexts by_rulesets }
     ensures tables { HaveTexts tables }
 {}

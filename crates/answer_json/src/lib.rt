@@ -17,9 +17,11 @@ mod refusal_members;
 mod refused;
 mod room;
 
-pub use answered::{write_decoded, write_least, write_looked_up, write_no_least, write_registered};
+pub use answered::{
+    write_decoded, write_least, write_looked_up, write_no_least, write_old_label, write_registered,
+};
 pub use block::{Disposition, write_trailer, write_variant};
-pub use checked::{PairFinding, write_checked, write_pair};
+pub use checked::{PairFinding, write_checked, write_idle, write_pair};
 pub use collision::{Regard, Regards, write_collision};
 pub use input::Input;
 pub use laws::{objects_are_lines, objects_are_read_back, objects_are_unicode, objects_have_texts};

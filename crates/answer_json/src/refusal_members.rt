@@ -23,6 +23,14 @@ pub struct RefusalMembers<'a> {
     pub demand: Option<u128>,
     /// The kind of the demand: `never` or `always`.
     pub kind: Option<&'a [u8]>,
+    /// The number of the action of a ruleset that the label triggers, among those of the file.
+    pub action: Option<u128>,
+    /// The same among the default actions (RFC 7940, section 7.6).
+    pub default_action: Option<u128>,
+    /// The name of the type that triggers the action.
+    pub type_name: Option<&'a [u8]>,
+    /// Whether the readings of the label have different kinds.
+    pub unclear: bool,
     /// How many code points the label has.
     pub code_points: Option<u128>,
     /// How many octets the A-label has, or the label of a name, or the name.
@@ -48,6 +56,10 @@ impl RefusalMembers<'_> {
         nfc: None,
         demand: None,
         kind: None,
+        action: None,
+        default_action: None,
+        type_name: None,
+        unclear: false,
         code_points: None,
         octets: None,
         alabel: None,

@@ -6,7 +6,7 @@ ghost use Rattle.answer_json.specs.Inputs.{told, told_len};
 ghost use Rattle.answer_json.specs.Objects.{refused, registered_fault, table_fault};
 ghost use Rattle.answer_json.specs.inner.Texts.{refusal_text};
 
-use crate::details::{put_demand, put_lengths, put_rule, put_where};
+use crate::details::{put_action, put_demand, put_lengths, put_rule, put_where};
 use crate::ends::{begin_line, end_line};
 use crate::input::Input;
 use crate::member::{put_number, put_opening, put_text};
@@ -74,7 +74,8 @@ fn put_refusal(out: &mut ObjectRoom, at: usize, refusal: Refusal, members: &Refu
     let place = put_text(out, text, ",\"text\":", refusal.text().as_bytes());
     let rule = put_where(out, place, members);
     let demand = put_rule(out, rule, members);
-    let lengths = put_demand(out, demand, members);
+    let action = put_demand(out, demand, members);
+    let lengths = put_action(out, action, members);
     let end = put_lengths(out, lengths, members);
     put_byte(out, end, b'}')
 }

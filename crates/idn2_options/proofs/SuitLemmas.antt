@@ -9,11 +9,11 @@ use Rattle.std.proofs.lemmas.Str.{chars-nil}
 use Rattle.clap.specs.Words.{Row, Text}
 use Rattle.variant_table.specs.declared.version.Notation.TheVariants.{Table, Ruleset}
 use Rattle.idn2_options.specs.Settings.{SuitsMode}
-use Rattle.idn2_options.specs.Words.{among_of, listing_options_fit, checked_file, checks, checks_alone, count_of, file_of, has_counts, has_flag, has_short_start, has_strings, has_value, is_allowed, jumps_by_table, listing_file, lists, mode_of, names_one_mode, notation_of, settings_of, start_of, steps_of, strings_of, suits_among, value_of}
+use Rattle.idn2_options.specs.Words.{among_of, listing_options_fit, checked_file, checks, checks_alone, count_of, decodes_old, file_of, has_among, has_counts, has_flag, has_short_start, has_strings, has_value, is_allowed, jumps_by_table, listing_file, lists, mode_of, names_one_mode, notation_of, settings_of, start_of, steps_of, strings_of, suits_among, value_of}
 use Rattle.idn2_options.specs.declared.command_line.mode.Mode.{Mode}
-use Rattle.idn2_options.specs.declared.command_line.mode.Mode.TheVariants.{Lookup, Register, Decode, Variants, Jump, CheckTable}
+use Rattle.idn2_options.specs.declared.command_line.mode.Mode.TheVariants.{Lookup, Register, Decode, DecodeOld, Variants, Jump, CheckTable}
 use Rattle.idn2_options.proofs.LimitLemmas.{le-test}
-use Rattle.idn2_options.specs.Names.{after_name, among_name, check_ruleset_name, check_table_name, decode_name, jump_name, limit_name, lookup_name, register_name, ruleset_name, steps_name, tries_name, variants_name}
+use Rattle.idn2_options.specs.Names.{after_name, among_name, check_ruleset_name, check_table_name, decode_name, jump_name, limit_name, lookup_name, old_name, others_name, register_name, ruleset_name, steps_name, tries_name, variants_name}
 
 -- ---- tests
 
@@ -45,29 +45,30 @@ second-test false b either first = either
 
 -- ---- the mode
 
-abbrev pub mode_by : Bool → Bool → Bool → Bool → Bool → Mode
-mode_by register decode variants jump check =
-    cond register Register (cond decode Decode (cond variants (cond jump Jump Variants) (cond check CheckTable Lookup)))
+abbrev pub mode_by : Bool → Bool → Bool → Bool → Bool → Bool → Mode
+mode_by register decode old variants jump check =
+    cond register Register (cond decode (cond old DecodeOld Decode) (cond variants (cond jump Jump Variants) (cond check CheckTable Lookup)))
 
-check-named : (r d v j k : Bool) → mode_by r d v j k ≡ CheckTable → k ≡ true
-check-named true d v j k is = absurd (let bad : Register ≡ CheckTable = is in cc)
-check-named false true v j k is = absurd (let bad : Decode ≡ CheckTable = is in cc)
-check-named false false true true k is = absurd (let bad : Jump ≡ CheckTable = is in cc)
-check-named false false true false k is = absurd (let bad : Variants ≡ CheckTable = is in cc)
-check-named false false false j true is = refl
-check-named false false false j false is = absurd (let bad : Lookup ≡ CheckTable = is in cc)
+check-named : (r d o v j k : Bool) → mode_by r d o v j k ≡ CheckTable → k ≡ true
+check-named true d o v j k is = absurd (let bad : Register ≡ CheckTable = is in cc)
+check-named false true true v j k is = absurd (let bad : DecodeOld ≡ CheckTable = is in cc)
+check-named false true false v j k is = absurd (let bad : Decode ≡ CheckTable = is in cc)
+check-named false false o true true k is = absurd (let bad : Jump ≡ CheckTable = is in cc)
+check-named false false o true false k is = absurd (let bad : Variants ≡ CheckTable = is in cc)
+check-named false false o false j true is = refl
+check-named false false o false j false is = absurd (let bad : Lookup ≡ CheckTable = is in cc)
 
 -- at most one of five is named
 abbrev pub IsOne : Bool → Bool → Bool → Bool → Bool → Type 0
 IsOne l r d v k = count_by (λ named. named) (l ∷ r ∷ d ∷ v ∷ k ∷ []) ≤ 1
 
-pub variants-alone : (l r d v j k : Bool) → IsOne l r d v k → v ≡ true → mode_by r d v j k ≡ cond j Jump Variants
-variants-alone l r d v j k one is_v =
+pub variants-alone : (l r d o v j k : Bool) → IsOne l r d v k → v ≡ true → mode_by r d o v j k ≡ cond j Jump Variants
+variants-alone l r d o v j k one is_v =
     let weight : cond {A = ℕ} v 1 0 ≡ 1 = rw is_v refl in
     rw (no_weight r (omega arith), no_weight d (omega arith), is_v) refl
 
-pub check-alone : (l r d v j k : Bool) → IsOne l r d v k → k ≡ true → mode_by r d v j k ≡ CheckTable
-check-alone l r d v j k one is_k =
+pub check-alone : (l r d o v j k : Bool) → IsOne l r d v k → k ≡ true → mode_by r d o v j k ≡ CheckTable
+check-alone l r d o v j k one is_k =
     let weight : cond {A = ℕ} k 1 0 ≡ 1 = rw is_k refl in
     rw (no_weight r (omega arith), no_weight d (omega arith), no_weight v (omega arith), is_k) refl
 
@@ -91,19 +92,23 @@ pub record Rules (rows : List Row) : Type 0 where
   pub one : IsOne (has_flag lookup_name rows) (has_flag register_name rows) (has_flag decode_name rows) (lists rows) (checks rows)
   pub bounds : listing_options_fit rows ≡ true
   pub jumps : jumps_by_table rows ≡ true
+  pub old : decodes_old rows ≡ true
+  pub others : has_among rows ≡ true
   pub among : suits_among rows ≡ true
   pub alone : checks_alone rows ≡ true
 
 pub rules : (rows : List Row) → is_allowed rows ≡ true → Rules rows
 rules rows allowed =
-    let tests : Bool = names_one_mode rows && listing_options_fit rows && jumps_by_table rows && suits_among rows in
+    let tests : Bool = names_one_mode rows && listing_options_fit rows && jumps_by_table rows && decodes_old rows && has_among rows && suits_among rows in
     let last = and_parts (tests && has_counts rows && has_short_start rows) (checks_alone rows) allowed in
     let start = and_parts (tests && has_counts rows) (has_short_start rows) last.0 in
     let counts = and_parts tests (has_counts rows) start.0 in
-    let among = and_parts (names_one_mode rows && listing_options_fit rows && jumps_by_table rows) (suits_among rows) counts.0 in
-    let jumps = and_parts (names_one_mode rows && listing_options_fit rows) (jumps_by_table rows) among.0 in
+    let among = and_parts (names_one_mode rows && listing_options_fit rows && jumps_by_table rows && decodes_old rows && has_among rows) (suits_among rows) counts.0 in
+    let others = and_parts (names_one_mode rows && listing_options_fit rows && jumps_by_table rows && decodes_old rows) (has_among rows) among.0 in
+    let old = and_parts (names_one_mode rows && listing_options_fit rows && jumps_by_table rows) (decodes_old rows) others.0 in
+    let jumps = and_parts (names_one_mode rows && listing_options_fit rows) (jumps_by_table rows) old.0 in
     let first = and_parts (names_one_mode rows) (listing_options_fit rows) jumps.0 in
-    record { one = fewer-named _ _ _ (value_of variants_name rows) (value_of ruleset_name rows) (value_of check_table_name rows) (value_of check_ruleset_name rows) (le-test _ 1 first.0); bounds = first.1; jumps = jumps.1; among = among.1; alone = last.1 }
+    record { one = fewer-named _ _ _ (value_of variants_name rows) (value_of ruleset_name rows) (value_of check_table_name rows) (value_of check_ruleset_name rows) (le-test _ 1 first.0); bounds = first.1; jumps = jumps.1; old = old.1; others = others.1; among = among.1; alone = last.1 }
 
 -- a test of two that holds nowhere but in another mode
 both-false : (a b : Bool) → (a ≡ true → b ≡ true → ⊥) → (a && b) ≡ false
@@ -114,10 +119,10 @@ both-false false b never = refl
 -- the mode is another than the listing
 no-listing : (rows : List Row) → Rules rows → mode_of rows ≢ Variants → (lists rows && not (has_flag jump_name rows)) ≡ false
 no-listing rows r other = both-false (lists rows) (not (has_flag jump_name rows)) (λ named listed.
-    other (variants-alone _ _ _ _ _ _ r.one named ∙ ap (λ (j : Bool). cond j Jump Variants) (not-true (has_flag jump_name rows) listed)))
+    other (variants-alone _ _ _ _ _ _ _ r.one named ∙ ap (λ (j : Bool). cond j Jump Variants) (not-true (has_flag jump_name rows) listed)))
 
 no-check : (rows : List Row) → Rules rows → mode_of rows ≢ CheckTable → checks rows ≡ false
-no-check rows r other = false_from_ne_true (checks rows) (λ named. other (check-alone _ _ _ _ _ _ r.one named))
+no-check rows r other = false_from_ne_true (checks rows) (λ named. other (check-alone _ _ _ _ _ _ _ r.one named))
 
 -- nothing that bounds a listing is given
 record NoBounds (rows : List Row) : Type 0 where
@@ -171,8 +176,16 @@ untried rows r named =
       ap (option_and_then steps_of) (not-given (value_of steps_name rows) (not-true (has_value steps_name rows) both.1)),
     )
 
+-- where they aren't, the label itself is not left out
+with-others : (rows : List Row) → Rules rows → value_of among_name rows ≡ None → has_flag others_name rows ≡ false
+with-others rows r none = by_test (has_flag others_name rows) (second-test (has_value among_name rows) (not (has_flag others_name rows)) r.others (ap is_some none))
+  where
+    by_test : (b : Bool) → not b ≡ true → b ≡ false
+    by_test true never = absurd (let bad : false ≡ true = never in cc)
+    by_test false none = refl
+
 no-variants : (rows : List Row) → Rules rows → mode_of rows ≢ Variants → mode_of rows ≢ Jump → lists rows ≡ false
-no-variants rows r other jump = false_from_ne_true (lists rows) (λ named. either (has_flag jump_name rows) (variants-alone _ _ _ _ _ _ r.one named))
+no-variants rows r other jump = false_from_ne_true (lists rows) (λ named. either (has_flag jump_name rows) (variants-alone _ _ _ _ _ _ _ r.one named))
   where
     either : (j : Bool) → mode_of rows ≡ cond j Jump Variants → ⊥
     either true is = jump is
@@ -193,11 +206,11 @@ no-ruleset rows r variants jump check =
 
 alone : (rows : List Row) → Rules rows → mode_of rows ≡ CheckTable → strings_of rows ≡ []
 alone rows r is =
-    let named = check-named (has_flag register_name rows) (has_flag decode_name rows) (lists rows) (has_flag jump_name rows) (checks rows) is in
+    let named = check-named (has_flag register_name rows) (has_flag decode_name rows) (has_flag old_name rows) (lists rows) (has_flag jump_name rows) (checks rows) is in
     let none = second-test (not (checks rows)) (not (has_strings rows)) r.alone (ap not named) in
     no-strings (strings_of rows) (false_from_ne_true (has_strings rows) (λ some. let bad : false ≡ true = ap not (sym some) ∙ none in cc))
 
 pub suits_mode : (rows : List Row) → is_allowed rows ≡ true → SuitsMode (settings_of rows)
 suits_mode rows allowed =
     let r = rules rows allowed in
-    record { bounds = no-bounds rows r; among = λ other. (none-given rows r other).among; untried = untried rows r; file = λ variants jump check. (no-file rows r variants jump check, no-ruleset rows r variants jump check); strings = alone rows r }
+    record { bounds = no-bounds rows r; among = λ other. (none-given rows r other).among; others = with-others rows r; untried = untried rows r; file = λ variants jump check. (no-file rows r variants jump check, no-ruleset rows r variants jump check); strings = alone rows r }

@@ -8,7 +8,7 @@ use Rattle.idn2_options.specs.CommandLine.{app}
 use Rattle.idn2_options.specs.Names.{after_name, limit_name, steps_name, tries_name}
 use Rattle.idn2_options.specs.Uses.{Use, first_wrong, known_rules, told, uses_of}
 use Rattle.idn2_options.specs.Words.{asks_to_show, checks_alone, has_counts, has_short_start, has_value}
-use Rattle.idn2_options.specs.Words.{is_count_if_given}
+use Rattle.idn2_options.specs.Words.{decodes_old, has_among, is_count_if_given}
 use Rattle.idn2_options.specs.Words.{jumps_by_table, listing_options_fit, lists, names_one_mode, suits_among}
 use Rattle.idn2_options.specs.declared.command_line.broken_rule.BrokenRule.{BrokenRule}
 use Rattle.idn2_options.specs.declared.command_line.broken_rule.BrokenRule.TheVariants as rules
@@ -52,10 +52,12 @@ broken_rule rows =
     if not (names_one_mode rows) then Some rules.TwoModes
     else (if not (listing_options_fit rows) then Some (misfit_of rows)
     else (if not (jumps_by_table rows) then Some rules.JumpWithoutTable
+    else (if not (decodes_old rows) then Some rules.OldWithoutDecode
+    else (if not (has_among rows) then Some rules.OthersWithoutAmong
     else (if not (suits_among rows) then Some (misfit_of_among rows)
     else (if not (has_counts rows) then Some (wrong_number rows)
     else (if not (has_short_start rows) then Some rules.LongStart
-    else (if not (checks_alone rows) then Some rules.CheckedStrings else None))))))
+    else (if not (checks_alone rows) then Some rules.CheckedStrings else None))))))))
 
 -- what a cause tells: a rule that is broken, or an option that is used in a wrong way
 pub data Told : Type 0 where

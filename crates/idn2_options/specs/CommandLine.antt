@@ -3,7 +3,7 @@
 use Rattle.std.specs.Prelude.{ℕ, ◌^◌, ◌-◌, Some, codes, true}
 use Rattle.clap.specs.Words.{App, Rule, Text, new_app, new_rule, with_rule}
 use Rattle.clap.specs.declared.builder.ArgAction.TheVariants.{SetTrue, Set, Append}
-use Rattle.idn2_options.specs.Names.{after_name, among_name, check_ruleset_name, check_table_name, decode_letter, decode_name, explain_name, json_name, jump_name, limit_name, lookup_letter, lookup_name, quiet_name, register_letter, register_name, ruleset_name, standard_name, std3_name, steps_name, strings_name, tr46nt_letter, tr46nt_name, tries_name, variants_name}
+use Rattle.idn2_options.specs.Names.{after_name, among_name, check_ruleset_name, check_table_name, decode_letter, decode_name, explain_name, json_name, jump_name, limit_name, lookup_letter, lookup_name, old_name, others_name, quiet_name, register_letter, register_name, ruleset_name, standard_name, std3_name, steps_name, strings_name, tr46nt_letter, tr46nt_name, tries_name, variants_name}
 
 -- a flag, `--name`
 abbrev pub flag_rule : Text → Rule
@@ -39,11 +39,13 @@ with_tables a = with_rule (with_rule (with_rule (with_rule a
     (value_rule ruleset_name))
     (value_rule check_ruleset_name)
 
--- `--among FILE`, `--jump`
+-- `--among FILE`, `--others`, `--jump`, `--old`
 abbrev pub with_collisions : App → App
-with_collisions a = with_rule (with_rule a
+with_collisions a = with_rule (with_rule (with_rule (with_rule a
     (value_rule among_name))
-    (flag_rule jump_name)
+    (flag_rule others_name))
+    (flag_rule jump_name))
+    (flag_rule old_name)
 
 -- `-N`, `--usestd3asciirules`, `--standard`, `--explain`, `--json`, `--quiet`
 abbrev pub with_switches : App → App

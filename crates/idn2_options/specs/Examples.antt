@@ -10,12 +10,12 @@ use Rattle.idn2_options.specs.declared.command_line.form.Form.TheVariants.{Plain
 use Rattle.idn2_options.specs.declared.command_line.misuse.Misuse.TheVariants.{Unknown, WithoutValue, Repeated}
 use Rattle.idn2_options.specs.declared.command_line.misuse.Misuse.TheVariants.{WithValue}
 use Rattle.idn2_options.specs.declared.command_line.mode.Mode.{Mode}
-use Rattle.idn2_options.specs.declared.command_line.mode.Mode.TheVariants.{Lookup, Register, Variants, CheckTable}
+use Rattle.idn2_options.specs.declared.command_line.mode.Mode.TheVariants.{Lookup, Register, DecodeOld, Variants, CheckTable}
 
 -- a run of the mode, with no other option
 abbrev pub plain_run : Mode → List (List ℕ) → Settings
 plain_run mode strings =
-    record { mode = mode; std3 = false; properties = Profile; explain = false; form = Plain; file = []; notation = Table; strings = strings; after = []; limit = None; tries = 1000000; steps = None; among = None; registered = None }
+    record { mode = mode; std3 = false; properties = Profile; explain = false; form = Plain; file = []; notation = Table; strings = strings; after = []; limit = None; tries = 1000000; steps = None; among = None; others = false; registered = None }
 
 -- what the words after the program's name request
 abbrev pub asked : List (List ℕ) → Answer
@@ -36,6 +36,11 @@ pub record ExamplesOfWords : Type 0 where
   pub by_ruleset : asked (codes "--ruleset" ∷ codes "f" ∷ codes "x" ∷ []) ≡ chosen (record (plain_run Variants (codes "x" ∷ [])) { file = codes "f"; notation = Ruleset })
   pub checked_ruleset : asked (codes "--check-ruleset" ∷ codes "f" ∷ []) ≡ chosen (record (plain_run CheckTable []) { file = codes "f"; notation = Ruleset })
   pub table_and_ruleset : asked (codes "--variants" ∷ codes "f" ∷ codes "--ruleset" ∷ codes "g" ∷ codes "x" ∷ []) ≡ bad
+  pub old_labels : asked (codes "-d" ∷ codes "--old" ∷ codes "x" ∷ []) ≡ chosen (plain_run DecodeOld (codes "x" ∷ []))
+  pub old_alone : asked (codes "--old" ∷ codes "x" ∷ []) ≡ bad
+  pub others : asked (codes "--variants" ∷ codes "f" ∷ codes "--among" ∷ codes "g" ∷ codes "--others" ∷ codes "x" ∷ [])
+      ≡ chosen (record (plain_run Variants (codes "x" ∷ [])) { file = codes "f"; among = Some (codes "g"); others = true })
+  pub others_alone : asked (codes "--variants" ∷ codes "f" ∷ codes "--others" ∷ codes "x" ∷ []) ≡ bad
   pub after_alone : asked (codes "--after" ∷ [] ∷ codes "x" ∷ []) ≡ bad
   pub unknown_name : cause_in (codes "--json" ∷ codes "--foo=x" ∷ codes "--bar" ∷ [])
       ≡ Some (misused Unknown (codes "--foo"))

@@ -14,15 +14,17 @@ use Rattle.idn2_options.specs.Words.{options_of}
 use Rattle.idn2_options.specs.declared.command_line.misuse.Misuse.{Misuse}
 use Rattle.idn2_options.specs.declared.command_line.misuse.Misuse.TheVariants.{Repeated}
 use Rattle.idn2_options.specs.declared.command_line.mode.Mode.{Mode}
-use Rattle.idn2_options.specs.declared.command_line.mode.Mode.TheVariants.{Lookup, Register, Decode, Variants, Jump}
+use Rattle.idn2_options.specs.declared.command_line.mode.Mode.TheVariants.{Lookup, Register, Decode, DecodeOld}
+use Rattle.idn2_options.specs.declared.command_line.mode.Mode.TheVariants.{Variants, Jump}
 use Rattle.idn2_options.specs.declared.command_line.mode.Mode.TheVariants.{CheckTable}
-use Rattle.idn2_options.specs.Names.{decode_name, jump_name, lookup_name, register_name}
+use Rattle.idn2_options.specs.Names.{decode_name, jump_name, lookup_name, old_name, register_name}
 
 -- a word of the command line names the mode
 abbrev pub is_named : Mode → List Row → Bool
 is_named Lookup rows = has_flag lookup_name rows
 is_named Register rows = has_flag register_name rows
-is_named Decode rows = has_flag decode_name rows
+is_named Decode rows = has_flag decode_name rows && not (has_flag old_name rows)
+is_named DecodeOld rows = has_flag old_name rows
 is_named Variants rows = lists rows && not (has_flag jump_name rows)
 is_named Jump rows = has_flag jump_name rows
 is_named CheckTable rows = checks rows

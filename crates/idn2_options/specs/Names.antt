@@ -24,11 +24,17 @@ decode_name = codes "decode"
 abbrev pub decode_letter : ℕ
 decode_letter = 100
 
+abbrev pub old_name : Text
+old_name = codes "old"
+
 abbrev pub variants_name : Text
 variants_name = codes "variants"
 
 abbrev pub among_name : Text
 among_name = codes "among"
+
+abbrev pub others_name : Text
+others_name = codes "others"
 
 abbrev pub jump_name : Text
 jump_name = codes "jump"

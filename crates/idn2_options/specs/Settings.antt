@@ -25,6 +25,7 @@ pub record Settings : Type 0 where
   pub tries : ℕ
   pub steps : Option ℕ
   pub among : Option (List ℕ)
+  pub others : Bool
   pub registered : Option (List (List ℕ))
 
 -- the same options, with listings kept to these labels; or whole, where there are none
@@ -60,6 +61,7 @@ pub record IsWithinLimits (o : Settings) : Type 0 where
 pub record SuitsMode (o : Settings) : Type 0 where
   pub bounds : o.mode ≢ Variants → (o.after ≡ []) × (o.limit ≡ None) × (o.tries ≡ 1000000) × (o.steps ≡ None)
   pub among : o.mode ≢ Variants → o.among ≡ None
+  pub others : o.among ≡ None → o.others ≡ false
   pub untried : o.among ≢ None → (o.tries ≡ 1000000) × (o.steps ≡ None)
   pub file : o.mode ≢ Variants → o.mode ≢ Jump → o.mode ≢ CheckTable → (o.file ≡ []) × (o.notation ≡ Table)
   pub strings : o.mode ≡ CheckTable → o.strings ≡ []

@@ -21,10 +21,10 @@ use Rattle.idn2_options.specs.Settings.{Settings}
 use Rattle.idn2_options.specs.declared.command_line.form.Form.{Form}
 use Rattle.idn2_options.specs.declared.command_line.form.Form.TheVariants.{Plain, Json}
 use Rattle.idn2_options.specs.declared.command_line.mode.Mode.{Mode}
-use Rattle.idn2_options.specs.declared.command_line.mode.Mode.TheVariants.{Lookup, Register, Decode, Variants, Jump, CheckTable}
+use Rattle.idn2_options.specs.declared.command_line.mode.Mode.TheVariants.{Lookup, Register, Decode, DecodeOld, Variants, Jump, CheckTable}
 use Rattle.idn2_options.specs.declared.command_line.usage.Usage.{Usage}
 use Rattle.idn2_options.specs.declared.command_line.usage.Usage.TheVariants.{Bad, Show, Memory}
-use Rattle.idn2_options.specs.Names.{after_name, among_name, check_ruleset_name, check_table_name, decode_name, explain_name, json_name, jump_name, limit_name, lookup_name, register_name, ruleset_name, standard_name, std3_name, steps_name, strings_name, tries_name, variants_name}
+use Rattle.idn2_options.specs.Names.{after_name, among_name, check_ruleset_name, check_table_name, decode_name, explain_name, json_name, jump_name, limit_name, lookup_name, old_name, others_name, register_name, ruleset_name, standard_name, std3_name, steps_name, strings_name, tries_name, variants_name}
 
 -- ---- what `clap` found
 
@@ -130,6 +130,14 @@ listing_options_fit rows = (lists rows && not (has_flag jump_name rows)) || not 
 abbrev pub jumps_by_table : List Row → Bool
 jumps_by_table rows = lists rows || not (has_flag jump_name rows)
 
+-- `--old` comes with `--decode` alone
+abbrev pub decodes_old : List Row → Bool
+decodes_old rows = has_flag decode_name rows || not (has_flag old_name rows)
+
+-- `--others` comes with `--among` alone
+abbrev pub has_among : List Row → Bool
+has_among rows = has_value among_name rows || not (has_flag others_name rows)
+
 -- with `--among` nothing is tried, and no label is passed over, so `--tries` and `--steps` do not come with it; and its file is
 -- not that of the table
 abbrev pub suits_among : List Row → Bool
@@ -156,8 +164,8 @@ checks_alone rows = not (checks rows) || not (has_strings rows)
 -- all of these rules hold
 abbrev pub is_allowed : List Row → Bool
 is_allowed rows =
-    names_one_mode rows && listing_options_fit rows && jumps_by_table rows && suits_among rows && has_counts rows && has_short_start rows
-    && checks_alone rows
+    names_one_mode rows && listing_options_fit rows && jumps_by_table rows && decodes_old rows && has_among rows && suits_among rows
+    && has_counts rows && has_short_start rows && checks_alone rows
 
 -- ---- the options
 
@@ -165,7 +173,7 @@ is_allowed rows =
 abbrev pub mode_of : List Row → Mode
 mode_of rows =
     if has_flag register_name rows then Register
-    else (if has_flag decode_name rows then Decode
+    else (if has_flag decode_name rows then (if has_flag old_name rows then DecodeOld else Decode)
     else (if lists rows then (if has_flag jump_name rows then Jump else Variants)
     else (if checks rows then CheckTable
     else Lookup)))
@@ -194,6 +202,7 @@ settings_of rows = record {
   tries = unwrap_or (option_and_then count_of (value_of tries_name rows)) 1000000;
   steps = option_and_then steps_of (value_of steps_name rows);
   among = value_of among_name rows;
+  others = has_flag others_name rows;
   registered = None;
 }
 

@@ -6,9 +6,9 @@ ghost use Rattle.idn2_output.specs.Objects.{HasSpace, object_told};
 
 use answer_json::{
     Disposition, Input, ObjectRoom, PairFinding, RefusalMembers, Regards, write_checked,
-    write_collision, write_decoded, write_least, write_looked_up, write_no_least, write_pair,
-    write_refused, write_registered, write_registered_fault, write_table_fault, write_trailer,
-    write_variant,
+    write_collision, write_decoded, write_idle, write_least, write_looked_up, write_no_least,
+    write_old_label, write_pair, write_refused, write_registered, write_registered_fault,
+    write_table_fault, write_trailer, write_variant,
 };
 use idn_text::Refusal;
 
@@ -22,6 +22,8 @@ pub enum Object<'a> {
     Registered(u64, Input<'a>, &'a [u8], &'a [u8]),
     /// What a name is decoded to.
     Decoded(u64, Input<'a>, &'a [u8]),
+    /// The old label that a label of a zone stands for.
+    OldLabel(u64, Input<'a>, &'a [u8]),
     /// The least near label from a text on, and what each of it and the label asked about is to the other.
     Least(u64, Input<'a>, &'a [u8], Regards),
     /// There is no near label from a text on.
@@ -36,6 +38,8 @@ pub enum Object<'a> {
     Refused(u64, Input<'a>, Refusal, &'a RefusalMembers<'a>),
     /// What a check finds of two sequences of a table.
     Pair(PairFinding, &'a [u8], &'a [u8]),
+    /// The name of a type of a ruleset's own that no action names.
+    Idle(&'a [u8]),
     /// How many entries and how many gaps a table has.
     Checked(u64, u64),
     /// Why a line of a table is refused.
@@ -58,6 +62,7 @@ pub fn write_object<'a>(out: &'a mut ObjectRoom, object: &Object<'_>) -> &'a [u8
             write_registered(out, *line, input, u_label, a_label)
         }
         Object::Decoded(line, input, unicode) => write_decoded(out, *line, input, unicode),
+        Object::OldLabel(line, input, unicode) => write_old_label(out, *line, input, unicode),
         Object::Least(line, input, label, regards) => {
             write_least(out, *line, input, label, *regards)
         }
@@ -75,6 +80,7 @@ pub fn write_object<'a>(out: &'a mut ObjectRoom, object: &Object<'_>) -> &'a [u8
             write_refused(out, *line, input, *refusal, members)
         }
         Object::Pair(finding, source, other) => write_pair(out, *finding, source, other),
+        Object::Idle(name) => write_idle(out, name),
         Object::Checked(entries, gaps) => write_checked(out, *entries, *gaps),
         Object::TableFault(line, refusal, members) => {
             write_table_fault(out, *line, *refusal, members)

@@ -8,3 +8,5 @@ pub mod CauseLemmas
 mod WrongLineLemmas
 -- A refusal that is told, of a line or of a table.
 pub mod ToldRefusals
+-- Names that a table defines are short.
+mod TypeNames

@@ -15,7 +15,7 @@ use Rattle.ruleset_text.specs.declared.fault.FaultPlace.TheVariants as places
 use Rattle.answer_json.specs.Details.{Details, HasShortTexts, no_details}
 use Rattle.idn2_refusals.specs.RuleTexts.{RuleText, a_label_rule, appendix_rule, asked_text, barring_rule, bidi_rule, bidi_text, bidi_words, demand_text, named, punycode_rule, words_alone}
 use Rattle.idn2_refusals.specs.declared.cause.LineCause.{LineCause}
-use Rattle.idn2_refusals.specs.declared.cause.LineCause.TheVariants.{Byte, LongLine, OfLabel, OfALabel, OfName, OfQuery, Misplaced, NoEntry, Broken, Ends, OfTable, ByteOrderMark, ALabelOf, NoALabel}
+use Rattle.idn2_refusals.specs.declared.cause.LineCause.TheVariants.{Byte, LongLine, OfLabel, OfALabel, OfName, OfQuery, Misplaced, NoEntry, Broken, Unclear, ActionAsking, ActionOfType, Action, DefaultAction, Ends, OfTable, ByteOrderMark, ALabelOf, NoALabel}
 
 -- the members that an object has; and for a message what it has in place of a code point, and words round a rule
 pub record CauseParts : Type 0 where
@@ -103,6 +103,10 @@ length_parts (NameOctets octets) = led (codes "name of ") (record no_details { o
 
 -- ---- of a line
 
+-- an action of a ruleset
+abbrev pub by_action : ℕ → Details
+by_action number = record no_details { action = Some (number + 1) }
+
 -- a byte of a line, and a code point that begins there
 abbrev pub at_byte : ℕ → Details
 at_byte place = record no_details { byte = Some (place + 1) }
@@ -143,6 +147,14 @@ parts_of refusal (Misplaced place c kind rule) =
     ruled (named rule.items) (record (placed place c) { condition = Some (asked_text kind) })
 parts_of refusal (NoEntry place c) = noted (codes ": no entry") (plain (placed place c))
 parts_of refusal (Broken number kind) = plain (record no_details { demand = Some (number + 1); kind = Some (demand_text kind) })
+parts_of refusal Unclear = plain (record no_details { unclear = true })
+parts_of refusal (ActionAsking number kind rule) =
+    ruled (named rule.items) (record (by_action number) { condition = Some (asked_text kind) })
+parts_of refusal (ActionOfType number place c name) =
+    plain (record (placed place c) { action = Some (number + 1); type_name = Some name.items })
+parts_of refusal (Action number) = plain (by_action number)
+parts_of refusal (DefaultAction place c) =
+    plain (record (placed place c) { default_action = Some 1; type_name = Some (codes "invalid") })
 parts_of refusal (Ends place) = led (codes "ends") (record no_details { place = Some (place + 1) })
 parts_of refusal (OfTable place quoted) = fault_place_parts place quoted.items
 parts_of refusal ByteOrderMark = led (codes "a byte order mark") (point_at_byte 0 0xFEFF)

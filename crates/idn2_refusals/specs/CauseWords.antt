@@ -24,6 +24,17 @@ unfoldable pub label_words : Details → List ℕ
 label_words d =
     number_between (codes "label ") d.label (if d.decoded then codes ", " else codes ": ") ++ (if d.decoded then codes "decoded: " else [])
 
+-- what stands between the number of an action and a code point, if one is told
+abbrev pub before_point : Option ℕ → List ℕ
+before_point None = []
+before_point (Some c) = codes ": "
+
+-- the action of a ruleset, or the default action
+unfoldable pub action_words : Details → List ℕ
+action_words d =
+    number_between (codes "action ") d.action (before_point d.code_point)
+    ++ number_between (codes "default action ") d.default_action (before_point d.code_point)
+
 -- what stands at the place: the code point, if nothing is told in place of it
 abbrev pub subject_words : Option (List ℕ) → Option ℕ → List ℕ
 subject_words (Some lead) c = lead
@@ -38,24 +49,31 @@ unfoldable pub place_words : CauseParts → List ℕ
 place_words parts =
     number_between (before_place parts.lead) parts.details.place [] ++ number_between (codes " at byte ") parts.details.byte []
 
--- the Bidi_Class, and the rule that is broken
+-- the Bidi_Class or the type, and the rule that is broken
 unfoldable pub rule_words : CauseParts → List ℕ
 rule_words parts =
-    text_between (codes " is ") parts.details.bidi_class []
+    text_between (codes " is ") parts.details.bidi_class [] ++ (text_between (codes " is ") parts.details.type_name []
     ++ (parts.rule.before ++ (text_between [] parts.details.condition (codes " ")
-    ++ (parts.rule.rule ++ (parts.rule.after ++ point_after (codes ": NFC has ") parts.details.nfc))))
+    ++ (parts.rule.rule ++ (parts.rule.after ++ point_after (codes ": NFC has ") parts.details.nfc)))))
 
--- the demand, the lengths, the other A-label and the U-label
+-- the demand, or that a label is unclear
+unfoldable pub demand_words : Details → List ℕ
+demand_words d =
+    number_between (codes "demand ") d.demand [] ++ (text_between (codes ", ") d.kind []
+    ++ (if d.unclear then codes "unclear" else []))
+
+-- the lengths, the other A-label and the U-label
 unfoldable pub length_words : Details → List ℕ
 length_words d =
-    number_between (codes "demand ") d.demand [] ++ (text_between (codes ", ") d.kind []
-    ++ (number_between [] d.code_points (codes " code points") ++ (number_between [] d.octets (codes " octets")
-    ++ (text_between (codes "the A-label is ") d.alabel [] ++ text_between (codes ": an A-label of '") d.ulabel (codes "'")))))
+    number_between [] d.code_points (codes " code points") ++ (number_between [] d.octets (codes " octets")
+    ++ (text_between (codes "the A-label is ") d.alabel []
+    ++ text_between (codes ": an A-label of '") d.ulabel (codes "'")))
 
 unfoldable pub cause_words : CauseParts → List ℕ
 cause_words parts =
-    label_words parts.details
-    ++ (subject_words parts.lead parts.details.code_point ++ (place_words parts ++ (rule_words parts ++ length_words parts.details)))
+    label_words parts.details ++ (action_words parts.details
+    ++ (subject_words parts.lead parts.details.code_point ++ (place_words parts
+    ++ (rule_words parts ++ (demand_words parts.details ++ length_words parts.details)))))
 
 -- what a message goes on with: a colon, a blank and the cause, if there is one
 abbrev pub tail_text : Refusal → Option LineCause → List ℕ

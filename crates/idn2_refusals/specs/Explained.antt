@@ -14,15 +14,17 @@ use Rattle.idn_cause.specs.Causes.{IsFoundWithoutMemory, cause_of}
 use Rattle.idn_cause.specs.ALabelCauses.{a_label_cause}
 use Rattle.idn_cause.specs.CodedLabels.{coded_label}
 use Rattle.idn_cause.specs.NameCauses.{name_cause, query_cause}
-use Rattle.ruleset_text.specs.Definitions.{rule_name}
+use Rattle.ruleset_text.specs.Definitions.{rule_name, type_name}
 use Rattle.variant_table.specs.Entries.{TableValue}
 use Rattle.valid_labels.specs.declared.cause.ValidityCause.{ValidityCause}
 use Rattle.valid_labels.specs.declared.cause.ValidityCause.TheVariants as validity
+use Rattle.valid_labels.specs.declared.cause.ActionCause.{ActionCause}
+use Rattle.valid_labels.specs.declared.cause.ActionCause.TheVariants as triggered
 use Rattle.valid_labels.specs.Causes as validity_causes
 use Rattle.valid_labels.specs.Furthest.{furthest}
 use Rattle.idn2_refusals.specs.Requests.{requested_label}
 use Rattle.idn2_refusals.specs.declared.cause.LineCause.{LineCause}
-use Rattle.idn2_refusals.specs.declared.cause.LineCause.TheVariants.{Byte, LongLine, OfLabel, OfALabel, OfName, OfQuery, Misplaced, NoEntry, Broken, ALabelOf, NoALabel}
+use Rattle.idn2_refusals.specs.declared.cause.LineCause.TheVariants.{Byte, LongLine, OfLabel, OfALabel, OfName, OfQuery, Misplaced, NoEntry, Broken, Unclear, ActionAsking, ActionOfType, Action, DefaultAction, ALabelOf, NoALabel}
 
 -- of what the cause is told: of nothing, of a label, of a name that is decoded, of one that is looked up, of a label by the sources
 -- of a table, of the label of a request by them, or of a label that is tested as it stands
@@ -62,13 +64,25 @@ abbrev pub not_in_table_cause : TableValue → List ℕ → Option Cause
 not_in_table_cause table label =
     if nat_le (length label) 63 then Some (Point (furthest table label) (slice_index label (furthest table label))) else None
 
+-- an action by its number, with what is asked of its rule; or by the first source of a type that it names; or by its
+-- number alone
+abbrev pub action_cause : TableValue → List ℕ → ℕ → ActionCause → LineCause
+action_cause table label number (triggered.Rule condition) =
+    ActionAsking number condition.kind (record { items = rule_name table.definitions condition.rule })
+action_cause table label number (triggered.Source place type_number) =
+    ActionOfType number place (slice_index label place) (record { items = type_name table.definitions type_number })
+action_cause table label number triggered.Other = Action number
+
 -- why a label that is made of sources may not be asked about: what is asked of the rule of the longest source at the place where it
--- isn't eligible, or that no source is there; or a demand by its number
+-- isn't eligible, or that no source is there; a demand by its number; that it is unclear; or an action
 abbrev pub validity_cause : TableValue → List ℕ → ValidityCause → LineCause
 validity_cause table label (validity.NotEligible place None) = NoEntry place (slice_index label place)
 validity_cause table label (validity.NotEligible place (Some condition)) =
     Misplaced place (slice_index label place) condition.kind (record { items = rule_name table.definitions condition.rule })
 validity_cause table label (validity.Broken number kind) = Broken number kind
+validity_cause table label validity.Unclear = Unclear
+validity_cause table label (validity.Action number cause) = action_cause table label number cause
+validity_cause table label (validity.DefaultAction place) = DefaultAction place (slice_index label place)
 
 -- why a label that is short enough to be registered, and made of sources, may not be asked about (RFC 7940, sections
 -- 7 and 8.1)

@@ -1,20 +1,25 @@
 -- The cause that is told of a wrong line of the registered labels, where causes are wanted. Places are counted from 0.
-use Rattle.std.specs.Prelude.{◌≢◌, ℕ, ◌-◌, Bool, List, [], chars, Option, Some, None, slice_get, if◌then◌else◌}
+use Rattle.std.specs.Prelude.{◌≢◌, ℕ, ◌-◌, Bool, List, [], chars, Option, Some, None, option_map, slice_get, if◌then◌else◌}
 use Rattle.std.specs.Str.{is_utf8}
 use Rattle.idn_class.specs.declared.properties.Properties.{Properties}
 use Rattle.idn_text.specs.Lines.{raw_lines, body_of}
 use Rattle.idn_text.specs.declared.refusal.Refusal.{Refusal}
 use Rattle.idn_text.specs.declared.refusal.Refusal.TheVariants.{OutOfOrder, FileTooLong}
+use Rattle.idn_label.specs.OldNames.{before_mark, has_mark}
 use Rattle.idn_cause.specs.Causes.{shared}
 use Rattle.idn_cause.specs.declared.cause.Cause.TheVariants.{Point}
 use Rattle.idn2_refusals.specs.Explained.{ByRegisteredLine, body_cause}
 use Rattle.idn2_refusals.specs.declared.cause.LineCause.{LineCause}
 use Rattle.idn2_refusals.specs.declared.cause.LineCause.TheVariants.{OfLabel, Ends}
 
--- the body of a line, if there is one
+-- what is tested of the body of a line: what stands before the mark of an old label, if the body ends in it
+abbrev pub without_mark : List ℕ → List ℕ
+without_mark body = if has_mark body then before_mark body else body
+
+-- that of a line, if there is one
 abbrev pub body_if_any : Option (List ℕ) → Option (List ℕ)
 body_if_any None = None
-body_if_any (Some line) = body_of line
+body_if_any (Some line) = option_map without_mark (body_of line)
 
 -- that of the line of this number of a text, from 1
 abbrev pub body_at : List ℕ → ℕ → Option (List ℕ)

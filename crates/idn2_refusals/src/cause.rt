@@ -4,7 +4,7 @@ ghost use Rattle.std.specs.Prelude.{◌≡◌, ◌≢◌, ◌≤◌, false, ℕ,
 ghost use Rattle.std.specs.Option.{option_copied};
 ghost use Rattle.std.specs.Result.{IsOk};
 ghost use Rattle.idn_text.specs.Points.{AreScalarValues, IsUtf8Of, utf8_of};
-ghost use Rattle.ruleset_text.specs.Definitions.{rule_name};
+ghost use Rattle.ruleset_text.specs.Definitions.{rule_name, type_name};
 ghost use Rattle.answer_json.specs.Details.{given_len};
 ghost use Rattle.idn_cause.specs.NameCauses.{name_cause, query_cause};
 ghost use Rattle.idna.specs.Validity.{has_ace_prefix};
@@ -13,7 +13,8 @@ ghost use Rattle.idn2_refusals.specs.Explained.{BodyCauseNeedsNone, PointsCauseN
 ghost use Rattle.idn2_refusals.specs.Explained.{TextCauseNeedsNone, bad_byte, body_cause, coded_cause, if_wanted};
 ghost use Rattle.idn2_refusals.specs.Explained.{not_in_table_cause, points_cause, registration_cause, table_cause};
 ghost use Rattle.idn2_refusals.specs.Explained.{text_cause, u_label_cause, unless_unexplained};
-ghost use Rattle.idn2_refusals.specs.Explained.{invalid_cause as invalid_cause_of, validity_cause as validity_cause_of};
+ghost use Rattle.idn2_refusals.specs.Explained.{action_cause as action_cause_of, invalid_cause as invalid_cause_of};
+ghost use Rattle.idn2_refusals.specs.Explained.{validity_cause as validity_cause_of};
 ghost use Rattle.idn2_refusals.specs.Explaining.{explained_by};
 
 use crate::request::label_of_request;
@@ -30,7 +31,7 @@ use label_patterns::ConditionKind;
 use ruleset_text::{DemandKind, FaultPlace};
 use std::alloc::{AllocError, Global};
 use std::str;
-use valid_labels::{ValidityCause, furthest, invalid_cause};
+use valid_labels::{ActionCause, ValidityCause, furthest, invalid_cause};
 use variant_table::Table;
 
 /// How a mode explains what it refuses, and by whose properties.
@@ -55,10 +56,10 @@ pub enum Explaining<'t> {
 /// A lexeme that is quoted, for whose bytes there is space; nothing where none is.
 pub(crate) type Quoted = ArrayVec<u8, 32>;
 
-/// The name of a rule.
-pub(crate) type RuleName = ArrayVec<u8, 32>;
+/// The name of a rule or of a type of a ruleset.
+pub(crate) type DefinedName = ArrayVec<u8, 32>;
 
-/// Why a line is refused. Places, labels and demands are counted from 0.
+/// Why a line is refused. Places, labels, demands and actions are counted from 0.
 #[derive(Drop)]
 pub enum LineCause {
     /// The place of the first byte that no UTF-8 goes on with, and the byte.
@@ -75,11 +76,22 @@ pub enum LineCause {
     OfQuery(LengthCause),
     /// A source stands at this place of a label, with this code point, where its condition fails: so it is asked of the
     /// rule of this name.
-    Misplaced(usize, u32, ConditionKind, RuleName),
+    Misplaced(usize, u32, ConditionKind, DefinedName),
     /// No source of a ruleset is at this place of a label, with this code point, by which the label may be cut.
     NoEntry(usize, u32),
     /// A label breaks the demand of this number and kind.
     Broken(usize, DemandKind),
+    /// The readings of a label have different kinds.
+    Unclear,
+    /// A label triggers the action of this number, by what is asked of the rule of this name.
+    ActionAsking(usize, ConditionKind, DefinedName),
+    /// A label triggers the action of this number, by the type of this name: that of the source at this place, with this
+    /// code point.
+    ActionOfType(usize, usize, u32, DefinedName),
+    /// A label triggers the action of this number.
+    Action(usize),
+    /// A label triggers the first default action, by the source at this place, with this code point.
+    DefaultAction(usize, u32),
     /// Where a label ends before it differs from the one before it.
     Ends(usize),
     /// Where a line of a table has its fault, and the lexeme there, if it is quoted.
@@ -347,7 +359,8 @@ fn cause_by_ruleset(
     }
 }
 
-/// Where the label isn't eligible, with the condition that fails there by the name of its rule; or the demand.
+/// Where the label isn't eligible, with the condition that fails there by the name of its rule; or the demand or the
+/// action; or that it is unclear.
 fn validity_cause(label: &[u32], table: &Table, cause: ValidityCause) -> LineCause
     ensures { result ≡ validity_cause_of table.now label.now cause }
 {
@@ -362,14 +375,47 @@ fn validity_cause(label: &[u32], table: &Table, cause: ValidityCause) -> LineCau
             LineCause::NoEntry(place, code_point_at(label, place))
         }
         ValidityCause::Broken(number, kind) => LineCause::Broken(number, kind),
+        ValidityCause::Unclear => LineCause::Unclear,
+        ValidityCause::Action(number, cause) => action_cause(label, table, number, cause),
+        ValidityCause::DefaultAction(place) => {
+            LineCause::DefaultAction(place, code_point_at(label, place))
+        }
+    }
+}
+
+/// The action of this number that the label triggers, by what triggers it.
+fn action_cause(label: &[u32], table: &Table, number: usize, cause: ActionCause) -> LineCause
+    ensures { result ≡ action_cause_of table.now label.now number cause }
+{
+    match cause {
+        ActionCause::Rule(condition) => {
+            LineCause::ActionAsking(number, condition.kind, name_of_rule(table, condition.rule))
+        }
+        ActionCause::Source(place, type_number) => {
+            let point = code_point_at(label, place);
+            LineCause::ActionOfType(number, place, point, name_of_type(table, type_number))
+        }
+        ActionCause::Other => LineCause::Action(number),
     }
 }
 
 /// The name of the rule of this number.
-fn name_of_rule(table: &Table, rule: u8) -> RuleName
+fn name_of_rule(table: &Table, rule: u8) -> DefinedName
     ensures { result.items ≡ rule_name table.now.definitions rule }
 {
-    let mut name = RuleName::new();
+    let mut name = DefinedName::new();
     append(&mut name, table.definitions().rule_name(rule));
+    name
+}
+
+/// The name of the type of this number.
+fn name_of_type(table: &Table, number: u8) -> DefinedName
+    ensures { result.items ≡ type_name table.now.definitions number }
+{
+    let mut name = DefinedName::new();
+    let definitions = table.definitions();
+    // Only for the proof: its contract says that each name is short.
+    let _names = definitions.set_names();
+    append(&mut name, definitions.type_name(number as usize));
     name
 }

@@ -1,16 +1,17 @@
 //! The cause of a wrong line of the registered labels. It is looked for only once the line is found, and only if causes
 //! are wanted.
-ghost use Rattle.std.specs.Prelude.{◌≡◌, ◌≤◌, ◌-◌, IfOk, OnErr, false, slice_get};
+ghost use Rattle.std.specs.Prelude.{◌≡◌, ◌≤◌, ◌-◌, IfOk, OnErr, false, length, slice_get};
 ghost use Rattle.std.specs.Result.{IsOk};
 ghost use Rattle.std.specs.Option.{option_copied};
 ghost use Rattle.answer_json.specs.Details.{given_len};
 ghost use Rattle.idn2_refusals.specs.WrongLines.{MayTakeMemory, body_at, order_cause, points_at, told_of_wrong_line};
-ghost use Rattle.idn2_refusals.specs.WrongLines.{wrong_line_cause};
+ghost use Rattle.idn2_refusals.specs.WrongLines.{without_mark, wrong_line_cause};
 
 use crate::cause::{Explaining, LineCause, cause_of_body};
 use arrayvec::ArrayVec;
 use idn_cause::Cause;
 use idn_class::{Properties, shared_len};
+use idn_label::before_mark;
 use idn_text::{MAX_LINE_LEN, Refusal, TextLines, decode_points, without_carriage_return};
 use std::alloc::{AllocError, Global};
 
@@ -95,7 +96,8 @@ fn read_label(text: &[u8], number: u64, points: &mut ArrayVec<u32, MAX_LINE_LEN>
     }
 }
 
-/// The line of this number, without its end. There is none past the last, and of one that is too long.
+/// What is tested of the line of this number: neither its end, nor the mark of an old label. There is none past the last
+/// line, and of one that is too long.
 fn body_at(text: &[u8], number: u64) -> Option<&[u8]>
     ensures body { option_copied result ≡ body_at text.now number }
     ensures short { given_len (option_copied result) ≤ MAX_LINE_LEN }
@@ -104,6 +106,17 @@ fn body_at(text: &[u8], number: u64) -> Option<&[u8]>
     if line.len() > MAX_LINE_LEN {
         None
     } else {
-        Some(without_carriage_return(line))
+        Some(without_mark(without_carriage_return(line)))
+    }
+}
+
+/// What is tested of the body of a line.
+fn without_mark(body: &[u8]) -> &[u8]
+    ensures label { result.now ≡ without_mark body.now }
+    ensures shorter { length result.now ≤ length body.now }
+{
+    match before_mark(body) {
+        Some(label) => label,
+        None => body,
     }
 }

@@ -2,7 +2,8 @@
 ghost use Rattle.std.specs.Prelude.{◌≡◌, ◌≤◌, ◌+◌, ◌++◌, Some, codes, length};
 ghost use Rattle.std.specs.Option.{option_copied};
 ghost use Rattle.answer_json.specs.Details.{HasShortTexts, details_of, no_details};
-ghost use Rattle.idn2_refusals.specs.CauseParts.{IsShort, a_label_parts, at_byte as at_byte_of, byte_text};
+ghost use Rattle.idn2_refusals.specs.CauseParts.{IsShort, a_label_parts, at_byte as at_byte_of};
+ghost use Rattle.idn2_refusals.specs.CauseParts.{by_action as by_action_of, byte_text};
 ghost use Rattle.idn2_refusals.specs.CauseParts.{changed_parts, code_point_text, decoded_parts, fault_place_parts};
 ghost use Rattle.idn2_refusals.specs.CauseParts.{hyphen_text, label_parts, labelled, led, length_parts, lexeme_text};
 ghost use Rattle.idn2_refusals.specs.CauseParts.{noted, parts_of, placed as placed_of, plain};
@@ -10,7 +11,7 @@ ghost use Rattle.idn2_refusals.specs.CauseParts.{point_at_byte as point_at_byte_
 ghost use Rattle.idn2_refusals.specs.RuleTexts.{asked_text, named};
 ghost use Rattle.idn2_refusals.specs.ToldCauses.{rule_of, told_parts};
 
-use crate::cause::{LineCause, Quoted, RuleName};
+use crate::cause::{DefinedName, LineCause, Quoted};
 use crate::digits::{push_code_point, push_digit};
 use crate::rules::{
     Rule, name_of_class, rule_of_a_label, rule_of_appendix, rule_of_condition, rule_of_line,
@@ -153,6 +154,22 @@ pub(crate) fn told_cause<'a>(refusal: &Refusal, cause: &'a LineCause) -> ToldCau
             kind: Some(word_of_demand(*kind)),
             ..RefusalMembers::NONE
         }),
+        LineCause::Unclear => ToldCause::plain(RefusalMembers {
+            unclear: true,
+            ..RefusalMembers::NONE
+        }),
+        LineCause::ActionAsking(number, kind, rule) => of_asking_action(*number, *kind, rule),
+        LineCause::ActionOfType(number, place, point, name) => ToldCause::plain(RefusalMembers {
+            action: Some(counted(*number)),
+            type_name: Some(name.as_slice()),
+            ..placed(*place, *point)
+        }),
+        LineCause::Action(number) => ToldCause::plain(by_action(*number)),
+        LineCause::DefaultAction(place, point) => ToldCause::plain(RefusalMembers {
+            default_action: Some(1),
+            type_name: Some(b"invalid"),
+            ..placed(*place, *point)
+        }),
         LineCause::Ends(place) => of_end(*place),
         LineCause::OfTable(place, quoted) => of_fault_place(place, quoted),
         LineCause::ByteOrderMark => {
@@ -177,7 +194,7 @@ fn of_misplaced<'a>(
     place: usize,
     point: u32,
     kind: ConditionKind,
-    rule: &'a RuleName,
+    rule: &'a DefinedName,
 ) -> ToldCause<'a>
     ensures parts { told_parts result ≡ ruled (named rule.now.items)
         (record (placed_of place point) { condition = Some (asked_text kind) }) }
@@ -186,6 +203,19 @@ fn of_misplaced<'a>(
     let members = RefusalMembers {
         condition: Some(word_of_condition(kind)),
         ..placed(place, point)
+    };
+    ToldCause::ruled(Rule::named(rule.as_slice()), members)
+}
+
+/// An action that is triggered by what is asked of a rule.
+fn of_asking_action<'a>(number: usize, kind: ConditionKind, rule: &'a DefinedName) -> ToldCause<'a>
+    ensures parts { told_parts result ≡ ruled (named rule.now.items)
+        (record (by_action_of number) { condition = Some (asked_text kind) }) }
+    ensures short { IsShort (told_parts result) }
+{
+    let members = RefusalMembers {
+        condition: Some(word_of_condition(kind)),
+        ..by_action(number)
     };
     ToldCause::ruled(Rule::named(rule.as_slice()), members)
 }
@@ -378,6 +408,16 @@ fn placed<'a>(place: usize, point: u32) -> RefusalMembers<'a>
     RefusalMembers {
         code_point: Some(point),
         place: Some(counted(place)),
+        ..RefusalMembers::NONE
+    }
+}
+
+/// An action of a ruleset.
+fn by_action<'a>(number: usize) -> RefusalMembers<'a>
+    ensures { details_of result ≡ by_action_of number }
+{
+    RefusalMembers {
+        action: Some(counted(number)),
         ..RefusalMembers::NONE
     }
 }

@@ -22,7 +22,11 @@ pub(crate) const CHECK_RULESET: &str = "check-ruleset";
 
 pub(crate) const AMONG: &str = "among";
 
+pub(crate) const OTHERS: &str = "others";
+
 pub(crate) const JUMP: &str = "jump";
+
+pub(crate) const OLD: &str = "old";
 
 pub(crate) const TR46NT: &str = "tr46nt";
 

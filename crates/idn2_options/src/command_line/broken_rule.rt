@@ -21,6 +21,10 @@ pub enum BrokenRule {
     NotWithJump(ListingOption),
     /// `--jump` stands without a table or ruleset.
     JumpWithoutTable,
+    /// `--old` stands without `--decode`.
+    OldWithoutDecode,
+    /// `--others` stands without `--among`.
+    OthersWithoutAmong,
     /// The option stands with `--among`.
     NotWithAmong(ListingOption),
     /// The file of registered labels is that of the table.
@@ -54,6 +58,8 @@ impl BrokenRule {
             BrokenRule::GoesWithVariants(option) => (option.as_str(), " goes with --variants"),
             BrokenRule::NotWithJump(option) => (option.as_str(), " doesn't go with --jump"),
             BrokenRule::JumpWithoutTable => ("--jump", " goes with --variants"),
+            BrokenRule::OldWithoutDecode => ("--old", " goes with --decode"),
+            BrokenRule::OthersWithoutAmong => ("--others", " goes with --among"),
             BrokenRule::NotWithAmong(option) => (option.as_str(), " doesn't go with --among"),
             BrokenRule::SameFile => ("--among", " takes another file than the table"),
             BrokenRule::OutOfRange(ListingOption::Steps) => {

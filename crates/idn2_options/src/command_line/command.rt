@@ -6,8 +6,8 @@ ghost use Rattle.idn2_options.specs.CommandLine.{app, flag_rule, short_flag_rule
 ghost use Rattle.idn2_options.specs.CommandLine.{with_tables, with_collisions, with_switches, with_bounds};
 
 use crate::command_line::arguments::{
-    AFTER, AMONG, CHECK_RULESET, CHECK_TABLE, DECODE, EXPLAIN, JSON, JUMP, LIMIT, LOOKUP, QUIET,
-    REGISTER, RULESET, STANDARD, STD3, STEPS, STRINGS, TR46NT, TRIES, VARIANTS,
+    AFTER, AMONG, CHECK_RULESET, CHECK_TABLE, DECODE, EXPLAIN, JSON, JUMP, LIMIT, LOOKUP, OLD,
+    OTHERS, QUIET, REGISTER, RULESET, STANDARD, STD3, STEPS, STRINGS, TR46NT, TRIES, VARIANTS,
 };
 use clap::{Arg, ArgAction, ArgMatches, Command, Error};
 use std::alloc::{AllocError, Global};
@@ -137,11 +137,23 @@ fn with_collisions<'a>(command: Command<'a>, alloc: Global) -> Result<Command<'a
         "FILE",
         "With --variants: list labels in FILE that collide",
     )?;
-    with_flag(
+    let command = with_flag(
+        command,
+        alloc,
+        OTHERS,
+        "With --among: leave out the label itself",
+    )?;
+    let command = with_flag(
         command,
         alloc,
         JUMP,
         "With --variants: answer LABEL TAB TEXT by a label",
+    )?;
+    with_flag(
+        command,
+        alloc,
+        OLD,
+        "With --decode: print lines of registered labels",
     )
 }
 

@@ -5,8 +5,8 @@ ghost use Rattle.idn2_options.specs.Uses.{known_rules};
 ghost use Rattle.idn2_options.specs.inner.Known.{has_letter, name_of, shown_by, shown_of, takes_value};
 
 use crate::command_line::arguments::{
-    AFTER, AMONG, CHECK_RULESET, CHECK_TABLE, DECODE, EXPLAIN, JSON, JUMP, LIMIT, LOOKUP, QUIET,
-    REGISTER, RULESET, STANDARD, STD3, STEPS, TR46NT, TRIES, VARIANTS,
+    AFTER, AMONG, CHECK_RULESET, CHECK_TABLE, DECODE, EXPLAIN, JSON, JUMP, LIMIT, LOOKUP, OLD,
+    OTHERS, QUIET, REGISTER, RULESET, STANDARD, STD3, STEPS, TR46NT, TRIES, VARIANTS,
 };
 
 /// An option of the command line, by its name.
@@ -19,7 +19,7 @@ pub(crate) enum Known {
 }
 
 /// The options, and the two that `clap` adds.
-const OPTIONS: [Known; 21] = [
+const OPTIONS: [Known; 23] = [
     Known::Flag(LOOKUP, Some('l')),
     Known::Flag(REGISTER, Some('r')),
     Known::Flag(DECODE, Some('d')),
@@ -28,7 +28,9 @@ const OPTIONS: [Known; 21] = [
     Known::Valued(RULESET),
     Known::Valued(CHECK_RULESET),
     Known::Valued(AMONG),
+    Known::Flag(OTHERS, None),
     Known::Flag(JUMP, None),
+    Known::Flag(OLD, None),
     Known::Flag(TR46NT, Some('N')),
     Known::Flag(STD3, None),
     Known::Flag(STANDARD, None),

@@ -9,6 +9,8 @@ pub enum Mode {
     Register,
     /// Each line is a name, its A-labels answered as U-labels.
     Decode,
+    /// Each line is a label of a zone, answered by its line in a file of registered labels.
+    DecodeOld,
     /// Each line is a label, answered by its variants under a table.
     Variants,
     /// Each line is a label and a text, answered by the least label, no less than the text, that is near the label

@@ -38,6 +38,8 @@ pub struct Options {
     pub steps: Option<u64>,
     /// The name of the file of registered labels among which labels are asked, if there is one.
     pub among: Option<String>,
+    /// The label itself is left out of what is found among registered labels, and the end of a block names it.
+    pub others: bool,
 }
 
 /// Contracts see the bytes of each `String`, and a list for each `Vec`. Of the registered labels only the name of their
@@ -62,6 +64,7 @@ impl Model for Options {
       tries = o.tries;
       steps = o.steps;
       among = option_map string_bytes o.among;
+      others = o.others;
       registered = None;
     } };
 }

@@ -3,13 +3,13 @@ ghost use Rattle.std.specs.Prelude.{◌≡◌, count_by, option_map};
 ghost use Rattle.clap.specs.Words.{found_of, rows_of};
 ghost use Rattle.idn2_options.specs.Causes.{broken_rule, listing_option, misfit_of, misfit_of_among, wrong_number};
 ghost use Rattle.idn2_options.specs.Words.{among_of, has_listing_option, listing_options_fit, checked_file, checks};
-ghost use Rattle.idn2_options.specs.Words.{checks_alone, file_of, has_counts, has_short_start, is_allowed};
+ghost use Rattle.idn2_options.specs.Words.{checks_alone, decodes_old, file_of, has_among, has_counts, has_short_start, is_allowed};
 ghost use Rattle.idn2_options.specs.Words.{is_bound_if_given, is_count_if_given, jumps_by_table, listing_file, lists};
 ghost use Rattle.idn2_options.specs.Words.{names_one_mode, notation_of, start_of, suits_among};
 
 use crate::command_line::arguments::{
-    AFTER, AMONG, CHECK_RULESET, CHECK_TABLE, DECODE, JUMP, LIMIT, LOOKUP, REGISTER, RULESET,
-    STEPS, TRIES, VARIANTS, has_flag, has_strings, has_value, value_of,
+    AFTER, AMONG, CHECK_RULESET, CHECK_TABLE, DECODE, JUMP, LIMIT, LOOKUP, OLD, OTHERS, REGISTER,
+    RULESET, STEPS, TRIES, VARIANTS, has_flag, has_strings, has_value, value_of,
 };
 use crate::command_line::broken_rule::{BrokenRule, ListingOption};
 use crate::command_line::counts::{count_of, steps_of};
@@ -24,6 +24,8 @@ pub(crate) fn is_allowed(matches: &ArgMatches<'_>) -> bool
     names_one_mode(matches)
         && listing_options_fit(matches)
         && jumps_by_table(matches)
+        && decodes_old(matches)
+        && has_among(matches)
         && suits_among(matches)
         && has_counts(matches)
         && has_short_start(matches)
@@ -42,6 +44,12 @@ pub(crate) fn broken_rule(matches: &ArgMatches<'_>) -> Option<BrokenRule>
     }
     if !jumps_by_table(matches) {
         return Some(BrokenRule::JumpWithoutTable);
+    }
+    if !decodes_old(matches) {
+        return Some(BrokenRule::OldWithoutDecode);
+    }
+    if !has_among(matches) {
+        return Some(BrokenRule::OthersWithoutAmong);
     }
     if !suits_among(matches) {
         return Some(misfit_of_among(matches));
@@ -169,6 +177,20 @@ fn jumps_by_table(matches: &ArgMatches<'_>) -> bool
     ensures { result ≡ jumps_by_table (rows_of (found_of matches.now)) }
 {
     lists(matches) || !has_flag(matches, JUMP)
+}
+
+/// Whether `--old` is given only with `--decode`.
+fn decodes_old(matches: &ArgMatches<'_>) -> bool
+    ensures { result ≡ decodes_old (rows_of (found_of matches.now)) }
+{
+    has_flag(matches, DECODE) || !has_flag(matches, OLD)
+}
+
+/// Whether `--others` is given only with `--among`.
+fn has_among(matches: &ArgMatches<'_>) -> bool
+    ensures { result ≡ has_among (rows_of (found_of matches.now)) }
+{
+    has_value(matches, AMONG) || !has_flag(matches, OTHERS)
 }
 
 /// Whether what stands with `--among` suits it: neither `--tries` nor `--steps`, and not the same file twice.

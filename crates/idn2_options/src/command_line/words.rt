@@ -8,8 +8,8 @@ ghost use Rattle.idn2_options.specs.Words.{IsAnswer, IsUsage, count_of, form_of,
 ghost use Rattle.idn2_options.specs.Words.{properties_of, settings_of, start_of, steps_of, strings_of, value_of};
 
 use crate::command_line::arguments::{
-    AMONG, DECODE, EXPLAIN, JSON, JUMP, LIMIT, REGISTER, STANDARD, STD3, STEPS, STRINGS, TRIES,
-    has_flag, value_of,
+    AMONG, DECODE, EXPLAIN, JSON, JUMP, LIMIT, OLD, OTHERS, REGISTER, STANDARD, STD3, STEPS,
+    STRINGS, TRIES, has_flag, value_of,
 };
 use crate::command_line::command;
 use crate::command_line::counts::{count_of, steps_of};
@@ -99,6 +99,7 @@ fn settings_of(alloc: Global, matches: &ArgMatches<'_>) -> Result<Options, Alloc
         tries: count_at(matches, TRIES).unwrap_or(DEFAULT_TRIES),
         steps: steps_at(matches),
         among: among_at(alloc, matches)?,
+        others: has_flag(matches, OTHERS),
     })
 }
 
@@ -108,7 +109,11 @@ fn mode_of(matches: &ArgMatches<'_>) -> Mode
     if has_flag(matches, REGISTER) {
         Mode::Register
     } else if has_flag(matches, DECODE) {
-        Mode::Decode
+        if has_flag(matches, OLD) {
+            Mode::DecodeOld
+        } else {
+            Mode::Decode
+        }
     } else if lists(matches) {
         if has_flag(matches, JUMP) {
             Mode::Jump

@@ -2,7 +2,7 @@ use Rattle.std.proofs.Common.{◌≡◌, [], ◌∷◌, ◌++◌, codes, take, a
 use Rattle.json.specs.Print.{quoted}
 use Rattle.idn_text.specs.Refusals.{refusal_number, refusal_text as text_of_refusal}
 use Rattle.answer_json.specs.Answers.{Field, count, text}
-use Rattle.answer_json.specs.Details.{demand_fields, details_of, length_fields, refusal_fields, rule_fields, where_fields}
+use Rattle.answer_json.specs.Details.{action_fields, demand_fields, details_of, length_fields, refusal_fields, rule_fields, where_fields}
 use Rattle.answer_json.specs.inner.Texts.{field_text, object_text}
 use Rattle.answer_json.proofs.Members.{closed, first, with_all, with_one}
 use Rattle.answer_json.proofs.refused.put_refusal.Goals as goal
@@ -20,9 +20,11 @@ returns-clause-object c =
     let begun = with_one told (first opened number _ e) f in
     let all =
     with_all (length_fields details)
+    (with_all (action_fields details)
     (with_all (demand_fields details)
     (with_all (rule_fields details) (with_all (where_fields details) begun c.put_where-rule.ensures.fields) c.put_rule-demand.ensures.fields)
-    c.put_demand-lengths.ensures.fields)
+    c.put_demand-action.ensures.fields)
+    c.put_action-lengths.ensures.fields)
     c.put_lengths-end.ensures.fields in
     let object = object_text (refusal_fields c.args.refusal details) [] in
     c.put_byte.ensures.written ∙ closed all ∙ ap (λ l. l ++ object) c.put_opening-object.ensures.name

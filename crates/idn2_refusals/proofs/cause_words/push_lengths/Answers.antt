@@ -6,11 +6,9 @@ pub returns-clause-items : goal.returns-clause-items
 unfolding length_words
 returns-clause-items c =
     rw (
-      c.push_text-3.ensures.items,
       c.push_text-2.ensures.items,
-      c.push_number-3.ensures.items,
-      c.push_number-2.ensures.items,
       c.push_text.ensures.items,
+      c.push_number-2.ensures.items,
       c.push_number.ensures.items,
     )
     (simp append_assoc)
