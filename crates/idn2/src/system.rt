@@ -21,7 +21,7 @@ const OUTPUT_BUFFER_LEN: usize = 65_536;
 /// The bytes of the file of the table or ruleset, as many as can matter; none in a mode without one.
 pub fn read_table(rt: &HostRuntime, options: &Options) -> Result<Vec<u8>, Fault> {
     match options.mode {
-        Mode::Lookup | Mode::Register | Mode::Decode => Ok(Vec::new(rt.alloc())),
+        Mode::Lookup | Mode::Register | Mode::Decode | Mode::DecodeOld => Ok(Vec::new(rt.alloc())),
         Mode::Variants | Mode::Jump | Mode::CheckTable => {
             let most = match options.notation {
                 Notation::Table => TABLE_BYTES,

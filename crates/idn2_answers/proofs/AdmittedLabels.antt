@@ -27,7 +27,7 @@ answer_by admitted made said = if admitted then Ok said else (if made then Err N
 
 -- a table that was read has well-formed entries and definitions
 pub sound_table : (table : TableValue) → IsTable table → IsSound table
-sound_table table is = record { entries = is.well_formed; definitions = is.without_fault }
+sound_table table is = record { entries = is.well_formed; named = is.named; definitions = is.without_fault }
 
 -- a label that is admitted is answered by this
 pub admitted_answer : (table : TableValue) (label : List ℕ) (said : List Said) → IsSound table → IsAdmitted table label → if_admitted table label said ≡ Ok said
@@ -54,7 +54,7 @@ refused_answer table label refusal said sound is made = by_cases is
 
 -- what is admitted is made of sources
 pub admitted-made : (table : TableValue) (label : List ℕ) → IsAdmitted table label → IsMadeOfSources table label
-admitted-made table label is = made-from_segmentation table label (admitted-valid table label is).1
+admitted-made table label is = made-from_segmentation table label (admitted-valid.segmented table label is)
 
 -- a label is admitted, or refused as this
 pub admitted_or_refused : (table : TableValue) (label : List ℕ) → IsSound table → IsAdmitted table label ⊎ ((refusal : Refusal) × IsRefusedAs table label refusal)

@@ -15,6 +15,7 @@ use Rattle.variant_list.specs.Arising.{Arises, unasked}
 use Rattle.variant_list.specs.Closure.{AreNear}
 use Rattle.variant_list.specs.Labels.{IsBelow}
 use Rattle.variant_list.specs.Spelled.{spelled}
+use Rattle.variant_list.specs.Spelling.{Spells}
 use Rattle.variant_list.proofs.ArisingLemmas.{Arises-spelled, unasked-Arises}
 use Rattle.variant_list.proofs.NearLaws.{AreNear-arising, AreNear-turned}
 use Rattle.variant_list.proofs.SpelledByLemmas.{spelled-Spells}
@@ -23,11 +24,12 @@ use Rattle.answer_json.specs.declared.block.Disposition.TheVariants as dispositi
 use Rattle.answer_json.specs.declared.collision.Regard.{Regard}
 use Rattle.answer_json.specs.declared.collision.Regard.TheVariants.{NoVariant, Variant, Blocked, Allocatable}
 use Rattle.idn2_options.specs.Settings.{Settings}
-use Rattle.idn2_answers.specs.Listings.{IsAllocation, IsDisposition, IsFieldOf, disposition as disposition_of, is_among, is_registrable}
+use Rattle.idn2_answers.specs.Dispositions.{IsAllocatable, IsClear, IsDisposition, IsLeftOut, disposition as disposition_of, is_left_out}
+use Rattle.idn2_answers.specs.Listings.{is_among, is_registrable}
 use Rattle.idn2_answers.specs.Collisions.{IsGood, IsVariantOf, IsBarred, IsSomething, IsRegard, Collides, barred_in, collide, is_barred, is_good, is_something, is_variant_of, regard_by, regard_of}
-use Rattle.idn2_answers.proofs.AllocatableLabels.{among-found}
-use Rattle.idn2_answers.proofs.DisposedLabels.{disposition-IsDisposition}
-use Rattle.idn2_answers.proofs.FilterLemmas.{is_registrable-from}
+use Rattle.idn2_answers.proofs.DispositionTests.{disposition-IsDisposition, left_out-told, one-field}
+use Rattle.idn2_answers.proofs.FilterLemmas.{is_registrable-from, registrable-some}
+use Rattle.idn2_answers.proofs.MemberTests.{among-found}
 
 -- ---- tests of facts
 
@@ -47,18 +49,6 @@ one-told a b P Q p q =
       λ h. either.1 (elim h [ inl l ↦ inl (p.1 l) | inr r ↦ inr (q.1 r) ]),
     )
 
-one-allocation : (P : Type 0) (f g : Option Disposition) → IsAllocation P f → IsAllocation P g → f ≡ g
-one-allocation P f g (inl h) (inl k) = h.1 ∙ sym k.1
-one-allocation P f g (inl h) (inr k) = absurd (k.0 h.0)
-one-allocation P f g (inr h) (inl k) = absurd (h.0 k.0)
-one-allocation P f g (inr h) (inr k) = h.1 ∙ sym k.1
-
--- a variant has one disposition
-one-field : (n : Version) (P : Type 0) (f g : Option Disposition) → IsFieldOf n P f → IsFieldOf n P g → f ≡ g
-one-field One P f g is other = is ∙ sym other
-one-field Two P f g is other = one-allocation P f g is other
-one-field Three P f g is other = one-allocation P f g is other
-
 -- ---- of a table
 
 module _ (o : Settings) (table : TableValue) (sound : IsSound table) where
@@ -77,18 +67,37 @@ module _ (o : Settings) (table : TableValue) (sound : IsSound table) where
   above-empty [] is = absurd ((MeetsRequirements-registrable o.properties [] is).some refl)
   above-empty (c ∷ w) is = tt
 
-  pub variant-told : (v w : List ℕ) → (is_variant_of registrable table v w ≡ true) ↔ IsVariantOf o table v w
-  variant-told v w =
+  spells-told : (v w : List ℕ) → (is_among (spelled table v) w ≡ true) ↔ Spells table v w
+  spells-told v w =
       let spells = spelled-Spells table v w sound.entries in
       let among = among-found w (spelled table v) in
-      let arising = both-told (is_valid table w) (is_among (spelled table v) w) _ _ (tests-agree.valid table w sound) (λ h. spells.0 (among.0 h), λ s. among.1 (spells.1 s)) in
-      let listed = both-told (registrable w) (is_valid table w && is_among (spelled table v) w) _ _ (registrable-told w) arising in
-      let both = both-told (is_good registrable table v) (registrable w && (is_valid table w && is_among (spelled table v) w)) _ _ (good-told v) listed in (
-        λ h. (let p = both.0 h in record {
-          good = p.0;
-          listed = record { registrable = p.1.0; valid = p.1.1.0; greater = above-empty w p.1.0; spelled = p.1.1.1 };
-        }),
-        λ i. both.1 (i.good, (i.listed.registrable, (i.listed.valid, i.listed.spelled))),
+      (λ h. spells.0 (among.0 h), λ s. among.1 (spells.1 s))
+
+  -- what is spelled and may be registered is kept or left out
+  kept-told : (v w : List ℕ) → IsRegistrable o.properties w → Spells table v w → (not (is_left_out table v w) ≡ true) ↔ (¬ IsLeftOut table v w)
+  kept-told v w is spells = not-told (is_left_out table v w) _ (left_out-told table v sound w (registrable-some o.properties w is) spells)
+
+  pub variant-told : (v w : List ℕ) → (is_variant_of registrable table v w ≡ true) ↔ IsVariantOf o table v w
+  variant-told v w =
+      let kept = and-both (is_among (spelled table v) w) (not (is_left_out table v w)) in
+      let valid = and-both (is_valid table w) (is_among (spelled table v) w && not (is_left_out table v w)) in
+      let listed = and-both (registrable w) (is_valid table w && (is_among (spelled table v) w && not (is_left_out table v w))) in
+      let all = and-both (is_good registrable table v) (registrable w && (is_valid table w && (is_among (spelled table v) w && not (is_left_out table v w)))) in
+      let is_valid-told = tests-agree.valid table w sound in (
+        λ h.
+            let p = all.0 h in
+            let q = listed.0 p.1 in
+            let r = valid.0 q.1 in
+            let s = kept.0 r.1 in
+            let is = (registrable-told w).0 q.0 in
+            let spells = (spells-told v w).0 s.0 in
+            record {
+              good = (good-told v).0 p.0;
+              listed = record { registrable = is; valid = is_valid-told.0 r.0; greater = above-empty w is; spelled = spells; kept = (kept-told v w is spells).0 s.1 };
+            },
+        λ i.
+            let l = i.listed in
+            all.1 ((good-told v).1 i.good, listed.1 ((registrable-told w).1 l.registrable, valid.1 (is_valid-told.1 l.valid, kept.1 ((spells-told v w).1 l.spelled, (kept-told v w l.registrable l.spelled).1 l.kept)))),
       )
 
   pub arises-told : (v w : List ℕ) → (is_among (spelled (unasked table) v) w ≡ true) ↔ Arises table v w
@@ -108,10 +117,14 @@ module _ (o : Settings) (table : TableValue) (sound : IsSound table) where
 
   -- ---- what one label is to another
 
+  disposed : (v w : List ℕ) → IsVariantOf o table v w → IsDisposition table v w (disposition_of table v w)
+  disposed v w is = disposition-IsDisposition table v sound w (registrable-some o.properties w is.listed.registrable) is.listed.spelled
+
   of_variant : (v w : List ℕ) → IsVariantOf o table v w → (field : Option Disposition) → IsDisposition table v w field → IsRegard o table v w (regard_by field)
   of_variant v w is None disposed = inl (is, (None, disposed, refl))
   of_variant v w is (Some disposition.Allocatable) disposed = inl (is, (Some disposition.Allocatable, disposed, refl))
   of_variant v w is (Some disposition.Blocked) disposed = inl (is, (Some disposition.Blocked, disposed, refl))
+  of_variant v w is (Some disposition.Unclear) disposed = inl (is, (Some disposition.Unclear, disposed, refl))
 
   of_barred : (v w : List ℕ) → IsBarred o table v w → (n : Version) → n ≡ table.version → IsRegard o table v w (barred_in n)
   of_barred v w is One same = inr (is, ap barred_in same)
@@ -136,7 +149,7 @@ module _ (o : Settings) (table : TableValue) (sound : IsSound table) where
   regard-told v w = by_tests (is_variant_of registrable table v w) (is_barred registrable table v w) (variant-told v w) (barred-told v w)
     where
       by_tests : (variant barred : Bool) → (variant ≡ true) ↔ IsVariantOf o table v w → (barred ≡ true) ↔ IsBarred o table v w → IsRegard o table v w (regard_if v w variant barred)
-      by_tests true barred is bars = of_variant v w (is.0 refl) (disposition_of table v w) (disposition-IsDisposition table v w sound.entries)
+      by_tests true barred is bars = of_variant v w (is.0 refl) (disposition_of table v w) (disposed v w (is.0 refl))
       by_tests false true is bars = of_barred v w (bars.0 refl) table.version refl
       by_tests false false is bars = (λ i. (let clash : false ≡ true = is.1 i in cc), λ b. (let clash : false ≡ true = bars.1 b in cc))
 
@@ -146,7 +159,7 @@ module _ (o : Settings) (table : TableValue) (sound : IsSound table) where
     where
       something : (r : Regard) (variant barred : Bool) → (variant ≡ true) ↔ IsVariantOf o table v w → (barred ≡ true) ↔ IsBarred o table v w → IsSomething o table v w r → r ≡ regard_if v w variant barred
       something r variant barred tells bars (inl h) =
-          h.1.2 ∙ ap regard_by (one-field table.version _ h.1.0 (disposition_of table v w) h.1.1 (disposition-IsDisposition table v w sound.entries))
+          h.1.2 ∙ ap regard_by (one-field table.version (IsClear table v w) (IsAllocatable table v w) h.1.0 (disposition_of table v w) h.1.1 (disposed v w h.0))
           ∙ ap (λ b. regard_if v w b barred) (sym (tells.1 h.0))
       something r variant barred tells bars (inr h) =
           let unlisted : variant ≡ false = false_from_ne_true variant (λ e. h.0.unlisted (tells.0 e)) in
@@ -172,6 +185,7 @@ module _ (o : Settings) (table : TableValue) (sound : IsSound table) where
       by_field None = refl
       by_field (Some disposition.Allocatable) = refl
       by_field (Some disposition.Blocked) = refl
+      by_field (Some disposition.Unclear) = refl
 
       by_version : (n : Version) → is_something (barred_in n) ≡ true
       by_version One = refl

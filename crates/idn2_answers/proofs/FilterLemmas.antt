@@ -1,5 +1,5 @@
 -- What a listing asks of labels, and what is known of it.
-use Rattle.std.proofs.Common.{◌≡◌, ◌≤◌, ◌<◌, ◌⊎◌, inl, inr, ◌++◌, ◌&&◌, ◌||◌, ◌↔◌, ℕ, zero, suc, List, [], ◌∷◌, Option, Some, None, Bool, true, false, IsTrue, take, drop, length, refl, sym, ap, subst, ◌∙◌, arith}
+use Rattle.std.proofs.Common.{◌≡◌, ◌≢◌, not, ◌≤◌, ◌<◌, ◌⊎◌, inl, inr, ◌++◌, ◌&&◌, ◌||◌, ◌↔◌, ℕ, zero, suc, List, [], ◌∷◌, Option, Some, None, Bool, true, false, IsTrue, take, drop, length, refl, sym, ap, subst, ◌∙◌, arith}
 use Rattle.std.specs.Prelude.{nat_le}
 use Rattle.std.specs.Option.{is_none}
 use Rattle.std.proofs.lemmas.Bool.Decides.{nat_tests}
@@ -20,9 +20,12 @@ use Rattle.valid_labels.specs.Tests.{asks_nothing, is_dead_under, is_valid}
 use Rattle.valid_labels.proofs.DeadPrefixLemmas.{dead-invalid}
 use Rattle.valid_labels.proofs.TestLemmas.{tests-agree}
 use Rattle.variant_list.specs.Beginnings.{HasNoDeadPrefix, has_no_dead_prefix}
+use Rattle.variant_list.specs.Spelling.{Spells}
 use Rattle.variant_list.proofs.BeginningLemmas.{shortest_hopeless-none}
 use Rattle.idn2_answers.proofs.DeadPrefixLemmas.{clear}
-use Rattle.idn2_answers.proofs.LostBeginnings.{ruled-for_good}
+use Rattle.idn2_answers.proofs.DispositionTests.{left_out-told}
+use Rattle.idn2_answers.proofs.LostBeginnings.{not-left, ruled-for_good}
+use Rattle.idn2_answers.specs.Dispositions.{IsLeftOut, is_left_out}
 use Rattle.idn2_answers.specs.Listings.{Filter, filter_if, filter_of, is_registrable, registrable_labels, ruled_labels}
 
 module _ (properties : Properties) where
@@ -41,6 +44,10 @@ module _ (properties : Properties) where
       none : {X : Type 0} (r : Option X) → is_none r ≡ true → r ≡ None
       none None h = refl
       none (Some x) h = cc
+
+  -- and at least one
+  pub registrable-some : (v : List ℕ) → IsRegistrable properties v → v ≢ []
+  registrable-some v is = (MeetsRequirements-registrable properties v is).some
 
   pub registrable_labels-IsSound : IsSound (registrable_labels properties)
   registrable_labels-IsSound = record { registrable = is_registrable-from; for_good = none_hopeless properties }
@@ -72,12 +79,17 @@ module _ (properties : Properties) where
     for_good = ruled-for_good properties table;
   }
 
-  pub filter_of-IsSound : (table : TableValue) → IsSound properties (filter_of properties table)
-  filter_of-IsSound table = by_test (asks_nothing table)
-    where
-      by_test : (b : Bool) → IsSound properties (filter_if properties b table)
-      by_test true = registrable_labels-IsSound properties
-      by_test false = ruled_labels-IsSound table
+  filter_if-IsSound : (b : Bool) (table : TableValue) → IsSound properties (filter_if properties b table)
+  filter_if-IsSound true table = registrable_labels-IsSound properties
+  filter_if-IsSound false table = ruled_labels-IsSound table
+
+  pub filter_of-IsSound : (table : TableValue) (label : List ℕ) → IsSound properties (filter_of properties table label)
+  filter_of-IsSound table label =
+      let asked : Filter = filter_if properties (asks_nothing table) table in
+      let sound = filter_if-IsSound (asks_nothing table) table in record {
+        registrable = λ v h. sound.registrable v (both-left (asked.accepts v) (not (is_left_out table label v)) h);
+        for_good = λ w z h. not-left (asked.accepts (w ++ z)) (not (is_left_out table label (w ++ z))) (sound.for_good w z h);
+      }
 
 -- ---- a valid label has no dead prefix under the table
 
@@ -108,10 +120,10 @@ module _ (properties : Properties) where
 -- ---- what the filter of a table asks of a label that is valid where the table asks nothing
 
 module _ (properties : Properties) where
-  -- it accepts exactly the registrable labels that are valid
-  pub accepted-is : (table : TableValue) (v : List ℕ) → validity.IsSound table → (asks_nothing table ≡ true → IsValid table v)
-      → ((filter_of properties table).accepts v ≡ true) ↔ (IsRegistrable properties v × IsValid table v)
-  accepted-is table v sound free = by_test (asks_nothing table) free
+  -- what is asked for all listings is that labels are registrable and valid
+  pub asked-is : (table : TableValue) (v : List ℕ) → validity.IsSound table → (asks_nothing table ≡ true → IsValid table v)
+      → ((filter_if properties (asks_nothing table) table).accepts v ≡ true) ↔ (IsRegistrable properties v × IsValid table v)
+  asked-is table v sound free = by_test (asks_nothing table) free
     where
       valid_test : IsTrue (is_valid table v) ↔ IsValid table v
       valid_test = tests-agree.valid table v sound
@@ -129,10 +141,25 @@ module _ (properties : Properties) where
         λ both. and_from (is_registrable properties v) _ (ap is_none both.0) (and_from (is_valid table v) _ (valid_test.1 both.1) (no_dead both.1)),
       )
 
+  -- of what the label spells those are accepted that the listing doesn't leave out
+  pub accepted-is : (table : TableValue) (label v : List ℕ) → validity.IsSound table → (asks_nothing table ≡ true → IsValid table v) → Spells table label v
+      → ((filter_of properties table label).accepts v ≡ true) ↔ (IsRegistrable properties v × IsValid table v × ¬ IsLeftOut table label v)
+  accepted-is table label v sound free spells =
+      let asked : Bool = (filter_if properties (asks_nothing table) table).accepts v in
+      let is = asked-is table v sound free in
+      let left = λ (some : v ≢ []). left_out-told table label sound v some spells in (
+        λ h.
+            let a = is.0 (both-left asked (not (is_left_out table label v)) h) in
+            let kept = both-right asked (not (is_left_out table label v)) h in
+            (a.0, a.1, λ out. (let both : not (is_left_out table label v) ≡ false = ap not ((left (registrable-some properties v a.0)).1 out) in let clash : false ≡ true = sym both ∙ kept in cc)),
+        λ g. and_from asked (not (is_left_out table label v)) (is.1 (g.0, g.1))
+            (ap not (false_from_ne_true (is_left_out table label v) (λ e. g.2 ((left (registrable-some properties v g.0)).0 e)))),
+      )
+
   -- a label has no dead prefix to it exactly where it has none by registration and none under the table
-  pub alive-is : (table : TableValue) (v : List ℕ) → validity.IsSound table → (asks_nothing table ≡ true → IsValid table v)
-      → HasNoDeadPrefix (filter_of properties table).hopeless v ↔ (class.HasNoDeadPrefix properties v × HasNoDeadPrefixUnder table v)
-  alive-is table v sound free = by_test (asks_nothing table) free
+  pub alive-is : (table : TableValue) (label v : List ℕ) → validity.IsSound table → (asks_nothing table ≡ true → IsValid table v)
+      → HasNoDeadPrefix (filter_of properties table label).hopeless v ↔ (class.HasNoDeadPrefix properties v × HasNoDeadPrefixUnder table v)
+  alive-is table label v sound free = by_test (asks_nothing table) free
     where
       none_dead : HasNoDeadPrefix (is_dead_under table) v → HasNoDeadPrefixUnder table v
       none_dead h zero high is = absurd (let bad : 0 < 0 = is.some in omega (arith, bad))

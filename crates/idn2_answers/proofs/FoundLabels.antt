@@ -1,5 +1,7 @@
 -- The registered labels that collide with a label, and its block.
-use Rattle.std.proofs.Common.{◌≡◌, ◌↔◌, ◌&&◌, ℕ, Bool, true, false, cond, List, [], ◌∷◌, refl, sym, ap, subst, ◌∙◌}
+use Rattle.std.proofs.Common.{◌≡◌, ◌≢◌, ◌↔◌, ◌&&◌, ℕ, Bool, true, false, not, cond, List, [], ◌∷◌, refl, sym, ap, subst, ◌∙◌}
+use Rattle.std.specs.Prelude.{bytes_eq}
+use Rattle.std.proofs.lemmas.Slice.Eq.{bytes_eq-Decides}
 use Rattle.std.specs.List.{Contains, filter}
 use Rattle.std.specs.Ordering.{is_gt}
 use Rattle.label_patterns.proofs.TestLemmas.{and-both}
@@ -13,7 +15,7 @@ use Rattle.variant_list.proofs.VariantLists.{is_gt-Greater}
 use Rattle.registered_labels.specs.Collisions.{collisions, is_spelled}
 use Rattle.idn2_options.specs.Settings.{Settings}
 use Rattle.idn2_answers.specs.Listings.{is_registrable}
-use Rattle.idn2_answers.specs.Collisions.{IsFound, IsCollisionBlock, collide, collision_block, collisions_after, regards_of}
+use Rattle.idn2_answers.specs.Collisions.{IsFound, IsCollisionBlock, collide, collision_block, collisions_after, is_found, is_itself_left_out, regards_of}
 use Rattle.idn2_answers.proofs.CollisionTests.{collide-told, regard-told}
 
 one-more : (accepts : List ℕ → Bool) (v : List ℕ) (greater is passes : Bool) (rest found : List (List ℕ)) → accepts v ≡ passes → (passes ≡ true → is ≡ true) → filter accepts rest ≡ found
@@ -33,22 +35,39 @@ found-walked accepts spelled after sure (v ∷ labels) =
 
 module _ (o : Settings) (table : TableValue) (label : List ℕ) (sound : IsSound table) where
   test : List ℕ → Bool
-  test v = is_gt (label_cmp v o.after) && collide (is_registrable o.properties) table label v
+  test v = is_gt (label_cmp v o.after) && is_found o table label v
+
+  -- it isn't left out
+  kept-other : (v : List ℕ) → not (is_itself_left_out o label v) ≡ true ↔ (o.others ≡ true → v ≢ label)
+  kept-other v = (λ kept is equal. left o.others (bytes_eq v label) kept is ((bytes_eq-Decides v label).1 equal), λ other. right o.others (bytes_eq v label) refl other)
+    where
+      left : (others same : Bool) → not (others && same) ≡ true → others ≡ true → same ≡ true → ⊥
+      left true true kept is e = let clash : false ≡ true = kept in cc
+      left true false kept is e = let clash : false ≡ true = e in cc
+      left false same kept is e = let clash : false ≡ true = is in cc
+
+      right : (others same : Bool) → bytes_eq v label ≡ same → (others ≡ true → v ≢ label) → not (others && same) ≡ true
+      right true true e other = absurd (other refl ((bytes_eq-Decides v label).0 e))
+      right true false e other = refl
+      right false same e other = refl
 
   pub found-members : (registered : List (List ℕ)) (v : List ℕ) → Contains (collisions_after o table registered label) v ↔ IsFound o table registered label v
   unfolding test
   found-members registered v =
       let member = Contains-filter test registered v in
-      let both = and-both (is_gt (label_cmp v o.after)) (collide (is_registrable o.properties) table label v) in
+      let both = and-both (is_gt (label_cmp v o.after)) (is_found o table label v) in
+      let parts = and-both (not (is_itself_left_out o label v)) (collide (is_registrable o.properties) table label v) in
+      let kept = kept-other v in
       let told = collide-told o table sound label v in (
         λ m. (
             let p = member.0 m in
             let q = both.0 p.0 in
-            record { registered = p.1; greater = below_from_Greater v o.after (is_gt-Greater (label_cmp v o.after) q.0); collides = told.0 q.1 }),
-        λ f. member.1 (both.1 (ap is_gt (Greater_from_below v o.after f.greater), told.1 f.collides), f.registered),
+            let t = parts.0 q.1 in
+            record { registered = p.1; greater = below_from_Greater v o.after (is_gt-Greater (label_cmp v o.after) q.0); collides = told.0 t.1; other = kept.0 t.0 }),
+        λ f. member.1 (both.1 (ap is_gt (Greater_from_below v o.after f.greater), parts.1 (kept.1 f.other, told.1 f.collides)), f.registered),
       )
 
-  found-exactly : (registered : List (List ℕ)) → IsRising registered → IsListOf (IsFound o table registered label) (collisions_after o table registered label)
+  pub found-exactly : (registered : List (List ℕ)) → IsRising registered → IsListOf (IsFound o table registered label) (collisions_after o table registered label)
   unfolding test
   found-exactly registered rising = record { rising = IsRising-filter test registered rising; members = found-members registered }
 

@@ -2,16 +2,22 @@
 pub mod DeadPrefixLemmas
 -- No label that is valid under a table begins with a list that is dead.
 pub mod LostBeginnings
+-- Tests of the members of a list.
+pub mod MemberTests
+-- Kinds without a type: whatever they are, the disposition is that of a source that stays and has no type.
+pub mod TypelessKinds
+-- What a reading of a label records comes from an entry of the table.
+pub mod RecordedKinds
+-- The readings of what a label spells: those by entries, and those by the substitutions that compute.
+pub mod ReadingTests
+-- The disposition of what a label spells, as tests tell it.
+pub mod DispositionTests
 -- What a listing asks of labels, and what is known of it.
 pub mod FilterLemmas
 -- The stop of a listing: the lesser of two labels, and the labels up to one.
 pub mod LabelStops
 -- Labels that a table admits, and others.
 pub mod AdmittedLabels
--- Which labels may be allocated, as a test tells it.
-pub mod AllocatableLabels
--- The disposition of a variant: whether it may be allocated.
-pub mod DisposedLabels
 -- What a line that is registered stands for.
 pub mod RegisteredLines
 -- The tests of collisions are true where the definitions hold.

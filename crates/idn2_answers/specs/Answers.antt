@@ -13,6 +13,9 @@ use Rattle.idn_label.specs.Steps.{in_utf8}
 use Rattle.idn_label.specs.Register.{register_answer, u_label_answer}
 use Rattle.idn_label.specs.Decode.{decode_answer}
 use Rattle.idn_label.specs.Lookup.{lookup_answer}
+use Rattle.idn_label.specs.OldNames.{ZoneAnswer, zone_answer, zone_in_utf8}
+use Rattle.idn_label.specs.declared.old_names.Standing.{Standing}
+use Rattle.idn_label.specs.declared.old_names.Standing.TheVariants.{Registrable, Old}
 use Rattle.variant_table.specs.Entries.{TableValue}
 use Rattle.variant_table.specs.Segmentations.{IsMadeOfSources}
 use Rattle.valid_labels.specs.Validity.{IsAdmitted}
@@ -21,10 +24,11 @@ use Rattle.variant_list.specs.Closure.{AreNear, near}
 use Rattle.variant_list.specs.Jumps.{IsCandidate, IsLeastFrom, HasNoneFrom, candidates_among_from}
 use Rattle.idn2_options.specs.Settings.{Settings}
 use Rattle.idn2_options.specs.declared.command_line.mode.Mode.{Mode}
-use Rattle.idn2_options.specs.declared.command_line.mode.Mode.TheVariants.{Lookup, Register, Decode}
+use Rattle.idn2_options.specs.declared.command_line.mode.Mode.TheVariants.{Lookup, Register, Decode, DecodeOld}
 use Rattle.idn2_options.specs.declared.command_line.mode.Mode.TheVariants.{Variants, Jump, CheckTable}
 use Rattle.answer_json.specs.declared.collision.Regards.{Regards}
 use Rattle.idn2_refusals.specs.Requests.{requested_label, requested_text}
+use Rattle.idn2_answers.specs.Said as said
 use Rattle.idn2_answers.specs.Said.{Said, LookedUp, Registered, Decoded, Least}
 use Rattle.idn2_answers.specs.Listings.{IsBlock, block, is_registrable}
 use Rattle.idn2_answers.specs.Collisions.{IsCollisionBlock, IsRegard, collision_block, regards_of}
@@ -37,6 +41,16 @@ LineAnswer = Result (List Said) Refusal
 abbrev pub one_answer : (List ℕ → Said) → Result (List ℕ) Refusal → LineAnswer
 one_answer said (Ok text) = Ok (said text ∷ [])
 one_answer said (Err refusal) = Err refusal
+
+-- what a label of a zone stands for, by how that stands
+abbrev pub zone_said : Standing → List ℕ → Said
+zone_said Registrable label = Decoded label
+zone_said Old label = said.Old label
+
+-- an answer of such a label
+abbrev pub zone_line : ZoneAnswer → LineAnswer
+zone_line (Ok found) = Ok (zone_said found.1 found.0 ∷ [])
+zone_line (Err refusal) = Err refusal
 
 -- a label, or the one given where there is none
 abbrev pub label_or : Answer → List ℕ → List ℕ
@@ -86,6 +100,7 @@ abbrev pub mode_answer : Mode → Settings → TableValue → List ℕ → LineA
 mode_answer Lookup o table name = one_answer LookedUp (lookup_answer name o.std3)
 mode_answer Register o table label = one_answer (Registered (u_label_of o.properties label)) (register_answer o.properties label)
 mode_answer Decode o table name = one_answer Decoded (in_utf8 (decode_answer o.properties name))
+mode_answer DecodeOld o table label = zone_line (zone_in_utf8 (zone_answer o.properties label))
 mode_answer Variants o table label = variants_answer o table label
 mode_answer Jump o table line = jump_answer o.properties table line
 mode_answer CheckTable o table label = Ok []

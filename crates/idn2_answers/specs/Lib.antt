@@ -1,5 +1,6 @@
 -- The definitions that contracts cite.
 pub mod Said
+pub mod Dispositions
 pub mod Listings
 pub mod Collisions
 pub mod Answers

@@ -1,29 +1,25 @@
 -- The block of a label's variants: a line for each, with its disposition, and a trailer that says where the listing ends.
-use Rattle.std.specs.Prelude.{◌≡◌, ◌⊎◌, ℕ, zero, suc, ◌<◌, ◌≤◌, ◌-◌, ◌&&◌, ◌||◌, Bool, bytes_eq, if◌then◌else◌}
-use Rattle.std.specs.Prelude.{List, [], ◌∷◌, ◌++◌, length, map, filter, Option, Some, None}
+use Rattle.std.specs.Prelude.{◌≡◌, ℕ, ◌≤◌, ◌-◌, ◌&&◌, ◌||◌, not, Bool, bytes_eq, if◌then◌else◌}
+use Rattle.std.specs.Prelude.{List, [], ◌∷◌, ◌++◌, length, map, filter, Contains, Option, Some, None}
 use Rattle.std.specs.List.{list_any, slice_get}
 use Rattle.std.specs.Option.{is_none}
 use Rattle.std.specs.Ordering.{is_le}
 use Rattle.idn_class.specs.declared.properties.Properties.{Properties}
 use Rattle.idn_class.specs.DeadPrefixes.{hopeless, HasNoDeadPrefix}
 use Rattle.idn_label.specs.FirstFault.{first_fault, IsRegistrable}
-use Rattle.variant_table.specs.declared.version.Version.{Version}
-use Rattle.variant_table.specs.declared.version.Version.TheVariants.{One, Two, Three}
 use Rattle.variant_table.specs.Entries.{TableValue}
 use Rattle.valid_labels.specs.Validity.{HasNoDeadPrefixUnder, IsValid}
 use Rattle.valid_labels.specs.Tests.{asks_nothing, is_dead_under, is_valid}
 use Rattle.variant_list.specs.Beginnings.{has_no_dead_prefix}
 use Rattle.variant_list.specs.Labels.{label_cmp, IsBelow, IsListOf}
-use Rattle.variant_list.specs.Parts.{Part}
-use Rattle.variant_list.specs.Parts.Part.{Whole, Unblocked, Tagged}
-use Rattle.variant_list.specs.Spelled.{part_spelled, spelled}
-use Rattle.variant_list.specs.Spelling.{PartSpells, Spells}
+use Rattle.variant_list.specs.Spelled.{spelled}
+use Rattle.variant_list.specs.Spelling.{Spells}
 use Rattle.variant_list.specs.Tested.{tested_among}
 use Rattle.variant_list.specs.Variants.{candidates_among, variants_among}
 use Rattle.variant_list.specs.Visited.{visited}
-use Rattle.idn2_options.specs.Settings.{Settings}
+use Rattle.idn2_options.specs.Settings.{Settings, tells_causes}
 use Rattle.answer_json.specs.declared.block.Disposition.{Disposition}
-use Rattle.answer_json.specs.declared.block.Disposition.TheVariants.{Allocatable, Blocked}
+use Rattle.idn2_answers.specs.Dispositions.{disposition, is_left_out, shown, IsDisposition, IsLeftOut}
 use Rattle.idn2_answers.specs.Said.{Said, Listed, BlockEnd}
 
 -- a label that may be registered has no fault (RFC 5891, section 4.2)
@@ -52,8 +48,15 @@ ruled_labels properties table =
 abbrev pub filter_if : Properties → Bool → TableValue → Filter
 filter_if properties asks_nothing table = if asks_nothing then registrable_labels properties else ruled_labels properties table
 
-abbrev pub filter_of : Properties → TableValue → Filter
-filter_of properties table = filter_if properties (asks_nothing table) table
+-- and that they aren't left out of the listing of this label
+abbrev pub without_left_out : TableValue → List ℕ → Filter → Filter
+without_left_out table label filter = record {
+  accepts = λ v. filter.accepts v && not (is_left_out table label v);
+  hopeless = filter.hopeless;
+}
+
+abbrev pub filter_of : Properties → TableValue → List ℕ → Filter
+filter_of properties table label = without_left_out table label (filter_if properties (asks_nothing table) table)
 
 -- whether a label is one of these
 abbrev pub is_among : List (List ℕ) → List ℕ → Bool
@@ -99,34 +102,6 @@ abbrev pub up_to : Option (List ℕ) → List (List ℕ) → List (List ℕ)
 up_to None labels = labels
 up_to (Some b) labels = filter (λ v. is_le (label_cmp v b)) labels
 
--- the sub-tables of the first so many tags
-abbrev pub sub_tables_below : ℕ → List Part
-sub_tables_below zero = []
-sub_tables_below (suc count) = sub_tables_below count ++ Tagged count ∷ []
-
--- the sub-tables of a table with these tags: one for each of them; or, where there is none, what is not blocked
-abbrev pub sub_tables_of : List (List ℕ) → List Part
-sub_tables_of [] = Unblocked ∷ []
-sub_tables_of (tag ∷ tags) = sub_tables_below (length (tag ∷ tags))
-
--- whether v may be allocated: it is the label itself, or some sub-table spells it, too
-abbrev pub is_allocatable : TableValue → List ℕ → List ℕ → Bool
-is_allocatable table label v = bytes_eq v label || list_any (λ part. is_among (part_spelled part table label) v) (sub_tables_of table.definitions.tags)
-
--- the disposition of a variant (RFC 7940, section 7.3)
-abbrev pub allocation : Bool → Disposition
-allocation allocatable = if allocatable then Allocatable else Blocked
-
--- which version 1 doesn't have
-abbrev pub disposition_in : Version → Bool → Option Disposition
-disposition_in One allocatable = None
-disposition_in Two allocatable = Some (allocation allocatable)
-disposition_in Three allocatable = Some (allocation allocatable)
-
--- that of each variant of a label
-abbrev pub disposition : TableValue → List ℕ → List ℕ → Option Disposition
-disposition table label v = disposition_in table.version (is_allocatable table label v)
-
 -- what is said of each of these labels up to the stop, and then the end
 abbrev pub block_to : (List ℕ → Said) → Option (List ℕ) → List (List ℕ) → List Said
 block_to line stop labels = map line (up_to stop labels) ++ BlockEnd (length (up_to stop labels)) stop ∷ []
@@ -135,21 +110,28 @@ block_to line stop labels = map line (up_to stop labels) ++ BlockEnd (length (up
 abbrev pub variant_by : (List ℕ → Option Disposition) → List ℕ → Said
 variant_by field v = Listed (field v) v
 
+-- what is said of the disposition of each variant of a label
+abbrev pub field_of : Settings → TableValue → List ℕ → List ℕ → Option Disposition
+field_of o table label v = shown (tells_causes o) (disposition table label v)
+
 -- the block of a label
 abbrev pub block : Settings → TableValue → List ℕ → List Said
 block o table label =
-    block_to (variant_by (disposition table label)) (stop_of (filter_of o.properties table) o (spelled table label))
-    (variants_after (filter_of o.properties table) o (spelled table label))
+    block_to (variant_by (field_of o table label))
+    (stop_of (filter_of o.properties table label) o (spelled table label))
+    (variants_after (filter_of o.properties table label) o (spelled table label))
 
 -- ---- the same block, by what its lines have to be: no list is computed here
 
--- a registrable label, valid under the table, greater than the text of the settings, that arises by cutting the label into sources
--- of the table and replacing each by itself or one of its variants, as far as their conditions hold in the label
+-- a registrable label, valid under the table, greater than the text of the settings, that arises by cutting the label
+-- into sources of the table and replacing each by itself or one of its variants, as far as their conditions hold in the
+-- label, and isn't invalid
 pub record IsListed (o : Settings) (table : TableValue) (label v : List ℕ) : Type 0 where
   pub registrable : IsRegistrable o.properties v
   pub valid : IsValid table v
   pub greater : IsBelow o.after v
   pub spelled : Spells table label v
+  pub kept : ¬ IsLeftOut table label v
 
 -- a label of at most 63 code points that arises so, greater than the text, without a dead prefix
 pub record IsTried (o : Settings) (table : TableValue) (label v : List ℕ) : Type 0 where
@@ -165,30 +147,6 @@ pub record IsAhead (o : Settings) (table : TableValue) (label v : List ℕ) : Ty
   pub greater : IsBelow o.after v
   pub spelled : Spells table label v
 
--- a disposition that says whether this holds
-abbrev pub IsAllocation : Type 0 → Option Disposition → Type 0
-IsAllocation allocatable field = (allocatable × (field ≡ Some Allocatable)) ⊎ ((¬ allocatable) × (field ≡ Some Blocked))
-
--- which version 1 doesn't have
-abbrev pub IsFieldOf : Version → Type 0 → Option Disposition → Type 0
-IsFieldOf One allocatable field = field ≡ None
-IsFieldOf Two allocatable field = IsAllocation allocatable field
-IsFieldOf Three allocatable field = IsAllocation allocatable field
-
--- a sub-table of the table: there is one for each tag, by its number; and where there are no tags, what is not blocked is one
-abbrev pub IsSubTable : TableValue → Part → Type 0
-IsSubTable table Whole = ⊥
-IsSubTable table Unblocked = table.definitions.tags ≡ []
-IsSubTable table (Tagged tag) = tag < length table.definitions.tags
-
--- v may be allocated where the label was asked about: it is the label itself, or the label spells it under some sub-table
-abbrev pub IsAllocatable : TableValue → List ℕ → List ℕ → Type 0
-IsAllocatable table label v = (v ≡ label) ⊎ ((part : Part) × IsSubTable table part × PartSpells part table label v)
-
--- the disposition of v: none in version 1; in others it says whether v may be allocated
-abbrev pub IsDisposition : TableValue → List ℕ → List ℕ → Option Disposition → Type 0
-IsDisposition table label v field = IsFieldOf table.version (IsAllocatable table label v) field
-
 -- the stop is the least of the limit-th label that is listed, the tries-th that is tried and the steps-th that is visited, as far as
 -- they exist; up to it each label that is listed is said, with its disposition, and then the end
 pub record IsBlock (o : Settings) (table : TableValue) (label : List ℕ) (said : List Said) : Type 0 where
@@ -200,7 +158,8 @@ pub record IsBlock (o : Settings) (table : TableValue) (label : List ℕ) (said 
   pub exactly_ahead : IsListOf (IsAhead o table label) ahead
   pub stop : Option (List ℕ)
   pub stops : stop ≡ lesser_label (nth_if_given listed o.limit)
-      (lesser_label (nth tried o.tries) (nth_if_given (visited (filter_of o.properties table).hopeless None ahead) o.steps))
+      (lesser_label (nth tried o.tries)
+      (nth_if_given (visited (filter_of o.properties table label).hopeless None ahead) o.steps))
   pub field : List ℕ → Option Disposition
-  pub disposed : (v : List ℕ) → IsDisposition table label v (field v)
-  pub exact : said ≡ block_to (variant_by field) stop listed
+  pub disposed : (v : List ℕ) → Contains listed v → IsDisposition table label v (field v)
+  pub exact : said ≡ block_to (variant_by (λ v. shown (tells_causes o) (field v))) stop listed

@@ -13,10 +13,11 @@ use Rattle.variant_table.specs.Texts.{IsTextOf, IsFaultOf}
 use Rattle.variant_table.specs.Faults.{LineFault, table_fault as fault_of_line}
 use Rattle.variant_list.specs.Reversed.{IsCrowded}
 use Rattle.idn2_options.specs.declared.command_line.mode.Mode.{Mode}
-use Rattle.idn2_options.specs.declared.command_line.mode.Mode.TheVariants.{Lookup, Register, Decode, Variants, Jump, CheckTable}
+use Rattle.idn2_options.specs.declared.command_line.mode.Mode.TheVariants.{Lookup, Register, Decode, DecodeOld, Variants, Jump, CheckTable}
 use Rattle.idn_text.specs.Lines.{Numbered}
 use Rattle.variant_table.specs.Differences.{differences_of, AreDifferencesOf}
 use Rattle.variant_table.specs.Gaps.{gaps_of, AreGapsOf}
+use Rattle.variant_table.specs.IdleTypes.{idle_types}
 use Rattle.answer_json.specs.declared.checked.PairFinding.TheVariants.{Missing, Differs}
 use Rattle.idn2_options.specs.Settings.{Settings, tells_causes}
 use Rattle.idn2_answers.specs.Answers.{LineAnswer, mode_answer, line_answer}
@@ -24,7 +25,7 @@ use Rattle.idn2_refusals.specs.Explained.{Unexplained, ByLabel, ByName, ByQuery,
 use Rattle.idn2_refusals.specs.TableCauses.{fault_cause, told_if}
 use Rattle.idn2_refusals.specs.Messages.{refusal_piece, fault_piece}
 use Rattle.idn2_output.specs.OutputLines.{OutputLine, Output, outputs}
-use Rattle.idn2_answers.specs.Said.{Said, Finding, Found, Counted, said_text, finding_text}
+use Rattle.idn2_answers.specs.Said.{Said, Finding, Found, Idle, Counted, said_text, finding_text}
 use Rattle.idn2_refusals.specs.declared.cause.LineCause.{LineCause}
 use Rattle.answer_json.specs.Objects.{refused}
 use Rattle.idn2_options.specs.declared.command_line.form.Form.{Form}
@@ -122,6 +123,7 @@ abbrev pub explained_by_mode : Mode → Settings → TableValue → Explained
 explained_by_mode Lookup o table = ByQuery o.std3
 explained_by_mode Register o table = ByLabel o.properties
 explained_by_mode Decode o table = ByName o.properties
+explained_by_mode DecodeOld o table = ByLabel o.properties
 explained_by_mode Variants o table = ByTable o.properties table
 explained_by_mode Jump o table = ByRequest o.properties table
 explained_by_mode CheckTable o table = Unexplained
@@ -163,37 +165,43 @@ status_if refused = if refused then Refused else Clean
 -- ---- the check of a table
 
 -- what a check finds
-abbrev pub check_findings : List Entry → List Finding
-check_findings table = map (Found Missing) (gaps_of table) ++ (map (Found Differs) (differences_of table) ++ Counted (length table) (length (gaps_of table)) ∷ [])
+abbrev pub check_findings : TableValue → List Finding
+check_findings table =
+    map (Found Missing) (gaps_of table.entries) ++ (map (Found Differs) (differences_of table.entries)
+    ++ (map Idle (idle_types table.definitions)
+    ++ Counted (length table.entries) (length (gaps_of table.entries)) ∷ []))
 
 -- what a check finds, by what it has to be: each pair that symmetry or transitivity requires and the table lacks, in
--- order; then each pair of variants of each other that aren't so under the same conditions, in order; and then how many
--- entries and how many gaps there are
-pub record IsCheck (table : List Entry) (findings : List Finding) : Type 0 where
+-- order; then each pair of variants of each other that aren't so under the same conditions, in order; then each type of
+-- its own that no action names, in order of definition; and then how many entries and how many gaps there are
+pub record IsCheck (table : TableValue) (findings : List Finding) : Type 0 where
   pub gaps : List (List ℕ × List ℕ)
   pub differences : List (List ℕ × List ℕ)
-  pub exactly : AreGapsOf table gaps
-  pub exactly_differ : AreDifferencesOf table differences
-  pub found : findings ≡ map (Found Missing) gaps ++ (map (Found Differs) differences ++ Counted (length table) (length gaps) ∷ [])
+  pub exactly : AreGapsOf table.entries gaps
+  pub exactly_differ : AreDifferencesOf table.entries differences
+  pub found : findings ≡ map (Found Missing) gaps ++ (map (Found Differs) differences
+      ++ (map Idle (idle_types table.definitions) ++ Counted (length table.entries) (length gaps) ∷ []))
 
--- some pair is found
-abbrev pub has_found : List Entry → Bool
-has_found table = not (length (gaps_of table) + length (differences_of table) == 0)
+-- some pair is found, or such a type
+abbrev pub has_found : TableValue → Bool
+has_found table =
+    not (length (gaps_of table.entries) + length (differences_of table.entries)
+    + length (idle_types table.definitions) == 0)
 
 -- what is said of a table; of a faulty one its fault, with its cause, if causes are wanted
 abbrev pub check_statements : Bool → TableGiven → List Statement
 check_statements wanted (Err fault) = Faults fault.0 fault.1 (told_if wanted fault.2) ∷ []
-check_statements wanted (Ok table) = map Finds (check_findings table.entries)
+check_statements wanted (Ok table) = map Finds (check_findings table)
 
 -- what is said of a table, as it is written
 abbrev pub check_output : Form → Bool → TableGiven → List OutputLine
 check_output form wanted (Err fault) = output_line_in form (Faults fault.0 fault.1 (told_if wanted fault.2)) ∷ []
-check_output form wanted (Ok table) = outputs (finding_text form) (check_findings table.entries)
+check_output form wanted (Ok table) = outputs (finding_text form) (check_findings table)
 
--- 2 for a faulty table, 1 for one of which a pair is found, else 0
+-- 2 for a faulty table, 1 for one of which a pair is found or a type, else 0
 abbrev pub check_status : TableGiven → Status
 check_status (Err fault) = Unusable
-check_status (Ok table) = status_if (has_found table.entries)
+check_status (Ok table) = status_if (has_found table)
 
 -- ---- the whole run
 

@@ -3,7 +3,7 @@ use Rattle.std.proofs.Common.{◌≡◌, ◌↔◌, inl, inr, ℕ, true, List, O
 use Rattle.std.specs.Prelude.{IfSome}
 use Rattle.idn_text.specs.declared.refusal.Refusal.{Refusal}
 use Rattle.idn_label.specs.FirstFault.{IsRegistrable}
-use Rattle.variant_table.specs.Entries.{Entry, TableValue}
+use Rattle.variant_table.specs.Entries.{TableValue}
 use Rattle.variant_table.specs.Differences.{differences_of}
 use Rattle.variant_table.specs.Gaps.{gaps_of}
 use Rattle.variant_table.specs.WellFormed.{IsWellFormed}
@@ -14,12 +14,10 @@ use Rattle.valid_labels.specs.Validity.{IsSound, IsValid}
 use Rattle.valid_labels.proofs.NothingLemmas.{nothing-is-asked}
 use Rattle.valid_labels.proofs.TestLemmas.{tests-agree}
 use Rattle.variant_list.specs.Laws.{IsTested}
-use Rattle.variant_list.specs.Parts.Part.{Whole}
 use Rattle.variant_list.specs.Labels.{IsRising}
 use Rattle.variant_list.specs.Spelled.{spelled}
 use Rattle.variant_list.specs.Spelling.{Spells}
-use Rattle.variant_list.specs.Tested.{tested}
-use Rattle.variant_list.specs.Variants.{IsVariant, candidates, fits_label, variants}
+use Rattle.variant_list.specs.Variants.{IsVariant, candidates, fits_label}
 use Rattle.variant_list.proofs.ListingLemmas.{fits_label-short, short-fits_label}
 use Rattle.variant_list.proofs.ListedLemmas.{IsListOf-same}
 use Rattle.variant_list.proofs.TestedLaws.{tested_are_listed}
@@ -28,36 +26,37 @@ use Rattle.idn_class.specs.declared.properties.Properties.{Properties}
 use Rattle.registered_labels.specs.Registered.{AreRegistered}
 use Rattle.idn2_options.specs.Settings.{Settings}
 use Rattle.idn_label.specs.Answers.{unless_fault}
-use Rattle.idn2_answers.specs.Listings.{Filter, filter_of, variants_after, tested_after, stop_of, disposition, block, IsAhead, IsListed, IsTried, IsBlock}
+use Rattle.idn2_answers.specs.Listings.{Filter, filter_of, variants_after, tested_after, stop_of, block, IsAhead, IsListed, IsTried, IsBlock}
 use Rattle.idn2_answers.specs.Answers.{block_among, listing_answer, variants_answer, IsBlockAmong, IsListing}
 use Rattle.idn2_answers.proofs.FoundLabels.{collision_block-is}
 use Rattle.idn2_answers.specs.Transcript.{IsCheck, check_findings}
-use Rattle.idn2_answers.proofs.DisposedLabels.{disposition-IsDisposition}
-use Rattle.idn2_answers.proofs.FilterLemmas.{accepted-is, alive-is}
+use Rattle.idn2_answers.specs.Dispositions.{disposition}
+use Rattle.idn2_answers.proofs.DispositionTests.{disposition-IsDisposition}
+use Rattle.idn2_answers.proofs.FilterLemmas.{accepted-is, alive-is, registrable-some}
 use Rattle.idn2_cli.proofs.SpelledLemmas.{spelled-replacements}
 use Rattle.idn2_answers.proofs.AdmittedLabels.{admitted-made, admitted_answer, admitted_or_refused, refused_answer}
 
 -- what a label spells is valid where the table asks nothing
 pub spelled-valid : (table : TableValue) (label v : List ℕ) → IsSound table → Spells table label v → asks_nothing table ≡ true → IsValid table v
 spelled-valid table label v sound spells free =
-    nothing-is-asked.valid table v ((tests-agree.nothing table sound.entries).0 free) (spelled-replacements Whole table label v spells)
+    nothing-is-asked.valid table v ((tests-agree.nothing table sound.entries).0 free) (spelled-replacements table label v spells)
 
 same_listed : (o : Settings) (table : TableValue) (label v : List ℕ) → IsSound table
-    → IsVariant (filter_of o.properties table).accepts table label o.after v ↔ IsListed o table label v
+    → IsVariant (filter_of o.properties table label).accepts table label o.after v ↔ IsListed o table label v
 same_listed o table label v sound = (
   λ i.
-      let both = (accepted-is o.properties table v sound (spelled-valid table label v sound i.spelled)).0 i.accepted in
-      record { registrable = both.0; valid = both.1; greater = i.greater; spelled = i.spelled },
-  λ l. record { accepted = (accepted-is o.properties table v sound (λ free. l.valid)).1 (l.registrable, l.valid); spelled = l.spelled; greater = l.greater },
+      let all = (accepted-is o.properties table label v sound (spelled-valid table label v sound i.spelled) i.spelled).0 i.accepted in
+      record { registrable = all.0; valid = all.1; greater = i.greater; spelled = i.spelled; kept = all.2 },
+  λ l. record { accepted = (accepted-is o.properties table label v sound (λ free. l.valid) l.spelled).1 (l.registrable, l.valid, l.kept); spelled = l.spelled; greater = l.greater },
 )
 
 same_tried : (o : Settings) (table : TableValue) (label v : List ℕ) → IsSound table
-    → IsTested (filter_of o.properties table).hopeless table label o.after v ↔ IsTried o table label v
+    → IsTested (filter_of o.properties table label).hopeless table label o.after v ↔ IsTried o table label v
 same_tried o table label v sound = (
   λ t.
-      let both = (alive-is o.properties table v sound (spelled-valid table label v sound t.spelled)).0 t.alive in
+      let both = (alive-is o.properties table label v sound (spelled-valid table label v sound t.spelled)).0 t.alive in
       record { short = t.short; alive = both.0; found = both.1; greater = t.greater; spelled = t.spelled },
-  λ t. record { spelled = t.spelled; short = t.short; greater = t.greater; alive = (alive-is o.properties table v sound (spelled-valid table label v sound t.spelled)).1 (t.alive, t.found) },
+  λ t. record { spelled = t.spelled; short = t.short; greater = t.greater; alive = (alive-is o.properties table label v sound (spelled-valid table label v sound t.spelled)).1 (t.alive, t.found) },
 )
 
 same_ahead : (o : Settings) (table : TableValue) (label v : List ℕ) → IsVariant fits_label table label o.after v ↔ IsAhead o table label v
@@ -80,12 +79,14 @@ block-IsBlock o table label sound = record {
   stop = stop_of f o (spelled table label);
   stops = refl;
   field = disposition table label;
-  disposed = λ v. disposition-IsDisposition table label v formed;
+  disposed = λ v at.
+      let l = (same_listed o table label v sound).0 (((variants-AreVariants f.accepts table label o.after formed).members v).0 at) in
+      disposition-IsDisposition table label sound v (registrable-some o.properties v l.registrable) l.spelled;
   exact = refl;
 }
   where
     f : Filter
-    f = filter_of o.properties table
+    f = filter_of o.properties table label
 
     formed : IsWellFormed table.entries
     formed = sound.entries
@@ -117,11 +118,11 @@ pub variants_answer-IsListing : (o : Settings) (table : TableValue) (label : Lis
 variants_answer-IsListing o table label sound rising registrable =
     subst (IsListing o table label) (sym (ap (λ (f : Option Refusal). unless_fault f (listing_answer o table label)) registrable)) (listing o table label sound rising)
 
-pub check_findings-IsCheck : (entries : List Entry) → IsWellFormed entries → IsCheck entries (check_findings entries)
-check_findings-IsCheck entries formed = record {
-  gaps = gaps_of entries;
-  differences = differences_of entries;
-  exactly = gaps_of_are_gaps entries formed;
-  exactly_differ = differences_of_are_differences entries formed;
+pub check_findings-IsCheck : (table : TableValue) → IsWellFormed table.entries → IsCheck table (check_findings table)
+check_findings-IsCheck table formed = record {
+  gaps = gaps_of table.entries;
+  differences = differences_of table.entries;
+  exactly = gaps_of_are_gaps table.entries formed;
+  exactly_differ = differences_of_are_differences table.entries formed;
   found = refl;
 }

@@ -1,6 +1,7 @@
 -- The pairs that are found in a table, as they are written.
 use Rattle.std.proofs.Common.{◌≡◌, ◌<◌, ◌⊎◌, inl, inr, ℕ, List, [], ◌∷◌, ◌++◌, All, map, length, get_or, Contains, refl, sym, ap, subst, ◌∙◌, Vec}
-use Rattle.variant_table.specs.Entries.{Entry, sequences_in, replacements}
+use Rattle.variant_table.specs.Entries.{Entry, TableValue, sequences_in, replacements}
+use Rattle.variant_table.specs.IdleTypes.{idle_types}
 use Rattle.variant_table.specs.WellFormed.{IsWellFormed, IsEntry, IsSequence}
 use Rattle.std.specs.declared.alloc.Global.{Global}
 use Rattle.std.proofs.lemmas.List.{get_or-map, length-map}
@@ -8,7 +9,7 @@ use Rattle.variant_table.specs.Gaps.{IsGap, IsPair, AreGapsOf, gaps_of, pair_of,
 use Rattle.variant_table.specs.Differences.{AreDifferencesOf, differences_of}
 use Rattle.answer_json.specs.declared.checked.PairFinding.TheVariants.{Missing, Differs}
 use Rattle.idn2_options.specs.declared.command_line.form.Form.{Form}
-use Rattle.idn2_answers.specs.Said.{Finding, Found, Counted, finding_text}
+use Rattle.idn2_answers.specs.Said.{Finding, Found, Idle, Counted, finding_text}
 use Rattle.idn2_output.specs.OutputLines.{OutputLine, Output, outputs}
 use Rattle.idn2_answers.specs.Transcript.{check_findings}
 use Rattle.idn2_cli.specs.inner.PairSequences.{HoldSequences}
@@ -50,13 +51,18 @@ outputs-append : {X : Type 0} (text : X → List ℕ) (xs ys : List X) → outpu
 outputs-append text [] ys = refl
 outputs-append text (x ∷ xs) ys = ap (λ (ps : List OutputLine). Output (text x) ∷ ps) (outputs-append text xs ys)
 
--- the gaps, then the differences, then the number of the gaps
-pub check-split : (form : Form) (table : List Entry) (gaps differences : List (List ℕ × List ℕ)) → gaps ≡ gaps_of table → differences ≡ differences_of table
+-- the idle types, and then the number of the gaps
+pub last-split : (form : Form) (idle : List (List ℕ)) (entries gaps : ℕ)
+    → outputs (finding_text form) (map Idle idle ++ Counted entries gaps ∷ []) ≡ outputs (finding_text form) (map Idle idle) ++ Output (finding_text form (Counted entries gaps)) ∷ []
+last-split form idle entries gaps = outputs-append (finding_text form) (map Idle idle) (Counted entries gaps ∷ [])
+
+-- the gaps, then the differences, then the idle types and the number of the gaps
+pub check-split : (form : Form) (table : TableValue) (gaps differences : List (List ℕ × List ℕ)) → gaps ≡ gaps_of table.entries → differences ≡ differences_of table.entries
     → outputs (finding_text form) (check_findings table)
     ≡ outputs (finding_text form) (map (Found Missing) gaps)
-    ++ (outputs (finding_text form) (map (Found Differs) differences) ++ Output (finding_text form (Counted (length table) (length gaps))) ∷ [])
+    ++ (outputs (finding_text form) (map (Found Differs) differences) ++ outputs (finding_text form) (map Idle (idle_types table.definitions) ++ Counted (length table.entries) (length gaps) ∷ []))
 check-split form table gaps differences missing differing =
-    ap (outputs text) (ap (λ ps. map (Found Missing) ps ++ (map (Found Differs) (differences_of table) ++ last ps)) (sym missing) ∙ ap (λ ps. map (Found Missing) gaps ++ (map (Found Differs) ps ++ last gaps)) (sym differing))
+    ap (outputs text) (ap (λ ps. map (Found Missing) ps ++ (map (Found Differs) (differences_of table.entries) ++ last ps)) (sym missing) ∙ ap (λ ps. map (Found Missing) gaps ++ (map (Found Differs) ps ++ last gaps)) (sym differing))
     ∙ outputs-append text (map (Found Missing) gaps) (map (Found Differs) differences ++ last gaps)
     ∙ ap (λ ps. outputs text (map (Found Missing) gaps) ++ ps) (outputs-append text (map (Found Differs) differences) (last gaps))
   where
@@ -64,7 +70,7 @@ check-split form table gaps differences missing differing =
     text = finding_text form
 
     last : List (List ℕ × List ℕ) → List Finding
-    last ps = Counted (length table) (length ps) ∷ []
+    last ps = map Idle (idle_types table.definitions) ++ Counted (length table.entries) (length ps) ∷ []
 
 -- as many pairs as there are in memory
 pub pairs_of-length : (pairs : List (Vec ℕ Global × Vec ℕ Global)) → length (pairs_of pairs) ≡ length pairs

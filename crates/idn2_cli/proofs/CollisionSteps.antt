@@ -1,14 +1,11 @@
 -- The block of a label that is asked among registered ones, label by label.
-use Rattle.std.proofs.Common.{◌≡◌, ◌↔◌, ◌≤◌, ◌<◌, ◌+◌, ◌-◌, ◌&&◌, ℕ, zero, suc, List, [], ◌∷◌, ◌++◌, Bool, true, false, cond, Option, Some, None, IfSome, All, Contains, length, map, refl, sym, ap, subst, ◌∙◌, if◌then◌else◌, arith}
+use Rattle.std.proofs.Common.{◌≡◌, ◌↔◌, ◌≤◌, ◌<◌, ◌+◌, ◌-◌, ◌&&◌, ◌==◌, not, ℕ, zero, suc, List, [], ◌∷◌, ◌++◌, Bool, true, false, cond, Option, Some, None, IfSome, All, Contains, length, map, refl, sym, ap, subst, ◌∙◌, if◌then◌else◌, arith}
 use Rattle.std.specs.List.{filter, slice_get, slice_index_or}
 use Rattle.std.specs.Option.{option_map}
 use Rattle.std.specs.Ordering.{is_gt}
+use Rattle.std.proofs.lemmas.Bool.{and_parts}
 use Rattle.std.proofs.lemmas.List.{append_assoc, map-append, length-append}
 use Rattle.std.proofs.lemmas.Option.{get_or_from_slice_get, slice_get_within}
-use Rattle.std.proofs.lemmas.List.Elements.{All-contains}
-use Rattle.reading_kinds.proofs.TakenLemmas.{Contains-slice_get}
-use Rattle.idn_class.specs.declared.properties.Properties.{Properties}
-use Rattle.idn_label.specs.FirstFault.{IsRegistrable}
 use Rattle.variant_table.specs.Entries.{TableValue}
 use Rattle.valid_labels.specs.Validity.{IsSound}
 use Rattle.variant_list.specs.Closure.{AreNear}
@@ -18,15 +15,15 @@ use Rattle.registered_labels.specs.Registered.{AreRegistered}
 use Rattle.registered_labels.specs.Collisions.{Matching, collisions, collisions_ahead}
 use Rattle.idn2_options.specs.Settings.{Settings, IsCount}
 use Rattle.answer_json.specs.declared.collision.Regards.{Regards}
-use Rattle.idn2_answers.specs.Said.{Said, BlockEnd}
+use Rattle.idn2_answers.specs.Said.{Said, BlockEnd, NamedEnd}
 use Rattle.idn2_answers.specs.Said as said
 use Rattle.idn2_answers.specs.Listings.{nth_if_given, block_to, is_registrable}
-use Rattle.idn2_answers.specs.Collisions.{IsGood, collide, collision_block, collisions_after, regards_of}
+use Rattle.idn2_answers.specs.Collisions.{IsGood, collide, collision_block, collisions_after, is_either, is_found, is_itself_left_out, named_if, regards_of}
 use Rattle.idn2_answers.proofs.CollisionTests.{collide-told, near-of}
 use Rattle.idn2_answers.proofs.FoundLabels.{found-walked}
 use Rattle.idn2_answers.proofs.LabelStops.{get-above}
 use Rattle.idn2_cli.specs.declared.modes.collisions.Collision.{Collision}
-use Rattle.idn2_cli.specs.inner.FoundLabels.{AreWithin, collides_by, collision_line_by, found_block, label_of, lines_from, said_of, stop_at}
+use Rattle.idn2_cli.specs.inner.FoundLabels.{AreWithin, collision_line_by, ending, found_block, label_of, lines_from, said_of, stop_at, told_block}
 use Rattle.idn2_cli.specs.declared.modes.decided.Decisions.{Decisions}
 use Rattle.idn2_cli.specs.inner.Decided.{IsOfPair}
 use Rattle.idn2_cli.specs.inner.LineAnswers.{reaches}
@@ -73,18 +70,28 @@ last_of xs x =
 
 module _ (o : Settings) (table : TableValue) (label : List ℕ) where
   abbrev test : List ℕ → Bool
-  test = collides_by o table label
+  test = is_found o table label
 
   abbrev line : List ℕ → Said
   line = collision_line_by o table label
 
   -- the block, by the labels that a variant graph spells, which are those that are near the label
   pub block-walked : (registered spelled : List (List ℕ)) → IsSound table → AreRegistered o.properties registered → IfSome o.limit IsCount → ((w : List ℕ) → Contains spelled w ↔ AreNear table label w)
-      → collision_block o table registered label ≡ lines_from line o.limit 0 (filter test (collisions spelled registered o.after))
+      → collision_block o table registered label ≡ named_if o.others label (lines_from line o.limit 0 (filter test (collisions spelled registered o.after)))
   block-walked registered spelled sound all limits near =
-      let sure : (v : List ℕ) → test v ≡ true → Contains spelled v = λ v told. (near v).1 (near-of o table label v ((collide-told o table sound label v).0 told)) in
-      block-lines line (collisions_after o table registered label) o.limit (IsRising-filter (λ v. is_gt (label_cmp v o.after) && collide (is_registrable o.properties) table label v) registered all.rising) limits
-      ∙ ap (lines_from line o.limit 0) (sym (found-walked test spelled o.after sure registered))
+      let sure : (v : List ℕ) → test v ≡ true → Contains spelled v =
+      λ v told. (near v).1 (near-of o table label v ((collide-told o table sound label v).0 (and_parts (not (is_itself_left_out o label v)) (collide (is_registrable o.properties) table label v) told).1)) in
+      ap (named_if o.others label) (
+      block-lines line (collisions_after o table registered label) o.limit (IsRising-filter (λ v. is_gt (label_cmp v o.after) && test v) registered all.rising) limits
+      ∙ ap (lines_from line o.limit 0) (sym (found-walked test spelled o.after sure registered)))
+
+  -- the label itself, if that is left out
+  pub test-left_out : (v : List ℕ) → is_itself_left_out o label v ≡ true → test v ≡ false
+  test-left_out v left = ap (λ (b : Bool). not b && collide (is_registrable o.properties) table label v) left
+
+  -- any other label, by what it and the label are to each other
+  pub test-other : (v : List ℕ) (told : Regards) → is_itself_left_out o label v ≡ false → told ≡ regards_of (is_registrable o.properties) table label v → test v ≡ is_either told
+  test-other v told kept is = ap (λ (b : Bool). not b && collide (is_registrable o.properties) table label v) kept ∙ ap is_either (sym is)
 
   -- what a walk still comes to
   abbrev pub ahead : Matching → List (List ℕ)
@@ -161,6 +168,33 @@ told-of o table label v d told ok pair from =
     subst (λ (t : TableValue). IsGood o t d.label.now → ok → told ≡ regards_of (is_registrable o.properties) t d.label.now v) pair.table_is from in
     subst (λ (l : List ℕ). IsGood o table l → ok → told ≡ regards_of (is_registrable o.properties) table l v) pair.label_is at_table
 
--- a label of this number may be registered
-pub registrable-at : (properties : Properties) (registered : List (List ℕ)) (number : ℕ) (v : List ℕ) → AreRegistered properties registered → slice_get registered number ≡ Some v → IsRegistrable properties v
-registrable-at properties registered number v all at = All-contains (IsRegistrable properties) registered v all.registrable (Contains-slice_get registered number v at)
+-- ---- a block, and its end
+
+named-parts : (others : Bool) (label : List ℕ) (registered : List (List ℕ)) (found : List Collision) (end : Said)
+    → named_if others label (map (said_of registered) found ++ end ∷ []) ≡ map (said_of registered) found ++ named_if others label (end ∷ [])
+named-parts true label registered [] end = refl
+named-parts true label registered (c ∷ found) end = ap (λ (l : List Said). said_of registered c ∷ l) (named-parts true label registered found end)
+named-parts false label registered found end = refl
+
+pub told-parts : (o : Settings) (label : List ℕ) (registered : List (List ℕ)) (found : List Collision) → told_block o label registered found ≡ map (said_of registered) found ++ ending o label registered found
+told-parts o label registered found = named-parts o.others label registered found (BlockEnd (length found) (stop_at o.limit registered found))
+
+module _ (o : Settings) (label : List ℕ) (registered : List (List ℕ)) (found : List Collision) (limit : Option ℕ) (same : limit ≡ o.limit) where
+  -- without `--others`
+  pub ending-plain : o.others ≡ false → ending o label registered found ≡ BlockEnd (length found) (stop_at limit registered found) ∷ []
+  ending-plain off =
+      ap (λ (b : Bool). named_if b label (BlockEnd (length found) (stop_at o.limit registered found) ∷ [])) off
+      ∙ ap (λ (n : Option ℕ). BlockEnd (length found) (stop_at n registered found) ∷ []) (sym same)
+
+  -- with it, where none is found
+  pub ending-none : o.others ≡ true → (length found == 0) ≡ true → ending o label registered found ≡ []
+  ending-none on none =
+      ap (λ (b : Bool). named_if b label (BlockEnd (length found) (stop_at o.limit registered found) ∷ [])) on
+      ∙ ap (λ (b : Bool). (if b then [] else NamedEnd label (length found) (stop_at o.limit registered found) ∷ []) ++ []) none
+
+  -- and where some are
+  pub ending-named : o.others ≡ true → (length found == 0) ≡ false → ending o label registered found ≡ NamedEnd label (length found) (stop_at limit registered found) ∷ []
+  ending-named on some =
+      ap (λ (b : Bool). named_if b label (BlockEnd (length found) (stop_at o.limit registered found) ∷ [])) on
+      ∙ ap (λ (b : Bool). (if b then [] else NamedEnd label (length found) (stop_at o.limit registered found) ∷ []) ++ []) some
+      ∙ ap (λ (n : Option ℕ). NamedEnd label (length found) (stop_at n registered found) ∷ []) (sym same)

@@ -128,5 +128,6 @@ settings_by p = record {
   tries = 1000000;
   steps = None;
   among = None;
+  others = false;
   registered = None;
 }

@@ -4,6 +4,8 @@ pub mod TextAnswers
 pub mod BlockSteps
 -- What a listing asks of labels, by the table that they are tested by.
 pub mod RuledFilters
+-- What a table admits, by its test, or without one where it asks nothing.
+pub mod AdmissionLemmas
 -- What a test of labels finds and keeps.
 pub mod RulingLemmas
 -- What a label spells joins sources and variants of the table.
@@ -22,9 +24,11 @@ pub mod TableLemmas
 pub mod CheckLemmas
 -- The listing of a label's variants, and the labels in it.
 pub mod ListingLemmas
--- Which labels may be allocated, as tests tell it.
-pub mod AllocationLemmas
--- The third field of a variant's line: which variants the table without its blocked variants spells.
+-- The rules that a label matches make a difference as far as actions ask for them.
+pub mod AskedRules
+-- How a label appears in a listing, by what is found of its readings and of its rules.
+pub mod AppearanceLemmas
+-- What is written of a variant graph is the block of its label.
 pub mod DispositionLemmas
 -- The block and the check that compute are those that are listed.
 pub mod BlockMembers

@@ -1,21 +1,24 @@
 -- What a listing asks of labels, by the table that they are tested by.
-use Rattle.std.proofs.Common.{◌≡◌, ◌||◌, ℕ, zero, suc, List, [], ◌∷◌, Option, Some, None, Bool, true, false, refl, sym, ap, ◌∙◌, if◌then◌else◌, arith}
+use Rattle.std.proofs.Common.{◌≡◌, ◌||◌, not, ℕ, zero, suc, List, [], ◌∷◌, ◌++◌, Option, Some, None, Bool, true, false, refl, sym, ap, ◌∙◌, if◌then◌else◌, arith}
 use Rattle.std.specs.Prelude.{nat_le}
 use Rattle.std.specs.Option.{is_none, option_map}
 use Rattle.std.proofs.lemmas.Bool.Decides.{nat_tests}
-use Rattle.std.proofs.lemmas.Bool.{and_from}
+use Rattle.std.proofs.lemmas.Bool.{and_from, and_parts}
 use Rattle.idn_class.specs.declared.properties.Properties.{Properties}
 use Rattle.idn_class.specs.DeadPrefixes.{hopeless}
 use Rattle.idn_label.specs.FirstFault.{IsRegistrable}
 use Rattle.variant_table.specs.Entries.{TableValue}
 use Rattle.valid_labels.specs.Tests.{asks_nothing, is_dead_under, is_valid}
 use Rattle.variant_list.specs.Beginnings.{shortest_hopeless}
+use Rattle.valid_labels.specs.Testing.{Testing}
 use Rattle.idn2_answers.proofs.FilterLemmas.{IsSound, registrable_labels-IsSound, ruled_labels-IsSound}
 use Rattle.idn2_answers.proofs.LostBeginnings.{not-left, not-right}
-use Rattle.idn2_cli.specs.inner.Ruling.{IsValidityBy, filter_by, lesser_count, dead_prefix_in, passes, ruling_of}
+use Rattle.idn2_cli.specs.inner.Dispositions.{Listing}
+use Rattle.idn2_cli.specs.inner.Ruling.{IsValidityBy, filter_by, filter_for, filter_in, lesser_count, dead_prefix_in, passes, ruling_in, ruling_of}
 use Rattle.valid_labels.specs.declared.validity.Validity.{Validity}
 use Rattle.valid_labels.specs.declared.validity.Validity.TheVariants.{DeadPrefix, Valid, NotValid}
-use Rattle.idn2_answers.specs.Listings.{filter_if, filter_of, is_registrable}
+use Rattle.idn2_answers.specs.Dispositions.{is_left_out}
+use Rattle.idn2_answers.specs.Listings.{Filter, filter_if, filter_of, is_registrable, without_left_out}
 
 -- ---- the filter by the table that labels are tested by
 
@@ -24,13 +27,26 @@ module _ (properties : Properties) where
   filter_by-IsSound None = registrable_labels-IsSound properties
   filter_by-IsSound (Some table) = ruled_labels-IsSound properties table
 
+  -- and so it is for a listing
+  pub filter_for-IsSound : (test : Option Testing) (of : Listing) → IsSound properties (filter_for properties test of)
+  filter_for-IsSound test of =
+      let sound = filter_by-IsSound (ruling_in test) in
+      let asked : Filter = filter_in properties test in record {
+        registrable = λ v h. sound.registrable v ((and_parts (asked.accepts v) (not (is_left_out of.table of.label v)) h).0);
+        for_good = λ w z h. not-left (asked.accepts (w ++ z)) (not (is_left_out of.table of.label (w ++ z))) (sound.for_good w z h);
+      }
+
   -- it is the filter of the table
-  pub filter_by-ruling : (table : TableValue) → filter_by properties (ruling_of table) ≡ filter_of properties table
+  pub filter_by-ruling : (table : TableValue) → filter_by properties (ruling_of table) ≡ filter_if properties (asks_nothing table) table
   filter_by-ruling table = by_test (asks_nothing table)
     where
       by_test : (b : Bool) → filter_by properties (if b then None else Some table) ≡ filter_if properties b table
       by_test true = refl
       by_test false = refl
+
+  -- and for a listing that of its table and its label
+  pub filter_for-ruling : (test : Option Testing) (of : Listing) → ruling_in test ≡ ruling_of of.table → filter_for properties test of ≡ filter_of properties of.table of.label
+  filter_for-ruling test of is = ap (without_left_out of.table of.label) (ap (filter_by properties) is ∙ filter_by-ruling of.table)
 
   pub accepts-passed : (ruling : Option TableValue) (v : List ℕ) → IsRegistrable properties v → passes ruling v ≡ true → (filter_by properties ruling).accepts v ≡ true
   accepts-passed None v registrable is = ap is_none registrable

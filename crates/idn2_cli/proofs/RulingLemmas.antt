@@ -1,5 +1,5 @@
 -- What a test of labels finds and keeps.
-use Rattle.std.proofs.Common.{◌≡◌, ◌≤◌, ◌<◌, ℕ, zero, suc, List, [], ◌∷◌, Bool, true, false, Option, Some, None, take, length, min, refl, sym, ap, subst, ◌∙◌, if◌then◌else◌, arith}
+use Rattle.std.proofs.Common.{◌≡◌, ◌≢◌, ◌≤◌, ◌<◌, ℕ, zero, suc, List, [], ◌∷◌, Bool, true, false, Option, Some, None, take, length, min, refl, sym, ap, subst, ◌∙◌, if◌then◌else◌, arith}
 use Rattle.std.proofs.Math.Nat.{min-le_left, min-le_right}
 use Rattle.std.proofs.lemmas.Bool.{false_from_ne_true}
 use Rattle.valid_labels.specs.Testing.{IsValidity, SharesCached, Testing}
@@ -78,9 +78,8 @@ new-kept (Some test) table label is sound = (sound-table test table is sound, ap
     none = let le = min-le_left 0 (length test.cached) in omega (arith, le)
 
 -- one that has forgotten what it kept
-pub forgotten-kept : (old new : Testing) (table : TableValue) (v : List ℕ) → ruling_in (Some old) ≡ ruling_of table → IsSound table → new.cached ≡ [] → new.table ≡ old.table → KeepsOf v (Some new)
-forgotten-kept old new table v is sound empty same =
-    (subst IsSound (sym same) (sound-table old table is sound), ap (λ (k : List ℕ). take (length k) v) empty ∙ sym empty)
+pub emptied-kept : (old new : Testing) (v : List ℕ) → IsSound old.table → new.cached ≡ [] → new.table ≡ old.table → KeepsOf v (Some new)
+emptied-kept old new v sound empty same = (subst IsSound (sym same) sound, ap (λ (k : List ℕ). take (length k) v) empty ∙ sym empty)
 
 -- the table of a test is that of which it is the ruling, and without a test the table asks nothing
 pub same-table : (test : Testing) (table : TableValue) → ruling_in (Some test) ≡ ruling_of table → test.table ≡ table
@@ -96,3 +95,7 @@ nothing-asked table sound is = (tests-agree.nothing table sound.entries).0 (by_t
     by_test : (b : Bool) → None ≡ (if b then None else Some table) → b ≡ true
     by_test true e = refl
     by_test false e = absurd (let clash : None ≡ Some table = e in cc)
+
+-- a label that has some code points
+pub some-point : (label : List ℕ) → 1 ≤ length label → label ≢ []
+some-point label some empty = absurd (omega (arith, some, ap length empty))

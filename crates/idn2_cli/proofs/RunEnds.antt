@@ -94,6 +94,14 @@ pub emits_memory : {A : Type 0} (old : Held) (output_lines : List OutputLine) (r
 emits_memory {A} old output_lines r why e memory =
     subst (λ (s : Result A Stop). Emits old old output_lines s) (sym (e ∙ ap Err memory)) (stops_first old output_lines)
 
+-- memory was refused after the table was read, and before a line was
+pub listed_stopped : (o : Settings) (table : TableValue) (start : Reading) (old : Held) (r : Result Status Stop) → o.mode ≡ Variants → IsUnread start → r ≡ Err stop.Memory → Does (mode_job o (Ok table)) start start old old r
+listed_stopped o table start old r e unread memory =
+    let job = mode_job (record o { mode = Variants }) (Ok table) in
+    does_mode o Variants (Ok table) job start start old old r e refl
+    (does_unread job start old old r unread (emits_memory old (job.output_lines []) r stop.Memory memory refl)
+    (subst (λ (s : Result Status Stop). IfOk s (λ status. (job.reads ≡ false) × (status ≡ job.status []))) (sym memory) tt) refl)
+
 -- ---- a mode that works by a table
 
 -- its table is the one that the text spells

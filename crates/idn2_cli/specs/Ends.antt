@@ -1,5 +1,6 @@
 -- How a run goes: to its end, or to a stop and a last message.
-use Rattle.std.specs.Prelude.{◌≡◌, ℕ, List, ◌⊎◌, ◌++◌, ◌≢◌, [], ◌∷◌, true, Result, MatchResult, Bool, false, IsTrue, Ok, Err}
+use Rattle.std.specs.Prelude.{◌≡◌, ℕ, List, ◌⊎◌, ◌++◌, ◌≢◌, [], ◌∷◌, true, Result, MatchResult, Bool, false, IsTrue, Ok}
+use Rattle.std.specs.Prelude.{Err}
 use Rattle.idn2_refusals.specs.Reports.{TakesText, TellsMemory, TellsUnreadLine, closing_message, closing_status}
 use Rattle.idn2_output.specs.Writing.{refusal_of, Held, Writes, IsCutBy, WritesUntil}
 use Rattle.idn2_output.specs.OutputLines.{OutputLine}
@@ -22,8 +23,8 @@ use Rattle.idn2_output.specs.declared.stop.Stop.TheVariants as stop
 
 -- ---- what is to be done
 
--- whether lines are read, and what is written for them, with which status; whether a table is read before them; which lines are
--- answered without memory, and of which the answer, once begun, goes on without
+-- whether lines are read, and what is written for them, with which status; whether a table is read before them; which
+-- lines are answered without memory, and of which the answer, once begun, goes on without
 pub record Job : Type 1 where
   pub reads : Bool
   pub output_lines : List Numbered → List OutputLine
@@ -63,7 +64,8 @@ mode_job o table = record {
 -- ---- to the end or to a stop
 
 -- to the end of the input, if it is read: all output lines are written
-pub record EndsWell (job : Job) (lines : List Numbered) (now : Reading) (old new : Held) (status : Status) : Type 0 where
+pub record EndsWell (job : Job) (lines : List Numbered) (now : Reading) (old new : Held)
+    (status : Status) : Type 0 where
   pub ended : IsTrue job.reads → now.state ≡ Ended
   pub output_lines : Writes old new (job.output_lines lines)
   pub answered : status ≡ job.status lines
@@ -71,7 +73,8 @@ pub record EndsWell (job : Job) (lines : List Numbered) (now : Reading) (old new
 -- a write or memory stopped the job at the last line that was read: all output lines of the lines before it are
 -- written, and then those of its own output lines that the stop let through; memory does so only where the answer to
 -- that line may take some, and then before any output line of it, or where going on with it may take some
-pub record StopsAtLine (job : Job) (why : Stop) (lines : List Numbered) (now : Reading) (written : List OutputLine) : Type 0 where
+pub record StopsAtLine (job : Job) (why : Stop) (lines : List Numbered) (now : Reading)
+    (written : List OutputLine) : Type 0 where
   pub before : List Numbered
   pub line : Numbered
   pub part : List OutputLine
@@ -82,9 +85,10 @@ pub record StopsAtLine (job : Job) (why : Stop) (lines : List Numbered) (now : R
   pub begun : why ≡ stop.Memory → (part ≡ []) ⊎ (¬ BodyNeedsNone job.goes_on line.body)
   pub stand : written ≡ job.output_lines before ++ part
 
--- a write or memory stopped the job before a line was read, and the reader was not called: while the table was read, at the
--- message of its fault, or in its check; memory does so only where a table is read
-pub record StopsUnread (job : Job) (why : Stop) (lines : List Numbered) (start now : Reading) (written : List OutputLine) : Type 0 where
+-- a write or memory stopped the job before a line was read, and the reader was not called: while the table was read, at
+-- the message of its fault, or in its check; memory does so only where a table is read
+pub record StopsUnread (job : Job) (why : Stop) (lines : List Numbered) (start now : Reading)
+    (written : List OutputLine) : Type 0 where
   pub no_line : lines ≡ []
   pub unread : now ≡ start
   pub cut : IsCutBy why (job.output_lines []) written
@@ -93,11 +97,14 @@ pub record StopsUnread (job : Job) (why : Stop) (lines : List Numbered) (start n
 -- where a read stops a job, all output lines of the lines that it read stand, which are those that a line feed ends;
 -- where a write or memory does, it stops at once, and no line is read after that
 abbrev pub Stands : Job → Stop → List Numbered → Reading → Reading → List OutputLine → Type 0
-Stands job stop.Reading lines start now written = HasStopped start now × (now.state ≡ Stopped) × (written ≡ job.output_lines lines)
-Stands job why lines start now written = StopsAtLine job why lines now written ⊎ StopsUnread job why lines start now written
+Stands job stop.Reading lines start now written =
+    HasStopped start now × (now.state ≡ Stopped) × (written ≡ job.output_lines lines)
+Stands job why lines start now written =
+    StopsAtLine job why lines now written ⊎ StopsUnread job why lines start now written
 
 -- to a stop: of the output lines stands what it left
-pub record EndsEarly (job : Job) (lines : List Numbered) (start now : Reading) (old new : Held) (why : Stop) : Type 0 where
+pub record EndsEarly (job : Job) (lines : List Numbered) (start now : Reading) (old new : Held)
+    (why : Stop) : Type 0 where
   pub written : List OutputLine
   pub output_lines : WritesUntil why old new written
   pub stands : Stands job why lines start now written
@@ -121,7 +128,9 @@ TellsUnread o text registers.Memory old new status = TellsMemory old new status
 -- the refusal of a stop is the last that is written. There is none where the messages failed before
 abbrev pub Closes : Stop → Held → Held → Type 0
 Closes stop.Messages old new = new ≡ old
-Closes why old new = (new ≡ record old { messages = new.messages }) × TakesText (closing_message (refusal_of why)) old.messages new.messages
+Closes why old new =
+    (new ≡ record old { messages = new.messages }) × TakesText (closing_message (refusal_of why)) old.messages
+    new.messages
 
 -- the job stopped, and then came the last message
 pub record Stops (job : Job) (start now : Reading) (old new : Held) (status : Status) : Type 0 where

@@ -38,24 +38,27 @@ pub record IsLineOf (properties : Properties) (label : List ℕ) (line : Numbere
   pub registrable : IsRegistrable properties label
   pub utf8 : line.body ≡ Some (utf8_of label)
 
--- these bytes stand on the output for a line: those of the listing of its label, or, where it is no label that may be registered,
--- those of a refusal
+-- these bytes stand on the output for a line: those of the listing of its label, or, where it is no label that may be
+-- registered, those of a refusal
 pub record IsPrintedFor (o : Settings) (table : TableValue) (line : Numbered) (printed : List ℕ) : Type 0 where
   pub listing : (label : List ℕ) → IsLineOf o.properties label line
-      → (answer : LineAnswer) × IsListing o table label answer × (printed ≡ printed_of o.form (explained_in Variants o table) line answer)
+      → (answer : LineAnswer) × IsListing o table label answer
+      × (printed ≡ printed_of o.form (explained_in Variants o table) line answer)
   pub refused : ((label : List ℕ) → IsLineOf o.properties label line → ⊥)
       → (refusal : Refusal) × (printed ≡ printed_of o.form (explained_in Variants o table) line (Err refusal))
 
 -- the same for each of these lines, in their order
 abbrev pub ArePrintedFor : Settings → TableValue → List Numbered → List (List ℕ) → Type 0
 ArePrintedFor o table [] [] = Unit {0}
-ArePrintedFor o table (line ∷ lines) (printed ∷ others) = IsPrintedFor o table line printed × ArePrintedFor o table lines others
+ArePrintedFor o table (line ∷ lines) (printed ∷ others) =
+    IsPrintedFor o table line printed × ArePrintedFor o table lines others
 ArePrintedFor o table [] (printed ∷ others) = ⊥
 ArePrintedFor o table (line ∷ lines) [] = ⊥
 
--- from here to there these lines of the input were read, and the output took what is printed for each of them, one after the
--- other: if the run answers 0 or 1, for all lines of the input and to the end, else up to where it stopped
-pub record PrintsListings (o : Settings) (table : TableValue) (start now : Reading) (old new : Option (List ℕ)) (status : Status) : Type 0 where
+-- from here to there these lines of the input were read, and the output took what is printed for each of them, one
+-- after the other: if the run answers 0 or 1, for all lines of the input and to the end, else up to where it stopped
+pub record PrintsListings (o : Settings) (table : TableValue) (start now : Reading) (old new : Option (List ℕ))
+    (status : Status) : Type 0 where
   pub given : List ℕ
   pub lines : List Numbered
   pub read : HasRead start now given lines

@@ -13,7 +13,8 @@ use Rattle.idn2_refusals.specs.Explained.{Explained, TextCauseNeedsNone}
 use Rattle.idn2_answers.specs.Transcript.{explained_in, TableGiven}
 use Rattle.idn2_options.specs.Settings.{Settings}
 use Rattle.idn2_options.specs.declared.command_line.mode.Mode.{Mode}
-use Rattle.idn2_options.specs.declared.command_line.mode.Mode.TheVariants.{Lookup, Register, Decode, Variants, Jump, CheckTable}
+use Rattle.idn2_options.specs.declared.command_line.mode.Mode.TheVariants.{Lookup, Register, Decode, DecodeOld}
+use Rattle.idn2_options.specs.declared.command_line.mode.Mode.TheVariants.{Variants, Jump, CheckTable}
 
 -- the bytes of a name of which each label is decoded without memory
 abbrev pub DecodesLineWithoutMemory : List ℕ → Type 0
@@ -28,6 +29,7 @@ abbrev pub AnswersWithoutMemory : Mode → Settings → List ℕ → Type 0
 AnswersWithoutMemory Lookup o line = LooksUpWithoutMemory o.std3 line
 AnswersWithoutMemory Register o line = RegistersWithoutMemory (chars line)
 AnswersWithoutMemory Decode o line = DecodesLineWithoutMemory line
+AnswersWithoutMemory DecodeOld o line = ⊥
 AnswersWithoutMemory Variants o line = IsRefusedWithoutMemory o.properties (chars line)
 AnswersWithoutMemory Jump o line = IsRefusedWithoutMemory o.properties (requested_label (chars line))
 AnswersWithoutMemory CheckTable o line = ⊥
@@ -45,13 +47,15 @@ TellsWithoutMemory how bytes (Ok lines) = Unit {0}
 TellsWithoutMemory how bytes (Err refusal) = TextCauseNeedsNone how bytes refusal
 
 -- the bytes of a line that needs no memory for its answer, and none for a cause
-pub record NeedsNone (explained : Explained) (answer : List ℕ → LineAnswer) (needs_none : List ℕ → Type 0) (line : List ℕ) : Type 0 where
+pub record NeedsNone (explained : Explained) (answer : List ℕ → LineAnswer) (needs_none : List ℕ → Type 0)
+    (line : List ℕ) : Type 0 where
   pub told : TellsWithoutMemory explained line (text_answer answer line)
   pub answered : needs_none line
 
 -- the same of a mode by its table; where that has a fault, no line is answered
 abbrev pub ServesWithoutMemory : Mode → Settings → TableGiven → List ℕ → Type 0
-ServesWithoutMemory mode o (Ok table) line = NeedsNone (explained_in mode o table) (mode_answer mode o table) (AnswersWithoutMemory mode o) line
+ServesWithoutMemory mode o (Ok table) line =
+    NeedsNone (explained_in mode o table) (mode_answer mode o table) (AnswersWithoutMemory mode o) line
 ServesWithoutMemory mode o (Err fault) line = AnswersWithoutMemory mode o line
 
 -- no label of these that a listing may test needs memory
@@ -60,7 +64,7 @@ TestsWithoutMemory filter o labels = All NeedsNoMemory (tested_after filter o la
 
 -- the listing of a label, once begun, goes on without memory
 abbrev pub ListsWithoutMemory : Settings → TableValue → List ℕ → Type 0
-ListsWithoutMemory o table label = TestsWithoutMemory (filter_of o.properties table) o (spelled table label)
+ListsWithoutMemory o table label = TestsWithoutMemory (filter_of o.properties table label) o (spelled table label)
 
 -- the block of a label does; among registered labels it does so whatever the label is
 abbrev pub BlockGoesOn : Option (List (List ℕ)) → Settings → TableValue → List ℕ → Type 0

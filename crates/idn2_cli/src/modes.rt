@@ -1,7 +1,6 @@
 //! What each mode does with a line, or with the table.
 
 mod admission;
-mod allocation_test;
 mod among;
 pub(crate) mod answering;
 pub(crate) mod asked;
@@ -13,10 +12,13 @@ pub(crate) mod code_points;
 mod collisions;
 mod decided;
 mod decode;
+mod decode_old;
 mod dispositions;
 mod jumps;
+mod label_dispositions;
 mod listed;
 mod lookup;
+mod matched_rules;
 mod register;
 mod search;
 mod variants;
@@ -25,6 +27,7 @@ pub(crate) use admission::ruling_of_table;
 pub(crate) use among::Among;
 pub(crate) use check_table::check_table;
 pub(crate) use decode::Decode;
+pub(crate) use decode_old::DecodeOld;
 pub(crate) use dispositions::Dispositions;
 pub(crate) use jumps::Jumps;
 pub(crate) use lookup::Lookup;

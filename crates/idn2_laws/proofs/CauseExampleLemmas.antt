@@ -4,10 +4,10 @@ use Rattle.std.specs.Fmt.{digits}
 use Rattle.ruleset_text.specs.Canonical.{point_text}
 use Rattle.idn2_laws.specs.CauseExamples.{ExamplesOfCauses}
 use Rattle.idn2_refusals.specs.CauseParts.{a_label_parts, byte_text, label_parts}
-use Rattle.idn2_refusals.specs.CauseWords.{cause_words, label_words, length_words, place_words, rule_words}
+use Rattle.idn2_refusals.specs.CauseWords.{action_words, cause_words, demand_words, label_words, length_words, place_words, rule_words}
 
 pub examples_of_causes : ExamplesOfCauses
-unfolding digits point_text label_parts a_label_parts byte_text cause_words label_words place_words rule_words length_words
+unfolding digits point_text label_parts a_label_parts byte_text cause_words label_words action_words place_words rule_words demand_words length_words
 examples_of_causes = record {
   barred = refl;
   profile = refl;
@@ -36,6 +36,11 @@ examples_of_causes = record {
   misplaced = refl;
   no_entry = refl;
   broken = refl;
+  unclear = refl;
+  action_asking = refl;
+  action_of_type = refl;
+  action = refl;
+  default_action = refl;
   byte = refl;
   long_line = refl;
   a_label = refl;

@@ -4,11 +4,12 @@ use Rattle.label_patterns.specs.declared.condition.Condition.{Condition}
 use Rattle.variant_table.specs.Differences.{IsDifference, IsPairUnder, differences_of}
 use Rattle.variant_table.specs.Entries.{Entry, Variant, TableValue, sequences_in}
 use Rattle.variant_table.specs.Gaps.{IsPair, gaps_of}
+use Rattle.variant_table.specs.IdleTypes.{idle_types}
 use Rattle.variant_table.specs.WellFormed.{IsWellFormed}
 use Rattle.variant_table.proofs.DifferenceLemmas.{differences_members}
 use Rattle.variant_table.proofs.MemberLemmas.{Contains-head, Contains-later, Contains-none, Contains-cases}
 use Rattle.answer_json.specs.declared.checked.PairFinding.TheVariants.{Missing, Differs}
-use Rattle.idn2_answers.specs.Said.{Found, Counted}
+use Rattle.idn2_answers.specs.Said.{Found, Idle, Counted}
 use Rattle.idn2_laws.specs.Laws.{ConditionsAloneDiffer}
 
 all_at : {X : Type 0} (P : X → Type 0) (xs : List X) (x : X) → All P xs → Contains xs x → P x
@@ -42,4 +43,4 @@ module _ (table : List Entry) (well : IsWellFormed table) (free : All (λ (e : E
 pub conditions-alone-differ : ConditionsAloneDiffer
 conditions-alone-differ table sound free =
     let gaps = gaps_of table.entries in
-    ap (λ ps. map (Found Missing) gaps ++ (map (Found Differs) ps ++ Counted (length table.entries) (length gaps) ∷ [])) (no_differences table.entries sound.entries free)
+    ap (λ ps. map (Found Missing) gaps ++ (map (Found Differs) ps ++ (map Idle (idle_types table.definitions) ++ Counted (length table.entries) (length gaps) ∷ []))) (no_differences table.entries sound.entries free)

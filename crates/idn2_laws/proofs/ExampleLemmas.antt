@@ -1,5 +1,5 @@
 -- The examples, computed.
-use Rattle.std.proofs.Common.{◌≡◌, ℕ, ◌==◌, ◌&&◌, Bool, true, false, List, [], ◌∷◌, filter, nat_lt, codes, length, Some, None, Result, Ok, Err, refl, ap, map, ◌∙◌, if◌then◌else◌}
+use Rattle.std.proofs.Common.{◌≡◌, ℕ, ◌==◌, ◌&&◌, not, Bool, true, false, List, [], ◌∷◌, filter, nat_lt, codes, length, Some, None, Result, Ok, Err, refl, ap, map, ◌∙◌, if◌then◌else◌}
 use Rattle.std.specs.Fmt.{digits}
 use Rattle.std.specs.List.{AllByRecursion, list_all}
 use Rattle.std.specs.Option.{is_none}
@@ -18,6 +18,7 @@ use Rattle.idn_label.specs.Register.{register_answer}
 use Rattle.idn_label.specs.Steps.{is_ldh_point}
 use Rattle.idn_label.proofs.AnswerLemmas.{register_answer-other, tested_answer-ok, tested_answer-fault}
 use Rattle.idn_label.proofs.LdhLemmas.{first_fault-ldh}
+use Rattle.variant_dispositions.specs.Kinds.{kinds_in}
 use Rattle.variant_table.specs.Entries.{TableValue}
 use Rattle.variant_list.specs.Labels.{label_cmp}
 use Rattle.variant_list.specs.Spelled.{spelled}
@@ -25,7 +26,8 @@ use Rattle.variant_list.specs.Variants.{variants, in_order}
 use Rattle.variant_list.specs.Examples.{a_or_two, letter_or_hyphen}
 use Rattle.idn2_options.specs.Settings.{Settings}
 use Rattle.valid_labels.specs.Tests.{asks_nothing}
-use Rattle.idn2_answers.specs.Listings.{Filter, block, block_to, disposition, filter_if, registrable_labels, stop_of, variants_after, is_registrable, lesser_label, nth, nth_if_given, tested_after, variant_by, visited_in}
+use Rattle.idn2_answers.specs.Dispositions.{is_left_out}
+use Rattle.idn2_answers.specs.Listings.{Filter, block, block_to, field_of, filter_if, registrable_labels, stop_of, variants_after, is_registrable, lesser_label, nth, nth_if_given, tested_after, variant_by, visited_in, without_left_out}
 use Rattle.idn2_answers.specs.Answers.{one_answer, u_label_of}
 use Rattle.idn2_options.specs.declared.command_line.form.Form.TheVariants.{Plain}
 use Rattle.idn2_answers.specs.Said.{Said, Registered, said_line}
@@ -50,35 +52,36 @@ passes label = is_none (first_of (fault_if (length label == 0) Empty ∷ None �
 registrable-passes : (label : List ℕ) → list_all is_ldh_point label ≡ true → is_registrable Profile label ≡ passes label
 registrable-passes label ldh = ap is_none (first_fault-ldh Profile label ldh)
 
-filter-passes : (after : List ℕ) (vs : List (List ℕ)) → AllLdh vs
-    → filter (λ v. is_registrable Profile v && is_gt (label_cmp v after)) vs ≡ filter (λ v. passes v && is_gt (label_cmp v after)) vs
-filter-passes after [] ldh = refl
-filter-passes after (v ∷ vs) ldh =
-    ap (λ (b : Bool). if b && is_gt (label_cmp v after) then v ∷ filter (λ v. is_registrable Profile v && is_gt (label_cmp v after)) vs else filter (λ v. is_registrable Profile v && is_gt (label_cmp v after)) vs) (registrable-passes v ldh.0)
-    ∙ ap (λ (rest : List (List ℕ)). if passes v && is_gt (label_cmp v after) then v ∷ rest else rest) (filter-passes after vs ldh.1)
+-- and is kept by this test
+filter-passes : (kept : List ℕ → Bool) (after : List ℕ) (vs : List (List ℕ)) → AllLdh vs
+    → filter (λ v. (is_registrable Profile v && kept v) && is_gt (label_cmp v after)) vs ≡ filter (λ v. (passes v && kept v) && is_gt (label_cmp v after)) vs
+filter-passes kept after [] ldh = refl
+filter-passes kept after (v ∷ vs) ldh =
+    ap (λ (b : Bool). if (b && kept v) && is_gt (label_cmp v after) then v ∷ filter (λ v. (is_registrable Profile v && kept v) && is_gt (label_cmp v after)) vs else filter (λ v. (is_registrable Profile v && kept v) && is_gt (label_cmp v after)) vs) (registrable-passes v ldh.0)
+    ∙ ap (λ (rest : List (List ℕ)). if (passes v && kept v) && is_gt (label_cmp v after) then v ∷ rest else rest) (filter-passes kept after vs ldh.1)
 
 -- the block of a label by what is asked of labels
 abbrev pub block_with : Filter → Settings → TableValue → List ℕ → List Said
-block_with f o table label = block_to (variant_by (disposition table label)) (stop_of f o (spelled table label)) (variants_after f o (spelled table label))
+block_with f o table label = block_to (variant_by (field_of o table label)) (stop_of f o (spelled table label)) (variants_after f o (spelled table label))
 
 -- that of a label that spells such labels alone
 abbrev ldh_block : Settings → TableValue → List ℕ → List Said
 ldh_block o table label =
-    let vs = variants passes table label o.after in
-    let f : Filter = registrable_labels Profile in
-    block_to (variant_by (disposition table label)) (lesser_label (nth_if_given vs o.limit) (lesser_label (nth (tested_after f o (spelled table label)) o.tries) (nth_if_given (visited_in f o (spelled table label)) o.steps))) vs
+    let vs = variants (λ v. passes v && not (is_left_out table label v)) table label o.after in
+    let f : Filter = without_left_out table label (registrable_labels Profile) in
+    block_to (variant_by (field_of o table label)) (lesser_label (nth_if_given vs o.limit) (lesser_label (nth (tested_after f o (spelled table label)) o.tries) (nth_if_given (visited_in f o (spelled table label)) o.steps))) vs
 
 -- under a table that asks nothing of its labels
 block-ldh : (o : Settings) (table : TableValue) (label : List ℕ) → o.properties ≡ Profile → asks_nothing table ≡ true → AllLdh (in_order (spelled table label)) → block o table label ≡ ldh_block o table label
 block-ldh o table label profile nothing ldh =
-    let f : Filter = registrable_labels Profile in
-    ap (λ (p : Properties). block_with (filter_if p (asks_nothing table) table) o table label) profile
-    ∙ ap (λ (b : Bool). block_with (filter_if Profile b table) o table label) nothing
-    ∙ ap (λ (vs : List (List ℕ)). block_to (variant_by (disposition table label)) (lesser_label (nth_if_given vs o.limit) (lesser_label (nth (tested_after f o (spelled table label)) o.tries) (nth_if_given (visited_in f o (spelled table label)) o.steps))) vs)
-    (filter-passes o.after (in_order (spelled table label)) ldh)
+    let f : Filter = without_left_out table label (registrable_labels Profile) in
+    ap (λ (p : Properties). block_with (without_left_out table label (filter_if p (asks_nothing table) table)) o table label) profile
+    ∙ ap (λ (b : Bool). block_with (without_left_out table label (filter_if Profile b table)) o table label) nothing
+    ∙ ap (λ (vs : List (List ℕ)). block_to (variant_by (field_of o table label)) (lesser_label (nth_if_given vs o.limit) (lesser_label (nth (tested_after f o (spelled table label)) o.tries) (nth_if_given (visited_in f o (spelled table label)) o.steps))) vs)
+    (filter-passes (λ v. not (is_left_out table label v)) o.after (in_order (spelled table label)) ldh)
 
 pub blocks : ExamplesOfBlocks
-unfolding digits a_label_of idna hopeless rules
+unfolding digits a_label_of idna hopeless rules kinds_in
 blocks = record {
   doubled = ap (map said_line) (block-ldh (listing None 1000000) a_or_two (codes "aa") refl refl (refl, (refl, (refl, tt)))) ∙ refl;
   limited = ap (map said_line) (block-ldh (listing (Some 2) 1000000) a_or_two (codes "aa") refl refl (refl, (refl, (refl, tt)))) ∙ refl;

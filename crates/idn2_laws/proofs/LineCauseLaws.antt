@@ -48,6 +48,7 @@ use Rattle.idn2_answers.specs.Answers.{IsRefusedAs, LineAnswer, if_admitted, lin
 use Rattle.idn2_refusals.specs.Requests.{requested_label}
 use Rattle.idn2_refusals.specs.Explained.{Explained, Unexplained, ByLabel, ByName, ByQuery, ByTable, ByRequest, ByRegisteredLine, bad_byte, body_cause, coded_cause, if_wanted, invalid_cause, not_in_table_cause, points_cause, registration_cause, table_cause, u_label_cause, unless_unexplained, validity_cause}
 use Rattle.idn2_answers.specs.Transcript.{explained_by_mode, explained_in, Refuses, output_for, output_line_in}
+use Rattle.idn2_laws.proofs.ZoneAnswers.{zone-refused}
 use Rattle.idn2_laws.specs.LineCauses.{IsBadByte, IsCodedCause, IsInvalidCause, IsLineCause, IsOf, IsNotInTableCause, IsPointsCause, IsRegistrationCause, IsTableCause, IsULabelCause, RefusalsAreExplained}
 use Rattle.idn2_answers.specs.Said.{Said}
 use Rattle.idn2_refusals.specs.declared.cause.LineCause.{LineCause}
@@ -325,6 +326,7 @@ points-refused : (mode : Mode) (o : Settings) (table : TableValue) (points : Lis
 points-refused modes.Lookup o table points refusal formed refused = tt
 points-refused modes.Register o table points refusal formed refused = tt
 points-refused modes.Decode o table points refusal formed refused = tt
+points-refused modes.DecodeOld o table points refusal formed refused = tt
 points-refused modes.Variants o table points refusal formed refused = refused-under o.properties table points refusal formed (_, refused)
 points-refused modes.Jump o table points refusal formed refused = refused-under o.properties table (requested_label points) refusal formed (_, refused)
 points-refused modes.CheckTable o table points refusal formed refused = tt
@@ -338,6 +340,8 @@ points-told modes.Register o table points refusal formed refused some other none
 points-told modes.Decode o table points refusal formed refused some other none =
     name_fault-has_cause o.properties points refusal (then-refused (decode_answer o.properties points) utf8_of refusal (of_text-refused _ (in_utf8 (decode_answer o.properties points)) refusal refused)) some
     (untold OfName (name_cause o.properties points refusal) none)
+points-told modes.DecodeOld o table points refusal formed refused some other none =
+    registered-told o.properties points refusal (zone-refused o.properties points refusal refused) some none
 points-told modes.Variants o table points refusal formed refused some other none =
     table-told o.properties table points refusal formed (_, refused) some none
 points-told modes.Jump o table points refusal formed refused some other none =
@@ -438,12 +442,14 @@ empty-refused modes.Jump o table points formed = empty-under table (requested_la
 empty-refused modes.Lookup o table points formed = tt
 empty-refused modes.Register o table points formed = tt
 empty-refused modes.Decode o table points formed = tt
+empty-refused modes.DecodeOld o table points formed = tt
 empty-refused modes.CheckTable o table points formed = tt
 
 explains : (mode : Mode) (o : Settings) (table : TableValue) → mode ≢ modes.CheckTable → explained_by_mode mode o table ≢ Unexplained
 explains modes.Lookup o table other = λ same. let clash : ByQuery o.std3 ≡ Unexplained = same in cc
 explains modes.Register o table other = λ same. let clash : ByLabel o.properties ≡ Unexplained = same in cc
 explains modes.Decode o table other = λ same. let clash : ByName o.properties ≡ Unexplained = same in cc
+explains modes.DecodeOld o table other = λ same. let clash : ByLabel o.properties ≡ Unexplained = same in cc
 explains modes.Variants o table other = λ same. let clash : ByTable o.properties table ≡ Unexplained = same in cc
 explains modes.Jump o table other = λ same. let clash : ByRequest o.properties table ≡ Unexplained = same in cc
 explains modes.CheckTable o table other = absurd (other refl)

@@ -1,5 +1,5 @@
 -- The causes of refused lines tell small numbers, and texts of UTF-8.
-use Rattle.std.proofs.Common.{◌≡◌, inl, inr, ℕ, zero, suc, ◌+◌, ◌-◌, ◌*◌, ◌/◌, ◌%◌, ◌<◌, ◌≤◌, ◌^◌, ◌==◌, Bool, true, false, ◌&&◌, List, [], ◌∷◌, ◌++◌, map, drop, take, insert, length, length-append, length-drop, length-take, chars, cond, Option, Some, None, Result, Ok, Err, append_assoc, refl, sym, ap, subst, ◌∙◌, arith}
+use Rattle.std.proofs.Common.{◌≡◌, inl, inr, ℕ, zero, suc, ◌+◌, ◌-◌, ◌*◌, ◌/◌, ◌%◌, ◌<◌, ◌≤◌, ◌^◌, ◌==◌, Bool, true, false, ◌&&◌, List, [], ◌∷◌, ◌++◌, map, drop, take, insert, length, length-append, length-drop, length-take, chars, cond, Option, Some, None, Result, Ok, Err, append_assoc, append-nil, refl, sym, ap, subst, ◌∙◌, arith}
 use Rattle.std.specs.Prelude.{IsUtf8, nat_le, slice_index, slice_index_or, option_and_then}
 use Rattle.std.specs.Char.{encode_utf8, is_ascii, to_ascii_lowercase}
 use Rattle.std.specs.List.{AllByRecursion, list_all}
@@ -37,13 +37,18 @@ use Rattle.idn_cause.specs.declared.query.LengthCause.TheVariants.{LabelOctets, 
 use Rattle.idn_cause.specs.Causes.{IsCause, IsFirstPoint}
 use Rattle.idn_cause.specs.ALabelCauses.{IsALabelCause}
 use Rattle.idn_cause.specs.NameCauses.{label_of_number, of_decoded, IsLabelCause, IsWholeNameCause, IsNameCause}
-use Rattle.ruleset_text.specs.Definitions.{rule_name}
+use Rattle.ruleset_text.specs.Definitions.{rule_name, type_name, type_names}
 use Rattle.ruleset_text.specs.Names.{AreNames, is_letter, is_name, is_name_byte}
+use Rattle.variant_dispositions.specs.declared.action.Action.{Action}
 use Rattle.variant_table.specs.Entries.{TableValue}
+use Rattle.valid_labels.specs.Actions.{action_of, actions_of}
 use Rattle.valid_labels.specs.Causes as validity_causes
 use Rattle.valid_labels.specs.Validity.{IsSound}
+use Rattle.valid_labels.specs.declared.cause.ActionCause.{ActionCause}
+use Rattle.valid_labels.specs.declared.cause.ActionCause.TheVariants as triggered
 use Rattle.valid_labels.specs.declared.cause.ValidityCause.{ValidityCause}
 use Rattle.valid_labels.specs.declared.cause.ValidityCause.TheVariants as validity
+use Rattle.valid_labels.proofs.EligibleLemmas.{begins-within, source-filled}
 use Rattle.idn2_options.specs.Settings.{Settings, tells_causes}
 use Rattle.idn2_options.specs.declared.command_line.mode.Mode.{Mode}
 use Rattle.idn2_options.specs.declared.command_line.mode.Mode.TheVariants as modes
@@ -51,7 +56,7 @@ use Rattle.answer_json.specs.Inputs.{told_of}
 use Rattle.answer_json.specs.Objects.{refused as object}
 use Rattle.idn2_refusals.specs.CauseParts.{told_details}
 use Rattle.idn2_refusals.specs.Requests.{requested_label}
-use Rattle.idn2_refusals.specs.Explained.{Explained, Unexplained, ByLabel, ByName, ByQuery, ByTable, ByRequest, ByRegisteredLine, body_cause, if_wanted, validity_cause}
+use Rattle.idn2_refusals.specs.Explained.{Explained, Unexplained, ByLabel, ByName, ByQuery, ByTable, ByRequest, ByRegisteredLine, action_cause, body_cause, if_wanted, validity_cause}
 use Rattle.idn2_answers.specs.Transcript.{explained_by_mode, explained_in}
 use Rattle.idn2_laws.specs.LineCauses.{IsCodedCause, IsLineCause, IsPointsCause, IsTableCause, IsULabelCause}
 use Rattle.idn2_laws.specs.ReadBack.{IsReadBack, ALabelHasFewOctets, HasFewOctets, IsShortBody, NameHasFewOctets, RefusalsAreReadBack, TellsFewOctets, TellsFewOctetsIfAny}
@@ -270,25 +275,60 @@ name_ascii (c ∷ cs) h =
     let first = and_parts (is_letter c) (nat_le (length cs) 31) all.0 in
     and_from (is_ascii c) (is_all_ascii cs) (letter_ascii c first.0) (bytes_ascii cs all.1)
 
-names_after : (before names : List (List ℕ)) → AreNames (before ++ names) → AreNames names
+pub names_after : (before names : List (List ℕ)) → AreNames (before ++ names) → AreNames names
 names_after [] names h = h
 names_after (name ∷ before) names h = names_after before names h.2
 
-name_at-utf8 : (names : List (List ℕ)) (n : ℕ) → AreNames names → IsUtf8 (slice_index_or names n [])
-name_at-utf8 [] n h = ascii_utf8 [] refl
-name_at-utf8 (name ∷ names) zero h = ascii_utf8 name (name_ascii name h.0)
-name_at-utf8 (name ∷ names) (suc n) h = name_at-utf8 names n h.2
+names_before : (names : List (List ℕ)) → AreNames names → AreNames (names ++ [])
+names_before names h = subst AreNames (sym (append-nil names)) h
+
+-- of the first ones of some names
+name_at-utf8 : (names more : List (List ℕ)) (n : ℕ) → AreNames (names ++ more) → IsUtf8 (slice_index_or names n [])
+name_at-utf8 [] more n h = ascii_utf8 [] refl
+name_at-utf8 (name ∷ names) more zero h = ascii_utf8 name (name_ascii name h.0)
+name_at-utf8 (name ∷ names) more (suc n) h = name_at-utf8 names more n h.2
+
+pub names-utf8 : (names more : List (List ℕ)) → AreNames (names ++ more) → AllByRecursion IsUtf8 names
+names-utf8 [] more h = tt
+names-utf8 (name ∷ names) more h = (ascii_utf8 name (name_ascii name h.0), names-utf8 names more h.2)
 
 rule-utf8 : (table : TableValue) (n : ℕ) → IsSound table → IsUtf8 (rule_name table.definitions n)
 rule-utf8 table n sound =
     let d = table.definitions in
-    name_at-utf8 d.rule_names n (names_after d.set_names d.rule_names (names_after d.tags (d.set_names ++ d.rule_names) sound.definitions.names))
+    name_at-utf8 d.rule_names [] n (names_before d.rule_names (names_after d.set_names d.rule_names (names_after (type_names d) (d.set_names ++ d.rule_names) sound.definitions.names)))
+
+type-utf8 : (table : TableValue) (n : ℕ) → IsSound table → IsUtf8 (type_name table.definitions n)
+type-utf8 table n sound = (let d = table.definitions in name_at-utf8 (type_names d) (d.set_names ++ d.rule_names) n sound.definitions.names)
+
+-- an action has its number, and a place of the cut is one of the label
+action_small : (table : TableValue) (label : List ℕ) (n : ℕ) (a : Action) → IsSound table → validity_causes.IsFirstTriggered table label n a → n < 2 ^ 63
+action_small table label n a sound is =
+    let d = table.definitions in
+    let within = slice_get_within (actions_of d) n a is.at in
+    let count = length-map d.actions (action_of d) in
+    omega (arith, within, count, sound.definitions.few_lines)
+
+cut_small : (table : TableValue) (label : List ℕ) (types place number : ℕ) → IsSound table → validity_causes.IsFirstTyped table label types place number → length label < 2 ^ 60 → place < 2 ^ 63
+cut_small table label types place number sound is short =
+    let here = is.here in
+    let within = begins-within label place here.entry (source-filled table.entries here.entry sound.entries here.longest.stands.of_table) here.longest.stands.begins in
+    omega (arith, within, short)
+
+action_fits : (table : TableValue) (label : List ℕ) (n : ℕ) (a : Action) (why : ActionCause) → IsSound table → validity_causes.IsFirstTriggered table label n a → validity_causes.IsActionCause table label a why → length label < 2 ^ 60
+    → IsFitting (action_cause table label n why)
+action_fits table label n a (triggered.Rule condition) sound is told short = (action_small table label n a sound is, rule-utf8 table condition.rule sound)
+action_fits table label n a (triggered.Source place number) sound is told short =
+    (action_small table label n a sound is, cut_small table label told.1.0 place number sound told.1.2 short, type-utf8 table number sound)
+action_fits table label n a triggered.Other sound is told short = action_small table label n a sound is
 
 validity_fits : (table : TableValue) (label : List ℕ) (why : ValidityCause) → IsSound table → validity_causes.IsCause table label why → length label < 2 ^ 60 → IsFitting (validity_cause table label why)
 validity_fits table label (validity.NotEligible place None) sound is short = (let l = is.1 in omega (arith, l, short))
 validity_fits table label (validity.NotEligible place (Some condition)) sound is short = ((let l = is.1 in omega (arith, l, short)), rule-utf8 table condition.rule sound)
 validity_fits table label (validity.Broken n kind) sound is short =
-    omega (arith, slice_get_within table.definitions.demands n is.1.0 is.1.1.at, sound.definitions.few_patterns)
+    omega (arith, slice_get_within table.definitions.demands n is.1.0 is.1.1.at, sound.definitions.few_lines)
+validity_fits table label validity.Unclear sound is short = tt
+validity_fits table label (validity.Action n cause) sound is short = action_fits table label n is.2.0 cause sound is.2.1 is.2.3 short
+validity_fits table label (validity.DefaultAction place) sound is short = cut_small table label 4 place 0 sound is.3 short
 
 module _ (properties : Properties) where
   table_fits : (table : TableValue) (label : List ℕ) (refusal : Refusal) (cause : LineCause) → IsSound table → IsTableCause properties table label refusal cause → length label < 2 ^ 60 → TellsFewOctets cause → IsFitting cause
@@ -308,6 +348,7 @@ sound_by : (mode : Mode) (o : Settings) (table : TableValue) → IsSound table �
 sound_by modes.Lookup o table sound = tt
 sound_by modes.Register o table sound = tt
 sound_by modes.Decode o table sound = tt
+sound_by modes.DecodeOld o table sound = tt
 sound_by modes.Variants o table sound = sound
 sound_by modes.Jump o table sound = sound
 sound_by modes.CheckTable o table sound = tt

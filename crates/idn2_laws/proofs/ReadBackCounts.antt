@@ -17,7 +17,7 @@ use Rattle.variant_list.proofs.OrderLemmas.{below_through, ranked_labels}
 use Rattle.variant_list.proofs.TestedLaws.{accepted-tested}
 use Rattle.idn2_options.specs.Settings.{Settings}
 use Rattle.idn2_answers.specs.Listings.{Filter, filter_of, is_registrable, lesser_label, nth, nth_if_given, stop_of, up_to, variants_after}
-use Rattle.idn2_answers.specs.Collisions.{collide, collisions_after}
+use Rattle.idn2_answers.specs.Collisions.{collisions_after, is_found}
 use Rattle.idn2_answers.proofs.LabelStops.{get-above, is_le-below, up_to-first, up_to-later}
 use Rattle.idn2_answers.proofs.FilterLemmas.{accepted-short, filter_of-IsSound}
 
@@ -56,7 +56,7 @@ filter_few test (v ∷ vs) = by_test (test v) (filter_few test vs)
     by_test true h = omega (arith, h)
     by_test false h = omega (arith, h)
 
-filter_fewer : (p q : List ℕ → Bool) → ((v : List ℕ) → p v ≡ true → q v ≡ true) → (vs : List (List ℕ)) → length (filter p vs) ≤ length (filter q vs)
+pub filter_fewer : (p q : List ℕ → Bool) → ((v : List ℕ) → p v ≡ true → q v ≡ true) → (vs : List (List ℕ)) → length (filter p vs) ≤ length (filter q vs)
 filter_fewer p q all [] = omega arith
 filter_fewer p q all (v ∷ vs) = by_tests (p v) (q v) (all v) (filter_fewer p q all vs)
   where
@@ -124,13 +124,13 @@ up_to-nth (v ∷ vs) (suc i) rising = omega (arith, ap length (up_to-later v vs 
 -- ---- of a listing
 
 pub within_tries : (o : Settings) (table : TableValue) (label : List ℕ) → 1 ≤ o.tries
-    → (let f : Filter = filter_of o.properties table in let vs = variants_after f o (spelled table label) in length (up_to (stop_of f o (spelled table label)) vs) ≤ o.tries)
+    → (let f : Filter = filter_of o.properties table label in let vs = variants_after f o (spelled table label) in length (up_to (stop_of f o (spelled table label)) vs) ≤ o.tries)
 within_tries o table label some =
     subst (λ (vs : List (List ℕ)). length (up_to (lesser_label (nth_if_given vs o.limit) (lesser_label (nth tested o.tries) (nth_if_given (visited f.hopeless None (candidates_among labels o.after)) o.steps))) vs) ≤ o.tries) (sym same)
     (few (nth_if_given (filter f.accepts tested) o.limit) (nth_if_given (visited f.hopeless None (candidates_among labels o.after)) o.steps))
   where
     f : Filter
-    f = filter_of o.properties table
+    f = filter_of o.properties table label
 
     labels : List (List ℕ)
     labels = spelled table label
@@ -152,11 +152,11 @@ within_tries o table label some =
         )
 
     same : variants_among f.accepts labels o.after ≡ filter f.accepts tested
-    same = accepted-tested f.accepts f.hopeless (accepted-short o.properties f (filter_of-IsSound o.properties table)) (filter_of-IsSound o.properties table).for_good labels o.after
+    same = accepted-tested f.accepts f.hopeless (accepted-short o.properties f (filter_of-IsSound o.properties table label)) (filter_of-IsSound o.properties table label).for_good labels o.after
 
 -- a block among registered labels counts no more than these
 pub within_registered : (o : Settings) (table : TableValue) (label : List ℕ) (registered : List (List ℕ))
     → (let found = collisions_after o table registered label in length (up_to (nth_if_given found o.limit) found) ≤ length registered)
 within_registered o table label registered =
     let found = collisions_after o table registered label in
-    omega (arith, up_to_few (nth_if_given found o.limit) found, filter_few (λ v. is_gt (label_cmp v o.after) && collide (is_registrable o.properties) table label v) registered)
+    omega (arith, up_to_few (nth_if_given found o.limit) found, filter_few (λ v. is_gt (label_cmp v o.after) && is_found o table label v) registered)

@@ -29,16 +29,16 @@ use Rattle.ruleset_text.specs.declared.definition.DemandKind.TheVariants.{Never,
 use Rattle.ruleset_text.specs.declared.fault.FaultPlace.{FaultPlace}
 use Rattle.ruleset_text.specs.declared.fault.FaultPlace.TheVariants as places
 use Rattle.answer_json.specs.Answers.{Field, AreSmall, count, text, if_given}
-use Rattle.answer_json.specs.Details.{Details, no_details, details_fields, decoded_field, demand_fields, length_fields, point, refusal_fields, rule_fields, where_fields}
+use Rattle.answer_json.specs.Details.{Details, no_details, action_fields, details_fields, flag_if, demand_fields, length_fields, point, refusal_fields, rule_fields, where_fields}
 use Rattle.answer_json.specs.Hexadecimal.{leading_digit, point_text}
 use Rattle.answer_json.specs.Inputs.{told_of}
 use Rattle.answer_json.specs.Objects.{refused, registered_fault, table_fault}
 use Rattle.answer_json.specs.Unicode.{AreUnicode}
-use Rattle.idn2_refusals.specs.CauseParts.{a_label_parts, at_byte, changed_parts, fault_place_parts, label_parts, length_parts, parts_of, placed, point_at_byte, point_parts, told_details}
+use Rattle.idn2_refusals.specs.CauseParts.{a_label_parts, at_byte, by_action, changed_parts, fault_place_parts, label_parts, length_parts, parts_of, placed, point_at_byte, point_parts, told_details}
 use Rattle.idn2_refusals.specs.RuleTexts.{appendix_rule, asked_text, barring_rule, bidi_rule, bidi_text, demand_text}
 use Rattle.idn2_laws.specs.ReadBack.{IsReadBack, byte_of}
 use Rattle.idn2_refusals.specs.declared.cause.LineCause.{LineCause}
-use Rattle.idn2_refusals.specs.declared.cause.LineCause.TheVariants.{Byte, LongLine, OfLabel, OfALabel, OfName, OfQuery, Misplaced, NoEntry, Broken as BrokenDemand, Ends, OfTable, ByteOrderMark, ALabelOf, NoALabel}
+use Rattle.idn2_refusals.specs.declared.cause.LineCause.TheVariants.{Byte, LongLine, OfLabel, OfALabel, OfName, OfQuery, Misplaced, NoEntry, Broken as BrokenDemand, Unclear, ActionAsking, ActionOfType, Action, DefaultAction, Ends, OfTable, ByteOrderMark, ALabelOf, NoALabel}
 use Rattle.idn2_laws.proofs.ReadBackLemmas.{ascii_utf8, input_small, input_unicode, object_read_back}
 
 -- ---- the code point of a refusal is ASCII
@@ -119,9 +119,9 @@ good_point : (name : List ℕ) (c : Option ℕ) → is_all_ascii name ≡ true �
 good_point name None ascii = record { small = tt; unicode = tt }
 good_point name (Some c) ascii = record { small = (tt, tt); unicode = (ascii_utf8 name ascii, point_utf8 c, tt) }
 
-good_decoded : (decoded : Bool) → AreGood (decoded_field decoded)
-good_decoded false = record { small = tt; unicode = tt }
-good_decoded true = record { small = (tt, tt); unicode = (ascii_utf8 (codes "decoded") refl, tt, tt) }
+good_flag : (name : List ℕ) (holds : Bool) → is_all_ascii name ≡ true → AreGood (flag_if name holds)
+good_flag name false ascii = record { small = tt; unicode = tt }
+good_flag name true ascii = record { small = (tt, tt); unicode = (ascii_utf8 name ascii, tt, tt) }
 
 -- ---- details
 
@@ -133,6 +133,9 @@ record AreGoodDetails (d : Details) : Type 0 where
   bidi_class : IsUtf8IfGiven d.bidi_class
   demand : IsSmallIfGiven d.demand
   kind : IsUtf8IfGiven d.kind
+  action : IsSmallIfGiven d.action
+  default_action : IsSmallIfGiven d.default_action
+  type_name : IsUtf8IfGiven d.type_name
   code_points : IsSmallIfGiven d.code_points
   octets : IsSmallIfGiven d.octets
   alabel : IsUtf8IfGiven d.alabel
@@ -144,7 +147,7 @@ module _ (d : Details) (h : AreGoodDetails d) where
   good_where =
       joined _ (if_given (codes "place") count d.place)
       (joined _ (if_given (codes "code_point") point d.code_point)
-      (joined (if_given (codes "label") count d.label) (decoded_field d.decoded) (good_count (codes "label") d.label refl h.label) (good_decoded d.decoded))
+      (joined (if_given (codes "label") count d.label) (flag_if (codes "decoded") d.decoded) (good_count (codes "label") d.label refl h.label) (good_flag (codes "decoded") d.decoded refl))
       (good_point (codes "code_point") d.code_point refl))
       (good_count (codes "place") d.place refl h.place)
 
@@ -159,6 +162,14 @@ module _ (d : Details) (h : AreGoodDetails d) where
   good_demand : AreGood (demand_fields d)
   good_demand = joined (if_given (codes "demand") count d.demand) (if_given (codes "kind") text d.kind) (good_count (codes "demand") d.demand refl h.demand) (good_text (codes "kind") d.kind refl h.kind)
 
+  good_action : AreGood (action_fields d)
+  good_action =
+      joined _ (flag_if (codes "unclear") d.unclear)
+      (joined _ (if_given (codes "type") text d.type_name)
+      (joined (if_given (codes "action") count d.action) (if_given (codes "default_action") count d.default_action) (good_count (codes "action") d.action refl h.action) (good_count (codes "default_action") d.default_action refl h.default_action))
+      (good_text (codes "type") d.type_name refl h.type_name))
+      (good_flag (codes "unclear") d.unclear refl)
+
   good_lengths : AreGood (length_fields d)
   good_lengths =
       joined _ (if_given (codes "ulabel") text d.ulabel)
@@ -170,7 +181,10 @@ module _ (d : Details) (h : AreGoodDetails d) where
       (good_text (codes "ulabel") d.ulabel refl h.ulabel)
 
   good_details : AreGood (details_fields d)
-  good_details = joined _ (length_fields d) (joined _ (demand_fields d) (joined (where_fields d) (rule_fields d) good_where good_rule) good_demand) good_lengths
+  good_details =
+      joined _ (length_fields d)
+      (joined _ (action_fields d) (joined _ (demand_fields d) (joined (where_fields d) (rule_fields d) good_where good_rule) good_demand) good_action)
+      good_lengths
 
 record IsGoodRefusal (refusal : Refusal) : Type 0 where
   number : refusal_number refusal < 2 ^ 64
@@ -249,6 +263,11 @@ IsFitting (OfQuery cause) = IsFittingLength cause
 IsFitting (Misplaced place c kind rule) = (place < 2 ^ 63) × IsUtf8 rule.items
 IsFitting (NoEntry place c) = place < 2 ^ 63
 IsFitting (BrokenDemand number kind) = number < 2 ^ 63
+IsFitting Unclear = Unit {0}
+IsFitting (ActionAsking number kind rule) = (number < 2 ^ 63) × IsUtf8 rule.items
+IsFitting (ActionOfType number place c name) = (number < 2 ^ 63) × (place < 2 ^ 63) × IsUtf8 name.items
+IsFitting (Action number) = number < 2 ^ 63
+IsFitting (DefaultAction place c) = place < 2 ^ 63
 IsFitting (Ends place) = place < 2 ^ 63
 IsFitting (OfTable place quoted) = byte_of place < 2 ^ 63
 IsFitting ByteOrderMark = Unit {0}
@@ -263,7 +282,7 @@ next_small : (n : ℕ) → n < 2 ^ 63 → n + 1 < 2 ^ 64
 next_small n small = omega (arith, small)
 
 good_none : AreGoodDetails no_details
-good_none = record { label = tt; place = tt; condition = tt; rule = tt; bidi_class = tt; demand = tt; kind = tt; code_points = tt; octets = tt; alabel = tt; byte = tt; ulabel = tt }
+good_none = record { label = tt; place = tt; condition = tt; rule = tt; bidi_class = tt; demand = tt; kind = tt; action = tt; default_action = tt; type_name = tt; code_points = tt; octets = tt; alabel = tt; byte = tt; ulabel = tt }
 
 barring_ascii : (line : BarringLine) → IsUtf8 (barring_rule line).rule
 barring_ascii lines.NoScalarValue = ascii_utf8 (codes "no scalar value") refl
@@ -314,15 +333,15 @@ appendix_ascii c =
     (choice_ascii (c / 16 == 0x66) (codes "RFC 5892 A.8") (codes "RFC 5892 A.9") refl refl)))))))
 
 good_placed : (place c : ℕ) → place < 2 ^ 63 → AreGoodDetails (placed place c)
-good_placed place c h = record { label = tt; place = next_small place h; condition = tt; rule = tt; bidi_class = tt; demand = tt; kind = tt; code_points = tt; octets = tt; alabel = tt; byte = tt; ulabel = tt }
+good_placed place c h = record { label = tt; place = next_small place h; condition = tt; rule = tt; bidi_class = tt; demand = tt; kind = tt; action = tt; default_action = tt; type_name = tt; code_points = tt; octets = tt; alabel = tt; byte = tt; ulabel = tt }
 
 -- the same with a rule
 good_ruled : (d : Details) (rule : List ℕ) → IsUtf8 rule → AreGoodDetails d → AreGoodDetails (record d { rule = Some rule })
-good_ruled d rule utf8 h = record { label = h.label; place = h.place; condition = h.condition; rule = utf8; bidi_class = h.bidi_class; demand = h.demand; kind = h.kind; code_points = h.code_points; octets = h.octets; alabel = h.alabel; byte = h.byte; ulabel = h.ulabel }
+good_ruled d rule utf8 h = record { label = h.label; place = h.place; condition = h.condition; rule = utf8; bidi_class = h.bidi_class; demand = h.demand; kind = h.kind; action = h.action; default_action = h.default_action; type_name = h.type_name; code_points = h.code_points; octets = h.octets; alabel = h.alabel; byte = h.byte; ulabel = h.ulabel }
 
 good_changed : (place c : ℕ) (form : Option ℕ) → place < 2 ^ 63 → AreGoodDetails (changed_parts (placed place c) form).details
 good_changed place c None h = good_placed place c h
-good_changed place c (Some form) h = record { label = tt; place = next_small place h; condition = tt; rule = tt; bidi_class = tt; demand = tt; kind = tt; code_points = tt; octets = tt; alabel = tt; byte = tt; ulabel = tt }
+good_changed place c (Some form) h = record { label = tt; place = next_small place h; condition = tt; rule = tt; bidi_class = tt; demand = tt; kind = tt; action = tt; default_action = tt; type_name = tt; code_points = tt; octets = tt; alabel = tt; byte = tt; ulabel = tt }
 
 good_context : (refusal : Refusal) (place c : ℕ) → place < 2 ^ 63 → AreGoodDetails (point_parts refusal place c).details
 good_context refusals.ContextJ place c h = good_ruled (placed place c) (appendix_rule c) (ascii_utf8 (appendix_rule c) (appendix_ascii c)) (good_placed place c h)
@@ -335,36 +354,36 @@ good_cause refusal (Barred place c line) h = good_ruled (placed place c) (barrin
 good_cause refusal (Changed place c form) h = good_changed place c form h
 good_cause refusal (Hyphen place len) h = good_placed place 0x2D h
 good_cause refusal (Point place c) h = good_context refusal place c h
-good_cause refusal (Broken broken c class) h = record { label = tt; place = next_small broken.place h; condition = tt; rule = condition_ascii broken.condition; bidi_class = bidi_ascii class; demand = tt; kind = tt; code_points = tt; octets = tt; alabel = tt; byte = tt; ulabel = tt }
-good_cause refusal (Points n) h = record { label = tt; place = tt; condition = tt; rule = tt; bidi_class = tt; demand = tt; kind = tt; code_points = h; octets = tt; alabel = tt; byte = tt; ulabel = tt }
-good_cause refusal (Octets n) h = record { label = tt; place = tt; condition = tt; rule = tt; bidi_class = tt; demand = tt; kind = tt; code_points = tt; octets = h; alabel = tt; byte = tt; ulabel = tt }
+good_cause refusal (Broken broken c class) h = record { label = tt; place = next_small broken.place h; condition = tt; rule = condition_ascii broken.condition; bidi_class = bidi_ascii class; demand = tt; kind = tt; action = tt; default_action = tt; type_name = tt; code_points = tt; octets = tt; alabel = tt; byte = tt; ulabel = tt }
+good_cause refusal (Points n) h = record { label = tt; place = tt; condition = tt; rule = tt; bidi_class = tt; demand = tt; kind = tt; action = tt; default_action = tt; type_name = tt; code_points = h; octets = tt; alabel = tt; byte = tt; ulabel = tt }
+good_cause refusal (Octets n) h = record { label = tt; place = tt; condition = tt; rule = tt; bidi_class = tt; demand = tt; kind = tt; action = tt; default_action = tt; type_name = tt; code_points = tt; octets = h; alabel = tt; byte = tt; ulabel = tt }
 
 -- the same details, of what an A-label stands for
 good_decoded_details : (d : Details) → AreGoodDetails d → AreGoodDetails (record d { decoded = true })
-good_decoded_details d h = record { label = h.label; place = h.place; condition = h.condition; rule = h.rule; bidi_class = h.bidi_class; demand = h.demand; kind = h.kind; code_points = h.code_points; octets = h.octets; alabel = h.alabel; byte = h.byte; ulabel = h.ulabel }
+good_decoded_details d h = record { label = h.label; place = h.place; condition = h.condition; rule = h.rule; bidi_class = h.bidi_class; demand = h.demand; kind = h.kind; action = h.action; default_action = h.default_action; type_name = h.type_name; code_points = h.code_points; octets = h.octets; alabel = h.alabel; byte = h.byte; ulabel = h.ulabel }
 
 -- and of the label of a number
 good_label_details : (d : Details) (n : ℕ) → n < 2 ^ 63 → AreGoodDetails d → AreGoodDetails (record d { label = Some (n + 1) })
-good_label_details d n small h = record { label = next_small n small; place = h.place; condition = h.condition; rule = h.rule; bidi_class = h.bidi_class; demand = h.demand; kind = h.kind; code_points = h.code_points; octets = h.octets; alabel = h.alabel; byte = h.byte; ulabel = h.ulabel }
+good_label_details d n small h = record { label = next_small n small; place = h.place; condition = h.condition; rule = h.rule; bidi_class = h.bidi_class; demand = h.demand; kind = h.kind; action = h.action; default_action = h.default_action; type_name = h.type_name; code_points = h.code_points; octets = h.octets; alabel = h.alabel; byte = h.byte; ulabel = h.ulabel }
 
 good_a_label : (refusal : Refusal) (cause : ALabelCause) → IsFittingALabel cause → AreGoodDetails (a_label_parts refusal cause).details
 unfolding a_label_parts
 good_a_label refusal NoCode h = good_none
 good_a_label refusal (NotAscii place c) h = good_placed place c h
 good_a_label refusal NoPunycode h = good_ruled no_details (codes "RFC 3492 6.2") (ascii_utf8 (codes "RFC 3492 6.2") refl) good_none
-good_a_label refusal (Other octets) h = record { label = tt; place = tt; condition = tt; rule = tt; bidi_class = tt; demand = tt; kind = tt; code_points = tt; octets = tt; alabel = h; byte = tt; ulabel = tt }
+good_a_label refusal (Other octets) h = record { label = tt; place = tt; condition = tt; rule = tt; bidi_class = tt; demand = tt; kind = tt; action = tt; default_action = tt; type_name = tt; code_points = tt; octets = tt; alabel = h; byte = tt; ulabel = tt }
 good_a_label refusal (Decoded cause) h = good_decoded_details (label_parts refusal cause).details (good_cause refusal cause h)
 good_a_label refusal (Copied cause) h = good_cause refusal cause h
 
 good_length : (cause : LengthCause) → IsFittingLength cause → AreGoodDetails (length_parts cause).details
-good_length (LabelOctets number octets) h = record { label = next_small number h.0; place = tt; condition = tt; rule = tt; bidi_class = tt; demand = tt; kind = tt; code_points = tt; octets = h.1; alabel = tt; byte = tt; ulabel = tt }
-good_length (NameOctets octets) h = record { label = tt; place = tt; condition = tt; rule = tt; bidi_class = tt; demand = tt; kind = tt; code_points = tt; octets = h; alabel = tt; byte = tt; ulabel = tt }
+good_length (LabelOctets number octets) h = record { label = next_small number h.0; place = tt; condition = tt; rule = tt; bidi_class = tt; demand = tt; kind = tt; action = tt; default_action = tt; type_name = tt; code_points = tt; octets = h.1; alabel = tt; byte = tt; ulabel = tt }
+good_length (NameOctets octets) h = record { label = tt; place = tt; condition = tt; rule = tt; bidi_class = tt; demand = tt; kind = tt; action = tt; default_action = tt; type_name = tt; code_points = tt; octets = h; alabel = tt; byte = tt; ulabel = tt }
 
 good_byte : (place : ℕ) → place < 2 ^ 63 → AreGoodDetails (at_byte place)
-good_byte place h = record { label = tt; place = tt; condition = tt; rule = tt; bidi_class = tt; demand = tt; kind = tt; code_points = tt; octets = tt; alabel = tt; byte = next_small place h; ulabel = tt }
+good_byte place h = record { label = tt; place = tt; condition = tt; rule = tt; bidi_class = tt; demand = tt; kind = tt; action = tt; default_action = tt; type_name = tt; code_points = tt; octets = tt; alabel = tt; byte = next_small place h; ulabel = tt }
 
 good_point_byte : (place c : ℕ) → place < 2 ^ 63 → AreGoodDetails (point_at_byte place c)
-good_point_byte place c h = record { label = tt; place = tt; condition = tt; rule = tt; bidi_class = tt; demand = tt; kind = tt; code_points = tt; octets = tt; alabel = tt; byte = next_small place h; ulabel = tt }
+good_point_byte place c h = record { label = tt; place = tt; condition = tt; rule = tt; bidi_class = tt; demand = tt; kind = tt; action = tt; default_action = tt; type_name = tt; code_points = tt; octets = tt; alabel = tt; byte = next_small place h; ulabel = tt }
 
 good_fault_place : (place : FaultPlace) (quoted : List ℕ) → byte_of place < 2 ^ 63 → AreGoodDetails (fault_place_parts place quoted).details
 good_fault_place (places.Lexeme place len) quoted h = good_byte place h
@@ -392,13 +411,18 @@ good_line refusal (OfLabel cause) h = good_cause refusal cause h
 good_line refusal (OfALabel cause) h = good_a_label refusal cause h
 good_line refusal (OfName cause) h = good_label_details (a_label_parts refusal cause.cause).details cause.label h.0 (good_a_label refusal cause.cause h.1)
 good_line refusal (OfQuery cause) h = good_length cause h
-good_line refusal (Misplaced place c kind rule) h = record { label = tt; place = next_small place h.0; condition = condition_utf8 kind; rule = h.1; bidi_class = tt; demand = tt; kind = tt; code_points = tt; octets = tt; alabel = tt; byte = tt; ulabel = tt }
-good_line refusal (NoEntry place c) h = record { label = tt; place = next_small place h; condition = tt; rule = tt; bidi_class = tt; demand = tt; kind = tt; code_points = tt; octets = tt; alabel = tt; byte = tt; ulabel = tt }
-good_line refusal (BrokenDemand number kind) h = record { label = tt; place = tt; condition = tt; rule = tt; bidi_class = tt; demand = next_small number h; kind = demand_utf8 kind; code_points = tt; octets = tt; alabel = tt; byte = tt; ulabel = tt }
-good_line refusal (Ends place) h = record { label = tt; place = next_small place h; condition = tt; rule = tt; bidi_class = tt; demand = tt; kind = tt; code_points = tt; octets = tt; alabel = tt; byte = tt; ulabel = tt }
+good_line refusal (Misplaced place c kind rule) h = record { label = tt; place = next_small place h.0; condition = condition_utf8 kind; rule = h.1; bidi_class = tt; demand = tt; kind = tt; action = tt; default_action = tt; type_name = tt; code_points = tt; octets = tt; alabel = tt; byte = tt; ulabel = tt }
+good_line refusal (NoEntry place c) h = record { label = tt; place = next_small place h; condition = tt; rule = tt; bidi_class = tt; demand = tt; kind = tt; action = tt; default_action = tt; type_name = tt; code_points = tt; octets = tt; alabel = tt; byte = tt; ulabel = tt }
+good_line refusal (BrokenDemand number kind) h = record { label = tt; place = tt; condition = tt; rule = tt; bidi_class = tt; demand = next_small number h; kind = demand_utf8 kind; action = tt; default_action = tt; type_name = tt; code_points = tt; octets = tt; alabel = tt; byte = tt; ulabel = tt }
+good_line refusal Unclear h = record { label = tt; place = tt; condition = tt; rule = tt; bidi_class = tt; demand = tt; kind = tt; action = tt; default_action = tt; type_name = tt; code_points = tt; octets = tt; alabel = tt; byte = tt; ulabel = tt }
+good_line refusal (ActionAsking number kind rule) h = record { label = tt; place = tt; condition = condition_utf8 kind; rule = h.1; bidi_class = tt; demand = tt; kind = tt; action = next_small number h.0; default_action = tt; type_name = tt; code_points = tt; octets = tt; alabel = tt; byte = tt; ulabel = tt }
+good_line refusal (ActionOfType number place c name) h = record { label = tt; place = next_small place h.1; condition = tt; rule = tt; bidi_class = tt; demand = tt; kind = tt; action = next_small number h.0; default_action = tt; type_name = h.2; code_points = tt; octets = tt; alabel = tt; byte = tt; ulabel = tt }
+good_line refusal (Action number) h = record { label = tt; place = tt; condition = tt; rule = tt; bidi_class = tt; demand = tt; kind = tt; action = next_small number h; default_action = tt; type_name = tt; code_points = tt; octets = tt; alabel = tt; byte = tt; ulabel = tt }
+good_line refusal (DefaultAction place c) h = record { label = tt; place = next_small place h; condition = tt; rule = tt; bidi_class = tt; demand = tt; kind = tt; action = tt; default_action = omega arith; type_name = ascii_utf8 (codes "invalid") refl; code_points = tt; octets = tt; alabel = tt; byte = tt; ulabel = tt }
+good_line refusal (Ends place) h = record { label = tt; place = next_small place h; condition = tt; rule = tt; bidi_class = tt; demand = tt; kind = tt; action = tt; default_action = tt; type_name = tt; code_points = tt; octets = tt; alabel = tt; byte = tt; ulabel = tt }
 good_line refusal (OfTable place quoted) h = good_fault_place place quoted.items h
 good_line refusal ByteOrderMark h = good_point_byte 0 0xFEFF (omega arith)
-good_line refusal (ALabelOf utf8) h = record { label = tt; place = omega arith; condition = tt; rule = tt; bidi_class = tt; demand = tt; kind = tt; code_points = tt; octets = tt; alabel = tt; byte = tt; ulabel = h }
+good_line refusal (ALabelOf utf8) h = record { label = tt; place = omega arith; condition = tt; rule = tt; bidi_class = tt; demand = tt; kind = tt; action = tt; default_action = tt; type_name = tt; code_points = tt; octets = tt; alabel = tt; byte = tt; ulabel = h }
 good_line refusal NoALabel h = good_ruled (placed 2 0x2D) (codes "RFC 5890 2.3.2.1") (ascii_utf8 (codes "RFC 5890 2.3.2.1") refl) (good_placed 2 0x2D (omega arith))
 
 good_told : (refusal : Refusal) (cause : Option LineCause) → IsFittingIfTold cause → AreGoodDetails (told_details refusal cause)

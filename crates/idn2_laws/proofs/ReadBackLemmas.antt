@@ -8,6 +8,7 @@ use Rattle.std.specs.Ordering.{is_gt, is_le}
 use Rattle.std.specs.Str.{is_utf8}
 use Rattle.std.proofs.lemmas.Bool.{and_from}
 use Rattle.std.proofs.lemmas.Bool.Decides.{nat_tests}
+use Rattle.std.specs.List.{flat_map}
 use Rattle.std.proofs.lemmas.List.Elements.{All-contains, All-from_recursion}
 use Rattle.registered_labels.specs.Registered.{AreRegistered}
 use Rattle.std.proofs.lemmas.List.Sums.{list_all-from_AllPass}
@@ -27,6 +28,9 @@ use Rattle.idn_label.specs.ALabel.{a_label_of}
 use Rattle.idn_label.specs.Answers.{Answer as LabelAnswer, unless_fault, and_then}
 use Rattle.idn_label.specs.Decode.{decode_answer}
 use Rattle.idn_label.specs.FirstFault.{first_fault, IsRegistrable}
+use Rattle.idn_label.specs.OldNames.{IsInZone}
+use Rattle.idn_label.specs.declared.old_names.Standing.{Standing}
+use Rattle.idn_label.specs.declared.old_names.Standing.TheVariants.{Registrable, Old}
 use Rattle.idn_label.specs.Lookup.{lookup_answer, query_name, utf8_answer}
 use Rattle.idn_label.specs.Register.{register_answer, tested_answer, u_label_answer}
 use Rattle.idn_label.specs.Steps.{in_utf8, is_ldh_point}
@@ -35,6 +39,7 @@ use Rattle.idn_label.proofs.AnswerLemmas.{u_label_answer-from}
 use Rattle.idn_label.proofs.BidiNames.{decode_answer-scalars}
 use Rattle.idn_label.proofs.LdhLemmas.{is_all_ascii-octets, is_ldh_point-ascii}
 use Rattle.idn_label.proofs.LookupLemmas.{utf8_answer-ascii}
+use Rattle.idn_label.proofs.OldNameLemmas.{in_zone-scalars}
 use Rattle.variant_table.specs.Entries.{TableValue}
 use Rattle.variant_table.specs.WellFormed.{IsWellFormed}
 use Rattle.valid_labels.specs.Tests.{is_admitted, is_made_of_sources}
@@ -50,20 +55,19 @@ use Rattle.variant_list.specs.Spelled.{spelled}
 use Rattle.variant_list.specs.Tested.{tested_among}
 use Rattle.variant_list.specs.Variants.{candidates_among, fits_label, variants_among}
 use Rattle.variant_list.specs.Visited.{visited}
-use Rattle.variant_list.specs.Parts.Part.{Whole}
 use Rattle.variant_list.proofs.FromLemmas.{among_from-IsListOf}
 use Rattle.variant_list.proofs.ListedLemmas.{variants-IsListed}
 use Rattle.variant_list.proofs.SpelledByLemmas.{spelled-Spells}
-use Rattle.variant_list.proofs.SpellingLemmas.{PartSpells-scalar}
+use Rattle.variant_list.proofs.SpellingLemmas.{Spells-scalar}
 use Rattle.idn2_options.specs.Settings.{IsCount, Settings}
 use Rattle.idn2_options.specs.declared.command_line.mode.Mode.{Mode}
-use Rattle.idn2_options.specs.declared.command_line.mode.Mode.TheVariants.{Lookup, Register, Decode, Variants, Jump, CheckTable}
+use Rattle.idn2_options.specs.declared.command_line.mode.Mode.TheVariants.{Lookup, Register, Decode, DecodeOld, Variants, Jump, CheckTable}
 use Rattle.answer_json.specs.Answers.{Answer, HasSmallNumbers, IsSmall, json_of}
 use Rattle.answer_json.specs.Hexadecimal.{hex_of, hex_of_byte}
 use Rattle.answer_json.specs.Inputs.{Told, as_text, as_octets, not_kept, input_field, told_of}
 use Rattle.answer_json.specs.Unicode.{HasUnicodeTexts, IsUnicode}
 use Rattle.answer_json.specs.declared.block.Disposition.{Disposition}
-use Rattle.answer_json.specs.declared.block.Disposition.TheVariants.{Allocatable, Blocked}
+use Rattle.answer_json.specs.declared.block.Disposition.TheVariants.{Allocatable, Blocked, Unclear}
 use Rattle.answer_json.specs.declared.collision.Regard.{Regard}
 use Rattle.answer_json.specs.declared.collision.Regard.TheVariants.{NoVariant, Variant}
 use Rattle.answer_json.specs.declared.collision.Regard.TheVariants as regards
@@ -72,14 +76,18 @@ use Rattle.answer_json.specs.Objects.{regard_text}
 use Rattle.answer_json.proofs.OneLine.{print_from-clear}
 use Rattle.answer_json.proofs.Unicode.{answer_utf8, print_from-utf8}
 use Rattle.answer_json.proofs.Written.{answer_clear, answer_depth, answer_numbers}
-use Rattle.idn2_answers.specs.Listings.{Filter, block, disposition, filter_of, is_registrable, lesser_label, nth, nth_if_given, stop_of, tested_after, up_to, variants_after, visited_in}
-use Rattle.idn2_answers.specs.Answers.{LineAnswer, block_among, if_admitted, least_answer, least_near, line_answer, listing_answer, mode_answer, one_answer, u_label_of}
-use Rattle.idn2_answers.specs.Collisions.{collide, collision_block, collision_by, collisions_after, regards_of}
+use Rattle.idn2_answers.specs.Listings.{Filter, block, field_of, filter_of, is_registrable, lesser_label, nth}
+use Rattle.idn2_answers.specs.Listings.{nth_if_given, stop_of, tested_after, up_to, variants_after, visited_in}
+use Rattle.idn2_answers.specs.Answers.{LineAnswer, block_among, if_admitted, least_answer, least_near, line_answer}
+use Rattle.idn2_answers.specs.Answers.{listing_answer, mode_answer, one_answer, u_label_of, zone_said}
+use Rattle.idn2_answers.specs.Collisions.{collision_block, collision_by, collisions_after, regards_of, is_found}
+use Rattle.idn2_answers.specs.Collisions.{named_end, named_if}
 use Rattle.idn2_refusals.specs.Requests.{requested_label, requested_text}
 use Rattle.idn2_laws.specs.ReadBack.{IsReadBack, IsKeptToFew, SaidIsReadBack}
-use Rattle.idn2_answers.specs.Said.{Said, LookedUp, Registered, Decoded, Listed, Collision, BlockEnd, Least, said_object}
+use Rattle.idn2_answers.specs.Said as said
+use Rattle.idn2_answers.specs.Said.{Said, LookedUp, Registered, Decoded, Listed, Collision, BlockEnd, NamedEnd, Least, said_object}
 use Rattle.idn2_laws.proofs.ReadBackCounts.{within_registered, within_tries}
-use Rattle.idn2_answers.proofs.RegisteredLines.{stands_for-decoded, stands_for-itself}
+use Rattle.idn2_laws.proofs.ZoneAnswers.{registered-for, zone-said}
 use Rattle.idn2_refusals.proofs.Utf8Bytes.{utf8-of_chars}
 
 -- ---- an object of small numbers and of UTF-8 is read back
@@ -150,6 +158,7 @@ a_label-utf8 label = by_test (is_all_ascii label) refl
 -- the end of a block counts few variants
 abbrev pub CountsFew : Said → Type 0
 CountsFew (BlockEnd count stop) = count < 2 ^ 64
+CountsFew (NamedEnd label count stop) = count < 2 ^ 64
 CountsFew _ = Unit {0}
 
 -- its texts are UTF-8
@@ -161,8 +170,10 @@ abbrev pub HasTexts : Said → Type 0
 HasTexts (LookedUp ascii) = IsUtf8 ascii
 HasTexts (Registered u_label a_label) = AreScalarValues u_label × IsUtf8 a_label
 HasTexts (Decoded unicode) = IsUtf8 unicode
+HasTexts (said.Old unicode) = IsUtf8 unicode
 HasTexts (Listed disposition v) = AreScalarValues v
 HasTexts (BlockEnd count stop) = IsText stop
+HasTexts (NamedEnd label count stop) = IsText stop
 HasTexts (Collision regards v) = AreScalarValues v
 HasTexts (Least None) = Unit {0}
 HasTexts (Least (Some found)) = AreScalarValues found.0
@@ -185,6 +196,9 @@ module _ (line : Numbered) (small : line.number < 2 ^ 64) where
   said_good (Decoded unicode) h few =
       object_read_back _ ((small, (input_small (told_of line.body), (tt, tt))), tt)
       ((ascii_utf8 (codes "line") refl, tt, ((input_unicode line.body).0, (input_unicode line.body).1, (ascii_utf8 (codes "unicode") refl, h, tt))), tt)
+  said_good (said.Old unicode) h few =
+      object_read_back _ ((small, (input_small (told_of line.body), (tt, (tt, tt)))), tt)
+      ((ascii_utf8 (codes "line") refl, tt, ((input_unicode line.body).0, (input_unicode line.body).1, (ascii_utf8 (codes "unicode") refl, h, (ascii_utf8 (codes "old") refl, tt, tt)))), tt)
   said_good (Listed None v) h few =
       object_read_back _ ((small, (tt, (tt, tt))), tt)
       ((ascii_utf8 (codes "line") refl, tt, (ascii_utf8 (codes "ulabel") refl, scalars_utf8 v h, (ascii_utf8 (codes "alabel") refl, a_label-utf8 v, tt))), tt)
@@ -194,10 +208,33 @@ module _ (line : Numbered) (small : line.number < 2 ^ 64) where
   said_good (Listed (Some Blocked) v) h few =
       object_read_back _ ((small, (tt, (tt, (tt, tt)))), tt)
       ((ascii_utf8 (codes "line") refl, tt, (ascii_utf8 (codes "ulabel") refl, scalars_utf8 v h, (ascii_utf8 (codes "alabel") refl, a_label-utf8 v, (ascii_utf8 (codes "disposition") refl, ascii_utf8 (codes "blocked") refl, tt)))), tt)
+  said_good (Listed (Some Unclear) v) h few =
+      object_read_back _ ((small, (tt, (tt, (tt, (tt, tt))))), tt) (
+        (
+          ascii_utf8 (codes "line") refl,
+          tt,
+          (
+            ascii_utf8 (codes "ulabel") refl,
+            scalars_utf8 v h,
+            (
+              ascii_utf8 (codes "alabel") refl,
+              a_label-utf8 v,
+              (ascii_utf8 (codes "disposition") refl, ascii_utf8 (codes "blocked") refl, (ascii_utf8 (codes "unclear") refl, tt, tt)),
+            ),
+          ),
+        ),
+        tt,
+      )
   said_good (BlockEnd n None) h few =
       object_read_back _ ((small, (input_small (told_of line.body), (few, (tt, tt)))), tt)
       ((ascii_utf8 (codes "line") refl, tt, ((input_unicode line.body).0, (input_unicode line.body).1, (ascii_utf8 (codes "count") refl, tt, (ascii_utf8 (codes "complete") refl, tt, tt)))), tt)
   said_good (BlockEnd n (Some b)) h few =
+      object_read_back _ ((small, (input_small (told_of line.body), (few, (tt, (tt, tt))))), tt)
+      ((ascii_utf8 (codes "line") refl, tt, ((input_unicode line.body).0, (input_unicode line.body).1, (ascii_utf8 (codes "count") refl, tt, (ascii_utf8 (codes "complete") refl, tt, (ascii_utf8 (codes "after") refl, scalars_utf8 b h, tt))))), tt)
+  said_good (NamedEnd label n None) h few =
+      object_read_back _ ((small, (input_small (told_of line.body), (few, (tt, tt)))), tt)
+      ((ascii_utf8 (codes "line") refl, tt, ((input_unicode line.body).0, (input_unicode line.body).1, (ascii_utf8 (codes "count") refl, tt, (ascii_utf8 (codes "complete") refl, tt, tt)))), tt)
+  said_good (NamedEnd label n (Some b)) h few =
       object_read_back _ ((small, (input_small (told_of line.body), (few, (tt, (tt, tt))))), tt)
       ((ascii_utf8 (codes "line") refl, tt, ((input_unicode line.body).0, (input_unicode line.body).1, (ascii_utf8 (codes "count") refl, tt, (ascii_utf8 (codes "complete") refl, tt, (ascii_utf8 (codes "after") refl, scalars_utf8 b h, tt))))), tt)
   said_good (Least None) h few =
@@ -255,24 +292,9 @@ looked_up-texts name std3 said is scalar = by_answer (query_name (utf8_of name) 
 
 module _ (properties : Properties) where
   registered-parts : (label a_label : List ℕ) → register_answer properties label ≡ Ok a_label → AreScalarValues (u_label_of properties label) × IsUtf8 a_label
-  unfolding register_answer tested_answer
-  registered-parts label a_label is = by_prefix (has_ace_prefix label) refl is
-    where
-      from : (u : List ℕ) → IsRegistrable properties u → u_label_of properties label ≡ u → a_label_of u ≡ a_label → AreScalarValues (u_label_of properties label) × IsUtf8 a_label
-      from u registrable e same = (subst AreScalarValues (sym e) (registrable_scalars properties u registrable), subst IsUtf8 same (a_label-utf8 u))
-
-      plain : has_ace_prefix label ≡ false → (fault : Option Refusal) → first_fault properties label ≡ fault → unless_fault fault (Ok (a_label_of label)) ≡ Ok a_label → AreScalarValues (u_label_of properties label) × IsUtf8 a_label
-      plain other None e same = from label e (stands_for-itself properties label other) (let one : Ok (a_label_of label) ≡ Ok a_label = same in cc)
-      plain other (Some refusal) e same = absurd (let clash : Err refusal ≡ Ok a_label = same in cc)
-
-      coded : has_ace_prefix label ≡ true → (answer : LabelAnswer) → u_label_answer properties label ≡ answer → and_then answer (λ decoded. Ok (a_label_of decoded)) ≡ Ok a_label → AreScalarValues (u_label_of properties label) × IsUtf8 a_label
-      coded prefix (Ok u) e same = from u (u_label_answer-from properties label u e).0 (stands_for-decoded properties label u prefix e) (let one : Ok (a_label_of u) ≡ Ok a_label = same in cc)
-      coded prefix (Err refusal) e same = absurd (let clash : Err refusal ≡ Ok a_label = same in cc)
-
-      by_prefix : (b : Bool) → has_ace_prefix label ≡ b → cond b (and_then (u_label_answer properties label) (λ decoded. Ok (a_label_of decoded))) (unless_fault (first_fault properties label) (Ok (a_label_of label))) ≡ Ok a_label
-          → AreScalarValues (u_label_of properties label) × IsUtf8 a_label
-      by_prefix true prefix same = coded prefix (u_label_answer properties label) refl same
-      by_prefix false other same = plain other (first_fault properties label) refl same
+  registered-parts label a_label is =
+      let found = registered-for properties label a_label is in
+      (subst AreScalarValues (sym found.1.told) (registrable_scalars properties found.0 found.1.registrable), subst IsUtf8 found.1.same (a_label-utf8 found.0))
 
   registered-texts : (label : List ℕ) (said : List Said) → one_answer (Registered (u_label_of properties label)) (register_answer properties label) ≡ Ok said → AllByRecursion HasTexts said
   registered-texts label said is = by_answer (register_answer properties label) refl is
@@ -298,7 +320,7 @@ module _ (properties : Properties) where
 
 -- a list of labels that the label spells is of scalar values
 spelled-scalar : (table : TableValue) (label v : List ℕ) → IsWellFormed table.entries → Contains (spelled table label) v → AreScalarValues v
-spelled-scalar table label v well at = PartSpells-scalar Whole table label v well.entries ((spelled-Spells table label v well).0 at)
+spelled-scalar table label v well at = Spells-scalar table label v well.entries ((spelled-Spells table label v well).0 at)
 
 among-scalar : (table : TableValue) (label : List ℕ) → IsWellFormed table.entries → (accepts : List ℕ → Bool) (after : List ℕ) → AllByRecursion AreScalarValues (variants_among accepts (spelled table label) after)
 among-scalar table label well accepts after =
@@ -349,7 +371,7 @@ listed-texts field (v ∷ vs) n stop all h = (all.0, listed-texts field vs n sto
 
 block-texts : (o : Settings) (table : TableValue) (label : List ℕ) → IsWellFormed table.entries → AllByRecursion HasTexts (block o table label)
 block-texts o table label well =
-    let f : Filter = filter_of o.properties table in
+    let f : Filter = filter_of o.properties table label in
     let labels = spelled table label in
     let vs = among-scalar table label well f.accepts o.after in
     let tests = among-scalar table label well (λ v. fits_label v && has_no_dead_prefix f.hopeless v) o.after in
@@ -359,21 +381,43 @@ block-texts o table label well =
     lesser-text (nth_if_given (variants_after f o labels) o.limit) (lesser_label (nth (tested_after f o labels) o.tries) (nth_if_given (visited_in f o labels) o.steps)) (nth-text (variants_after f o labels) o.limit vs)
     (lesser-text (nth (tested_after f o labels) o.tries) (nth_if_given (visited_in f o labels) o.steps) (get-text (tested_after f o labels) (o.tries - 1) tests)
     (nth-text (visited_in f o labels) o.steps (visited-all f.hopeless AreScalarValues None (candidates_among labels o.after) candidates))) in
-    listed-texts (disposition table label) (up_to stop (variants_after f o labels)) (length (up_to stop (variants_after f o labels))) stop (up_to-all AreScalarValues stop (variants_after f o labels) vs) stops
+    listed-texts (field_of o table label) (up_to stop (variants_after f o labels)) (length (up_to stop (variants_after f o labels))) stop (up_to-all AreScalarValues stop (variants_after f o labels) vs) stops
 
 collision-texts : (regards : List ℕ → Regards) (vs : List (List ℕ)) (n : ℕ) (stop : Option (List ℕ)) → AllByRecursion AreScalarValues vs → IsText stop → AllByRecursion HasTexts (map (collision_by regards) vs ++ BlockEnd n stop ∷ [])
 collision-texts regards [] n stop all h = (h, tt)
 collision-texts regards (v ∷ vs) n stop all h = (all.0, collision-texts regards vs n stop all.1 h)
 
 registered-scalar : (properties : Properties) (labels : List (List ℕ)) → AreRegistered properties labels → AllByRecursion AreScalarValues labels
-registered-scalar properties labels are = all-members AreScalarValues labels (λ v at. registrable_scalars properties v (All-contains (IsRegistrable properties) labels v are.registrable at))
+registered-scalar properties labels are = all-members AreScalarValues labels (λ v at. in_zone-scalars properties v (All-contains (IsInZone properties) labels v are.each at))
+
+-- with `--others` the end of a block is named, or nothing is said
+named-all : (P : Said → Type 0) (label : List ℕ) → ((count : ℕ) (stop : Option (List ℕ)) → P (BlockEnd count stop) → P (NamedEnd label count stop)) → (lines : List Said) → AllByRecursion P lines → AllByRecursion P (flat_map (named_end label) lines)
+named-all P label renamed [] all = tt
+named-all P label renamed (LookedUp ascii ∷ lines) all = (all.0, named-all P label renamed lines all.1)
+named-all P label renamed (Registered u a ∷ lines) all = (all.0, named-all P label renamed lines all.1)
+named-all P label renamed (Decoded unicode ∷ lines) all = (all.0, named-all P label renamed lines all.1)
+named-all P label renamed (said.Old unicode ∷ lines) all = (all.0, named-all P label renamed lines all.1)
+named-all P label renamed (Listed field v ∷ lines) all = (all.0, named-all P label renamed lines all.1)
+named-all P label renamed (Collision regards v ∷ lines) all = (all.0, named-all P label renamed lines all.1)
+named-all P label renamed (NamedEnd other count stop ∷ lines) all = (all.0, named-all P label renamed lines all.1)
+named-all P label renamed (Least found ∷ lines) all = (all.0, named-all P label renamed lines all.1)
+named-all P label renamed (BlockEnd count stop ∷ lines) all = by_count (count == 0) (named-all P label renamed lines all.1)
+  where
+    by_count : (none : Bool) → AllByRecursion P (flat_map (named_end label) lines) → AllByRecursion P ((if none then [] else NamedEnd label count stop ∷ []) ++ flat_map (named_end label) lines)
+    by_count true rest = rest
+    by_count false rest = (renamed count stop all.0, rest)
+
+named_if-all : (P : Said → Type 0) (others : Bool) (label : List ℕ) → ((count : ℕ) (stop : Option (List ℕ)) → P (BlockEnd count stop) → P (NamedEnd label count stop)) → (lines : List Said) → AllByRecursion P lines → AllByRecursion P (named_if others label lines)
+named_if-all P true label renamed lines all = named-all P label renamed lines all
+named_if-all P false label renamed lines all = all
 
 collision_block-texts : (o : Settings) (table : TableValue) (registered : List (List ℕ)) (label : List ℕ) → AreRegistered o.properties registered → AllByRecursion HasTexts (collision_block o table registered label)
 collision_block-texts o table registered label are =
     let found = collisions_after o table registered label in
-    let all = kept_all AreScalarValues (λ v. is_gt (label_cmp v o.after) && collide (is_registrable o.properties) table label v) registered (registered-scalar o.properties registered are) in
+    let all = kept_all AreScalarValues (λ v. is_gt (label_cmp v o.after) && is_found o table label v) registered (registered-scalar o.properties registered are) in
     let stop = nth_if_given found o.limit in
-    collision-texts (regards_of (is_registrable o.properties) table label) (up_to stop found) (length (up_to stop found)) stop (up_to-all AreScalarValues stop found all) (nth-text found o.limit all)
+    named_if-all HasTexts o.others label (λ count end h. h) _
+    (collision-texts (regards_of (is_registrable o.properties) table label) (up_to stop found) (length (up_to stop found)) stop (up_to-all AreScalarValues stop found all) (nth-text found o.limit all))
 
 among-texts : (o : Settings) (table : TableValue) (label : List ℕ) → IsWellFormed table.entries → (registered : Option (List (List ℕ))) → IsKeptToFew o.properties registered → AllByRecursion HasTexts (block_among registered o table label)
 among-texts o table label well None kept = block-texts o table label well
@@ -401,12 +445,17 @@ least-text properties table label text well =
     found-texts (regards_of (is_registrable properties) table label) vs
     (all-members AreScalarValues vs (λ v at. AreNear-scalar table well label v ((near-AreNear table well label v).0 (((among_from-IsListOf (near table label) text).members v).0 at).0.spelled)))
 
+zone-texts : (standing : Standing) (label : List ℕ) → AreScalarValues label → HasTexts (zone_said standing (utf8_of label))
+zone-texts Registrable label scalars = scalars_utf8 label scalars
+zone-texts Old label scalars = scalars_utf8 label scalars
+
 -- ---- a line
 
 mode-texts : (mode : Mode) (o : Settings) (table : TableValue) (points : List ℕ) (said : List Said) → IsSound table → IsKeptToFew o.properties o.registered → AreScalarValues points → mode_answer mode o table points ≡ Ok said → AllByRecursion HasTexts said
 mode-texts Lookup o table points said sound kept scalar is = looked_up-texts points o.std3 said is scalar
 mode-texts Register o table points said sound kept scalar is = registered-texts o.properties points said is
 mode-texts Decode o table points said sound kept scalar is = decoded-texts o.properties points said scalar is
+mode-texts DecodeOld o table points said sound kept scalar is = zone-said o.properties points HasTexts zone-texts said is
 mode-texts Variants o table points said sound kept scalar is =
     admitted-texts table points (block_among o.registered o table points) said (among-texts o table points sound.entries o.registered kept) (unless-texts (first_fault o.properties points) (listing_answer o table points) said is)
 mode-texts Jump o table points said sound kept scalar is =
@@ -437,10 +486,10 @@ listed-few o field (v ∷ vs) n stop few = (tt, listed-few o field vs n stop few
 
 block-few : (o : Settings) (table : TableValue) (label : List ℕ) → IsCount o.tries → AllByRecursion CountsFew (block o table label)
 block-few o table label tries =
-    let f : Filter = filter_of o.properties table in
+    let f : Filter = filter_of o.properties table label in
     let labels = spelled table label in
     let stop = stop_of f o labels in
-    listed-few o (disposition table label) (up_to stop (variants_after f o labels)) (length (up_to stop (variants_after f o labels))) stop
+    listed-few o (field_of o table label) (up_to stop (variants_after f o labels)) (length (up_to stop (variants_after f o labels))) stop
     (omega (arith, within_tries o table label tries.0, tries.1))
 
 collision-few : (regards : List ℕ → Regards) (vs : List (List ℕ)) (n : ℕ) (stop : Option (List ℕ)) → n < 2 ^ 64 → AllByRecursion CountsFew (map (collision_by regards) vs ++ BlockEnd n stop ∷ [])
@@ -452,8 +501,9 @@ among-few o table label tries None kept = block-few o table label tries
 among-few o table label tries (Some labels) kept =
     let found = collisions_after o table labels label in
     let stop = nth_if_given found o.limit in
-    collision-few (regards_of (is_registrable o.properties) table label) (up_to stop found) (length (up_to stop found)) stop
-    (omega (arith, within_registered o table label labels, kept.1))
+    named_if-all CountsFew o.others label (λ count end h. h) _
+    (collision-few (regards_of (is_registrable o.properties) table label) (up_to stop found) (length (up_to stop found)) stop
+    (omega (arith, within_registered o table label labels, kept.1)))
 
 admitted-few : (o : Settings) (table : TableValue) (label : List ℕ) (told said : List Said) → AllByRecursion CountsFew told → if_admitted table label told ≡ Ok said → AllByRecursion CountsFew said
 admitted-few o table label told said few is = by_tests (is_admitted table label) (is_made_of_sources table label) is
@@ -463,10 +513,15 @@ admitted-few o table label told said few is = by_tests (is_admitted table label)
     by_tests false true same = absurd (let clash : Err NotValid ≡ Ok said = same in cc)
     by_tests false false same = absurd (let clash : Err NotInTable ≡ Ok said = same in cc)
 
+zone-few : (standing : Standing) (label : List ℕ) → AreScalarValues label → CountsFew (zone_said standing (utf8_of label))
+zone-few Registrable label scalars = tt
+zone-few Old label scalars = tt
+
 mode-few : (mode : Mode) (o : Settings) (table : TableValue) (points : List ℕ) (said : List Said) → IsCount o.tries → IsKeptToFew o.properties o.registered → mode_answer mode o table points ≡ Ok said → AllByRecursion CountsFew said
 mode-few Lookup o table points said tries kept is = one-few o LookedUp (λ t. tt) (lookup_answer points o.std3) said is
 mode-few Register o table points said tries kept is = one-few o (Registered (u_label_of o.properties points)) (λ t. tt) (register_answer o.properties points) said is
 mode-few Decode o table points said tries kept is = one-few o Decoded (λ t. tt) (in_utf8 (decode_answer o.properties points)) said is
+mode-few DecodeOld o table points said tries kept is = zone-said o.properties points CountsFew zone-few said is
 mode-few Variants o table points said tries kept is =
     admitted-few o table points (block_among o.registered o table points) said (among-few o table points tries o.registered kept) (unless-texts (first_fault o.properties points) (listing_answer o table points) said is)
 mode-few Jump o table points said tries kept is =

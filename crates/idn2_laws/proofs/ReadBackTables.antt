@@ -1,7 +1,9 @@
 -- The objects of tables and of registered labels are read back.
-use Rattle.std.proofs.Common.{◌≡◌, ℕ, suc, ◌-◌, ◌/◌, ◌%◌, ◌<◌, ◌≤◌, ◌^◌, ◌==◌, nat_lt, Bool, true, false, ◌&&◌, List, [], ◌∷◌, ◌++◌, map, codes, length, take, chars, cond, slice_index, Option, Some, None, refl, ap, arith}
-use Rattle.std.specs.Prelude.{slice_get}
-use Rattle.std.specs.List.{AllByRecursion}
+use Rattle.std.proofs.Common.{◌≡◌, ℕ, suc, ◌-◌, ◌/◌, ◌%◌, ◌<◌, ◌≤◌, ◌^◌, ◌==◌, nat_lt, Bool, true, false, ◌&&◌, List}
+use Rattle.std.proofs.Common.{[], ◌∷◌, ◌++◌, map, codes, length, take, chars, cond, not, slice_index, Option, Some}
+use Rattle.std.proofs.Common.{None, refl, ap, subst, append_assoc, arith, length-take}
+use Rattle.std.specs.Prelude.{IsUtf8, slice_get}
+use Rattle.std.specs.List.{AllByRecursion, filter}
 use Rattle.std.specs.Option.{option_map}
 use Rattle.std.specs.Str.{is_utf8}
 use Rattle.std.specs.Str.Lines.{strip_carriage_return}
@@ -18,7 +20,11 @@ use Rattle.idn_cause.specs.Causes.{shared}
 use Rattle.ruleset_text.specs.Canonical.{point_text}
 use Rattle.ruleset_text.specs.EntryText.{sequence_text}
 use Rattle.variant_table.specs.Differences.{differences_of}
+use Rattle.variant_table.specs.Entries.{TableValue}
 use Rattle.variant_table.specs.Gaps.{gaps_of}
+use Rattle.variant_table.specs.IdleTypes.{idle_types, is_asked}
+use Rattle.valid_labels.specs.Validity.{IsSound}
+use Rattle.ruleset_text.specs.Names.{AreNames, predefined_types}
 use Rattle.variant_table.specs.FaultyLines.{fault_place}
 use Rattle.variant_table.specs.FaultyLines.{faulty_line, line_of}
 use Rattle.ruleset_text.specs.declared.fault.FaultPlace.{FaultPlace}
@@ -26,13 +32,14 @@ use Rattle.idn2_refusals.specs.Explained.{ByRegisteredLine, bad_byte, body_cause
 use Rattle.idn2_laws.specs.ReadBack.{byte_of, FindingsAreReadBack, IsReadBack, IsShortBody, RegisteredFaultsAreReadBack, TableFaultsAreReadBack, TellsFewOctetsIfAny}
 use Rattle.answer_json.specs.declared.checked.PairFinding.{PairFinding}
 use Rattle.answer_json.specs.declared.checked.PairFinding.TheVariants.{Missing, Differs}
-use Rattle.idn2_answers.specs.Said.{Finding, Found, Counted, finding_object}
+use Rattle.idn2_answers.specs.Said.{Finding, Found, Idle, Counted, finding_object}
 use Rattle.idn2_answers.specs.Transcript.{check_findings}
 use Rattle.idn2_refusals.specs.TableCauses.{begins_with_mark, cause_at, fault_cause, is_syntax_of_first, line_cause, told_if}
-use Rattle.idn2_refusals.specs.WrongLines.{body_at, body_if_any, differs_at, points_at, points_in, told_of_wrong_line, wrong_line_cause}
+use Rattle.idn2_refusals.specs.WrongLines.{body_at, body_if_any, differs_at, points_at, points_in, told_of_wrong_line, without_mark, wrong_line_cause}
+use Rattle.idn_label.specs.OldNames.{before_mark, has_mark, mark}
 use Rattle.idn2_refusals.specs.declared.cause.LineCause.{LineCause}
 use Rattle.idn2_refusals.specs.declared.cause.LineCause.TheVariants.{ByteOrderMark}
-use Rattle.idn2_laws.proofs.ReadBackCauses.{points-length, taken, u_label_fits}
+use Rattle.idn2_laws.proofs.ReadBackCauses.{names-utf8, names_after, points-length, taken, u_label_fits}
 use Rattle.idn2_laws.proofs.LineCauseLaws.{u_label-is}
 use Rattle.idn2_laws.proofs.ReadBackDetails.{IsFitting, IsFittingIfTold, ascii_append, ascii_cons, four_ascii, registered_fault_good, table_fault_good}
 use Rattle.idn2_laws.proofs.ReadBackLemmas.{ascii_utf8, digit_ascii, object_read_back}
@@ -81,14 +88,36 @@ pairs_good : (finding : PairFinding) (pairs : List (List ℕ × List ℕ)) (othe
 pairs_good finding [] others good = good
 pairs_good finding (pair ∷ pairs) others good = (pair_good finding pair, pairs_good finding pairs others good)
 
+idle_good : (name : List ℕ) → IsUtf8 name → IsGood (Idle name)
+idle_good name utf8 = object_read_back _ ((tt, tt), tt) ((ascii_utf8 (codes "idle") refl, utf8, tt), tt)
+
+-- the names that are kept of some
+names_good : (p : List ℕ → Bool) (names : List (List ℕ)) (others : List Finding) → AllByRecursion IsUtf8 names → AllByRecursion IsGood others → AllByRecursion IsGood (map Idle (filter p names) ++ others)
+names_good p [] others utf8 good = good
+names_good p (name ∷ names) others utf8 good = by_test (p name) (names_good p names others utf8.1 good)
+  where
+    by_test : (b : Bool) → AllByRecursion IsGood (map Idle (filter p names) ++ others) → AllByRecursion IsGood (map Idle (cond b (name ∷ filter p names) (filter p names)) ++ others)
+    by_test true rest = (idle_good name utf8.0, rest)
+    by_test false rest = rest
+
+-- the types of a ruleset's own have names
+types_utf8 : (table : TableValue) → IsSound table → AllByRecursion IsUtf8 table.definitions.types
+types_utf8 table sound =
+    let d = table.definitions in
+    let own = names_after predefined_types (d.types ++ (d.set_names ++ d.rule_names)) (subst AreNames (append_assoc predefined_types d.types (d.set_names ++ d.rule_names)) sound.definitions.names) in
+    names-utf8 d.types (d.set_names ++ d.rule_names) own
+
 pub findings_read_back : FindingsAreReadBack
 findings_read_back table sound few =
     let gaps = gaps_of table.entries in
     let differences = differences_of table.entries in
+    let d = table.definitions in
     let count = Counted (length table.entries) (length gaps) ∷ [] in
-    All-from_recursion IsGood (check_findings table.entries)
-    (pairs_good Missing gaps (map (Found Differs) differences ++ count)
-    (pairs_good Differs differences count (counted_good (length table.entries) (length gaps) (omega (arith, sound.entries.few)) few, tt)))
+    let idle = map Idle (idle_types d) ++ count in
+    All-from_recursion IsGood (check_findings table)
+    (pairs_good Missing gaps (map (Found Differs) differences ++ idle)
+    (pairs_good Differs differences idle
+    (names_good (λ name. not (is_asked d.actions name)) d.types count (types_utf8 table sound) (counted_good (length table.entries) (length gaps) (omega (arith, sound.entries.few)) few, tt))))
 
 -- ---- the fault of a table
 
@@ -136,7 +165,15 @@ short_at bytes number = by_line (slice_get (raw_lines bytes) (number - 1))
   where
     by_line : (line : Option (List ℕ)) → IsShortBody (body_if_any line)
     by_line None = tt
-    by_line (Some line) = short_body line
+    by_line (Some line) = without (body_of line) (short_body line)
+      where
+        without : (body : Option (List ℕ)) → IsShortBody body → IsShortBody (option_map without_mark body)
+        without None short = tt
+        without (Some text) short = by_mark (has_mark text)
+          where
+            by_mark : (b : Bool) → length (cond b (before_mark text) text) ≤ 1024
+            by_mark true = omega (arith, length-take (length text - length mark) text, short)
+            by_mark false = short
 
 short_points : (bytes : List ℕ) → length bytes ≤ 1024 → is_utf8 bytes ≡ true → length (chars bytes) ≤ 1024
 short_points bytes short utf8 = let whole = utf8-of_chars bytes utf8 in omega (arith, points-length (chars bytes), ap length whole.encoded, short)

@@ -1,7 +1,7 @@
 -- A cause is told alike by an object and by a message.
 use Rattle.std.proofs.Common.{◌≡◌, ℕ, List, [], ◌∷◌, ◌++◌, codes, decimal, Option, Some, None, append_assoc, refl, sym, ap, subst, ◌∙◌}
 use Rattle.idn2_refusals.specs.CauseParts.{CauseParts, parts_of}
-use Rattle.idn2_refusals.specs.CauseWords.{before_place, cause_words, label_words, length_words, number_between, place_words, rule_words, subject_words}
+use Rattle.idn2_refusals.specs.CauseWords.{action_words, before_place, cause_words, demand_words, label_words, length_words, number_between, place_words, rule_words, subject_words}
 use Rattle.idn2_laws.specs.ToldAlike.{CausesAreToldAlike, HasPart}
 
 in_rest : (first part rest : List ℕ) → HasPart part rest → HasPart part (first ++ rest)
@@ -26,11 +26,13 @@ byte_told n = ([], [], refl)
 in_words : (parts : CauseParts) (part : List ℕ) → HasPart part (place_words parts) → HasPart part (codes ": " ++ cause_words parts)
 unfolding cause_words
 in_words parts part is =
-    let rest = rule_words parts ++ length_words parts.details in
+    let rest = rule_words parts ++ (demand_words parts.details ++ length_words parts.details) in
     let subject = subject_words parts.lead parts.details.code_point in
-    in_rest (codes ": ") part (label_words parts.details ++ (subject ++ (place_words parts ++ rest)))
-    (in_rest (label_words parts.details) part (subject ++ (place_words parts ++ rest))
-    (in_rest subject part (place_words parts ++ rest) (in_first (place_words parts) part rest is)))
+    let action = action_words parts.details in
+    in_rest (codes ": ") part (label_words parts.details ++ (action ++ (subject ++ (place_words parts ++ rest))))
+    (in_rest (label_words parts.details) part (action ++ (subject ++ (place_words parts ++ rest)))
+    (in_rest action part (subject ++ (place_words parts ++ rest))
+    (in_rest subject part (place_words parts ++ rest) (in_first (place_words parts) part rest is))))
 
 module _ (parts : CauseParts) (n : ℕ) where
   place_in : parts.details.place ≡ Some n → HasPart (codes "place " ++ decimal n) (place_words parts)

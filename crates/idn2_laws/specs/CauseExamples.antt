@@ -7,10 +7,10 @@ use Rattle.idn_class.specs.declared.broken.BidiCondition.TheVariants.{RtlHolds, 
 use Rattle.idn_cause.specs.declared.cause.Cause.TheVariants as causes
 use Rattle.idn_cause.specs.declared.a_label.ALabelCause.TheVariants as a_labels
 use Rattle.idn_cause.specs.declared.query.LengthCause.TheVariants.{LabelOctets, NameOctets}
-use Rattle.label_patterns.specs.declared.condition.ConditionKind.TheVariants.{Unless}
+use Rattle.label_patterns.specs.declared.condition.ConditionKind.TheVariants.{When, Unless}
 use Rattle.ruleset_text.specs.declared.definition.DemandKind.TheVariants.{Never}
 use Rattle.idn2_refusals.specs.CauseWords.{tail_text}
-use Rattle.idn2_refusals.specs.declared.cause.LineCause.TheVariants.{Byte, LongLine, OfLabel, OfALabel, OfName, OfQuery, Misplaced, NoEntry, Broken, ByteOrderMark, ALabelOf, NoALabel}
+use Rattle.idn2_refusals.specs.declared.cause.LineCause.TheVariants.{Byte, LongLine, OfLabel, OfALabel, OfName, OfQuery, Misplaced, NoEntry, Broken, Unclear, ActionAsking, ActionOfType, Action, DefaultAction, ByteOrderMark, ALabelOf, NoALabel}
 
 -- each form of a cause
 pub record ExamplesOfCauses : Type 0 where
@@ -41,6 +41,14 @@ pub record ExamplesOfCauses : Type 0 where
   pub misplaced : tail_text refusals.NotValid (Some (Misplaced 2 0x2D Unless (record { items = codes "edge" }))) ≡ codes ": U+002D at place 3: unless edge"
   pub no_entry : tail_text refusals.NotValid (Some (NoEntry 2 0x63)) ≡ codes ": U+0063 at place 3: no entry"
   pub broken : tail_text refusals.NotValid (Some (Broken 0 Never)) ≡ codes ": demand 1, never"
+  pub unclear : tail_text refusals.NotValid (Some Unclear) ≡ codes ": unclear"
+  pub action_asking : tail_text refusals.NotValid (Some (ActionAsking 1 When (record { items = codes "mixed" })))
+      ≡ codes ": action 2: when mixed"
+  pub action_of_type : tail_text refusals.NotValid (Some (ActionOfType 1 0 0x430 (record { items = codes "oor" })))
+      ≡ codes ": action 2: U+0430 at place 1 is oor"
+  pub action : tail_text refusals.NotValid (Some (Action 1)) ≡ codes ": action 2"
+  pub default_action : tail_text refusals.NotValid (Some (DefaultAction 0 0x430))
+      ≡ codes ": default action 1: U+0430 at place 1 is invalid"
   pub byte : tail_text refusals.NotUtf8 (Some (Byte 2 0xFF)) ≡ codes ": byte 0xFF at byte 3"
   pub long_line : tail_text refusals.LineTooLong (Some LongLine) ≡ codes ": more than 1024 bytes"
   pub a_label : tail_text refusals.Hyphen (Some (ALabelOf (record { items = codes "fass" }))) ≡ codes ": place 3, with place 4: an A-label of 'fass'"

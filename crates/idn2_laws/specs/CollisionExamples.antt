@@ -2,17 +2,17 @@
 use Rattle.std.specs.Prelude.{◌≡◌, ℕ, Bool, true, not, bytes_eq, List, [], ◌∷◌, ◌++◌, codes}
 use Rattle.label_patterns.specs.Patterns.{Pattern, Any, Anchor, Either, End, Point, Start, Then}
 use Rattle.variant_table.specs.declared.version.Version.TheVariants.{Two}
-use Rattle.variant_table.specs.Entries.{Entry, TableValue, empty_table, entry_from, plain_variant}
+use Rattle.variant_table.specs.Entries.{Entry, TableValue, empty_table, entry_from}
 use Rattle.variant_table.specs.ExampleTables.{table_with, unless_first, when_first}
 use Rattle.valid_labels.specs.Examples.{letters, source}
-use Rattle.variant_list.specs.Examples.{allocatable, any_label, blocked, entry, final_sigma, version_one}
-use Rattle.variant_list.specs.Examples.{simplified_or_traditional as two_kinds}
+use Rattle.variant_list.specs.Examples.{any_label, entry, final_sigma, of_type, untyped, version_one}
 use Rattle.answer_json.specs.declared.collision.Regard.{Regard}
 use Rattle.answer_json.specs.declared.collision.Regard.TheVariants.{NoVariant, Variant, Blocked, Allocatable}
 use Rattle.answer_json.specs.declared.collision.Regards.{Regards}
 use Rattle.idn2_answers.specs.Collisions.{regards_of}
 use Rattle.idn_class.specs.declared.properties.Properties.TheVariants.{Profile}
 use Rattle.idn2_laws.specs.ListingExamples.{digits_of_two_kinds}
+use Rattle.idn2_laws.specs.TypeExamples.{chinese}
 
 -- what a registered label is to the one asked about, and back
 abbrev pub told : Regard → Regard → Regards
@@ -26,17 +26,17 @@ regards = regards_of any_label
 
 -- the lines 0061|0062 and 0062: a gap
 abbrev pub gap : TableValue
-gap = version_one (entry (codes "a") (allocatable (codes "b") ∷ []) ∷ entry (codes "b") [] ∷ [])
+gap = version_one (entry (codes "a") (untyped (codes "b") ∷ []) ∷ entry (codes "b") [] ∷ [])
 
 -- the lines 0061|0062-0063 and 0078
 abbrev pub piece : TableValue
-piece = version_one (entry (codes "a") (allocatable (codes "bc") ∷ []) ∷ entry (codes "x") [] ∷ [])
+piece = version_one (entry (codes "a") (untyped (codes "bc") ∷ []) ∷ entry (codes "x") [] ∷ [])
 
 -- the lines 0061|0062, 0062, 0063|0064 and 0064
 abbrev pub chain : TableValue
 chain = version_one
-    (entry (codes "a") (allocatable (codes "b") ∷ []) ∷ entry (codes "b") []
-    ∷ entry (codes "c") (allocatable (codes "d") ∷ []) ∷ entry (codes "d") [] ∷ [])
+    (entry (codes "a") (untyped (codes "b") ∷ []) ∷ entry (codes "b") []
+    ∷ entry (codes "c") (untyped (codes "d") ∷ []) ∷ entry (codes "d") [] ∷ [])
 
 -- a table of version 2
 abbrev pub version_two : List Entry → TableValue
@@ -44,20 +44,20 @@ version_two entries = record (empty_table Profile Two) { entries = entries }
 
 -- the lines 0061|!0062, 0062 and 0063 of version 2
 abbrev pub oneway : TableValue
-oneway = version_two (entry (codes "a") (blocked (codes "b") ∷ []) ∷ entry (codes "b") [] ∷ entry (codes "c") [] ∷ [])
+oneway = version_two (entry (codes "a") (of_type 1 (codes "b") ∷ []) ∷ entry (codes "b") [] ∷ entry (codes "c") [] ∷ [])
 
 -- the lines 002D|0062, 0061 and 0062|002D of version 2
 abbrev pub hyphens : TableValue
 hyphens = version_two
-    (entry (codes "-") (allocatable (codes "b") ∷ []) ∷ entry (codes "a") []
-    ∷ entry (codes "b") (allocatable (codes "-") ∷ []) ∷ [])
+    (entry (codes "-") (untyped (codes "b") ∷ []) ∷ entry (codes "a") []
+    ∷ entry (codes "b") (untyped (codes "-") ∷ []) ∷ [])
 
 -- some letters, and ss and ß, which are variants of each other; a hyphen stands neither at an end nor fourth after
 -- another one
 abbrev pub sharp : TableValue
 sharp = table_with [] (Either (Then Start Anchor) (Either (Then Anchor End) after_hyphen) ∷ []) []
     (source (codes "-") unless_first [] ∷ letters (codes "abehmrstu")
-    ++ entry (codes "ss") (allocatable (223 ∷ []) ∷ []) ∷ entry (223 ∷ []) (allocatable (codes "ss") ∷ []) ∷ [])
+    ++ entry (codes "ss") (untyped (223 ∷ []) ∷ []) ∷ entry (223 ∷ []) (untyped (codes "ss") ∷ []) ∷ [])
   where
     after_hyphen : Pattern
     after_hyphen = Then Start (Then Any (Then Any (Then (Point 45) Anchor)))
@@ -65,19 +65,19 @@ sharp = table_with [] (Either (Then Start Anchor) (Either (Then Anchor End) afte
 -- the lines 0061 when start|0062 and 0062, where start holds at the beginning of a label
 abbrev pub hidden : TableValue
 hidden = table_with [] (Then Start Anchor ∷ []) []
-    (record (entry (codes "a") (allocatable (codes "b") ∷ [])) { condition = when_first } ∷ entry (codes "b") [] ∷ [])
+    (record (entry (codes "a") (untyped (codes "b") ∷ [])) { condition = when_first } ∷ entry (codes "b") [] ∷ [])
 
 -- the lines 0061|0063, 0062, 0063, 0061-0062 when last|0064 and 0064, where last holds at the end of a label
 abbrev pub over : TableValue
 over = table_with [] (Then Anchor End ∷ []) []
-    (entry (codes "a") (allocatable (codes "c") ∷ []) ∷ entry (codes "b") [] ∷ entry (codes "c") []
-    ∷ record (entry (codes "ab") (allocatable (codes "d") ∷ [])) { condition = when_first } ∷ entry (codes "d") [] ∷ [])
+    (entry (codes "a") (untyped (codes "c") ∷ []) ∷ entry (codes "b") [] ∷ entry (codes "c") []
+    ∷ record (entry (codes "ab") (untyped (codes "d") ∷ [])) { condition = when_first } ∷ entry (codes "d") [] ∷ [])
 
 -- the lines 0061|!0430, 0062 and !0430|!0061
-abbrev pub outside : TableValue
-outside = table_with [] [] []
-    (entry (codes "a") (blocked (1072 ∷ []) ∷ []) ∷ entry (codes "b") []
-    ∷ entry_from (plain_variant true (1072 ∷ []) ∷ blocked (codes "a") ∷ []) ∷ [])
+abbrev pub out_of_repertoire : TableValue
+out_of_repertoire = table_with [] [] []
+    (entry (codes "a") (of_type 1 (1072 ∷ []) ∷ []) ∷ entry (codes "b") []
+    ∷ entry_from (of_type 0 (1072 ∷ []) ∷ of_type 1 (codes "a") ∷ []) ∷ [])
 
 -- ---- labels
 
@@ -117,17 +117,17 @@ pub record ListingsDecide : Type 0 where
 -- whether the holder of a registered label may have the one asked about is what the latter is to the former: a pure form
 -- is allocatable to the holder of a mixture, and a mixture is blocked to that of a pure form
 pub record HoldersMayHave : Type 0 where
-  pub mixture_asked : regards two_kinds (22269 ∷ 23416 ∷ []) (22269 ∷ 23398 ∷ []) ≡ told Allocatable Blocked
-  pub traditional_of_mixture : regards two_kinds (22269 ∷ 23416 ∷ []) (22283 ∷ 23416 ∷ []) ≡ told Allocatable Blocked
-  pub pure_asked : regards two_kinds (22269 ∷ 23398 ∷ []) (22269 ∷ 23416 ∷ []) ≡ told Blocked Allocatable
-  pub other_pure : regards two_kinds (22269 ∷ 23398 ∷ []) (22283 ∷ 23416 ∷ []) ≡ told Allocatable Allocatable
+  pub mixture_asked : regards chinese (0x56FD ∷ 0x5B78 ∷ []) (0x56FD ∷ 0x5B66 ∷ []) ≡ told Allocatable Blocked
+  pub traditional_of_mixture : regards chinese (0x56FD ∷ 0x5B78 ∷ []) (0x570B ∷ 0x5B78 ∷ []) ≡ told Allocatable Blocked
+  pub pure_asked : regards chinese (0x56FD ∷ 0x5B66 ∷ []) (0x56FD ∷ 0x5B78 ∷ []) ≡ told Blocked Allocatable
+  pub other_pure : regards chinese (0x56FD ∷ 0x5B66 ∷ []) (0x570B ∷ 0x5B78 ∷ []) ≡ told Allocatable Allocatable
 
 -- ---- of a label that is refused today the relation of the table decides
 
--- it has an outside source, breaks a demand, isn't made of sources, has a source where it may not stand, or may not be
--- registered
+-- it has a source of the type invalid, breaks a demand, isn't made of sources, has a source where it may not stand, or
+-- may not be registered
 pub record RelationDecides : Type 0 where
-  pub outside_there : regards outside (codes "ab") (1072 ∷ codes "b") ≡ told Blocked Blocked
+  pub out_of_repertoire_there : regards out_of_repertoire (codes "ab") (1072 ∷ codes "b") ≡ told Blocked Blocked
   pub demand : regards digits_of_two_kinds (codes "11") (49 ∷ 2407 ∷ []) ≡ told Blocked Blocked
   pub no_sources : regards piece (codes "ax") (codes "bcx") ≡ told Variant NoVariant
   pub out_of_place : regards hidden (codes "bb") (codes "ba") ≡ told NoVariant Blocked

@@ -1,5 +1,5 @@
 -- Laws of the labels that collide.
-use Rattle.std.specs.Prelude.{◌≡◌, ◌↔◌, ◌⊎◌, ◌++◌, ℕ, IsTrue, List, Contains}
+use Rattle.std.specs.Prelude.{◌≡◌, ◌≢◌, ◌↔◌, ◌⊎◌, ◌++◌, ℕ, true, false, IsTrue, List, Contains}
 use Rattle.variant_table.specs.Entries.{TableValue}
 use Rattle.valid_labels.specs.Validity.{IsSound}
 use Rattle.variant_list.specs.Arising.{Arises}
@@ -8,7 +8,7 @@ use Rattle.variant_list.specs.Labels.{IsBelow}
 use Rattle.answer_json.specs.declared.collision.Regard.{Regard}
 use Rattle.idn2_options.specs.Settings.{Settings}
 use Rattle.idn2_answers.specs.Listings.{is_registrable}
-use Rattle.idn2_answers.specs.Collisions.{Collides, IsGood, IsRegard, IsVariantOf, collide, collisions_after, regard_of}
+use Rattle.idn2_answers.specs.Collisions.{Collides, IsGood, IsRegard, IsVariantOf, collide, collisions_after, regard_of, regards_of}
 
 -- two labels collide whichever is asked about; a good label collides with itself; and what collides is near, so that a
 -- label with a code point that no entry has collides with nothing
@@ -21,26 +21,32 @@ pub record CollisionsGoBothWays : Type 0 where
 abbrev pub regard : Settings → TableValue → List ℕ → List ℕ → Regard
 regard o table v w = regard_of (is_registrable o.properties) table v w
 
--- what a label is to another one is told, and it is one thing; and the test of a collision tells it exactly
+-- what a label is to another one is told, and it is one thing; what is there from one side is back from the other; and the test of
+-- a collision tells it exactly
 pub record RegardsAreTold : Type 0 where
   pub told : (o : Settings) (table : TableValue) (v w : List ℕ) → IsSound table → IsRegard o table v w (regard o table v w)
   pub one : (o : Settings) (table : TableValue) (v w : List ℕ) (r : Regard) → IsSound table →
       IsRegard o table v w r → r ≡ regard o table v w
+  pub turned : (o : Settings) (table : TableValue) (v w : List ℕ) →
+      (regards_of (is_registrable o.properties) table v w).there ≡ (regards_of (is_registrable o.properties) table w v).back
   pub collide : (o : Settings) (table : TableValue) (v w : List ℕ) → IsSound table →
       IsTrue (collide (is_registrable o.properties) table v w) ↔ Collides o table v w
 
--- of registered labels above the text each is found that the whole listing of the label has, or whose whole listing has it; where
--- both labels are good no other is, and else only one that arises from the label, or it from that; and labels that are kept in two
--- parts give what the first part gives, and then what the second does
+-- of registered labels above the text each is found that the whole listing of the label has, or whose whole listing has it, but for
+-- the label itself with `--others`, which takes out that alone; where both labels are good no other is, and else only one that arises
+-- from the label, or it from that; and labels that are kept in two parts give what the first part gives, and then what the second does
 pub record CollisionsAreFound : Type 0 where
   pub none_missed : (o : Settings) (table : TableValue) (labels : List (List ℕ)) (label v : List ℕ) → IsSound table →
-      Contains labels v → IsBelow o.after v → IsVariantOf o table label v ⊎ IsVariantOf o table v label →
+      Contains labels v → IsBelow o.after v → (o.others ≡ true → v ≢ label) → IsVariantOf o table label v ⊎ IsVariantOf o table v label →
       Contains (collisions_after o table labels label) v
   pub good_alone : (o : Settings) (table : TableValue) (labels : List (List ℕ)) (label v : List ℕ) → IsSound table →
       Contains (collisions_after o table labels label) v → IsGood o table label → IsGood o table v →
       IsVariantOf o table label v ⊎ IsVariantOf o table v label
   pub arising_alone : (o : Settings) (table : TableValue) (labels : List (List ℕ)) (label v : List ℕ) → IsSound table →
       Contains (collisions_after o table labels label) v → Arises table label v ⊎ Arises table v label
+  pub others : (o : Settings) (table : TableValue) (labels : List (List ℕ)) (label v : List ℕ) → IsSound table →
+      Contains (collisions_after (record o { others = true }) table labels label) v
+      ↔ (Contains (collisions_after (record o { others = false }) table labels label) v × v ≢ label)
   pub of_parts : (o : Settings) (table : TableValue) (first second : List (List ℕ)) (label : List ℕ) →
       collisions_after o table (first ++ second) label
       ≡ collisions_after o table first label ++ collisions_after o table second label

@@ -1,5 +1,5 @@
 -- Worked examples of the definitions, by computation.
-use Rattle.std.specs.Prelude.{◌≡◌, ℕ, List, [], ◌∷◌, ◌++◌, true, false, Some, None, Option, Ok, Err, codes, map}
+use Rattle.std.specs.Prelude.{◌≡◌, ℕ, List, [], ◌∷◌, ◌++◌, Some, None, Option, Ok, Err, codes, map}
 use Rattle.idn_text.specs.Points.{utf8_of}
 use Rattle.idn_text.specs.Lines.{lines_of}
 use Rattle.idn_text.specs.declared.refusal.Refusal.TheVariants.{Disallowed, Empty, LineTooLong, NotInTable, NotUtf8, NotValid, Syntax, WriteFault}
@@ -7,14 +7,14 @@ use Rattle.variant_table.specs.declared.version.Version.TheVariants.{Two}
 use Rattle.variant_table.specs.Entries.{TableValue, empty_table}
 use Rattle.variant_table.specs.Ranges.{range_entries}
 use Rattle.valid_labels.specs.Examples.{digits, edges, half_ra, leads, signs, some_a}
-use Rattle.variant_list.specs.Examples.{allocatable, entry, a_or_two, a_tag_of_its_own, b_outside, blocked, letter_or_hyphen, simplified_or_traditional, tags_of_two_cuttings}
+use Rattle.variant_list.specs.Examples.{a_or_two, b_invalid, entry, letter_or_hyphen, of_type, untyped}
 use Rattle.idn2_options.specs.Settings.{Settings}
 use Rattle.idn2_options.specs.Examples.{plain_run}
 use Rattle.idn2_output.specs.OutputLines.{Output, Message}
 use Rattle.idn2_refusals.specs.Messages.{line_message, table_message}
 use Rattle.idn2_answers.specs.Transcript.{transcript, status_of, no_table}
 use Rattle.idn2_refusals.specs.Reports.{closing_message}
-use Rattle.idn2_answers.specs.Listings.{block, is_allocatable, nth, nth_if_given, lesser_label, up_to}
+use Rattle.idn2_answers.specs.Listings.{block, nth, nth_if_given, lesser_label, up_to}
 use Rattle.idn2_answers.specs.Answers.{if_admitted, LineAnswer, line_answer}
 use Rattle.idn2_answers.specs.Said.{said_line, table_line, trailer_line}
 use Rattle.idn2_options.specs.declared.command_line.mode.Mode.TheVariants.{Register, Variants}
@@ -52,11 +52,17 @@ listing limit tries = record (plain_run Variants []) { file = codes "t"; limit =
 
 -- the table 0061..0063, 0078|!0079:007A of version 2
 abbrev pub y_or_z : TableValue
-y_or_z = record (empty_table Profile Two) { entries = range_entries false 0x61 0x63 ++ entry (codes "x") (blocked (codes "y") ∷ allocatable (codes "z") ∷ []) ∷ [] }
+y_or_z = record (empty_table Profile Two) {
+  entries = range_entries None 0x61 0x63
+      ++ entry (codes "x") (of_type 1 (codes "y") ∷ untyped (codes "z") ∷ []) ∷ [];
+}
 
 -- the table 0061|!0062, 0061-0061|0062-0062 of version 2
 abbrev pub one_or_both : TableValue
-one_or_both = record (empty_table Profile Two) { entries = entry (codes "a") (blocked (codes "b") ∷ []) ∷ entry (codes "aa") (allocatable (codes "bb") ∷ []) ∷ [] }
+one_or_both = record (empty_table Profile Two) {
+  entries = entry (codes "a") (of_type 1 (codes "b") ∷ [])
+      ∷ entry (codes "aa") (untyped (codes "bb") ∷ []) ∷ [];
+}
 
 -- aa spells aa, aaa and aaaa; of the labels that aaa spells, the four that have a hyphen first are not tested, and one step
 -- goes over them; ay is blocked; and
@@ -70,22 +76,9 @@ pub record ExamplesOfBlocks : Type 0 where
   pub allocatable_by_one_cutting : map said_line (block (listing None 1000000) one_or_both (codes "aa"))
       ≡ codes "aa\taa\tallocatable" ∷ codes "ab\tab\tblocked" ∷ codes "ba\tba\tblocked" ∷ codes "bb\tbb\tallocatable" ∷ codes "#end 4" ∷ []
 
--- a mixture of both kinds may be allocated where it is the label itself; what is of one kind may be, and no other mixture; nor what
--- is in no sub-table as a whole, or has a blocked part; and by another cutting of the label a variant may be
-pub record ExamplesOfAllocations : Type 0 where
-  pub mixture : is_allocatable simplified_or_traditional (22269 ∷ 23416 ∷ []) (22269 ∷ 23416 ∷ []) ≡ true
-  pub one_kind : is_allocatable simplified_or_traditional (22269 ∷ 23416 ∷ []) (22269 ∷ 23398 ∷ []) ≡ true
-  pub other_kind : is_allocatable simplified_or_traditional (22269 ∷ 23416 ∷ []) (22283 ∷ 23416 ∷ []) ≡ true
-  pub other_mixture : is_allocatable simplified_or_traditional (22269 ∷ 23416 ∷ []) (22283 ∷ 23398 ∷ []) ≡ false
-  pub of_both_tags : is_allocatable a_tag_of_its_own (codes "aae") (codes "dbe") ≡ true
-  pub of_two_tags : is_allocatable a_tag_of_its_own (codes "aae") (codes "abe") ≡ false
-  pub blocked_one : is_allocatable a_tag_of_its_own (codes "aae") (codes "cce") ≡ false
-  pub by_the_other_cutting : is_allocatable tags_of_two_cuttings (codes "ac") (codes "bd") ≡ true
-  pub by_no_cutting : is_allocatable tags_of_two_cuttings (codes "ac") (codes "ad") ≡ false
-
 -- labels under rulesets, and whether they are answered, and if not, why: a vowel sign after another one, and a code point that is no
 -- source; a vowel that stands after its consonant; a hyphen in the third place; digits of two kinds; no a where each label has one;
--- half a letter where it may not stand; a source that is outside
+-- half a letter where it may not stand; a source of the type invalid
 pub record ExamplesOfRefusals : Type 0 where
   pub sign : if_admitted signs (2325 ∷ 2366 ∷ []) [] ≡ Ok []
   pub sign_after_sign : if_admitted signs (2325 ∷ 2366 ∷ 2366 ∷ []) [] ≡ Err NotValid
@@ -97,7 +90,7 @@ pub record ExamplesOfRefusals : Type 0 where
   pub no_a : if_admitted some_a (codes "bb") [] ≡ Err NotValid
   pub half_letter : if_admitted half_ra (2325 ∷ 2353 ∷ 2381 ∷ 2325 ∷ []) [] ≡ Err NotValid
   pub other_half : if_admitted half_ra (2353 ∷ 2325 ∷ []) [] ≡ Err NotInTable
-  pub outside : if_admitted b_outside (codes "b") [] ≡ Err NotInTable
+  pub invalid : if_admitted b_invalid (codes "b") [] ≡ Err NotValid
 
 -- three lines, of which the second is refused
 abbrev pub three_lines : List ℕ

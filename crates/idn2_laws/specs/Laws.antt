@@ -1,44 +1,28 @@
 -- Laws of the definitions.
-use Rattle.std.specs.Prelude.{◌≡◌, ◌≢◌, ◌↔◌, ℕ, ◌≤◌, false, true, List, [], ◌∷◌, ◌++◌, length, map, Option, Some, None, slice_index}
+use Rattle.std.specs.Prelude.{◌≡◌, ℕ, ◌≤◌, true, List, [], ◌∷◌, ◌++◌, length, map, Option, Some, slice_index}
 use Rattle.std.specs.Str.{IsValidUpTo}
 use Rattle.idn_class.specs.declared.properties.Properties.{Properties}
 use Rattle.idn_text.specs.declared.refusal.Refusal.{Refusal}
 use Rattle.idn_text.specs.declared.refusal.Refusal.TheVariants.{NotInTable}
 use Rattle.idn_cause.specs.declared.cause.Cause.TheVariants.{Point}
-use Rattle.variant_table.specs.declared.version.Version.TheVariants.{One}
-use Rattle.variant_table.specs.Entries.{TableValue, has_blocked}
+use Rattle.variant_table.specs.Entries.{TableValue}
 use Rattle.variant_table.specs.Gaps.{gaps_of}
+use Rattle.variant_table.specs.IdleTypes.{idle_types}
 use Rattle.variant_table.specs.WellFormed.{IsWellFormed}
 use Rattle.valid_labels.specs.Furthest.{IsFurthest}
 use Rattle.valid_labels.specs.Validity.{IsSound}
-use Rattle.variant_table.specs.Segmentations.{HasSegmentation}
-use Rattle.variant_list.specs.Parts.Part.{Unblocked}
 use Rattle.variant_list.specs.Laws.{VariantsHaveNoConditions}
-use Rattle.variant_list.specs.Spelling.{PartSpells, Spells}
-use Rattle.answer_json.specs.declared.block.Disposition.TheVariants.{Allocatable}
 use Rattle.answer_json.specs.declared.checked.PairFinding.TheVariants.{Missing}
 use Rattle.idn_text.specs.Lines.{Numbered}
 use Rattle.idn2_options.specs.Settings.{Settings}
 use Rattle.idn2_options.specs.declared.command_line.form.Form.TheVariants.{Plain, Json}
-use Rattle.idn2_answers.specs.Listings.{IsAllocatable, disposition}
 use Rattle.idn2_refusals.specs.CauseWords.{tail_text}
 use Rattle.idn2_refusals.specs.Explained.{Unexplained, bad_byte, body_cause, table_cause}
-use Rattle.idn2_answers.specs.Said.{Found, Counted}
+use Rattle.idn2_answers.specs.Said.{Found, Idle, Counted}
 use Rattle.idn2_answers.specs.Transcript.{TableGiven, check_findings, output_line_in, statements, status_of, transcript}
 use Rattle.idn2_refusals.specs.Messages.{line_message, refused_message}
 use Rattle.idn2_output.specs.OutputLines.{messages_of}
 use Rattle.idn2_refusals.specs.declared.cause.LineCause.TheVariants.{Byte, OfLabel}
-
--- the disposition of a variant. Version 1 has none; a label may itself be allocated, whatever is blocked; where no variant is
--- blocked and there are no tags, each of a label's variants may be; what may be allocated is a variant of the label; and where there
--- are no tags it is what the label spells by what is not blocked
-pub record DispositionsAreTold : Type 0 where
-  pub unstated : (table : TableValue) (label v : List ℕ) → table.version ≡ One → disposition table label v ≡ None
-  pub itself : (table : TableValue) (label : List ℕ) → table.version ≢ One → disposition table label label ≡ Some Allocatable
-  pub none_blocked : (table : TableValue) (label v : List ℕ) → table.version ≢ One → IsWellFormed table.entries → has_blocked table.entries ≡ false →
-      table.definitions.tags ≡ [] → Spells table label v → disposition table label v ≡ Some Allocatable
-  pub variants : (table : TableValue) (label v : List ℕ) → HasSegmentation table label → IsAllocatable table label v → Spells table label v
-  pub untagged : (table : TableValue) (label v : List ℕ) → HasSegmentation table label → table.definitions.tags ≡ [] → IsAllocatable table label v ↔ PartSpells Unblocked table label v
 
 -- what messages go on with. Without the option nothing, so that they are as ever; of bytes that are no UTF-8 the first that no UTF-8
 -- goes on with (RFC 3629, section 3) is told, and of a label that can't be cut into sources the code point after the furthest place
@@ -50,11 +34,12 @@ pub record CausesAreTold : Type 0 where
   pub outside : (properties : Properties) (table : TableValue) (label : List ℕ) (place : ℕ) → IsWellFormed table.entries → length label ≤ 63 → IsFurthest table label place →
       table_cause properties table label NotInTable ≡ Some (OfLabel (Point place (slice_index label place)))
 
--- the check of a table of which no variant has a condition finds its gaps, and nothing that differs
+-- the check of a table of which no variant has a condition finds its gaps and its idle types, and nothing that differs
 abbrev pub ConditionsAloneDiffer : Type 0
 ConditionsAloneDiffer =
     (table : TableValue) → IsSound table → VariantsHaveNoConditions table →
-    check_findings table.entries ≡ map (Found Missing) (gaps_of table.entries) ++ Counted (length table.entries) (length (gaps_of table.entries)) ∷ []
+    check_findings table ≡ map (Found Missing) (gaps_of table.entries) ++ (map Idle (idle_types table.definitions)
+    ++ Counted (length table.entries) (length (gaps_of table.entries)) ∷ [])
 
 -- a run writes what it says line by line, each statement in the form that is asked for. What it says is the same in
 -- both forms: with objects, what it says with `--explain`. So is its status, and with objects nothing goes to the

@@ -99,7 +99,8 @@ RefusalsAreReadBack =
 -- each object of the check of a table is read back, where fewer than 2 ^ 64 pairs are missing
 abbrev pub FindingsAreReadBack : Type 0
 FindingsAreReadBack =
-    (table : TableValue) → IsSound table → length (gaps_of table.entries) < 2 ^ 64 → All (λ f. IsReadBack (finding_object f)) (check_findings table.entries)
+    (table : TableValue) → IsSound table → length (gaps_of table.entries) < 2 ^ 64 →
+    All (λ f. IsReadBack (finding_object f)) (check_findings table)
 
 -- the byte of a line at which it has its fault
 abbrev pub byte_of : FaultPlace → ℕ

@@ -1,7 +1,10 @@
 //! Laws of the definitions that the contract of `idn2_cli::run` speaks of. Each holds by its proof alone.
 ghost use Rattle.std.specs.Prelude.{ℕ, List};
 ghost use Rattle.idn2_answers.specs.Answers.{LineAnswer};
-ghost use Rattle.idn2_laws.specs.Laws.{CausesAreTold, ConditionsAloneDiffer, DispositionsAreTold, FormsSayTheSame};
+ghost use Rattle.idn2_laws.specs.Laws.{CausesAreTold, ConditionsAloneDiffer, FormsSayTheSame};
+ghost use Rattle.idn2_laws.specs.DispositionLaws.{BlockedBlocks, DispositionsAreTold, ReadingsDecide, RulesAloneDecide};
+ghost use Rattle.idn2_laws.specs.DemandLaws.{DemandsAreActions};
+ghost use Rattle.idn2_laws.specs.TypeExamples.{ChineseForms, OwnActionsFirst, UnclearVariants};
 ghost use Rattle.idn2_laws.specs.ToldAlike.{CausesAreToldAlike};
 ghost use Rattle.idn2_laws.specs.ListingLaws.{AdmittedAreListed, ListedAreMutual, NotValidIsNeverTold};
 ghost use Rattle.idn2_laws.specs.ListingLaws.{RulesetsSayTheSame, SpelledAreValid};
@@ -10,25 +13,39 @@ ghost use Rattle.idn2_laws.specs.ReadBack.{FindingsAreReadBack, RefusalsAreReadB
 ghost use Rattle.idn2_laws.specs.ReadBack.{SaidIsReadBack, TableFaultsAreReadBack};
 ghost use Rattle.idn2_laws.specs.ListingExamples.{ListingsOfExamples};
 ghost use Rattle.idn2_laws.specs.CollisionLaws.{CollisionsAreFound, CollisionsGoBothWays, RegardsAreTold};
+ghost use Rattle.idn2_laws.specs.TurnLaws.{JumpsFindTheSame, TurnsFindWhatIsNear};
 ghost use Rattle.idn2_laws.specs.CollisionExamples.{HoldersMayHave, ListingsDecide, RelationDecides};
 ghost use Rattle.idn2_laws.specs.CauseExamples.{ExamplesOfCauses};
-ghost use Rattle.idn2_laws.specs.Examples.{ExamplesOfAllocations, ExamplesOfARun, ExamplesOfBlocks, ExamplesOfLines};
+ghost use Rattle.idn2_laws.specs.Examples.{ExamplesOfARun, ExamplesOfBlocks, ExamplesOfLines};
 ghost use Rattle.idn2_laws.specs.Examples.{ExamplesOfRefusals, ExamplesOfTranscripts};
 
-/// The disposition of a variant, by what the table blocks.
+/// The disposition of a variant is told, and it has one.
 pub fn dispositions_are_told()
     ensures { DispositionsAreTold }
 {}
 
-/// A label that may be asked about is among its own variants, and may be allocated.
+/// What a label spells has a disposition by each of its readings, and one by all of them where it is clear. Without
+/// types rules alone decide; and without actions what is blocked blocks.
+pub fn readings_decide()
+    ensures readings { ReadingsDecide }
+    ensures rules { RulesAloneDecide }
+    ensures blocked { BlockedBlocks }
+{}
+
+/// A label that may be asked about is among its own variants, with its own disposition.
 pub fn admitted_labels_are_listed()
     ensures { AdmittedAreListed }
 {}
 
-/// In a table without gaps, of single code points and without conditions at variants, labels that are variants of each
-/// other have the same variants, and so the same least one; and others don't.
+/// In a table without gaps, of single code points and without conditions at variants, where sources alone refuse, labels
+/// that are variants of each other have the same variants, and so the same least one; and others don't.
 pub fn listed_labels_are_mutual()
     ensures { ListedAreMutual }
+{}
+
+/// A demand that no label may match a pattern says what an action says that makes invalid what matches it.
+pub fn demands_are_actions()
+    ensures { DemandsAreActions }
 {}
 
 /// A ruleset says what the table of version 2 with the same entries says.
@@ -66,6 +83,12 @@ pub fn collisions_are_decided()
     ensures listings { ListingsDecide }
     ensures holders { HoldersMayHave }
     ensures relation { RelationDecides }
+{}
+
+/// Turns of `--jump` and of a register find what `--among` does, in so many jumps; and one jump decides a pair.
+pub fn turns_find_the_same()
+    ensures near { TurnsFindWhatIsNear }
+    ensures among { JumpsFindTheSame }
 {}
 
 /// The check of a table of which no variant has a condition finds its gaps, and nothing that differs.
@@ -116,8 +139,14 @@ pub fn examples_hold()
     ensures run { ExamplesOfARun }
     ensures lines { (answer : List ℕ → LineAnswer) → ExamplesOfLines answer }
     ensures blocks { ExamplesOfBlocks }
-    ensures allocations { ExamplesOfAllocations }
     ensures refusals { ExamplesOfRefusals }
     ensures transcripts { ExamplesOfTranscripts }
     ensures listings { ListingsOfExamples }
+{}
+
+/// Worked examples of types and actions hold of the definitions themselves.
+pub fn types_decide()
+    ensures chinese { ChineseForms }
+    ensures unclear { UnclearVariants }
+    ensures actions { OwnActionsFirst }
 {}

@@ -44,7 +44,9 @@ fn summary_of(alloc: Global, line: &str) -> Result<String, AllocError> {
                 tries,
                 steps,
                 among,
+                others,
             } = options;
+            let others = if others { " others" } else { "" };
             let form = match form {
                 Form::Plain => "",
                 Form::Json => "Json ",
@@ -54,7 +56,7 @@ fn summary_of(alloc: Global, line: &str) -> Result<String, AllocError> {
                 Properties::Unicode => "Unicode ",
             };
             format!(in alloc;
-                "{form}{properties}{mode:?} {std3} {explain} {file:?} {notation:?} {after:?} {limit:?} {tries} {steps:?} {among:?} {input:?}"
+                "{form}{properties}{mode:?} {std3} {explain} {file:?} {notation:?} {after:?} {limit:?} {tries} {steps:?} {among:?}{others} {input:?}"
             )
         }
         Err(Usage::Bad) => String::from_str(alloc, "bad"),
@@ -64,7 +66,7 @@ fn summary_of(alloc: Global, line: &str) -> Result<String, AllocError> {
 }
 
 /// Words, separated by bars, and what they are read as.
-const READ: [(&str, &str); 26] = [
+const READ: [(&str, &str); 28] = [
     (
         "idn2",
         "Lookup false false \"\" Table [] None 1000000 None None \"none\"",
@@ -132,6 +134,14 @@ const READ: [(&str, &str); 26] = [
     (
         "idn2|--variants|t|--among|r|--limit|2|--after|a|x",
         "Variants false false \"t\" Table [97] Some(2) 1000000 None Some(\"r\") \"x\\n\"",
+    ),
+    (
+        "idn2|--others|--variants|t|--among|r",
+        "Variants false false \"t\" Table [] None 1000000 None Some(\"r\") others \"none\"",
+    ),
+    (
+        "idn2|--old|-d|x",
+        "DecodeOld false false \"\" Table [] None 1000000 None None \"x\\n\"",
     ),
     (
         "idn2|--among=|--variants=t",

@@ -1,29 +1,52 @@
 -- What decides what two labels are to each other.
-use Rattle.std.specs.Prelude.{◌≡◌, ◌≤◌, ◌↔◌, ℕ, true, List, length}
+use Rattle.std.specs.Prelude.{◌≡◌, ◌≤◌, ℕ, true, List, length, Option, Some, None, if◌then◌else◌}
 use Rattle.idn_class.specs.declared.properties.Properties.{Properties}
 use Rattle.idn_label.specs.FirstFault.{IsRegistrable}
 use Rattle.variant_table.specs.Entries.{TableValue}
 use Rattle.valid_labels.specs.Validity.{IsAdmitted, IsSound}
-use Rattle.reading_kinds.specs.Readings.{SubstitutionsSpell}
-use Rattle.variant_list.specs.Spelling.{Spells}
+use Rattle.valid_labels.specs.Testing.{IsAdmission}
+use Rattle.valid_labels.specs.declared.validity.Admission.TheVariants.{Admitted}
+use Rattle.variant_list.specs.Spelled.{spelled}
+use Rattle.variant_list.specs.Substitutions.{substitutions_of}
 use Rattle.idn2_cli.specs.declared.modes.decided.Decisions.{Decisions}
 use Rattle.idn2_cli.specs.declared.modes.decided.Standing.{Standing}
 use Rattle.idn2_cli.specs.declared.modes.decided.Standing.TheVariants.{Good, VariantAlone, Refused}
 use Rattle.idn2_cli.specs.declared.modes.listed.Listed.{Listed}
-use Rattle.idn2_cli.specs.inner.Dispositions.{AreOfLabel, AreOfTable}
+use Rattle.answer_json.specs.declared.collision.Regard.{Regard}
+use Rattle.idn2_answers.specs.Collisions.{regard_by}
+use Rattle.idn2_answers.specs.Listings.{is_among}
+use Rattle.idn2_cli.specs.declared.modes.dispositions.Appearance.{Appearance}
+use Rattle.idn2_cli.specs.declared.modes.dispositions.Appearance.TheVariants.{LeftOut}
+use Rattle.idn2_cli.specs.declared.modes.dispositions.Appearance.TheVariants as appearances
+use Rattle.idn2_cli.specs.inner.Dispositions.{AreOfTable, appearance}
 use Rattle.idn2_cli.specs.inner.Ruling.{passes, ruling_in, ruling_of}
 
--- it tells what the label spells under the table, and with which dispositions
+-- what a label is that appears so, if it is listed
+abbrev pub regard_of : Appearance → Option Regard
+regard_of LeftOut = None
+regard_of (appearances.Listed field) = Some (regard_by field)
+
+-- what w is to v, if v spells it and its listing doesn't leave it out
+abbrev pub listed_regard : TableValue → (v w : List ℕ) → Option Regard
+listed_regard table v w = if is_among (spelled table v) w then regard_of (appearance table v w) else None
+
+-- it tells what the label spells under the table, and how that appears in its listing
 pub record IsListingOf (table : TableValue) (label : List ℕ) (listed : Listed) : Type 0 where
-  pub spelled : (v : List ℕ) → SubstitutionsSpell listed.spelled v ↔ Spells table label v
-  pub dispositions : AreOfLabel table label listed.dispositions
+  pub readings : listed.readings ≡ substitutions_of table label
+  pub of_table : AreOfTable table listed.of_table.now
+
+abbrev pub IsListingIfMade : TableValue → List ℕ → Option Listed → Type 0
+IsListingIfMade table label None = Unit {0}
+IsListingIfMade table label (Some listed) = IsListingOf table label listed
 
 -- its parts are of its table and its label
 pub record Decides (d : Decisions) : Type 0 where
   pub sound : IsSound d.table.now
   pub of_table : AreOfTable d.table.now d.of_table.now
+  pub some : 1 ≤ length d.label.now
   pub short : length d.label.now ≤ 63
-  pub listed : IsListingOf d.table.now d.label.now d.listed
+  pub own : IsAdmission d.table.now d.label.now (Admitted d.own)
+  pub listed : IsListingIfMade d.table.now d.label.now d.listed
   pub ruling : ruling_in d.validity ≡ ruling_of d.table.now
 
 -- and these are they

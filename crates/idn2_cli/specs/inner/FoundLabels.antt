@@ -4,7 +4,7 @@ use Rattle.std.specs.Prelude.{Option, Some, None, slice_get, slice_index_or}
 use Rattle.std.specs.Option.{option_map}
 use Rattle.variant_table.specs.Entries.{TableValue}
 use Rattle.idn2_options.specs.Settings.{Settings}
-use Rattle.idn2_answers.specs.Collisions.{collide, collision_by, regards_of}
+use Rattle.idn2_answers.specs.Collisions.{collision_by, is_found, named_if, regards_of}
 use Rattle.idn2_answers.specs.Listings.{is_registrable}
 use Rattle.idn2_answers.specs.Said.{Said, BlockEnd, said_text}
 use Rattle.idn2_answers.specs.Said as said
@@ -36,16 +36,22 @@ abbrev pub found_block : Option ℕ → List (List ℕ) → List Collision → L
 found_block limit registered found =
     map (said_of registered) found ++ BlockEnd (length found) (stop_at limit registered found) ∷ []
 
+-- the same by the options of the run
+abbrev pub told_block : Settings → List ℕ → List (List ℕ) → List Collision → List Said
+told_block o label registered found = named_if o.others label (found_block o.limit registered found)
+
+-- its end
+abbrev pub ending : Settings → List ℕ → List (List ℕ) → List Collision → List Said
+ending o label registered found =
+    named_if o.others label (BlockEnd (length found) (stop_at o.limit registered found) ∷ [])
+
 -- what is said in reply, as it is written
 abbrev pub lines_to : Asked → List Said → List OutputLine
 lines_to asked lines = outputs (said_text asked.form (asked_line asked)) lines
 
 -- ---- by what decides
 
--- whether a label collides with this one, and what is said of it then
-abbrev pub collides_by : Settings → TableValue → List ℕ → List ℕ → Bool
-collides_by o table label = collide (is_registrable o.properties) table label
-
+-- what is said of a label that is found
 abbrev pub collision_line_by : Settings → TableValue → List ℕ → List ℕ → Said
 collision_line_by o table label = collision_by (regards_of (is_registrable o.properties) table label)
 
@@ -54,4 +60,5 @@ collision_line_by o table label = collision_by (regards_of (is_registrable o.pro
 abbrev pub lines_from : (List ℕ → Said) → Option ℕ → ℕ → List (List ℕ) → List Said
 lines_from line limit count [] = BlockEnd count None ∷ []
 lines_from line limit count (v ∷ vs) =
-    line v ∷ (if reaches limit (count + 1) then BlockEnd (count + 1) (Some v) ∷ [] else lines_from line limit (count + 1) vs)
+    line v ∷ (if reaches limit (count + 1) then BlockEnd (count + 1) (Some v) ∷ []
+    else lines_from line limit (count + 1) vs)

@@ -7,27 +7,31 @@ ghost use Rattle.idn_class.specs.declared.properties.Properties.{Properties};
 ghost use Rattle.idn_label.specs.ALabel.{a_label_of};
 ghost use Rattle.idn_label.specs.FirstFault.{IsRegistrable};
 ghost use Rattle.idn_label.specs.Memory.{NeedsNoMemory};
+ghost use Rattle.valid_labels.specs.Validity.{IsSound};
 ghost use Rattle.variant_list.specs.Beginnings.{shortest_hopeless};
 ghost use Rattle.variant_list.specs.Sharing.{IsKeptOf};
 ghost use Rattle.variant_list.specs.Verdicts.{IsVerdict};
 ghost use Rattle.idn2_options.specs.Settings.{IsWithinLimits};
 ghost use Rattle.idn2_output.specs.OutputLines.{Output};
 ghost use Rattle.idn2_output.specs.Writing.{Emits, StopsForMemory};
-ghost use Rattle.idn2_answers.specs.Said.{BlockEnd, Listed, disposition_field, variant_line};
+ghost use Rattle.idn2_answers.specs.Said.{BlockEnd, Listed, disposition_columns, variant_line};
 ghost use Rattle.idn2_cli.specs.Memory.{TestsWithoutMemory};
 ghost use Rattle.idn2_cli.specs.inner.Asked.{said_to};
-ghost use Rattle.idn2_cli.specs.inner.Blocks.{KnowsLabel, TellsALabel, block_output, filter_of_judge};
+ghost use Rattle.idn2_answers.specs.Dispositions.{shown};
+ghost use Rattle.idn2_cli.specs.inner.Blocks.{IsListedOrNot, KnowsLabel, Tells, block_output, class_by};
+ghost use Rattle.idn2_cli.specs.inner.Blocks.{filter_of_judge};
 ghost use Rattle.idn2_cli.specs.inner.CachedLines.{IsBegun};
-ghost use Rattle.idn2_cli.specs.inner.ForGood.{none_accepted};
+ghost use Rattle.idn2_cli.specs.inner.ForGood.{none_listed};
 ghost use Rattle.idn2_cli.specs.inner.LineAnswers.{reaches};
-ghost use Rattle.idn2_cli.specs.inner.Ruling.{KeepsOf, filter_by, filter_in, ruling_in};
+ghost use Rattle.idn2_cli.specs.inner.Ruling.{KeepsOf, Sees, filter_for, ruling_in, ruling_of};
 ghost use Rattle.idn2_output.specs.declared.stop.Stop.TheVariants as stop;
 
 use crate::modes::admission::{dead_prefix_by, lesser, validity_by};
-use crate::modes::allocation_test::AllocationTest;
 use crate::modes::asked::Asked;
 use crate::modes::cached_line::CachedLine;
-use crate::modes::dispositions::Dispositions;
+use crate::modes::dispositions::Appearance;
+use crate::modes::label_dispositions::LabelDispositions;
+use crate::modes::matched_rules::MatchedRules;
 use answer_json::{Disposition, Input};
 use arrayvec::{ArrayString, ArrayVec};
 use idn_class::{CachedPrefixes, Properties};
@@ -48,18 +52,19 @@ pub(crate) fn write_block<W: Sink, E: Sink>(
     options: &Options,
     net: &Net,
     validity: Option<ValidityTest<'_>>,
-    dispositions: &mut Dispositions<AllocationTest<'_>>,
+    dispositions: LabelDispositions<'_>,
     console: &mut Console<'_, '_, W, E>,
 ) -> Result<(), Stop>
     requires few { length asked.now.text.now ≤ MAX_LINE_LEN }
     requires limits { IsWithinLimits options.now }
     requires spelled { All AreScalarValues net.now.spelled }
     requires new { (v : List ℕ) → KeepsOf v validity }
+    requires sound { IsSound dispositions.table }
+    requires ruling { ruling_in validity ≡ ruling_of dispositions.table }
     ensures written { Emits console.old console.new
-        (block_output asked.now (filter_in options.now.properties validity.entry) dispositions.old
-        options.now net.now.spelled) result }
+        (block_output asked.now validity.entry dispositions.entry options.now net.now.spelled) result }
     ensures begun { StopsForMemory
-        (TestsWithoutMemory (filter_in options.now.properties validity.entry) options.now
+        (TestsWithoutMemory (filter_for options.now.properties validity.entry dispositions.entry) options.now
         net.now.spelled)
         console.old console.new result }
 {
@@ -69,8 +74,11 @@ pub(crate) fn write_block<W: Sink, E: Sink>(
         test: CachedALabel::new(),
         line: CachedLine::new(),
         validity,
+        dispositions,
+        told: None,
         properties: options.properties,
     };
+    let wanted = options.tells_causes();
     let mut tries = options.tries;
     let mut steps = options.steps;
     let mut count = 0;
@@ -86,8 +94,8 @@ pub(crate) fn write_block<W: Sink, E: Sink>(
             Outcome::Ended => return write_end(asked, count, console),
         }
         let variant = cursor.last();
-        let disposition = dispositions.of_variant(variant);
         let cached = &mut judge;
+        let disposition = shown(wanted, cached.told);
         let a_label = cached.test.a_label();
         write_variant(
             asked,
@@ -104,30 +112,57 @@ pub(crate) fn write_block<W: Sink, E: Sink>(
     }
 }
 
-/// Only labels that may be registered are listed (RFC 5891 section 4.2), and under a ruleset only valid ones (RFC 7940
-/// section 8). What a label shares at its start with the one before is neither tested nor taken apart nor written
-/// again.
+/// Only labels that may be registered are listed (RFC 5891 section 4.2), and under a ruleset only valid ones whose
+/// disposition isn't invalid (RFC 7940 section 8). What a label shares at its start with the one before is neither
+/// tested nor taken apart nor written again.
 #[derive(Drop)]
-struct VariantJudge<'p> {
+struct VariantJudge<'p, 'd> {
     beginnings: CachedPrefixes,
     test: CachedALabel,
     line: CachedLine,
     validity: Option<ValidityTest<'p>>,
+    dispositions: LabelDispositions<'d>,
+    /// The disposition of the last label that was accepted, if its table has any.
+    told: Option<Disposition>,
     properties: Properties,
 }
 
-impl<'p> Judge for VariantJudge<'p> {
-    ghost accepted = { λ judge label. (filter_by judge.properties (ruling_in judge.validity)).accepts label };
+impl<'p, 'd> VariantJudge<'p, 'd> {
+    /// The verdict on a label that may be registered and is valid, by its disposition.
+    #[inline(always)]
+    fn decided(&mut self, label: &[u32]) -> Verdict
+        requires short { length label.now ≤ 63 }
+        requires sound { IsSound self.old.dispositions.table }
+        requires sees { Sees label.now self.old.validity }
+        requires ruling { ruling_in self.old.validity ≡ ruling_of self.old.dispositions.table }
+        ensures verdict { IsListedOrNot self.old.dispositions label.now self.new.told result }
+        ensures same { self.new ≡ record self.old { told = self.new.told } }
+    {
+        let rules = MatchedRules::of_test(&self.validity);
+        match self.dispositions.appearance(label, &rules) {
+            Appearance::LeftOut => Verdict::NotAccepted,
+            Appearance::Listed(disposition) => {
+                self.told = disposition;
+                Verdict::Accepted
+            }
+        }
+    }
+}
 
-    ghost dead = { λ judge label. (filter_by judge.properties (ruling_in judge.validity)).hopeless label };
+impl<'p, 'd> Judge for VariantJudge<'p, 'd> {
+    ghost accepted = { λ judge label. (filter_of_judge judge).accepts label };
 
-    ghost tells = { λ judge label. TellsALabel judge label };
+    ghost dead = { λ judge label. (filter_of_judge judge).hopeless label };
+
+    ghost class_of = { λ judge. class_by judge.dispositions };
+
+    ghost tells = { λ judge label. Tells judge label };
 
     ghost keeps = { λ judge label. KnowsLabel judge label };
 
     ghost needs_none = { λ _ label. NeedsNoMemory label };
 
-    ghost dead_for_good = { λ judge w z dead. none_accepted judge.properties (ruling_in judge.validity) w z dead };
+    ghost dead_for_good = { λ judge w z dead. none_listed judge.properties judge.validity judge.dispositions w z dead };
 
     /// Judges a label. It takes no memory for one of which the test needs none.
     fn judge(&mut self, alloc: Global, label: &[u32], shared: usize) -> Result<Verdict, AllocError>
@@ -135,12 +170,13 @@ impl<'p> Judge for VariantJudge<'p> {
         requires kept { IsKeptOf (KnowsLabel self.old) shared label.now }
         ensures kept { KnowsLabel self.new label.now }
         ensures verdict { IfOk result
-            (IsVerdict (filter_of_judge self.old).accepts (filter_of_judge self.old).hopeless (TellsALabel self.new)
+            (IsVerdict (filter_of_judge self.old).accepts (filter_of_judge self.old).hopeless (Tells self.new)
             label.now) }
         ensures memory { OnErr result (shortest_hopeless (filter_of_judge self.old).hopeless label.now ≡ None) }
         ensures no_memory { NeedsNoMemory label.now → IsOk result }
-        ensures same_ruling { ruling_in self.new.validity ≡ ruling_in self.old.validity }
-        ensures same_properties { self.new.properties ≡ self.old.properties }
+        ensures same_labels { (filter_of_judge self.new).accepts ≡ (filter_of_judge self.old).accepts }
+        ensures same_beginnings { (filter_of_judge self.new).hopeless ≡ (filter_of_judge self.old).hopeless }
+        ensures same_classes { class_by self.new.dispositions ≡ class_by self.old.dispositions }
     {
         self.beginnings.keep(shared);
         self.test.keep(shared);
@@ -155,10 +191,20 @@ impl<'p> Judge for VariantJudge<'p> {
         }
         let facts = self.beginnings.facts();
         match self.test.test_label(alloc, label, facts, self.properties) {
-            Ok(()) => Ok(Verdict::Accepted),
+            Ok(()) => Ok(self.decided(label)),
             Err(Refusal::Memory) => Err(AllocError),
             Err(_) => Ok(Verdict::NotAccepted),
         }
+    }
+}
+
+/// The disposition that is told: that a variant is unclear only where causes are told, and else that it is blocked.
+fn shown(wanted: bool, disposition: Option<Disposition>) -> Option<Disposition>
+    ensures { result ≡ shown wanted disposition }
+{
+    match disposition {
+        Some(Disposition::Unclear) if !wanted => Some(Disposition::Blocked),
+        _ => disposition,
     }
 }
 
@@ -202,7 +248,7 @@ pub(crate) fn write_variant<W: Sink, E: Sink>(
     }
 }
 
-/// Writes a variant and its A-label as a line, with the disposition as its third field.
+/// Writes a variant and its A-label as a line, with what its disposition says after them.
 #[inline(always)]
 fn write_variant_line<W: Sink, E: Sink>(
     label: &[u32],
@@ -231,16 +277,17 @@ fn write_variant_line<W: Sink, E: Sink>(
     console.output(line.as_slice())
 }
 
-/// The third field of a variant's line, with the tab before it; nothing where there is no disposition.
+/// What a disposition says on a variant's line, each field with the tab before it; nothing where there is none.
 #[inline]
 fn field_of(disposition: Option<Disposition>) -> &'static str
-    ensures field { result.now ≡ disposition_field disposition }
+    ensures field { result.now ≡ disposition_columns disposition }
     ensures short { length result.now ≤ 16 }
 {
     match disposition {
         None => "",
         Some(Disposition::Allocatable) => "\tallocatable",
         Some(Disposition::Blocked) => "\tblocked",
+        Some(Disposition::Unclear) => "\tblocked\tunclear",
     }
 }
 

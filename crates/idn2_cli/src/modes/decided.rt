@@ -1,26 +1,31 @@
 //! What two labels are to each other: whether they collide, and how (RFC 7940, sections 5.1 and 7.3).
 
-ghost use Rattle.std.specs.Prelude.{◌≡◌, ◌≤◌, ◌↔◌, ℕ, List, length, IsTrue, IfOk};
+ghost use Rattle.std.specs.Prelude.{◌≡◌, ◌≢◌, ◌≤◌, ◌↔◌, true, length, IsTrue, IfOk, IsOk};
 ghost use Rattle.idn_class.specs.declared.properties.Properties.{Properties};
 ghost use Rattle.idn_label.specs.FirstFault.{IsRegistrable};
-ghost use Rattle.variant_table.specs.Entries.{TableValue};
 ghost use Rattle.valid_labels.specs.Testing.{IsAdmission};
+ghost use Rattle.valid_labels.specs.declared.validity.Admission.TheVariants.{Admitted};
 ghost use Rattle.valid_labels.specs.Validity.{IsSound};
 ghost use Rattle.variant_list.specs.Arising.{Arises};
 ghost use Rattle.idn2_options.specs.Settings.{Settings};
 ghost use Rattle.idn2_answers.specs.Listings.{is_registrable};
 ghost use Rattle.idn2_answers.specs.Collisions.{IsGood, barred_in, is_either, is_something, regard_of, regards_of};
-ghost use Rattle.idn2_cli.specs.inner.Decided.{Decides, IsOfPair, IsStanding};
+ghost use Rattle.idn2_cli.specs.inner.Decided.{Decides, IsListingOf, IsOfPair, IsStanding, listed_regard};
 ghost use Rattle.idn2_cli.specs.inner.Dispositions.{AreOfTable};
 ghost use Rattle.idn2_cli.specs.inner.Ruling.{ruling_in, ruling_of};
 
-use crate::modes::admission::{admission_by, is_valid_by};
-use crate::modes::dispositions::Dispositions;
-use crate::modes::listed::Listed;
+use crate::modes::admission::{admission_by, is_valid_by, validity_by};
+use crate::modes::dispositions::{DecidedBy, Dispositions};
+use crate::modes::listed::{Listed, regard_of};
+use crate::modes::matched_rules::MatchedRules;
 use answer_json::{Regard, Regards};
+use idn_class::Properties;
+use idn_label::test_label_by;
+use idn_text::Refusal;
 use reading_kinds::Readings;
 use std::alloc::{AllocError, Global};
 use valid_labels::{Admission, ValidityTest};
+use variant_dispositions::Disposition;
 use variant_list::{Cuts, substitutions_of};
 use variant_table::Table;
 
@@ -39,39 +44,53 @@ enum Standing {
 #[derive(Drop)]
 pub(crate) struct Decisions<'l> {
     table: &'l Table,
-    of_table: &'l Dispositions<()>,
+    of_table: &'l Dispositions,
     label: &'l [u32],
-    listed: Listed<'l>,
+    /// The disposition of the label itself.
+    own: Disposition,
+    /// The whole listing of the label, once it is asked.
+    listed: Option<Listed<'l>>,
     validity: Option<ValidityTest<'l>>,
 }
 
 impl<'l> Decisions<'l> {
-    /// Of a label of at most 63 code points, with what tests labels under the table.
+    /// Of a label of 1 to 63 code points, which the table admits with this disposition, with what tests labels under
+    /// the table. Memory for its listing is taken when that is asked first.
     pub fn of_label(
-        alloc: Global,
         table: &'l Table,
-        of_table: &'l Dispositions<()>,
+        of_table: &'l Dispositions,
         label: &'l [u32],
+        own: Disposition,
         validity: Option<ValidityTest<'l>>,
-    ) -> Result<Decisions<'l>, AllocError>
+    ) -> Decisions<'l>
+        requires some { 1 ≤ length label.now }
         requires short { length label.now ≤ 63 }
         requires sound { IsSound table.now }
         requires of_table { AreOfTable table.now of_table.now }
+        requires own { IsAdmission table.now label.now (Admitted own) }
         requires ruling { ruling_in validity ≡ ruling_of table.now }
-        ensures decides { IfOk result (λ decisions. Decides decisions) }
-        ensures pair { IfOk result (λ decisions. IsOfPair table.now label.now decisions) }
+        ensures decides { Decides result }
+        ensures pair { IsOfPair table.now label.now result }
     {
-        let listed = Listed::of_label(alloc, table, of_table, label)?;
-        Ok(Decisions {
+        Decisions {
             table,
             of_table,
             label,
-            listed,
+            own,
+            listed: None,
             validity,
-        })
+        }
     }
 
-    /// What another label of at most 63 code points is to the label, and back, by whether it may be registered.
+    /// The one label.
+    pub fn label(&self) -> &'l [u32]
+        ensures { result.now ≡ self.now.label.now }
+    {
+        self.label
+    }
+
+    /// What another label of at most 63 code points is to the label, and back, by whether it may be registered; then it
+    /// has some. Of the label itself that takes no memory.
     pub fn regards(
         &mut self,
         alloc: Global,
@@ -79,38 +98,65 @@ impl<'l> Decisions<'l> {
         may_be_registered: bool,
     ) -> Result<Regards, AllocError>
         requires decides { Decides self.old }
+        requires some { may_be_registered ≡ true → 1 ≤ length other.now }
         requires short { length other.now ≤ 63 }
         ensures regards { IfOk result (λ regards. (o : Settings) → IsGood o self.old.table.now self.old.label.now →
             (IsTrue may_be_registered ↔ IsRegistrable o.properties other.now) →
             regards ≡ regards_of (is_registrable o.properties) self.old.table.now self.old.label.now other.now) }
+        ensures no_memory { other.now ≡ self.old.label.now → IsOk result }
         ensures decides { Decides self.new }
         ensures pair { IsOfPair self.old.table.now self.old.label.now self.new }
     {
-        let standing = self.standing_of(other, may_be_registered);
+        if other == self.label {
+            return Ok(self.own_regards());
+        }
+        let standing = self.standing_of(alloc, other, may_be_registered)?;
         let there = self.there(alloc, other, standing)?;
         let back = self.back(alloc, other, standing)?;
         Ok(Regards { there, back })
     }
 
+    /// What the label is to itself, there and back.
+    fn own_regards(&self) -> Regards
+        requires decides { Decides self.now }
+        ensures { (o : Settings) → IsGood o self.now.table.now self.now.label.now → result ≡
+            regards_of (is_registrable o.properties) self.now.table.now self.now.label.now self.now.label.now }
+    {
+        let regard = regard_of(self.of_table.of_own(self.own)).unwrap_or(Regard::NoVariant);
+        Regards {
+            there: regard,
+            back: regard,
+        }
+    }
+
     /// What today's rules say of a label of at most 63 code points, by whether it may be registered.
-    fn standing_of(&mut self, other: &[u32], may_be_registered: bool) -> Standing
+    fn standing_of(
+        &mut self,
+        alloc: Global,
+        other: &[u32],
+        may_be_registered: bool,
+    ) -> Result<Standing, AllocError>
         requires decides { Decides self.old }
+        requires some { may_be_registered ≡ true → 1 ≤ length other.now }
         requires short { length other.now ≤ 63 }
-        ensures standing { (properties : Properties) → (IsTrue may_be_registered ↔ IsRegistrable properties other.now) →
-            IsStanding properties self.old.table.now other.now result }
+        ensures standing { IfOk result (λ standing. (properties : Properties) →
+            (IsTrue may_be_registered ↔ IsRegistrable properties other.now) →
+            IsStanding properties self.old.table.now other.now standing) }
         ensures decides { Decides self.new }
         ensures pair { IsOfPair self.old.table.now self.old.label.now self.new }
     {
         if !may_be_registered {
-            return Standing::Refused;
+            return Ok(Standing::Refused);
         }
-        if let Admission::Admitted = admission_by(&mut self.validity, self.table, other) {
-            return Standing::Good;
+        let actions = self.of_table.actions();
+        let admission = admission_by(alloc, &mut self.validity, actions, self.table, other)?;
+        if let Admission::Admitted(_) = admission {
+            return Ok(Standing::Good);
         }
         if is_valid_by(&mut self.validity, other, 0) {
-            Standing::VariantAlone
+            Ok(Standing::VariantAlone)
         } else {
-            Standing::Refused
+            Ok(Standing::Refused)
         }
     }
 
@@ -123,6 +169,7 @@ impl<'l> Decisions<'l> {
     ) -> Result<Regard, AllocError>
         requires decides { Decides self.old }
         requires short { length other.now ≤ 63 }
+        requires another { other.now ≢ self.old.label.now }
         ensures regard { IfOk result (λ regard. (o : Settings) → IsGood o self.old.table.now self.old.label.now →
             IsStanding o.properties self.old.table.now other.now standing →
             regard ≡ regard_of (is_registrable o.properties) self.old.table.now self.old.label.now other.now) }
@@ -130,8 +177,11 @@ impl<'l> Decisions<'l> {
         ensures pair { IsOfPair self.old.table.now self.old.label.now self.new }
     {
         match standing {
-            Standing::Good => Ok(self.listed.regard(other).unwrap_or(Regard::NoVariant)),
-            Standing::VariantAlone => match self.listed.regard(other) {
+            Standing::Good => {
+                let regard = self.regard_listed(alloc, other)?;
+                Ok(regard.unwrap_or(Regard::NoVariant))
+            }
+            Standing::VariantAlone => match self.regard_listed(alloc, other)? {
                 Some(regard) => Ok(regard),
                 None => self.barred(alloc, self.label, other),
             },
@@ -139,18 +189,58 @@ impl<'l> Decisions<'l> {
         }
     }
 
-    /// What this label is to the other one.
-    fn back(&self, alloc: Global, other: &[u32], standing: Standing) -> Result<Regard, AllocError>
-        requires decides { Decides self.now }
+    /// What another label is to the label by its listing, if that has it.
+    fn regard_listed(&mut self, alloc: Global, other: &[u32]) -> Result<Option<Regard>, AllocError>
+        requires decides { Decides self.old }
         requires short { length other.now ≤ 63 }
-        ensures { IfOk result (λ regard. (o : Settings) → IsGood o self.now.table.now self.now.label.now →
-            IsStanding o.properties self.now.table.now other.now standing →
-            regard ≡ regard_of (is_registrable o.properties) self.now.table.now other.now self.now.label.now) }
+        requires another { other.now ≢ self.old.label.now }
+        ensures regard { IfOk result (λ regard. regard ≡
+            listed_regard self.old.table.now self.old.label.now other.now) }
+        ensures decides { Decides self.new }
+        ensures pair { IsOfPair self.old.table.now self.old.label.now self.new }
+    {
+        let mut listed = self.listing(alloc)?;
+        let _validity = validity_by(&mut self.validity, other, 0);
+        let regard = listed.regard(other, &MatchedRules::of_test(&self.validity));
+        self.listed = Some(listed);
+        Ok(regard)
+    }
+
+    /// The listing of the label, which is made unless it was.
+    fn listing(&mut self, alloc: Global) -> Result<Listed<'l>, AllocError>
+        requires decides { Decides self.old }
+        ensures listing { IfOk result (IsListingOf self.old.table.now self.old.label.now) }
+        ensures decides { Decides self.new }
+        ensures pair { IsOfPair self.old.table.now self.old.label.now self.new }
+    {
+        match self.listed.take() {
+            Some(listed) => Ok(listed),
+            None => Listed::of_label(alloc, self.table, self.of_table, self.label),
+        }
+    }
+
+    /// What this label is to the other one.
+    fn back(
+        &mut self,
+        alloc: Global,
+        other: &[u32],
+        standing: Standing,
+    ) -> Result<Regard, AllocError>
+        requires decides { Decides self.old }
+        requires short { length other.now ≤ 63 }
+        requires another { other.now ≢ self.old.label.now }
+        ensures regard { IfOk result (λ regard. (o : Settings) → IsGood o self.old.table.now self.old.label.now →
+            IsStanding o.properties self.old.table.now other.now standing →
+            regard ≡ regard_of (is_registrable o.properties) self.old.table.now other.now self.old.label.now) }
+        ensures decides { Decides self.new }
+        ensures pair { IsOfPair self.old.table.now self.old.label.now self.new }
     {
         match standing {
             Standing::Good => {
                 let mut listed = Listed::of_label(alloc, self.table, self.of_table, other)?;
-                Ok(listed.regard(self.label).unwrap_or(Regard::NoVariant))
+                let _validity = validity_by(&mut self.validity, self.label, 0);
+                let regard = listed.regard(self.label, &MatchedRules::of_test(&self.validity));
+                Ok(regard.unwrap_or(Regard::NoVariant))
             }
             _ => self.barred(alloc, other, self.label),
         }
@@ -170,8 +260,8 @@ impl<'l> Decisions<'l> {
         if !arises(alloc, self.table, label, other)? {
             return Ok(Regard::NoVariant);
         }
-        match self.of_table {
-            Dispositions::Unstated => Ok(Regard::Variant),
+        match self.of_table.by() {
+            DecidedBy::Version1 => Ok(Regard::Variant),
             _ => Ok(Regard::Blocked),
         }
     }
@@ -189,6 +279,21 @@ fn is_something(regard: Regard) -> bool
     ensures { result ≡ is_something regard }
 {
     !matches!(regard, Regard::NoVariant)
+}
+
+/// Whether a label may be registered.
+pub(crate) fn may_be_registered(
+    alloc: Global,
+    label: &[u32],
+    properties: Properties,
+) -> Result<bool, AllocError>
+    ensures { IfOk result (λ told. IsTrue told ↔ IsRegistrable properties label.now) }
+{
+    match test_label_by(alloc, label, properties) {
+        Ok(_) => Ok(true),
+        Err(Refusal::Memory) => Err(AllocError),
+        Err(_) => Ok(false),
+    }
 }
 
 /// Whether a label arises from another one, both of at most 63 code points.

@@ -1,7 +1,7 @@
 //! The least label from a text on that may collide with a label, and what each of the two is to the other. A database
 //! that has its labels in byte order finds by it which of them collide with a label.
 
-ghost use Rattle.std.specs.Prelude.{◌≡◌, ◌≤◌, ◌↔◌, ◌∷◌, [], true, length, IfErr, IfOk, Err, IsTrue};
+ghost use Rattle.std.specs.Prelude.{◌≡◌, ◌≤◌, ◌∷◌, [], true, length, IfErr, Err};
 ghost use Rattle.std.specs.Prelude.{None, Some};
 ghost use Rattle.idn_text.specs.Points.{AreScalarValues};
 ghost use Rattle.idn_label.specs.FirstFault.{IsRegistrable};
@@ -23,15 +23,16 @@ use crate::modes::asked::Asked;
 use crate::modes::cached_line::CachedLine;
 use crate::modes::code_points::PointAnswering;
 use crate::modes::collisions::columns_of;
+use crate::modes::decided::may_be_registered;
 use crate::modes::search::{Near, Search};
 use answer_json::{Input, Regards};
 use idn_class::Properties;
 use idn_label::test_label_by;
-use idn_text::{MAX_LINE_LEN, Refusal, Sink};
+use idn_text::{MAX_LINE_LEN, Sink};
 use idn2_options::Form;
 use idn2_output::{Console, Object, Stop};
 use idn2_refusals::{label_of_request, parts_of};
-use std::alloc::{AllocError, Global};
+use std::alloc::Global;
 use variant_list::Cursor;
 
 /// Answers requests by a table: each is a label, or a label, a tab and a text.
@@ -118,21 +119,6 @@ fn write_least<W: Sink, E: Sink>(
     let may_be_registered = may_be_registered(alloc, label, mode.properties)?;
     let regards = decisions.regards(alloc, label, may_be_registered)?;
     write_label(asked, label, regards, console)
-}
-
-/// Whether a label may be registered.
-fn may_be_registered(
-    alloc: Global,
-    label: &[u32],
-    properties: Properties,
-) -> Result<bool, AllocError>
-    ensures { IfOk result (λ told. IsTrue told ↔ IsRegistrable properties label.now) }
-{
-    match test_label_by(alloc, label, properties) {
-        Ok(_) => Ok(true),
-        Err(Refusal::Memory) => Err(AllocError),
-        Err(_) => Ok(false),
-    }
 }
 
 /// Writes a label of at most 63 code points, and what each of it and the label asked about is to the other.

@@ -1,75 +1,66 @@
 //! What the whole listing of a label says of other labels.
 
-ghost use Rattle.std.specs.Prelude.{◌≡◌, ◌≤◌, ◌↔◌, ℕ, List, length, IfOk, IsSome, IfSome};
+ghost use Rattle.std.specs.Prelude.{◌≡◌, ◌≢◌, ◌≤◌, ◌↔◌, ℕ, List, length, IfOk, None, Some};
 ghost use Rattle.variant_table.specs.Entries.{TableValue};
-ghost use Rattle.variant_table.specs.WellFormed.{IsWellFormed};
-ghost use Rattle.variant_list.specs.Spelling.{Spells};
-ghost use Rattle.idn2_answers.specs.Listings.{disposition};
-ghost use Rattle.idn2_answers.specs.Collisions.{regard_by};
-ghost use Rattle.idn2_cli.specs.inner.Decided.{IsListingOf};
-ghost use Rattle.idn2_cli.specs.inner.Dispositions.{AreOfTable};
+ghost use Rattle.valid_labels.specs.Validity.{IsSound};
+ghost use Rattle.idn2_cli.specs.inner.Decided.{IsListingOf, listed_regard, regard_of as regard_in};
+ghost use Rattle.idn2_cli.specs.inner.Dispositions.{AreOfTable, AreRulesOf};
 
-use crate::modes::allocation_test::AllocationTest;
-use crate::modes::dispositions::Dispositions;
+use crate::modes::dispositions::{Appearance, Dispositions};
+use crate::modes::label_dispositions::readings_of;
 use answer_json::{Disposition, Regard};
 use reading_kinds::Readings;
 use std::alloc::{AllocError, Global};
-use variant_list::{Cuts, substitutions_of};
+use variant_dispositions::LabelRules;
 use variant_table::Table;
 
-/// Tells which labels a label spells, and with which dispositions.
+/// Tells which other labels a label spells, and how they appear in its listing.
 #[derive(Drop)]
 pub(crate) struct Listed<'l> {
-    spelled: Readings,
-    dispositions: Dispositions<AllocationTest<'l>>,
+    of_table: &'l Dispositions,
+    readings: Readings,
 }
 
 impl<'l> Listed<'l> {
     /// Of a label of at most 63 code points. It takes the memory for all other labels.
     pub fn of_label(
         alloc: Global,
-        table: &'l Table,
-        of_table: &Dispositions<()>,
-        label: &'l [u32],
+        table: &Table,
+        of_table: &'l Dispositions,
+        label: &[u32],
     ) -> Result<Listed<'l>, AllocError>
         requires short { length label.now ≤ 63 }
         requires of_table { AreOfTable table.now of_table.now }
         ensures { IfOk result (IsListingOf table.now label.now) }
     {
-        let substitutions = substitutions_of(alloc, table, label, Cuts::Segmentations)?;
-        let spelled = Readings::new(alloc, substitutions)?;
-        let dispositions = of_table.of_label(alloc, table, label)?;
-        Ok(Listed {
-            spelled,
-            dispositions,
-        })
+        let readings = readings_of(alloc, table, label)?;
+        Ok(Listed { of_table, readings })
     }
 
-    /// What another label of at most 63 code points is to the label, if the label spells it. Takes no memory.
-    pub fn regard(&mut self, other: &[u32]) -> Option<Regard>
+    /// What another label of at most 63 code points is to the label, by the rules that it matches, if the label spells
+    /// it and it isn't left out. Takes no memory.
+    pub fn regard<R: LabelRules>(&mut self, other: &[u32], rules: &R) -> Option<Regard>
         requires short { length other.now ≤ 63 }
-        ensures spelled { (table : TableValue) (label : List ℕ) → IsListingOf table label self.old →
-            IsSome result ↔ Spells table label other.now }
-        ensures regard { (table : TableValue) (label : List ℕ) → IsWellFormed table.entries →
-            IsListingOf table label self.old →
-            IfSome result (λ regard. regard ≡ regard_by (disposition table label other.now)) }
-        ensures same { (table : TableValue) (label : List ℕ) → IsListingOf table label self.old →
-            IsListingOf table label self.new }
+        ensures regard { (table : TableValue) (label : List ℕ) → IsSound table → IsListingOf table label self.old →
+            AreRulesOf table other.now (R.matched rules.now) → other.now ≢ label →
+            result ≡ listed_regard table label other.now }
+        ensures same { self.new ≡ self.old }
     {
-        if !self.spelled.spells(other) {
-            return None;
+        match self.readings.words_of(other) {
+            None => None,
+            Some(words) => regard_of(self.of_table.of_words(words, rules)),
         }
-        Some(regard_of(self.dispositions.of_variant(other)))
     }
 }
 
-/// What a variant is, by its disposition.
-fn regard_of(disposition: Option<Disposition>) -> Regard
-    ensures { result ≡ regard_by disposition }
+/// What a variant is that appears so, if it is listed.
+pub(crate) fn regard_of(appearance: Appearance) -> Option<Regard>
+    ensures { result ≡ regard_in appearance }
 {
-    match disposition {
-        None => Regard::Variant,
-        Some(Disposition::Allocatable) => Regard::Allocatable,
-        Some(Disposition::Blocked) => Regard::Blocked,
+    match appearance {
+        Appearance::LeftOut => None,
+        Appearance::Listed(None) => Some(Regard::Variant),
+        Appearance::Listed(Some(Disposition::Allocatable)) => Some(Regard::Allocatable),
+        Appearance::Listed(Some(_)) => Some(Regard::Blocked),
     }
 }

@@ -1,9 +1,12 @@
 //! The labels that a label may collide with under a table.
 
-ghost use Rattle.std.specs.Prelude.{◌≡◌, ◌≢◌, ◌≤◌, ◌↔◌, ℕ, List, length, All, Contains, IfOk, IfErr};
+ghost use Rattle.std.specs.Prelude.{◌≡◌, ◌≢◌, ◌≤◌, ◌↔◌, ℕ, List, length, All, Contains, Err, IfOk, IfErr, None};
 ghost use Rattle.idn_text.specs.Points.{AreScalarValues};
 ghost use Rattle.idn_text.specs.declared.refusal.Refusal.TheVariants as refusals;
+ghost use Rattle.valid_labels.specs.Testing.{IsAdmission};
 ghost use Rattle.valid_labels.specs.Validity.{IsAdmitted};
+ghost use Rattle.valid_labels.specs.declared.validity.Admission.TheVariants.{Admitted};
+ghost use Rattle.variant_table.specs.Segmentations.{IsMadeOfSources};
 ghost use Rattle.variant_list.specs.Closure.{AreNear};
 ghost use Rattle.idn2_answers.specs.Answers.{IsRefusedAs};
 ghost use Rattle.idn2_cli.specs.inner.Ruling.{ruling_in, ruling_of};
@@ -15,6 +18,7 @@ use crate::modes::dispositions::Dispositions;
 use idn_text::Refusal;
 use std::alloc::Global;
 use valid_labels::{Admission, Segments, ValidityTest};
+use variant_dispositions::Disposition;
 use variant_list::{Net, NetFault, Reversed};
 use variant_table::Table;
 
@@ -23,7 +27,7 @@ use variant_table::Table;
 pub(crate) struct Search<'t> {
     pub table: &'t Table,
     pub ruling: &'t Option<Segments<'t>>,
-    pub dispositions: &'t Dispositions<()>,
+    pub dispositions: &'t Dispositions,
     pub reversed: &'t Reversed,
 }
 
@@ -45,19 +49,41 @@ impl<'t> Search<'t> {
         ensures admitted { IfOk result (λ _. IsAdmitted self.now.table.now label.now) }
         ensures refused { IfErr result (λ refusal. refusal ≢ refusals.Memory →
             IsRefusedAs self.now.table.now label.now refusal) }
+        // Where the table asks nothing of its labels, no memory is taken for one that isn't in it.
+        ensures no_memory { self.now.ruling.now ≡ None → ¬ IsMadeOfSources self.now.table.now label.now →
+            result ≡ Err refusals.NotInTable }
     {
         let Ok(mut validity) = validity_test_by(alloc, self.ruling) else {
             return Err(Refusal::Memory);
         };
-        match admission_by(&mut validity, self.table, label) {
-            Admission::NotCut => return Err(Refusal::NotInTable),
-            Admission::NotAdmitted => return Err(Refusal::NotValid),
-            Admission::Admitted => {}
+        let actions = self.dispositions.actions();
+        match admission_by(alloc, &mut validity, actions, self.table, label) {
+            Ok(Admission::NotCut) => Err(Refusal::NotInTable),
+            Ok(Admission::NotAdmitted) => Err(Refusal::NotValid),
+            Ok(Admission::Admitted(own)) => self.near_admitted(alloc, label, own, validity),
+            Err(_) => Err(Refusal::Memory),
         }
-        match self.net(alloc, label) {
-            Ok(net) => self.decided(alloc, label, net, validity),
-            Err(refusal) => Err(refusal),
-        }
+    }
+
+    /// What is near a label that the table admits with this disposition.
+    fn near_admitted<'l>(
+        &'l self,
+        alloc: Global,
+        label: &'l [u32],
+        own: Disposition,
+        validity: Option<ValidityTest<'l>>,
+    ) -> Result<Near<'l>, Refusal>
+        requires ready { IsReady self.now }
+        requires some { 1 ≤ length label.now }
+        requires short { length label.now ≤ 63 }
+        requires admitted { IsAdmission self.now.table.now label.now (Admitted own) }
+        requires ruling { ruling_in validity ≡ ruling_of self.now.table.now }
+        ensures near { IfOk result (IsNearOf self.now.table.now label.now) }
+        ensures memory { IfErr result (λ refusal. refusal ≡ refusals.Memory) }
+    {
+        let net = self.net(alloc, label)?;
+        let decisions = Decisions::of_label(self.table, self.dispositions, label, own, validity);
+        Ok(Near { net, decisions })
     }
 
     /// The variant graph of the labels that are near a label which the table admits.
@@ -76,28 +102,6 @@ impl<'t> Search<'t> {
             // Such a label is near itself.
             Err(NetFault::NothingSpelled) => unreachable!(),
             Err(NetFault::Memory) => Err(Refusal::Memory),
-        }
-    }
-
-    /// The same with what decides.
-    fn decided<'l>(
-        &'l self,
-        alloc: Global,
-        label: &'l [u32],
-        net: Net,
-        validity: Option<ValidityTest<'l>>,
-    ) -> Result<Near<'l>, Refusal>
-        requires ready { IsReady self.now }
-        requires short { length label.now ≤ 63 }
-        requires ruling { ruling_in validity ≡ ruling_of self.now.table.now }
-        requires near { (w : List ℕ) → Contains net.spelled w ↔ AreNear self.now.table.now label.now w }
-        requires scalar_values { All AreScalarValues net.spelled }
-        ensures near { IfOk result (IsNearOf self.now.table.now label.now) }
-        ensures memory { IfErr result (λ refusal. refusal ≡ refusals.Memory) }
-    {
-        match Decisions::of_label(alloc, self.table, self.dispositions, label, validity) {
-            Ok(decisions) => Ok(Near { net, decisions }),
-            Err(_) => Err(Refusal::Memory),
         }
     }
 }

@@ -20,6 +20,7 @@ use crate::modes::asked::Asked;
 use crate::modes::block::write_block;
 use crate::modes::code_points::PointAnswering;
 use crate::modes::dispositions::Dispositions;
+use crate::modes::label_dispositions::LabelDispositions;
 use idn_label::test_label_by;
 use idn_text::{MAX_LINE_LEN, Sink};
 use idn2_options::Options;
@@ -34,7 +35,7 @@ use variant_table::Table;
 pub(crate) struct Variants<'t, 'p> {
     pub table: &'t Table,
     pub ruling: &'p Option<Segments<'t>>,
-    pub dispositions: &'t Dispositions<()>,
+    pub dispositions: &'t Dispositions,
     pub options: &'t Options,
 }
 
@@ -81,8 +82,10 @@ fn list<W: Sink, E: Sink>(
     requires scalar_values { AreScalarValues label.now }
     requires registrable { IsRegistrable mode.now.options.now.properties label.now }
     ensures written { Emits console.old console.new
-        (reply_to asked.now (listing_answer (keeping None mode.now.options.now) mode.now.table.now label.now)) (result_of result) }
-    ensures refused { IsServedAs (listing_answer (keeping None mode.now.options.now) mode.now.table.now label.now) result }
+        (reply_to asked.now (listing_answer (keeping None mode.now.options.now) mode.now.table.now label.now))
+        (result_of result) }
+    ensures refused { IsServedAs
+        (listing_answer (keeping None mode.now.options.now) mode.now.table.now label.now) result }
     ensures kept { KeepsIfRefused console.old console.new (result_of result) }
     ensures begun { StopsForMemory (ListsWithoutMemory mode.now.options.now mode.now.table.now label.now)
         console.old console.new (result_of result) }
@@ -90,19 +93,22 @@ fn list<W: Sink, E: Sink>(
     let Ok(mut validity) = validity_test_by(alloc, mode.ruling) else {
         return Served::Stopped(Stop::Memory);
     };
-    match admitted_net(alloc, mode.table, &mut validity, label) {
-        Ok(net) => match mode.dispositions.of_label(alloc, mode.table, label) {
-            Ok(mut dispositions) => answered(write_block(
-                alloc,
-                asked,
-                mode.options,
-                &net,
-                validity,
-                &mut dispositions,
-                console,
-            )),
-            Err(_) => Served::Stopped(Stop::Memory),
-        },
-        Err(refusal) => refused(refusal),
+    let actions = mode.dispositions.actions();
+    let found = match admitted_net(alloc, mode.table, &mut validity, actions, label) {
+        Ok(found) => found,
+        Err(refusal) => return refused(refusal),
+    };
+    let (net, own) = (found.net, found.disposition);
+    match LabelDispositions::of_label(alloc, mode.table, mode.dispositions, label, own) {
+        Ok(dispositions) => answered(write_block(
+            alloc,
+            asked,
+            mode.options,
+            &net,
+            validity,
+            dispositions,
+            console,
+        )),
+        Err(_) => Served::Stopped(Stop::Memory),
     }
 }

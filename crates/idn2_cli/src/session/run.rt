@@ -23,7 +23,7 @@ ghost use Rattle.idn2_options.specs.declared.command_line.mode.Mode.TheVariants 
 
 use crate::modes::code_points::ByPoints;
 use crate::modes::{
-    Among, Decode, Dispositions, Jumps, Lookup, Register, Search, Variants, check_table,
+    Among, Decode, DecodeOld, Dispositions, Jumps, Lookup, Register, Search, Variants, check_table,
     ruling_of_table,
 };
 use crate::session::lines::serve_lines;
@@ -70,7 +70,7 @@ pub fn run<R: Source, W: Sink, E: Sink>(
         IsRegistrable options.now.properties (requested_label request) →
         IsJumpAnswer options.now given request (jump_answer options.now.properties given request) }
     ensures check { (given : TableValue) → IsReadAs options.now.properties options.now.notation table.now (Ok given) →
-        IsCheck given.entries (check_findings given.entries) }
+        IsCheck given (check_findings given) }
 {
     // Only for the proof: where a field is read, it is known what contracts see of the options: no registered labels.
     let _ = &options.mode;
@@ -109,7 +109,7 @@ pub fn run_among<R: Source, W: Sink, E: Sink>(
         IsRegistrable options.now.properties (requested_label request) →
         IsJumpAnswer options.now given request (jump_answer options.now.properties given request) }
     ensures check { (given : TableValue) → IsReadAs options.now.properties options.now.notation table.now (Ok given) →
-        IsCheck given.entries (check_findings given.entries) }
+        IsCheck given (check_findings given) }
 {
     let settings = RunSettings {
         options,
@@ -172,6 +172,13 @@ fn serve_mode<R: Source, W: Sink, E: Sink>(
         Mode::Decode => {
             let explaining = Explaining::Name(options.properties).if_wanted(wanted);
             let mode = Decode {
+                properties: options.properties,
+            };
+            serve_lines(alloc, options.form, &explaining, &mode, input, console)
+        }
+        Mode::DecodeOld => {
+            let explaining = Explaining::Label(options.properties).if_wanted(wanted);
+            let mode = DecodeOld {
                 properties: options.properties,
             };
             serve_lines(alloc, options.form, &explaining, &mode, input, console)
@@ -249,7 +256,7 @@ fn serve_variants<R: Source, W: Sink, E: Sink>(
 {
     let options = settings.options;
     let ruling = ruling_of_table(table);
-    let dispositions = Dispositions::of_table(table);
+    let dispositions = Dispositions::of_table(alloc, table)?;
     let mode = Variants {
         table,
         ruling: &ruling,
@@ -287,7 +294,7 @@ fn serve_search<R: Source, W: Sink, E: Sink>(
         }
     };
     let ruling = ruling_of_table(table);
-    let dispositions = Dispositions::of_table(table);
+    let dispositions = Dispositions::of_table(alloc, table)?;
     let search = Search {
         table,
         ruling: &ruling,

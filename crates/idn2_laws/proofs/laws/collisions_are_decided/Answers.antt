@@ -1,7 +1,10 @@
 use Rattle.std.proofs.Common.{refl}
+use Rattle.ruleset_text.specs.Names.{number_of}
+use Rattle.variant_dispositions.specs.Kinds.{kinds_in}
 use Rattle.idn2_laws.proofs.laws.collisions_are_decided.Goals as goal
 
 pub returns-clause-listings : goal.returns-clause-listings
+unfolding kinds_in
 returns-clause-listings c = record {
   sigma = refl;
   final_sigma_asked = refl;
@@ -22,6 +25,7 @@ returns-clause-listings c = record {
 }
 
 pub returns-clause-holders : goal.returns-clause-holders
+unfolding kinds_in number_of
 returns-clause-holders c = record {
   mixture_asked = refl;
   traditional_of_mixture = refl;
@@ -30,8 +34,9 @@ returns-clause-holders c = record {
 }
 
 pub returns-clause-relation : goal.returns-clause-relation
+unfolding kinds_in
 returns-clause-relation c = record {
-  outside_there = refl;
+  out_of_repertoire_there = refl;
   demand = refl;
   no_sources = refl;
   out_of_place = refl;

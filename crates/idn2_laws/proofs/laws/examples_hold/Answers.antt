@@ -1,6 +1,7 @@
 use Rattle.std.proofs.Common.{refl}
 use Rattle.std.specs.Fmt.{digits}
 use Rattle.std.specs.Str.{is_utf8, chars}
+use Rattle.variant_dispositions.specs.Kinds.{kinds_in}
 use Rattle.idn2_laws.proofs.ExampleLemmas.{blocks, transcripts}
 use Rattle.idn2_laws.proofs.laws.examples_hold.Goals as goal
 
@@ -27,20 +28,8 @@ returns-clause-lines c = λ answer. record { too_long = refl; empty = refl; not_
 pub returns-clause-blocks : goal.returns-clause-blocks
 returns-clause-blocks c = blocks
 
-pub returns-clause-allocations : goal.returns-clause-allocations
-returns-clause-allocations c = record {
-  mixture = refl;
-  one_kind = refl;
-  other_kind = refl;
-  other_mixture = refl;
-  of_both_tags = refl;
-  of_two_tags = refl;
-  blocked_one = refl;
-  by_the_other_cutting = refl;
-  by_no_cutting = refl;
-}
-
 pub returns-clause-refusals : goal.returns-clause-refusals
+unfolding kinds_in
 returns-clause-refusals c = record {
   sign = refl;
   sign_after_sign = refl;
@@ -52,13 +41,14 @@ returns-clause-refusals c = record {
   no_a = refl;
   half_letter = refl;
   other_half = refl;
-  outside = refl;
+  invalid = refl;
 }
 
 pub returns-clause-transcripts : goal.returns-clause-transcripts
 returns-clause-transcripts c = transcripts
 
 pub returns-clause-listings : goal.returns-clause-listings
+unfolding kinds_in
 returns-clause-listings c = record {
   one_kind_tested = refl;
   end_tested = refl;
@@ -67,10 +57,10 @@ returns-clause-listings c = record {
   vowel_in_its_place = refl;
   digits_of_one_kind = refl;
   not_at_the_end = refl;
-  outside_within_the_label = refl;
+  invalid_within_the_label = refl;
   after_a_in_a_variant = refl;
   variant_of_no_sources = refl;
   b_on_a = refl;
-  range_outside = refl;
-  range_outside_alone = refl;
+  invalid_range = refl;
+  invalid_range_alone = refl;
 }

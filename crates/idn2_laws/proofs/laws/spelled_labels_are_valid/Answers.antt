@@ -1,7 +1,6 @@
 use Rattle.valid_labels.proofs.NothingLemmas.{nothing-is-asked}
-use Rattle.variant_list.specs.Parts.Part.{Whole}
-use Rattle.variant_list.proofs.SpellingLemmas.{PartSpells-made}
+use Rattle.variant_list.proofs.SpellingLemmas.{Spells-made}
 use Rattle.idn2_laws.proofs.laws.spelled_labels_are_valid.Goals as goal
 
 pub returns : goal.returns
-returns c = λ table label v sound nothing spells. nothing-is-asked.valid table v nothing (PartSpells-made Whole table label v spells)
+returns c = λ table label v sound nothing spells. nothing-is-asked.valid table v nothing (Spells-made table label v spells)

@@ -1,38 +1,46 @@
-use Rattle.std.proofs.Common.{inl, refl, ap, sym, subst, ◌∙◌}
+use Rattle.std.proofs.Common.{ap, sym, subst, ◌∙◌}
+use Rattle.std.specs.Prelude.{Option, ◌≢◌}
+use Rattle.std.proofs.lemmas.Result.{err_from_is_err_and}
+use Rattle.idn_text.specs.declared.refusal.Refusal.TheVariants.{Memory}
 use Rattle.variant_table.specs.Entries.{TableValue}
-use Rattle.valid_labels.specs.Testing.{IsAdmission}
-use Rattle.valid_labels.specs.Validity.{IsAdmitted}
-use Rattle.valid_labels.proofs.NothingLemmas.{admitted-valid, nothing-is-asked}
+use Rattle.valid_labels.specs.Actions.{actions_of}
+use Rattle.valid_labels.specs.Validity.{IsSound}
 use Rattle.valid_labels.proofs.SegmentationLemmas.{made-from_segmentation}
-use Rattle.idn2_cli.specs.inner.Ruling.{ruling_in}
-use Rattle.idn2_cli.proofs.RulingLemmas.{nothing-asked, same-table}
+use Rattle.idn2_answers.specs.Answers.{IsRefusedAs}
+use Rattle.idn2_cli.specs.inner.Ruling.{IsOwnBy, IsRefusedBy, ruling_in}
+use Rattle.idn2_cli.proofs.AdmissionLemmas.{own-admission, refused-by, unsegmented-refused}
+use Rattle.idn2_cli.proofs.RulingLemmas.{same-table, some-point}
 use Rattle.idn2_cli.proofs.modes.admission.admitted_net.Goals as goal
-use Rattle.idn2_cli.proofs.modes.admission.admitted_net.Goals.{in-None, in-Some+in-Admitted}
 
-pub returns-in-Err-NothingSpelled-clause-refused : goal.returns-in-Err-NothingSpelled-clause-refused
-returns-in-Err-NothingSpelled-clause-refused c = λ _.
+pub own_disposition-requires-clause-tested : goal.own_disposition-requires-clause-tested
+own_disposition-requires-clause-tested c = λ test is.
+    let same = same-table test c.args.table.now (sym (ap ruling_in is) ∙ c.requires.ruling) in (
+      subst IsSound (sym same) c.requires.sound,
+      c.requires.actions ∙ ap (λ (t : TableValue). actions_of t.definitions) (sym same),
+    )
+
+pub returns-in_err-disposition-clause-refused : goal.returns-in_err-disposition-clause-refused
+returns-in_err-disposition-clause-refused c =
+    let p = err_from_is_err_and c.from_residual.result c.from_residual.ensures.1 in
     let table = c.args.table.now in
     let label = c.args.label.now in
-    let none = c.in-Err-NothingSpelled.ensures.nothing_spelled c.in-Err-NothingSpelled.field-0-is in
-    elim c.match-validity.branch [
-      | in-None w ↦
-          let free = nothing-asked table c.requires.sound (sym (ap ruling_in w.in-None.is) ∙ c.requires.ruling) in
-          inl (λ made. none (admitted-valid table label (nothing-is-asked.admitted table label free made)).1, refl)
-      | in-Some+in-Admitted w ↦
-          let same = same-table w.in-Some.test table (sym (ap ruling_in w.in-Some.is) ∙ c.requires.ruling) in
-          let admitted : IsAdmitted table label = subst (λ (t : TableValue). IsAdmitted t label) same (subst (IsAdmission w.in-Some.test.table label) w.in-Admitted.is w.admission.ensures.admission) in
-          absurd (none (admitted-valid table label admitted).1)
-    ]
+    let refusal = c.in_err-disposition.field-0.0 in
+    let refused : refusal ≢ Memory → IsRefusedAs table label refusal = λ other.
+    refused-by table label refusal
+    (subst (λ (r : Option TableValue). IsRefusedBy r label refusal) c.requires.ruling (c.in_err-disposition.ensures.refused other)) in
+    rw (p.1, p.2) refused
 
 pub returns-in-Ok-clause-admitted : goal.returns-in-Ok-clause-admitted
 returns-in-Ok-clause-admitted c =
     let table = c.args.table.now in
     let label = c.args.label.now in
-    elim c.match-validity.branch [
-      | in-None w ↦
-          let free = nothing-asked table c.requires.sound (sym (ap ruling_in w.in-None.is) ∙ c.requires.ruling) in
-          nothing-is-asked.admitted table label free (made-from_segmentation table label c.in-Ok.ensures.segmented)
-      | in-Some+in-Admitted w ↦
-          let same = same-table w.in-Some.test table (sym (ap ruling_in w.in-Some.is) ∙ c.requires.ruling) in
-          subst (λ (t : TableValue). IsAdmitted t label) same (subst (IsAdmission w.in-Some.test.table label) w.in-Admitted.is w.admission.ensures.admission)
-    ]
+    own-admission table label c.requires.sound (some-point label c.requires.some) c.in_ok-disposition.disposition (made-from_segmentation table label c.in-Ok.ensures.segmented)
+    (subst (λ (r : Option TableValue). IsOwnBy r label c.in_ok-disposition.disposition) c.requires.ruling c.in_ok-disposition.ensures.admitted)
+
+pub returns-in-Err-NothingSpelled-clause-refused : goal.returns-in-Err-NothingSpelled-clause-refused
+returns-in-Err-NothingSpelled-clause-refused c = λ _.
+    let table = c.args.table.now in
+    let label = c.args.label.now in
+    unsegmented-refused table label c.requires.sound (some-point label c.requires.some) c.in_ok-disposition.disposition
+    (subst (λ (r : Option TableValue). IsOwnBy r label c.in_ok-disposition.disposition) c.requires.ruling c.in_ok-disposition.ensures.admitted)
+    (c.in-Err-NothingSpelled.ensures.nothing_spelled c.in-Err-NothingSpelled.field-0-is)

@@ -1,8 +1,5 @@
 use Rattle.std.proofs.Common.{◌≡◌, false, length}
 use Rattle.registered_labels.specs.Collisions.{collisions_ahead}
-use Rattle.registered_labels.specs.Registered.{AreRegistered}
-use Rattle.idn2_options.specs.Settings.{Settings}
-use Rattle.idn2_answers.specs.Collisions.{IsGood}
 use Rattle.idn2_cli.specs.inner.Decided.{Decides, IsOfPair}
 use Rattle.idn2_cli.specs.inner.FoundLabels.{AreWithin}
 use Rattle.idn2_cli.specs.inner.LineAnswers.{reaches}
@@ -16,9 +13,8 @@ invariant-near l = record {
   decides : Decides l.decisions;
   pair : IsOfPair l.fn.decisions.table.now l.fn.decisions.label.now l.decisions;
   within : AreWithin l.fn.walk.registered l.found.items;
-  going : reaches l.limit (length l.found.items) ≡ false;
-  under_way : (o : Settings) → IsGood o l.fn.decisions.table.now l.fn.decisions.label.now → AreRegistered o.properties l.fn.walk.registered →
-      IsUnderWay o l.fn.decisions.table.now l.fn.decisions.label.now l.limit l.fn.walk.registered l.fn.walk l.walk l.found.items;
+  going : reaches l.options.limit (length l.found.items) ≡ false;
+  under_way : IsUnderWay l.options l.fn.decisions.table.now l.fn.decisions.label.now l.options.limit l.fn.walk.registered l.fn.walk l.walk l.found.items;
 }
 
 abbrev pub decreases-near : goal.decreases-near

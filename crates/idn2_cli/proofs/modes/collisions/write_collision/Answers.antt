@@ -5,8 +5,8 @@ use Rattle.std.proofs.lemmas.Option.{get_or_from_slice_get}
 use Rattle.idn_text.specs.Points.{utf8_of}
 use Rattle.idn_text.proofs.Utf8Lemmas.{length-utf8_of-le}
 use Rattle.idn_label.specs.ALabel.{a_label_of}
-use Rattle.idn_label.proofs.RequirementLemmas.{MeetsRequirements-registrable}
 use Rattle.registered_labels.specs.Registered.{AreRegistered}
+use Rattle.registered_labels.proofs.LabelLists.{short_at}
 use Rattle.idn_class.specs.declared.properties.Properties.{Properties}
 use Rattle.answer_json.specs.Answers.{line_of}
 use Rattle.answer_json.specs.Objects.{collision}
@@ -17,7 +17,6 @@ use Rattle.idn2_output.specs.Writing.{Emits}
 use Rattle.idn2_output.proofs.WrittenOutputLines.{emits_as}
 use Rattle.idn2_cli.specs.inner.Asked.{asked_line}
 use Rattle.idn2_cli.specs.inner.FoundLabels.{label_of, said_of}
-use Rattle.idn2_cli.proofs.CollisionSteps.{registrable-at}
 use Rattle.idn2_cli.proofs.modes.collisions.write_collision.Goals as goal
 
 from_some : (a b : List ℕ) → (let o : Option (List ℕ) = Some a in o) ≡ Some b → a ≡ b
@@ -29,7 +28,7 @@ utf8-of registered number points bytes at told = from_some bytes (utf8_of points
 
 short-utf8 : (properties : Properties) (registered : List (List ℕ)) (number : ℕ) (points bytes : List ℕ) → AreRegistered properties registered → slice_get registered number ≡ Some points → bytes ≡ utf8_of points → length bytes ≤ 252
 short-utf8 properties registered number points bytes all at is =
-    let short = (MeetsRequirements-registrable properties points (registrable-at properties registered number points all at)).points in
+    let short = short_at properties registered number points all at in
     let most = length-utf8_of-le points in
     omega (arith, short, most, ap length is)
 

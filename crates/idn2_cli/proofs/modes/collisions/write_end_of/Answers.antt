@@ -3,24 +3,23 @@ use Rattle.std.specs.Prelude.{slice_get}
 use Rattle.std.specs.Option.{option_map}
 use Rattle.std.proofs.lemmas.Option.{get_or_from_slice_get}
 use Rattle.idn_text.specs.Points.{AreScalarValues}
-use Rattle.idn_label.proofs.ALabels.{registrable_scalars}
-use Rattle.idn_label.proofs.RequirementLemmas.{MeetsRequirements-registrable}
+use Rattle.idn_label.proofs.OldNameLemmas.{in_zone-scalars}
+use Rattle.registered_labels.proofs.LabelLists.{in_zone_at, short_at}
 use Rattle.idn2_answers.specs.Said.{BlockEnd}
 use Rattle.idn2_output.specs.Writing.{Emits}
 use Rattle.idn2_cli.specs.inner.Asked.{said_to}
 use Rattle.idn2_cli.specs.inner.FoundLabels.{label_of, stop_at}
-use Rattle.idn2_cli.proofs.CollisionSteps.{registrable-at}
 use Rattle.idn2_cli.proofs.modes.collisions.write_end_of.Goals as goal
 
 pub write_stop-requires-clause-short : goal.write_stop-requires-clause-short
 write_stop-requires-clause-short g c =
     subst (λ (v : List ℕ). length v ≤ 63) (sym c.as_slice.ensures.value)
-    (MeetsRequirements-registrable c.requires.all.0 c.decode.new.points.items (registrable-at c.requires.all.0 c.args.registered.now c.in-Some.last.now.number c.decode.new.points.items c.requires.all.1 c.decode.ensures)).points
+    (short_at c.requires.all.0 c.args.registered.now c.in-Some.last.now.number c.decode.new.points.items c.requires.all.1 c.decode.ensures)
 
 pub write_stop-requires-clause-scalar_values : goal.write_stop-requires-clause-scalar_values
 write_stop-requires-clause-scalar_values g c =
     subst AreScalarValues (sym c.as_slice.ensures.value)
-    (registrable_scalars c.requires.all.0 c.decode.new.points.items (registrable-at c.requires.all.0 c.args.registered.now c.in-Some.last.now.number c.decode.new.points.items c.requires.all.1 c.decode.ensures))
+    (in_zone-scalars c.requires.all.0 c.decode.new.points.items (in_zone_at c.requires.all.0 c.args.registered.now c.in-Some.last.now.number c.decode.new.points.items c.requires.all.1 c.decode.ensures))
 
 pub returns-in-Some-clause-written : goal.returns-in-Some-clause-written
 returns-in-Some-clause-written g c =

@@ -1,14 +1,15 @@
 use Rattle.std.proofs.Common.{◌≡◌, ◌+◌, ◌++◌, [], ◌∷◌, ◌∙◌, Err, List, ℕ, length, map, drop, get_or, refl, ap, sym, subst, append_assoc, arith, add-one, drop-cons}
 use Rattle.answer_json.specs.declared.collision.Regard.TheVariants.{NoVariant}
 use Rattle.std.proofs.lemmas.Result.{err_from_is_err_and}
-use Rattle.idn2_answers.specs.Said.{Said, BlockEnd, said_text}
+use Rattle.idn2_answers.specs.Said.{Said, said_text}
 use Rattle.idn2_output.specs.OutputLines.{OutputLine, Output, outputs}
 use Rattle.idn2_output.proofs.WrittenOutputLines.{writes_nothing, writes_join, stops_between}
 use Rattle.std.proofs.lemmas.List.{append-nil, drop_all}
 use Rattle.idn2_cli.specs.declared.modes.asked.Asked.{Asked}
 use Rattle.idn2_cli.specs.declared.modes.collisions.Collision.{Collision}
 use Rattle.idn2_cli.specs.inner.Asked.{said_to}
-use Rattle.idn2_cli.specs.inner.FoundLabels.{lines_to, said_of, stop_at}
+use Rattle.idn2_cli.specs.inner.FoundLabels.{ending, lines_to, said_of, told_block}
+use Rattle.idn2_cli.proofs.CollisionSteps.{told-parts}
 use Rattle.idn2_cli.proofs.ListingProgress.{emits_after}
 use Rattle.idn2_cli.proofs.modes.collisions.write_found.Goals as goal
 
@@ -45,10 +46,12 @@ returns-in_err-write_collision-clause-written g c =
     let item = get_or c.args.found.now c.lines.collision-index none in
     let next = drop-cons c.args.found.now c.lines.collision-index none c.lines-test.true ∙ ap (λ (n : ℕ). item ∷ drop n c.args.found.now) (sym (add-one c.lines.collision-index)) in
     let line : List OutputLine = lines_to asked (said item ∷ []) in
-    let end : List Said = BlockEnd (length c.args.found.now) (stop_at c.args.limit c.args.registered.now c.args.found.now) ∷ [] in
+    let end : List Said = ending c.args.options.now c.args.label.now c.args.registered.now c.args.found.now in
+    let told = told-parts c.args.options.now c.args.label.now c.args.registered.now c.args.found.now in
     let more : List OutputLine = lines_to asked (map said rest) ++ lines_to asked end in
-    let split : lines_to asked (map said c.args.found.now ++ end) ≡ h.so_far ++ (line ++ more) =
-    lines-joined asked (map said c.args.found.now) end
+    let split : lines_to asked (told_block c.args.options.now c.args.label.now c.args.registered.now c.args.found.now) ≡ h.so_far ++ (line ++ more) =
+    ap (lines_to asked) told
+    ∙ lines-joined asked (map said c.args.found.now) end
     ∙ ap (λ l. l ++ lines_to asked end) (h.split ∙ ap (λ l. h.so_far ++ lines_to asked (map said l)) next)
     ∙ append_assoc h.so_far (line ++ lines_to asked (map said rest)) (lines_to asked end)
     ∙ ap (λ l. h.so_far ++ l) (append_assoc line (lines_to asked (map said rest)) (lines_to asked end)) in
@@ -59,7 +62,8 @@ returns-clause-written g c =
     let h = c.lines.invariant in
     let asked : Asked = c.args.asked.now in
     let said : Collision → Said = said_of c.args.registered.now in
-    let end : List Said = BlockEnd (length c.args.found.now) (stop_at c.args.limit c.args.registered.now c.args.found.now) ∷ [] in
+    let end : List Said = ending c.args.options.now c.args.label.now c.args.registered.now c.args.found.now in
+    let told = told-parts c.args.options.now c.args.label.now c.args.registered.now c.args.found.now in
     let none = drop_all c.lines.collision-index c.args.found.now c.lines-test.false in
     let all : lines_to asked (map said c.args.found.now) ≡ h.so_far = h.split ∙ ap (λ l. h.so_far ++ lines_to asked (map said l)) none ∙ append-nil h.so_far in
-    emits_after _ _ _ _ h.so_far (lines_to asked end) c.write_end_of.result (lines-joined asked (map said c.args.found.now) end ∙ ap (λ l. l ++ lines_to asked end) all) h.output_lines c.write_end_of.ensures.written
+    emits_after _ _ _ _ h.so_far (lines_to asked end) c.write_ending.result (ap (lines_to asked) told ∙ lines-joined asked (map said c.args.found.now) end ∙ ap (λ l. l ++ lines_to asked end) all) h.output_lines c.write_ending.ensures.written

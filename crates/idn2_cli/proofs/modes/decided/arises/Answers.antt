@@ -1,4 +1,4 @@
-use Rattle.std.proofs.Common.{◌≡◌, ◌↔◌, ℕ, List, subst, sym}
+use Rattle.std.proofs.Common.{List, subst, sym}
 use Rattle.reading_kinds.specs.Readings.{Substitution, SubstitutionsSpell}
 use Rattle.idn2_cli.proofs.modes.decided.arises.Goals as goal
 

@@ -1,6 +1,8 @@
 use Rattle.std.proofs.Common.{[], ◌∷◌, ◌≡◌, ◌∙◌, ℕ, List, Option, Some, ap, subst}
 use Rattle.std.specs.Prelude.{Contains}
 use Rattle.std.proofs.lemmas.Result.{err_from_is_err_and}
+use Rattle.idn_label.proofs.RequirementLemmas.{MeetsRequirements-registrable}
+use Rattle.idn2_answers.proofs.AdmittedLabels.{some-length}
 use Rattle.variant_table.specs.Entries.{TableValue}
 use Rattle.variant_list.specs.Positions.{Built, Position}
 use Rattle.variant_list.specs.Jumps.{HasNoneFrom, IsCandidate, IsLeastFrom}
@@ -38,6 +40,10 @@ returns-in_default-clause-written g c =
     let none : HasNoneFrom (IsCandidate (Contains net.spelled)) c.args.text.now = subst (λ (n : Built). HasNoneFrom (IsCandidate (Contains n.spelled)) c.args.text.now) same c.in_default.ensures.jumps.none in
     subst (λ (o : Option (List ℕ × Regards)). Emits c.args.console.now c.write_none.new.console (said_to c.args.asked.now (Least o) ∷ []) c.write_none.result)
     (least_near-none c.args.mode.now.properties table label net.spelled c.requires.sound.entries c.requires.near.spelled c.args.text.now none) c.write_none.ensures.written
+
+pub regards-requires-clause-some : goal.regards-requires-clause-some
+regards-requires-clause-some g c = λ may.
+    some-length c.last-label.result.now (MeetsRequirements-registrable c.args.mode.now.properties c.last-label.result.now (c.in_ok-may_be_registered.ensures.0 may)).some
 
 pub returns-clause-written : goal.returns-clause-written
 returns-clause-written g c =

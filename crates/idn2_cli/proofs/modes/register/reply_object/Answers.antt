@@ -5,9 +5,10 @@ use Rattle.idn_text.specs.Points.{utf8_of}
 use Rattle.idn_text.proofs.Utf8Lemmas.{IsUtf8-from_points}
 use Rattle.idn_label.proofs.ALabels.{registrable_scalars}
 use Rattle.idn_label.proofs.AnswerLemmas.{u_label_answer-from}
+use Rattle.idn_label.proofs.RegisteredBytes.{is_registered, prefix_by_octets, registered-points, registered-registrable, registered-utf8, registrable-octets}
 use Rattle.idn_label.specs.Register.{register_utf8_answer}
 use Rattle.idn2_answers.specs.Answers.{u_label_of}
-use Rattle.idn2_answers.proofs.RegisteredLines.{is_registered, prefix_by_octets, registered-points, registered-registrable, registered-utf8, registrable-octets, stands_for-decoded, stands_for-itself}
+use Rattle.idn2_answers.proofs.RegisteredLines.{stands_for-decoded, stands_for-itself}
 use Rattle.idn2_cli.proofs.modes.register.reply_object.Goals as goal
 
 module _ (properties : Properties) where

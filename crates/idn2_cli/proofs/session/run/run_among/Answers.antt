@@ -33,4 +33,4 @@ pub returns-clause-jump : goal.returns-clause-jump
 returns-clause-jump g c = λ table request text registrable. jump_answer-IsJumpAnswer c.args.options.now table request (sound_table table text.lines.well_formed) registrable
 
 pub returns-clause-check : goal.returns-clause-check
-returns-clause-check g c = λ table text. check_findings-IsCheck table.entries text.lines.well_formed.well_formed
+returns-clause-check g c = λ table text. check_findings-IsCheck table text.lines.well_formed.well_formed

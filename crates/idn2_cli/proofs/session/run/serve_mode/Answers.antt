@@ -4,12 +4,13 @@ use Rattle.idn_class.specs.declared.properties.Properties.{Properties}
 use Rattle.idn_label.specs.Lookup.{lookup_answer}
 use Rattle.idn_label.specs.Decode.{decode_answer}
 use Rattle.idn_label.specs.Memory.{LooksUpWithoutMemory, RegistersWithoutMemory}
+use Rattle.idn_label.specs.OldNames.{zone_answer, zone_in_utf8}
 use Rattle.idn_label.specs.Register.{register_answer}
 use Rattle.idn_label.specs.Steps.{in_utf8}
 use Rattle.idn2_options.specs.Settings.{Settings, keeping, tells_causes}
 use Rattle.idn2_options.specs.declared.command_line.form.Form.{Form}
-use Rattle.idn2_options.specs.declared.command_line.mode.Mode.TheVariants.{Lookup, Register, Decode}
-use Rattle.idn2_answers.specs.Answers.{LineAnswer, one_answer, u_label_of}
+use Rattle.idn2_options.specs.declared.command_line.mode.Mode.TheVariants.{Lookup, Register, Decode, DecodeOld}
+use Rattle.idn2_answers.specs.Answers.{LineAnswer, one_answer, u_label_of, zone_line}
 use Rattle.idn2_answers.specs.Said.{LookedUp, Registered, Decoded}
 use Rattle.idn2_answers.specs.Transcript.{no_table}
 use Rattle.idn2_refusals.specs.Explained.{ByLabel, ByName, ByQuery, Explained, if_wanted}
@@ -65,6 +66,22 @@ returns-in-Decode g c =
     ∙ ap (λ (p : Properties). job o.form (if_wanted c.tells_causes-wanted.result (ByName p)) p) (ap (λ (v : Settings). v.properties) seen)
     ∙ ap (λ x. job o.form (if_wanted x (ByName o.properties)) o.properties) causes)
     c.serve_lines-in-Decode.ensures
+
+pub returns-in-DecodeOld : goal.returns-in-DecodeOld
+returns-in-DecodeOld g c =
+    let o : Settings = c.args.settings.now in
+    let seen = ap (keeping (option_copied c.settings.inside.registered)) c.options.view_is ∙ c.settings.view_is in
+    let mode = sym (ap (λ (v : Settings). v.mode) seen) ∙ c.in-DecodeOld.is in
+    let causes = c.tells_causes-wanted.ensures ∙ ap tells_causes c.settings.view_is in
+    let given : Properties = c.options.inside.properties in
+    let by : Properties → List ℕ → LineAnswer = λ p label. zone_line (zone_in_utf8 (zone_answer p label)) in
+    let job : Form → Explained → Properties → Job = λ f e p. lines_job f e (by p) false (λ line. ⊥) (λ line. Unit {0}) in
+    as_mode o DecodeOld c.args.table.now (Ok no_table) _ _ _ _ _ c.serve_lines-in-DecodeOld.result mode refl
+    (ap (λ f. job f (explained_by c.if_wanted-explaining-in-DecodeOld.result) given) (ap (λ (v : Settings). v.form) seen)
+    ∙ ap (λ e. job o.form e given) c.if_wanted-explaining-in-DecodeOld.ensures
+    ∙ ap (λ (p : Properties). job o.form (if_wanted c.tells_causes-wanted.result (ByLabel p)) p) (ap (λ (v : Settings). v.properties) seen)
+    ∙ ap (λ x. job o.form (if_wanted x (ByLabel o.properties)) o.properties) causes)
+    c.serve_lines-in-DecodeOld.ensures
 
 -- the mode that is read is that of the settings
 pub serve_by_table-requires-clause-mode : goal.serve_by_table-requires-clause-mode

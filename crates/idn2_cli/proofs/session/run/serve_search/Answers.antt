@@ -1,5 +1,6 @@
-use Rattle.std.proofs.Common.{Ok, None, ◌∷◌, [], refl, ap, subst, ◌∙◌}
+use Rattle.std.proofs.Common.{Err, Ok, None, ◌∷◌, [], refl, ap, subst, ◌∙◌}
 use Rattle.std.specs.Option.{option_copied}
+use Rattle.std.proofs.lemmas.Result.{err_from_is_err_and}
 use Rattle.idn_text.specs.declared.refusal.Refusal.TheVariants as refusals
 use Rattle.idn2_options.specs.Settings.{Settings, keeping}
 use Rattle.idn2_options.specs.declared.command_line.form.Form.{Form}
@@ -19,6 +20,11 @@ returns-in-Err-TooManySources g c =
     (c.in-Err-TooManySources.ensures.crowded c.in-Err-TooManySources.field-0-is) c.last_line.ensures c.requires.unread
     (subst (λ (f : Form). Emits c.args.console.now c.refuse_search.new.console (fault_piece f c.last_line.result refusals.Limit None ∷ []) c.refuse_search.result) (ap (λ (v : Settings). v.form) seen) c.refuse_search.ensures.told)
     c.refuse_search.ensures.status
+
+pub returns-in_err-dispositions : goal.returns-in_err-dispositions
+returns-in_err-dispositions g c =
+    let p = err_from_is_err_and c.from_residual.result c.from_residual.ensures.1 in
+    search_stopped c.args.settings.now (option_copied c.args.among) c.args.text.now _ _ _ c.requires.mode c.requires.among c.requires.unread (p.1 ∙ ap Err p.2)
 
 pub returns-in-Some : goal.returns-in-Some
 returns-in-Some g c = (

@@ -1,5 +1,6 @@
-use Rattle.std.proofs.Common.{Ok, Some, None, Option, List, ℕ, ap, chars, true, sym, ◌≡◌, ◌∙◌}
+use Rattle.std.proofs.Common.{Err, Ok, Some, None, Option, List, ℕ, ap, chars, true, sym, ◌≡◌, ◌∙◌}
 use Rattle.std.specs.Option.{option_copied}
+use Rattle.std.proofs.lemmas.Result.{err_from_is_err_and}
 use Rattle.idn_class.specs.declared.properties.Properties.{Properties}
 use Rattle.variant_table.specs.Entries.{TableValue}
 use Rattle.idn2_options.specs.Settings.{Settings, keeping, tells_causes}
@@ -11,8 +12,13 @@ use Rattle.idn2_refusals.specs.Explained.{ByTable, Explained, if_wanted}
 use Rattle.idn2_refusals.specs.Explaining.{explained_by}
 use Rattle.idn2_cli.specs.Ends.{Job, lines_job}
 use Rattle.idn2_cli.specs.Memory.{IsRefusedWithoutMemory, ListsWithoutMemory}
-use Rattle.idn2_cli.proofs.RunEnds.{does_mode, listed_job, settings_among}
+use Rattle.idn2_cli.proofs.RunEnds.{does_mode, listed_job, listed_stopped, settings_among}
 use Rattle.idn2_cli.proofs.session.run.serve_variants.Goals as goal
+
+pub returns-in_err-dispositions : goal.returns-in_err-dispositions
+returns-in_err-dispositions g c =
+    let p = err_from_is_err_and c.from_residual.result c.from_residual.ensures.1 in
+    listed_stopped c.args.settings.now c.args.table.now _ _ _ c.requires.mode c.requires.unread (p.1 ∙ ap Err p.2)
 
 pub returns : goal.returns
 returns g c =
