@@ -13,7 +13,8 @@ bench.py. What the lines of the tables say:
                 one label with 2^62 variants among random letters, which may take no longer than the load
                 one label among labels that each lie between two of its 2^30 variants, so with a jump for each; in
                 microseconds a jump
-                each of these words, or of these Han labels, asked for among all of them
+                each of these words, or of these Han labels, asked for among all of them; and the same with --others, as
+                an audit of a register does
                 labels of each of tables/rulesets that it admits, among labels of its letters; in microseconds a label
     jump        `idn2 --variants TABLE --jump`, in microseconds a jump: requests from a file, by the processor; and one at a
                 time from a co-process, by the clock, with what Python takes for it
@@ -39,8 +40,9 @@ from runs import ENVIRONMENT, Failed, Run, found, in_turn, measured, version, wo
 
 # How often the load may take what sort takes, and how many bytes it may hold of a label beside the file.
 LOAD_WANTED, BYTES_WANTED = 2, 8
-# Microseconds of a jump and of a label under a ruleset, and seconds of a million labels among a million.
-JUMP_WANTED, LABEL_WANTED, ALL_WANTED = 1, 100, 10
+# Microseconds of a jump and of a label under a ruleset, and seconds of a million labels among a million, and of those with
+# --others.
+JUMP_WANTED, LABEL_WANTED, ALL_WANTED, AUDIT_WANTED = 1, 100, 10, 5
 # The most labels that are asked for, those whose answers are compared, and those of the jumps.
 ASKED, COMPARED, JUMPS = 1_000_000, 1_000, 20_000
 # The labels that callgrind is given.
@@ -65,6 +67,11 @@ class Registered:
 
     def asking(self, labels):
         return self.run(write(self.folder, "asked", labels))
+
+    def audit(self):
+        """A run that compares the registered labels with one another."""
+        words = [self.listing, str(self.table), "--among", str(self.file), "--others"]
+        return Run(self.options.ours, words, self.file)
 
     def part(self, count):
         return Registered(self.options, self.folder, f"{self.name}, a part", self.table, self.labels[:count])
@@ -200,6 +207,9 @@ def show_searches(options, all_letters, between, asked_of_themselves):
         load, search = beyond_load(options, kept, asked)
         counts = f"{len(kept.labels):,}", f"{len(asked):,}"
         cells(f"{kept.name}, each", *counts, f"{load:.3f}", f"{search:.3f}", ALL_WANTED)
+        load, audit = in_turn([kept.load(), kept.audit()], options.rounds)
+        search = audit.processor - load.processor
+        cells(f"{kept.name}, --others", counts[0], counts[0], f"{load.processor:.3f}", f"{search:.3f}", AUDIT_WANTED)
     print("\njump: microseconds")
     cells("", "jumps", "", "", "a jump", "wanted")
     _, search = beyond_load(options, between, ["a" * registered.FEW_PLACES])

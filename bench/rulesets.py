@@ -4,13 +4,13 @@
 A run that is given no line reads its ruleset and ends. The figures of an empty ruleset are taken off; each is the least of
 some rounds. The rulesets are made here: as many entries as those of the root zone have, and the largest text that may be:
 
-    Chinese       20,902 Han characters, each of which has its neighbour for a variant, with two tags
+    Chinese       20,902 Han characters, each of which has its neighbour for a variant, with four types and three actions
     Japanese      6,500 of these, two ranges of kana, a condition and a demand
     Korean        11,172 syllables as a range, 4,800 Han characters without variants, and a demand
-    falling       as many entries as there may be, in falling order, each with 8 tags: each is put before all that were read
+    falling       as many entries as there may be, in falling order, each with one of 57 types: each is put before all that were read
     the largest   entries as long as they may be, in falling order, up to 8 MiB
 
-Then the same pairs of Han characters as a table of version 2, as a ruleset, with two tags, and with 11 rules and 3 demands that
+Then the same pairs of Han characters as a table of version 2, as a ruleset, with four types, and with 11 rules and 3 demands that
 each label keeps: the instructions by valgrind, if it is there, that a variant of a label of 24 characters takes, and how many
 times those of version 2. Last what a test of a label takes where the conditions are as hard as their limits allow.
 """
@@ -30,7 +30,10 @@ HAN, SYLLABLES = 0x4E00, "AC00..D7A3"
 # Code points enough for as many entries as there may be.
 MANY, ENTRY_LIMIT = (range(0x4E00, 0xA000), range(0xAC00, 0xD7A4), range(0x20000, 0x2A6E0)), 65_536
 TEXT_LIMIT = 8 << 20
-TAGS = ["%tag simp", "%tag trad"]
+TYPES = [
+    *(f"%type {name}" for name in ("simp", "r_simp", "trad", "r_trad")),
+    "%action allocatable all simp,r_simp", "%action allocatable all trad,r_trad", "%action blocked any simp,trad",
+]
 # What is listed: a label, among how many pairs, and the variants whose instructions are counted.
 LABEL, PAIRED, COUNTED = "".join(map(chr, range(HAN, HAN + 8, 2))) * 6, 4_000, 2_000
 # How many labels are tested under the hardest conditions.
@@ -51,8 +54,8 @@ def pairs(count, entry=lambda one, other, number: f"{one}|!{other}"):
     return [entry(f"{point:04X}", f"{HAN + ((point - HAN) ^ 1):04X}", number) for number, point in enumerate(points)]
 
 
-def tagged(one, other, number):
-    return f"{one} as simp|{other} as trad" if number % 2 == 0 else f"{one} as trad|{other} as simp"
+def typed(one, other, number):
+    return f"{one} as r_simp|{other} as trad" if number % 2 == 0 else f"{one} as r_trad|{other} as simp"
 
 
 def conditional(one, other, number):
@@ -62,8 +65,8 @@ def conditional(one, other, number):
 
 def falling():
     points = [point for span in MANY for point in span][:ENTRY_LIMIT]
-    tags = [f"t{number}" for number in range(8)]
-    return [f"%tag {tag}" for tag in tags] + [f"{point:04X} as {','.join(tags)}" for point in reversed(points)]
+    types = [f"t{number}" for number in range(57)]
+    return [f"%type {name}" for name in types] + [f"{point:04X} as {types[point % 57]}" for point in reversed(points)]
 
 
 def largest():
@@ -81,7 +84,7 @@ def largest():
 
 KANA = ["%set kana 3041..3096 30A1..30FA", "%rule long @kana _", "%always @kana", "002D", "3041..3096", "30A1..30FA", "30FC when long"]
 READ = {
-    "Chinese": [FIRST_LINE, *TAGS, *pairs(20_902, tagged)],
+    "Chinese": [FIRST_LINE, *TYPES, *pairs(20_902, typed)],
     "Japanese": [FIRST_LINE, *KANA, *pairs(6_500)],
     "Korean": [FIRST_LINE, "%set hangul AC00..D7A3", "%always @hangul", SYLLABLES, *(f"{point:04X}" for point in range(HAN, HAN + 4_800))],
     "falling": [FIRST_LINE, *falling()],
@@ -90,7 +93,7 @@ READ = {
 LISTED = {
     "version 2": ("--variants", ["%version 2", *pairs(PAIRED)]),
     "the same as a ruleset": ("--ruleset", [FIRST_LINE, *pairs(PAIRED)]),
-    "with two tags": ("--ruleset", [FIRST_LINE, *TAGS, *pairs(PAIRED, tagged)]),
+    "with four types and three actions": ("--ruleset", [FIRST_LINE, *TYPES, *pairs(PAIRED, typed)]),
     "with 11 rules and 3 demands": ("--ruleset", [FIRST_LINE, *SETS, *RULES, *DEMANDS, *pairs(PAIRED, conditional)]),
 }
 
@@ -117,7 +120,7 @@ def listing(options, folder):
     if not found("valgrind"):
         print("\nvalgrind isn't there, so no instructions were counted")
         return
-    print(f"\n{'':<32}{'instructions a variant':>24}{'times version 2':>18}")
+    print(f"\n{'':<36}{'instructions a variant':>24}{'times version 2':>18}")
     source, first = write(folder, "label", [LABEL]), None
     for name, (option, lines) in LISTED.items():
         table = write(folder, name.replace(" ", "_"), lines)
@@ -126,7 +129,7 @@ def listing(options, folder):
             raise Failed(f"{many}: it doesn't list as many variants as wanted")
         each = (many.instructions(1) - few.instructions(1)) / COUNTED
         first = first or each
-        print(f"{name:<32}{each:>24,.0f}{each / first:>18.2f}", flush=True)
+        print(f"{name:<36}{each:>24,.0f}{each / first:>18.2f}", flush=True)
 
 
 def hardest(options, folder):

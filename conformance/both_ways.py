@@ -1,18 +1,18 @@
 #!/usr/bin/env python3
 """Compares `--among` and `--jump` of the program with whole listings from both sides: python3 conformance/both_ways.py
 
-It draws tables of all versions, with gaps, sequences, conditions, tags and outside sources, with registered labels,
-until it has the given number of pairs of a label and a registered one. Of two labels that the table doesn't refuse,
-what each is to the other is what the program's own whole listings say; with one that it refuses, it is what arises
-(collisions.py). The blocks of `--among` must say just that, and so must turns: the program names the least label from a
-text on, and a database of SQLite its first label from there on. Status 1 where anything differs.
+It draws tables of all versions, with gaps, sequences, conditions, types and actions, with registered labels, old ones too,
+until it has the given number of pairs of a label and a registered one. Of two labels that the table doesn't
+refuse, what each is to the other is what the program's own whole listings say; with one that it refuses, or an old one,
+it is what arises (collisions.py). The blocks of `--among` must say just that, those of `--others` the same without the
+label itself, and so must turns: the program names the least label from a text on, and a database of SQLite its first
+label from there on. Status 1 where anything differs.
 """
 
 import argparse
 import collections
 import random
 import re
-import sqlite3
 import subprocess
 import sys
 import tempfile
@@ -22,6 +22,7 @@ from compare import options_of
 from fuzz import ALPHABETS, Fuzz, listing_of
 from collisions import NONE, VARIANT
 from idn2_registry.notation.faults import TableFault
+from jumps import NOTHING, Jumps, by_turns
 from ruleset_labels import Unknown
 
 ASKED, REGISTERED, MOST_PARTS, SHOWN = 30, 100, 4, 5
@@ -53,64 +54,20 @@ class Program:
         return [None if number in refused else next(rest) for number in range(1, len(lines) + 1)]
 
 
-class Jumps:
-    """The program, which is kept open for jumps."""
-
-    def __init__(self, program):
-        words = [program.path, *program.words, "--jump"]
-        self.process = subprocess.Popen(words, stdin=subprocess.PIPE, stdout=subprocess.PIPE, cwd=program.folder)
-
-    def __enter__(self):
-        return self
-
-    def __exit__(self, *reason):
-        self.process.communicate()
-
-    def answers(self, requests):
-        """What it answers to labels with texts, of which a pipe takes all at once."""
-        self.process.stdin.write("".join(f"{label}\t{text}\n" for label, text in requests).encode())
-        self.process.stdin.flush()
-        return [self.process.stdout.readline().decode().rstrip("\n") for _ in requests]
-
-
-class Register:
-    """Registered labels in a database, in the order of their bytes."""
-
-    def __init__(self, labels):
-        self.count = len(labels)
-        self.database = sqlite3.connect(":memory:")
-        self.database.execute("create table registered (label text primary key) without rowid")
-        self.database.executemany("insert into registered values (?)", ((label,) for label in labels))
-
-    def first(self, text):
-        query = "select label from registered where label >= ? order by label limit 1"
-        row = self.database.execute(query, (text,)).fetchone()
-        return row and row[0]
-
-
-def by_turns(program, labels, register):
-    """What jumps find for each label, all of them at once. A label takes at most the first one, one from each
-    registered label on, and one after each that is near."""
-    found, texts = {label: [] for label in labels}, dict.fromkeys(labels, "")
-    turns, near = collections.Counter(), collections.Counter()
-    with Jumps(program) as jumps:
-        while texts:
-            asked, texts = list(texts.items()), {}
-            for (label, _), answer in zip(asked, jumps.answers(asked)):
-                turns[label] += 1
-                if answer == "#end":
-                    continue
-                least, there, back = answer.split("\t")
-                registered = register.first(least)
-                if registered == least:
-                    near[label] += 1
-                    found[label] += [[least, there, back]] if (there, back) != (NONE, NONE) else []
-                    registered = least + "\0"
-                if registered is not None:
-                    texts[label] = registered
-    if any(turns[label] > register.count + near[label] + 1 for label in labels):
-        raise SystemExit(f"{turns} jumps for {near} near labels")
-    return found
+    def others(self, labels):
+        """The blocks of `--others`, by the labels that their ends name."""
+        given = "".join(label + "\n" for label in labels).encode()
+        words = [self.path, *self.words, "--among", "registered", "--others"]
+        done = subprocess.run(words, input=given, capture_output=True, cwd=self.folder)
+        blocks, block = {}, []
+        for line in done.stdout.decode().splitlines():
+            if line.startswith("#"):
+                label = line.removeprefix(f"#end {len(block)} ")
+                blocks[label] = block
+                block = []
+            else:
+                block.append(line.split("\t"))
+        return blocks
 
 
 def by_listings(program, labels, registered, under):
@@ -125,7 +82,7 @@ def by_listings(program, labels, registered, under):
 
     pairs = {label: [[other, *regards(label, other)] for other in registered]
              for label in labels if listed[label] is not None}
-    return {label: [each for each in found if each[1:] != [NONE, NONE]] for label, found in pairs.items()}
+    return {label: [each for each in found if each[1:] != NOTHING] for label, found in pairs.items()}
 
 
 class Cases(Fuzz):
@@ -149,8 +106,10 @@ class Cases(Fuzz):
         count = self.chance.randint(0, REGISTERED)
         near = [self.near(entries, letters, self.chance.choice(drawn)) for _ in range(count)]
         labels = sorted({label for label in map("".join, drawn) if self.may_be_registered(label)})
-        registered = sorted(filter(self.may_be_registered, {*near, *self.chance.sample(labels, len(labels) // 2)}))
-        (self.folder / "registered").write_text("".join(label + "\n" for label in registered), encoding="utf-8")
+        drawn = sorted({*near, *self.chance.sample(labels, len(labels) // 2)})
+        lines = {label: self.registered_line(label) for label in drawn}
+        registered = [label for label, line in lines.items() if line is not None]
+        (self.folder / "registered").write_text("".join(lines[label] + "\n" for label in registered), encoding="utf-8")
         program = Program(self.program, self.folder, [*self.choice, listing_of(text), "table"])
         try:
             wanted = by_listings(program, labels, registered, run.collisions_under(table))
@@ -159,11 +118,16 @@ class Cases(Fuzz):
         labels = list(wanted)
         blocks = program.blocks(["--among", "registered"], labels)
         among = {label: [[fields[0], *fields[2:]] for fields in block] for label, block in zip(labels, blocks)}
-        turns = by_turns(program, labels, Register(registered))
+        with Jumps([program.path, *program.words], program.folder) as jumps:
+            turns = by_turns(jumps, labels, registered)
+        others = program.others(labels)
+        differences = [f"{self.choice} {text.decode()!r}, {registered}: {label} --others {others.get(label)}"
+                       for label, block in zip(labels, blocks)
+                       if [fields for fields in block if fields[0] != label] != others.get(label, [])]
         said = {label: (wanted[label], among[label], turns[label]) for label in labels}
-        differences = [f"{self.choice} {text.decode()!r}, {registered}: {label}\n"
-                       f"  listings {own}\n  --among  {blocks}\n  --jump   {jumps}"
-                       for label, (own, blocks, jumps) in said.items() if not own == blocks == jumps]
+        differences += [f"{self.choice} {text.decode()!r}, {registered}: {label}\n"
+                       f"  listings {own}\n  --among  {block}\n  --jump   {found}"
+                       for label, (own, block, found) in said.items() if not own == block == found]
         return len(labels) * len(registered), sum(map(len, wanted.values())), differences
 
 

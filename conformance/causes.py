@@ -3,6 +3,7 @@
 A cause is the text after the colon, or None where none is told. Places and labels are counted from 1 in texts.
 """
 
+import functools
 import unicodedata
 
 from registration import (BAD_A_LABEL, BIDI, CONTEXT_J, CONTEXT_O, HYPHEN, IS_DISALLOWED, IS_UNASSIGNED, LABEL_TOO_LONG,
@@ -27,8 +28,11 @@ def first(places, fails):
 class Causes:
     def __init__(self, registration, classes):
         self.registration, self.classes, self.known = registration, classes, registration.known
-        self.ignorable = classes.set_of("DerivedCoreProperties.txt", "Default_Ignorable_Code_Point")
-        self.ignorable |= classes.set_of("PropList.txt", "White_Space") | classes.noncharacters
+
+    @functools.cached_property
+    def ignorable(self):
+        of_data = self.classes.set_of("DerivedCoreProperties.txt", "Default_Ignorable_Code_Point")
+        return of_data | self.classes.set_of("PropList.txt", "White_Space") | self.classes.noncharacters
 
     def of_body(self, mode, body, refusal, table=None):
         """The cause of the refusal of a line's bytes, or of 2 where it is too long, in a mode, with what its table says of labels."""
@@ -43,8 +47,8 @@ class Causes:
             return self.of_name(text, refusal)
         label = text.partition("\t")[0] if mode == "jump" else text
         if refusal == NOT_VALID:
-            return self.invalid(label, *table.cause(label))
-        return self.outside(label, table.inside) if refusal == NOT_IN_TABLE else self.of_u_label(label, refusal)
+            return table.cause(label)
+        return self.outside(label, table.entries) if refusal == NOT_IN_TABLE else self.of_u_label(label, refusal)
 
     def of_registered(self, bodies, number, refusal):
         """The cause of the refusal of a line of registered labels, by the bodies of all up to it."""
@@ -217,15 +221,6 @@ class Causes:
             return f"label {number + 1}: {len(labels[number])} octets"
         octets = len(".".join(labels))
         return f"name of {octets} octets" if octets > MOST_OCTETS_OF_A_NAME else None
-
-    @staticmethod
-    def invalid(label, where, broken):
-        """The condition that is broken at a place, or that there is no entry; or the demand of a number."""
-        if broken is None:
-            return f"{at(where, ord(label[where]))}: no entry"
-        if broken.word.startswith("%"):
-            return f"demand {where}, {broken.word[1:]}"
-        return f"{at(where, ord(label[where]))}: {broken.word} {broken.rule}"
 
     @staticmethod
     def outside(label, sources):

@@ -5,9 +5,10 @@ from idn2_registry.notation.faults import TEXTS
 SIGMA = "%version 3\n%rule end _ $\n03B1..03C1\n03C3|03C2 when end\n03C2|03C3\n03C4..03C9\n"
 SHARP = ("%version 3\n%rule edge ^ _ / _ $ / ^ . . 002D _\n002D unless edge\n0061..007A\n"
          "0073-0073|00DF\n00DF|0073-0073\n")
-KINDS = ("%version 3\n%tag simp\n%tag trad\n56FD as simp|570B as trad\n570B as trad|56FD as simp\n"
-         "5B66 as simp|5B78 as trad\n5B78 as trad|5B66 as simp\n")
-OUTSIDE = "%version 3\n0061|!0430\n0062\n!0430|!0061\n"
+KINDS = ("%version 3\n%type simp\n%type r_simp\n%type trad\n%type r_trad\n%action allocatable all simp,r_simp\n"
+         "%action allocatable all trad,r_trad\n%action blocked any simp,trad\n56FD as r_simp|570B as trad\n"
+         "570B as r_trad|56FD as simp\n5B66 as r_simp|5B78 as trad\n5B78 as r_trad|5B66 as simp\n")
+INVALID = "%version 3\n0061|!0430\n0062\n!0430|!0061\n"
 DIGITS = ("%version 3\n%set ascii 0030..0039\n%set native 0966..096F\n%never @ascii .* @native / @native .* @ascii\n"
           "0031|!0967\n0967|!0031\n")
 HIDDEN = "%version 3\n%rule start ^ _\n0061 when start|0062\n0062\n"
@@ -16,6 +17,7 @@ OVER = "%version 3\n%rule last _ $\n0061|0063\n0062\n0063\n0061-0062 when last|0
 GAP, PIECE, CHAIN = "0061|0062\n0062\n", "0061|0062-0063\n0078\n", "0061|0062\n0062\n0063|0064\n0064\n"
 ONE_WAY, HYPHENS = "%version 2\n0061|!0062\n0062\n0063\n", "%version 2\n002D|0062\n0061\n0062|002D\n"
 NOT_MADE = "idn2: line 1: 40 not made of table entries\n"
+NOT_VALID = "idn2: line 1: 41 not valid under the table\n"
 
 
 def crowd(count):
@@ -41,13 +43,16 @@ AMONG = [
     (KINDS, [], "国学 国學 國學", "国学",
      "国学 xn--vcso6h allocatable allocatable,国學 xn--vcs27h blocked allocatable,"
      "國學 xn--9csw6h allocatable allocatable,#end 3", ""),
-    # A registered label that the table refuses: by an outside source, since it is made of no sources, by a demand, by a
+    # A registered label that the table refuses: by a default action, since it is made of no sources, by a demand, by a
     # condition of a source.
-    (OUTSIDE, [], "ab аb", "ab", "ab ab allocatable allocatable,аb xn--b-7sb blocked blocked,#end 2", ""),
-    (OUTSIDE, [], "ab", "аb", "", NOT_MADE),
+    (INVALID, [], "ab аb", "ab", "ab ab allocatable allocatable,аb xn--b-7sb blocked blocked,#end 2", ""),
+    (INVALID, [], "ab", "аb", "", NOT_VALID),
     (PIECE, [], "ax bcx", "ax", "ax ax variant variant,bcx bcx variant none,#end 2", ""),
     (PIECE, [], "ax", "bcx", "", NOT_MADE),
     (DIGITS, [], "11 1१ ११", "11",
+     "11 11 allocatable allocatable,1१ xn--1-jzd blocked blocked,११ xn--e4ba blocked blocked,#end 3", ""),
+    (SHARP, [], "aß--b\told", "ass--b", "aß--b xn--a--b-vna blocked blocked,#end 1", ""),
+    (DIGITS, [], "11 1१\told ११", "11",
      "11 11 allocatable allocatable,1१ xn--1-jzd blocked blocked,११ xn--e4ba blocked blocked,#end 3", ""),
     (HIDDEN, [], "ba", "bb", "ba ba none blocked,#end 1", ""),
     (HIDDEN, [], "ab", "bb", "ab ab none allocatable,#end 1", ""),
@@ -58,9 +63,25 @@ AMONG = [
     (OVER, [], "aba", "da cba", "#end 0,aba aba none allocatable,#end 1", ""),
     (HYPHENS, [], "ab-ba abbba", "abbba",
      "ab-ba ab-ba allocatable allocatable,abbba abbba allocatable allocatable,#end 2", ""),
+    (HYPHENS, [], "ab--a\told ab-ba abbba", "abbba",
+     "ab--a ab--a blocked blocked,ab-ba ab-ba allocatable allocatable,abbba abbba allocatable allocatable,#end 3", ""),
     (SHARP, ["--limit", "1"], "sss sß ßs", "sss", "sss sss allocatable allocatable,#stop 1 sss", ""),
     (SHARP, ["--after", "sss"], "sss sß ßs", "sss",
      "sß xn--s-qfa allocatable allocatable,ßs xn--s-pfa allocatable allocatable,#end 2", ""),
+    # Without the label itself.
+    (SHARP, ["--others"], "sss sß ßs", "sss haus sß",
+     "sß xn--s-qfa allocatable allocatable,ßs xn--s-pfa allocatable allocatable,#end 2 sss,"
+     "sss sss allocatable allocatable,#end 1 sß", ""),
+    (SHARP, ["--others", "--limit", "1"], "sss sß ßs", "sss", "sß xn--s-qfa allocatable allocatable,#stop 1 sß sss", ""),
+]
+
+# The registered labels, and how the file is refused: an old label has its capital, or is the name of another one; one
+# that may not be registered has no mark; two labels are out of order.
+REFUSED = [
+    ("Strasse\told", "registered line 1: 10 disallowed code point"),
+    ("xn--fa-hia\told", "registered line 1: 13 hyphen out of place"),
+    ("ab--c", "registered line 1: 13 hyphen out of place"),
+    ("b a\told", "registered line 2: 4 out of order"),
 ]
 
 JUMPS = [
@@ -76,6 +97,9 @@ OBJECTS = [
     (SIGMA, [], "ςα", "σα",
      '{"line":1,"ulabel":"ςα","alabel":"xn--mxa7a","there":"none","back":"allocatable"}\n'
      '{"line":1,"input":"σα","count":1,"complete":true}\n'),
+    (SHARP, ["--others"], "sss sß", "sß,haus",
+     '{"line":1,"ulabel":"sss","alabel":"sss","there":"allocatable","back":"allocatable"}\n'
+     '{"line":1,"input":"sß","count":1,"complete":true}\n'),
     (GAP, ["--jump"], None, "b b,b c",
      '{"line":1,"input":"b\\tb","ulabel":"b","there":"variant","back":"variant"}\n'
      '{"line":2,"input":"b\\tc","ulabel":null}\n'),
@@ -104,6 +128,10 @@ def rows():
         files = {"table": table, "registered": lines_of(labels, " ")}
         answer = stops_of(output), messages, 1 if messages else 0
         yield [listing_of(table), "table", "--among", "registered", *words], lines_of(lines, " "), files, answer
+    for labels, fault in REFUSED:
+        files = {"table": SHARP, "registered": lines_of(labels, " ")}
+        yield ["--ruleset", "table", "--among", "registered"], "ß\n", files, ("", f"idn2: {fault}\n", 2)
+    yield ["--ruleset", "table", "--others"], "ß\n", {"table": SHARP}, ("", "idn2: 50 usage\n", 2)
     for table, lines, output in JUMPS:
         yield [listing_of(table), "table", "--jump"], lines_of(lines), {"table": table}, (lines_of(output), "", 0)
     for table, words, labels, lines, output in OBJECTS:

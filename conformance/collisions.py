@@ -1,6 +1,6 @@
 """Which labels collide, and what each is to the other, written a second time from docs/NOTATION.md: by whole sets.
 
-Two labels that are valid today collide if the listing of one has the other. A label that isn't has no listing: with it,
+Two labels that are accepted today collide if the listing of one has the other. A label that isn't has no listing: with it,
 a label collides that arises from it, or it from that one, whatever is asked of sources."""
 
 import collections
@@ -49,10 +49,8 @@ class Collisions:
         """The whole listing of a label, with what each of its labels is to it; nothing of one that isn't good."""
         if not self.is_good(label):
             return {}
-        allocatable = self.labels.allocatable(label) if self.has_dispositions else ()
-        valid = [each for each in self.labels.spelled(label)
-                 if len(each) <= LABEL_LIMIT and self.may_be_registered(each) and self.labels.is_valid(each)]
-        return {each: self.disposition(each in allocatable) for each in valid}
+        return {each: self.disposition(told == ALLOCATABLE) for each, told in self.labels.answer(label).items()
+                if len(each) <= LABEL_LIMIT and self.may_be_registered(each)}
 
     def disposition(self, is_allocatable):
         if not self.has_dispositions:
@@ -60,12 +58,13 @@ class Collisions:
         return ALLOCATABLE if is_allocatable else BLOCKED
 
     def arising(self, label):
-        """What arises from a label by any cut into sources, outside or not, whether their conditions hold or not: each
-        is replaced by itself, or by a variant whose condition holds in the label where the source stands."""
+        """What arises from a label by any cut into sources, whether their conditions hold or not: each is replaced by
+        itself, or by a variant whose condition holds in the label where the source stands."""
         def parts(start, end):
-            entry = self.labels.entries.get(label[start:end])
-            return [] if entry is None else [text_of(each.points) for each in entry.replacements()
-                                             if self.labels.holds(each.condition, label, start, end)]
+            source = label[start:end]
+            entry = self.labels.entries.get(source)
+            return [] if entry is None else [source, *(text_of(each.points) for each in entry.variants
+                                                       if self.labels.holds(each.condition, label, start, end))]
         return self.labels.joinings(label, parts)
 
     def regard(self, label, other):

@@ -21,7 +21,7 @@ from idn2_registry.notation import reading
 from idn2_registry.rfc7940.drawn_labels import every_variant
 from idn2_registry.rfc7940.reader import read
 from idn2_registry.rfc7940.ruleset import Asked, Verdict
-from ruleset_labels import RulesetLabels
+from ruleset_labels import BLOCKED, UNCLEAR, RulesetLabels
 
 COMMAND = [sys.executable, "-m", "idn2_registry", "convert", "--idn2", PROGRAM]
 ENVIRONMENT = {**os.environ, "PYTHONPATH": str(HERE.parent / "registry")}
@@ -97,10 +97,11 @@ def answers_of_program(text, labels):
 
 
 def differences(wanted, found):
-    """The labels that are answered in another way."""
+    """The labels that are answered in another way. What is unclear is blocked in a listing."""
     each = [*wanted.values(), *found.values()]
     known = registrable(set(wanted).union(*(variants or () for variants in each)))
-    asked = lambda variants: variants and {variant: kind for variant, kind in variants.items() if variant in known}
+    told = lambda kind: BLOCKED if kind == UNCLEAR else kind
+    asked = lambda variants: variants and {variant: told(kind) for variant, kind in variants.items() if variant in known}
     return [label for label in known.intersection(wanted) if label not in found or asked(wanted[label]) != asked(found[label])]
 
 

@@ -27,6 +27,7 @@ from compare import options_of, our_answers
 import drawn_rulesets
 import kinds
 import names
+import old_labels
 from causes import BAD_LENGTH, INVALID, Causes
 from drawn_rulesets import DrawnRuleset, spelled
 from idn2_registry.unicode_data import Classes, version
@@ -54,7 +55,7 @@ PIECES = [b"a", b"b", b".", b"-", b"--", b"xn--", b"XN--", b"\0", b"\r", b"\r\n"
 WORDS = ["-l", "--lookup", "-r", "--register", "-d", "--decode", "-N", "--tr46nt", "--quiet", "--usestd3asciirules",
          "--explain", "--standard",
          "-h", "--help", "-V", "--version", "--variants", "--check-table", "--ruleset", "--check-ruleset", "--after", "--limit", "--tries", "--steps", "--",
-         "--among", "--among=registered", "--among=absent", "--among=table", "--jump", "--jump=1", "registered",
+         "--among", "--among=registered", "--among=absent", "--among=table", "--others", "--old", "--jump", "--jump=1", "registered",
          "-", "-rN", "-lr", "-hx", "-xh", "-r=1", "--register=1", "--bogus", "--after=", "--after=-a", "--limit=1",
          "--limit=0", "--tries=2", "--tries=0000000002", "--steps=1", "--steps=2", "--steps=0000000000000000003",
          "--steps=00000000000000000004", "--steps=1000000000000000000", "--steps=1000000000000000001", "--limit=00000000001", "--limit=+1", "--limit= 1", "table", "absent",
@@ -95,7 +96,7 @@ class Fuzz:
         """One comparison. Answers what differs, or None."""
         self.choose_properties()
         kind, make = self.chance.choice((
-            ("register", self.register), ("decode", self.decode), ("lookup", self.lookup), ("variants", self.variants),
+            ("register", self.register), ("decode", self.decode), ("old labels of a zone", self.decode_old), ("lookup", self.lookup), ("variants", self.variants),
             ("variants", self.variants), ("check of a table", self.check_table), ("words", self.words),
             ("variants among registered labels", self.among), ("variants among registered labels", self.among),
             ("jump", self.jump), ("pages of a listing", self.pages), ("lengths of names", self.lengths)))
@@ -139,7 +140,7 @@ class Fuzz:
         try:
             strings = Options([word for word in words if word != "--json"]).strings
             given = "".join(string + "\n" for string in strings).encode() if strings else given
-            answers, messages = as_explained(output, list(bodies(given)))
+            answers, messages = as_explained(output, list(bodies(given)), "--others" in words)
         except (Bad, Show):
             answers, messages = output, b""
         except (Wrong, ValueError, LookupError) as fault:
@@ -149,6 +150,13 @@ class Fuzz:
     def register(self):
         return self.compare(["-r"], self.lines(lambda: self.chance.choice(
             (*names.MAKERS, names.coded_label))(self.chance, self.points)))
+
+    def decode_old(self):
+        """Labels of a zone, of which some are old, and others in capitals."""
+        makers = (*names.MAKERS, names.coded_label)
+        drawn = lambda: self.chance.choice(makers)(self.chance, self.points)
+        made = lambda label: self.chance.choice((label, label, label.upper(), old_labels.name_of(label)))
+        return self.compare(["-d", "--old"], self.lines(lambda: made(drawn())))
 
     def decode(self):
         return self.compare(["-d"], self.lines(lambda: names.coded_label(self.chance, self.points) + self.chance.choice(
@@ -233,8 +241,8 @@ class Fuzz:
         return "".join(self.chance.choices(letters, k=self.chance.choice((1, 1, 1, 2, longest))))
 
     def table(self, letters):
-        """The text of a table or a ruleset, and the variants of each source. Now and then it has a fault. An outside source, which
-        no label may have, is among the sources now and then."""
+        """The text of a table or a ruleset, and the variants of each source. Now and then it has a fault. Most often none of the sources
+        is invalid, so that labels may be made of them."""
         entries = self.entries(letters)
         lines = list(self.chance.choice(VERSION_LINES))
         if lines == [RULESET.decode()]:
@@ -264,23 +272,23 @@ class Fuzz:
             entries.update(dict.fromkeys(self.range(entries, lines, str), ()))
 
     def ruleset(self, letters, entries):
-        """The lines of a ruleset, and the variants of its sources, most often without those that are outside."""
-        outside = {source for source in list(entries)[1:] if self.chance.random() < 0.3}
-        drawn = DrawnRuleset(self.chance, letters, entries, outside)
+        """The lines of a ruleset, and the variants of its sources, most often without those of the type invalid."""
+        invalid = {source for source in list(entries)[1:] if self.chance.random() < 0.3}
+        drawn = DrawnRuleset(self.chance, letters, entries, invalid)
         lines = [RULESET.decode(), *drawn.lines]
         if self.chance.random() < 0.3:
-            is_outside = self.chance.random() < 0.3
-            sources = self.range(entries, lines, lambda text: drawn.source(text, is_outside))
-            entries.update({} if is_outside else dict.fromkeys(sources, ()))
+            is_invalid = self.chance.random() < 0.3
+            sources = self.range(entries, lines, lambda text: drawn.source(text, is_invalid))
+            entries.update({} if is_invalid else dict.fromkeys(sources, ()))
         if self.chance.random() < 0.05:
             first = lines.pop(self.chance.randrange(len(lines)))
             lines.insert(self.chance.randint(0, len(lines)), first)
         if self.chance.random() < 0.9:
-            entries = {source: variants for source, variants in entries.items() if source not in outside}
+            entries = {source: variants for source, variants in entries.items() if source not in invalid}
         return lines, entries
 
     def range(self, entries, lines, marked):
-        """Puts a range without any of the sources after the lines, with its marks, and answers its sources."""
+        """Puts a range without any of the sources after the lines, as `marked` writes it, and answers its sources."""
         first = self.chance.choice(RANGES)
         last = first + self.chance.randint(0, 3)
         sources = [chr(point) for point in range(first, last + 1)]
@@ -349,7 +357,8 @@ class Fuzz:
         labels = [self.requested(entries) for _ in range(self.chance.randint(1, 4))]
         near = [self.near(entries, letters, self.chance.choice(labels)) for _ in range(self.chance.randint(0, 20))]
         starts = [self.sequence(letters, 6), *near, *(each + letters[0] * 64 for each in near)]
-        words = [listing_of(table), "table", "--among", "registered", *self.some_of({"--limit=": LIMITS, "--after=": starts})]
+        words = [listing_of(table), "table", "--among", "registered", *self.some_of({"--limit=": LIMITS, "--after=": starts}),
+                 *self.chance.choice(([], [], ["--others"]))]
         given = self.lines(lambda: "".join(self.chance.choice(labels)))
         return self.compare(words, given, table=table, registered=self.registered(near))
 
@@ -378,14 +387,23 @@ class Fuzz:
         return label[:start] + put + label[end:]
 
     def registered(self, labels):
-        """The text of a file of these labels, those of them that may be registered. Now and then it has a fault."""
-        lines = [label.encode() for label in sorted(set(filter(self.may_be_registered, labels)))]
+        """The text of a file of these labels, those of them that may be registered, and old ones. Now and then it has a
+        fault."""
+        lines = [line.encode() for line in map(self.registered_line, sorted(set(labels))) if line is not None]
         if self.chance.random() < 0.15:
             place = self.chance.randint(0, len(lines))
             faulty = (b"", b"i" * 1025, b"i" * 64, b"xn--fa-hia", b"A", self.chance.choice(PIECES))
             lines.insert(place, self.chance.choice((*faulty, *lines, *lines[place - 1:place])))
         ending = self.chance.choice((b"\n", b"\n", b"\n", b"\r\n"))
         return ending.join(lines) + (self.chance.choice((b"", ending)) if lines else b"")
+
+    def registered_line(self, label):
+        """The line of a label in a file of registered labels, at times with a mark that it needn't have; None if it can't
+        stand there."""
+        is_old = old_labels.old_fault(label) is None
+        if self.may_be_registered(label):
+            return label + self.chance.choice(("", "", "", old_labels.MARK if is_old else ""))
+        return label + old_labels.MARK if is_old else None
 
     def check_table(self):
         table, _ = self.table(self.chance.choice(ALPHABETS))

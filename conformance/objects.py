@@ -4,6 +4,7 @@ import json
 import re
 
 from causes import BAD_LENGTH, FILE_TOO_LONG, INVALID, LINE_TOO_LONG, NOT_UTF8, NOT_VALID, OUT_OF_ORDER
+from old_labels import MARK
 from registration import BAD_A_LABEL, EMPTY, HYPHEN, LABEL_TOO_LONG, NOT_NFC, a_label
 from table_places import SYNTAX
 
@@ -34,6 +35,8 @@ def placed(refusal):
         return f"{text}: not ASCII"
     if "condition" in refusal:
         return f"{text}: {refusal['condition']} {refusal['rule']}"
+    if "type" in refusal:
+        return f"{text} is {refusal['type']}"
     if number == NOT_VALID:
         return f"{text}: no entry"
     if "bidi_class" in refusal:
@@ -59,6 +62,12 @@ def cause_of(refusal):
         return f"place {refusal['place']}{coded(refusal)}"
     if "demand" in refusal:
         return f"demand {refusal['demand']}, {refusal['kind']}"
+    if "action" in refusal:
+        return f"action {refusal['action']}{cause_of_action(refusal)}"
+    if "default_action" in refusal:
+        return f"default action {refusal['default_action']}{cause_of_action(refusal)}"
+    if "unclear" in refusal:
+        return "unclear"
     if "code_point" in refusal:
         return placed(refusal)
     if number == OUT_OF_ORDER:
@@ -72,6 +81,13 @@ def cause_of(refusal):
     if "alabel" in refusal:
         return f"the A-label is {refusal['alabel']}"
     return f"not {refusal['rule']} Punycode" if "rule" in refusal else "nothing after xn--"
+
+
+def cause_of_action(refusal):
+    """What is told of the action by which a label is invalid."""
+    if "condition" in refusal:
+        return f": {refusal['condition']} {refusal['rule']}"
+    return f": {placed(refusal)}" if "type" in refusal else ""
 
 
 def place_of_table(refusal):
@@ -96,13 +112,16 @@ def message_of(each):
     return f"{message}: {label}{separator}{'decoded: ' if 'decoded' in refusal else ''}{cause}"
 
 
-def answer_of(each):
-    """The line of text that says the same."""
+def answer_of(each, names_labels=False):
+    """The line of text that says the same; the end of a block names its label where ends do."""
     if "count" in each:
-        return f"#end {each['count']}" if each["complete"] else f"#stop {each['count']} {each['after']}"
+        end = f"#end {each['count']}" if each["complete"] else f"#stop {each['count']} {each['after']}"
+        return f"{end} {each['input']}" if names_labels else end
     if "source" in each:
         word = "missing" if "missing" in each else "differs"
         return f"{word} {each['source']}|{each[word]}"
+    if "idle" in each:
+        return f"idle {each['idle']}"
     if "gaps" in each:
         return f"#table {each['entries']} {each['gaps']}"
     regards = [each[name] for name in ("there", "back") if name in each]
@@ -111,8 +130,12 @@ def answer_of(each):
             raise Wrong(each)
         if "input" in each:
             return each["alabel"]
-        dispositions = [each["disposition"]] if "disposition" in each else regards
-        return "\t".join([each["ulabel"], each["alabel"], *dispositions])
+        more = [each["disposition"]] if "disposition" in each else regards
+        return "\t".join([each["ulabel"], each["alabel"], *more, *(["unclear"] if "unclear" in each else [])])
+    if "old" in each:
+        if each["old"] is not True:
+            raise Wrong(each)
+        return each["unicode"] + MARK
     said = next(each[name] for name in ("unicode", "ulabel", "ascii") if name in each)
     return "#end" if said is None else "\t".join([said, *regards])
 
@@ -131,8 +154,9 @@ def parsed(line):
     return each
 
 
-def as_explained(output, lines):
-    """What a run with `--explain` writes to its output and its messages, where objects are these and the input has these lines."""
+def as_explained(output, lines, names_labels=False):
+    """What a run with `--explain` writes to its output and its messages, where objects are these and the input has these
+    lines, and whether the ends of blocks name labels, as with `--others`."""
     answers, messages = [], []
     for line in output.splitlines(keepends=True):
         if not line.endswith(b"\n"):
@@ -141,7 +165,7 @@ def as_explained(output, lines):
         read = input_of(each)
         if read is not None and read != lines[each["line"] - 1]:
             raise Wrong((each, lines[each["line"] - 1]))
-        (messages if "refusal" in each else answers).append(message_of(each) if "refusal" in each else answer_of(each))
+        (messages if "refusal" in each else answers).append(message_of(each) if "refusal" in each else answer_of(each, names_labels))
     return tuple("".join(text + "\n" for text in texts).encode() for texts in (answers, messages))
 
 

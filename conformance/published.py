@@ -7,7 +7,7 @@ rulesets and tables of the notation (drawn_rulesets.py). Before them come all ta
 of tests/. What is published has to read back to the same table, or is refused by a line that names why:
 
     to the letter    the canonical text of what is read back is that of the table, wherever its definitions stand
-    the same         else: what is read back is published to the letter but for names of tags, and the program lists the same
+    the same         else: what is read back is published to the letter but for names of types, and the program lists the same
                      under both, of labels that are drawn from the XML; sets lose what no label has, and what nothing names goes
 
 The counts are printed, and of the refusals those by each reason. Status 1 where anything else comes out."""
@@ -38,7 +38,7 @@ from idn2_registry.lgr import command
 from idn2_registry.lgr.program import Asked
 from idn2_registry.lgr.ruleset import Fault
 from idn2_registry.notation import canonical
-from idn2_registry.notation.ruleset import Entry, Ruleset
+from idn2_registry.notation.ruleset import Action, Entry, Mapped, Ruleset, Types
 from idn2_registry.parsed_table import ParsedTable
 from idn2_registry.program import Program
 from idn2_registry.publish import publish, read_back
@@ -69,8 +69,8 @@ class Drawn:
         letters = chance.choice(ALPHABETS)
         entries = self.entries(chance, letters)
         if number % 3 == 1:
-            outside = {source for source in list(entries)[1:] if chance.random() < 0.3}
-            return "\n".join(["%version 3", *DrawnRuleset(chance, letters, entries, outside).lines]).encode()
+            invalid = {source for source in list(entries)[1:] if chance.random() < 0.3}
+            return "\n".join(["%version 3", *DrawnRuleset(chance, letters, entries, invalid).lines]).encode()
         version = chance.choice((1, 2))
         marks = ("", "!") if version == 2 else ("",)
         lines = ["%version 2"] if version == 2 else []
@@ -100,21 +100,32 @@ def converted(xml: bytes, asked: Asked) -> bytes | None:
         return None
 
 
-def with_tags_by_use(ruleset: Ruleset) -> Ruleset:
-    """The ruleset with other names of its tags: numbers, by what has them."""
-    entries = list(ruleset.entries.values())
-    users = {tag: [tag in mapped.tags for entry in entries for mapped in entry.mapped()] for tag in ruleset.tags}
-    names = {tag: f"t{number}" for number, tag in enumerate(sorted(users, key=users.__getitem__))}
-    renamed = lambda mapped: dataclasses.replace(mapped, tags=tuple(sorted(names[tag] for tag in mapped.tags)))
-    made = {entry.source.points: Entry(renamed(entry.source), tuple(map(renamed, entry.variants))) for entry in entries}
-    return dataclasses.replace(ruleset, tags=sorted(names.values()), entries=made)
+def with_types_by_use(ruleset: Ruleset) -> Ruleset:
+    """The ruleset with other names of its types: numbers, by what has them and which actions ask for them."""
+    mapped = [each for entry in ruleset.entries.values() for each in entry.mapped()]
+    asked = [action.types.names if action.types else () for action in ruleset.actions]
+    uses = {name: [each.type == name for each in mapped] + [name in names for names in asked] for name in ruleset.types}
+    new = {name: f"t{number}" for number, name in enumerate(sorted(uses, key=uses.__getitem__))}
+
+    def of_mapped(each: Mapped) -> Mapped:
+        return dataclasses.replace(each, type=new.get(each.type, each.type) if each.type else None)
+
+    def of_action(action: Action) -> Action:
+        names = tuple(sorted(new.get(name, name) for name in action.types.names)) if action.types else ()
+        return dataclasses.replace(action, types=Types(action.types.word, names) if action.types else None)
+
+    entries = {points: Entry(of_mapped(entry.source), tuple(map(of_mapped, entry.variants)))
+               for points, entry in ruleset.entries.items()}
+    actions = list(map(of_action, ruleset.actions))
+    return dataclasses.replace(ruleset, types=sorted(new.values()), entries=entries, actions=actions)
 
 
 def is_letter(one: Ruleset, other: Ruleset) -> bool:
     """Whether both have the same canonical text, wherever their definitions stand."""
     first, second = (canonical.text_of(each).splitlines() for each in (one, other))
-    definitions = [sorted(line for line in lines if line.startswith(("%tag", "%set", "%rule"))) for lines in (first, second)]
-    rest = [[line for line in lines if not line.startswith(("%tag", "%set", "%rule"))] for lines in (first, second)]
+    is_definition = lambda line: line.startswith(("%type", "%set", "%rule", "%whole"))
+    definitions = [sorted(filter(is_definition, lines)) for lines in (first, second)]
+    rest = [list(itertools.filterfalse(is_definition, lines)) for lines in (first, second)]
     return definitions[0] == definitions[1] and rest[0] == rest[1]
 
 
@@ -139,7 +150,7 @@ class Publishing:
         if is_letter(parsed.ruleset, back.ruleset):
             return LETTER
         again = publish(Table("drawn", self.path, back.table.data), Form.XML, None, self.program)
-        assert is_letter(*map(with_tags_by_use, (back.ruleset, self.back(again, back).ruleset))), (text, back.table.data)
+        assert is_letter(*map(with_types_by_use, (back.ruleset, self.back(again, back).ruleset))), (text, back.table.data)
         labels = [label for label in DrawnLabels(reader.read(xml)).labels() if label[2:4] != "--" and "\n" not in label]
         assert self.listed(table, labels) == self.listed(back.table, labels), (text, back.table.data)
         return SAME

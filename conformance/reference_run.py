@@ -11,15 +11,16 @@ import re
 import unicodedata
 
 import check
+import old_labels
 import table_places
 from causes import Causes
 from collisions import MOST_SOURCES, Collisions, sources_of
 from idn2_registry.notation import reading
 from idn2_registry.notation.faults import LIMIT, TableFault
-from idn2_registry.notation.ruleset import Entry, Mapped, Ruleset
+from idn2_registry.notation.ruleset import BLOCKED, Entry, Mapped, Ruleset
 from registration import Registration, a_label
 from rules import ProfileProperties, UnicodeProperties
-from ruleset_labels import NOT_MADE_OF_ENTRIES, NOT_VALID, RulesetLabels, Unknown
+from ruleset_labels import NOT_MADE_OF_ENTRIES, NOT_VALID, UNCLEAR, RulesetLabels, TableLabels, Unknown
 
 LINE_LIMIT, TEXT_LIMIT, LABEL_LIMIT = 1024, 1024, 63
 COUNT_LIMIT, TRIES = 1_000_000_000, 1_000_000
@@ -33,7 +34,7 @@ TEXTS = {
 FAULTY_LINE = re.compile(r"idn2: table line (\d+): (\d+) .*")
 FLAGS = {"-l": "lookup", "--lookup": "lookup", "-r": "register", "--register": "register", "-d": "decode",
          "--decode": "decode", "-N": "nontransitional", "--tr46nt": "nontransitional", "--quiet": "quiet", "--explain": "explain",
-         "--usestd3asciirules": "std3", "--standard": "standard", "--jump": "jump",
+         "--usestd3asciirules": "std3", "--standard": "standard", "--jump": "jump", "--others": "others", "--old": "old",
          "-h": "show", "--help": "show", "-V": "show", "--version": "show"}
 LISTINGS, CHECKS = {"--variants", "--ruleset"}, {"--check-table", "--check-ruleset"}
 OF_A_LISTING = ("--after", "--limit", "--tries", "--steps", "--among")
@@ -130,6 +131,10 @@ class Options:
             raise Bad((given_for_listing + ["--jump"])[0] + " goes with --variants")
         if is_jump and given_for_listing:
             raise Bad(given_for_listing[0] + " doesn't go with --jump")
+        if "old" in self.given and self.mode != "decode":
+            raise Bad("--old goes with --decode")
+        if "others" in self.given and "--among" not in self.given:
+            raise Bad("--others goes with --among")
         if "--among" in self.given:
             for name in ("--tries", "--steps"):
                 if name in self.given:
@@ -193,6 +198,8 @@ class Run:
 
     def __init__(self, registration, classes):
         self.registration, self.classes = registration, classes
+        # Of the table of a run, whatever its lines are.
+        self.collisions_under = functools.lru_cache(1)(self.collisions_under)
 
     @functools.cached_property
     def causes(self):
@@ -257,14 +264,17 @@ class Run:
         if mode == "--ruleset":
             return RulesetLabels(reading.read(text, self.classes.may_stand)), True
         table = check.read(text, self.classes)
-        return RulesetLabels(as_ruleset(table), cuts_anyway=True), table.version == 2
+        return TableLabels(as_ruleset(table)), table.version == 2
 
     def registered_labels(self, text):
-        """The labels of a file of less than 4 GiB: one on each line, each greater than the one before."""
+        """The labels of a file of less than 4 GiB: one on each line, each greater than the one before. Old ones have a mark."""
         labels = []
         for number, body in enumerate(bodies(text), 1):
             label, refusal = text_of(body)
-            if refusal is None:
+            if refusal is None and label.endswith(old_labels.MARK):
+                label = label.removesuffix(old_labels.MARK)
+                refusal = old_labels.old_fault(label)
+            elif refusal is None:
                 refusal = self.registration.first_fault(self.known(label))
             if refusal is None and labels and label <= labels[-1]:
                 refusal = 4
@@ -295,8 +305,16 @@ class Run:
             return self.collisions(options, table, registered, text)
         if options.mode in LISTINGS:
             return self.block(options, table, text)
+        if "old" in options.given:
+            answer = old_labels.zone_line(text, self.registered_as)
+            return ([answer], None) if isinstance(answer, str) else ([], answer)
         answer, refusal = getattr(self.registration, options.mode)(self.known(text))
         return ([], refusal) if answer is None else ([answer], None)
+
+    def registered_as(self, label):
+        """The A-label of a label, or the number of its refusal."""
+        a_label, refusal = self.registration.register(self.known(label))
+        return refusal if a_label is None else a_label
 
     def known(self, text):
         for label in text.split("."):
@@ -332,10 +350,15 @@ class Run:
         if refusal := self.refusal(table, label):
             return [], refusal
         under = self.collisions_under(table)
-        found = [each for each in registered if each > options.after and under.collide(label, each)]
+        others = "others" in options.given
+        found = [each for each in registered if each > options.after and under.collide(label, each)
+                 and not (others and each == label)]
+        if others and not found:
+            return [], None
         stops = [] if options.limit is None else found[options.limit - 1:options.limit]
         lines = ["\t".join((each, a_label(each), *under.regards(label, each))) for each in found]
-        return ended(lines[:options.limit], stops), None
+        *lines, end = ended(lines[:options.limit], stops)
+        return [*lines, f"{end} {label}" if others else end], None
 
     def block(self, options, table, label):
         """The block of the variants of a label."""
@@ -343,7 +366,8 @@ class Run:
             return [], refusal
         labels, has_dispositions = table
         after = sorted(each for each in labels.spelled(label) if options.after < each and len(each) <= LABEL_LIMIT)
-        variants = [each for each in after if self.is_variant(labels, each)]
+        told = labels.answer(label)
+        variants = [each for each in after if each in told and self.registration.first_fault(self.known(each)) is None]
         tested = [each for each in after if self.dead_prefix(labels, each) is None]
         visited = [each for last, each in zip([None, *after], after) if self.is_visited(labels, last, each)]
         stops = tested[options.tries - 1:options.tries]
@@ -353,9 +377,15 @@ class Run:
             stops += variants[options.limit - 1:options.limit]
         if stops:
             variants = [each for each in variants if each <= min(stops)]
-        allocatable = labels.allocatable(label) if has_dispositions else set()
-        field = lambda each: "" if not has_dispositions else "\tallocatable" if each in allocatable else "\tblocked"
-        return ended([f"{each}\t{a_label(each)}{field(each)}" for each in variants], stops), None
+        tail = lambda each: self.fields_of(told[each], options) if has_dispositions else ""
+        return ended([f"{each}\t{a_label(each)}{tail(each)}" for each in variants], stops), None
+
+    @staticmethod
+    def fields_of(disposition, options):
+        """The third field of a line, and the fourth, which only an unclear variant has."""
+        if disposition != UNCLEAR:
+            return f"\t{disposition}"
+        return f"\t{BLOCKED}" + (f"\t{UNCLEAR}" if "explain" in options.given else "")
 
     def dead_prefix(self, labels, label):
         """How many letters the shortest beginning of the label has that no variant begins with, or None."""
@@ -368,9 +398,6 @@ class Run:
         count = self.dead_prefix(labels, label)
         return count is None or last is None or last[:count] != label[:count]
 
-    def is_variant(self, labels, label):
-        return self.registration.first_fault(self.known(label)) is None and labels.is_valid(label)
-
 
 def ended(lines, stops):
     """The lines of a block with its trailer, where it ends or at the first of its stops."""
@@ -381,7 +408,7 @@ def as_ruleset(table):
     """A table of version 1 or 2 as the ruleset that says the same."""
     entries = {}
     for source, variants in table.entries.items():
-        mapped = tuple(Mapped(variant, is_blocked) for variant, is_blocked in variants.items())
+        mapped = tuple(Mapped(variant, BLOCKED if is_blocked else None) for variant, is_blocked in variants.items())
         entries[source] = Entry(Mapped(source), mapped)
     return Ruleset(entries=entries)
 

@@ -16,23 +16,14 @@ ONE_KIND_OF_DIGITS = ("%set ascii 0030..0039\n%set deva 0966..096F\n%never @asci
                       "0915..0939\n0030|!0966\n0966|!0030\n0031|!0967\n0967|!0031\n")
 NEVER_AT_THE_END = "%never 0062 $\n0061|!0062\n0062\n"
 SOME_KANA = "%set kana 3041..3096 30A1..30FA\n%always @kana\n3041..3096\n4E00..9FFF\n"
-CHINESE = ("%tag simp\n%tag trad\n4E2D\n56FD as simp|570B as trad\n570B as trad|56FD as simp\n"
-           "5B66 as simp|5B78 as trad\n5B78 as trad|5B66 as simp\n")
-A_TAG_OF_ITS_OWN = "%tag simp\n%tag trad\n%tag own\n0061 as own|0062 as simp,trad:!0063:0064 as trad\n0062..0065\n"
-TWO_TAGS_AND_A_SEQUENCE = ("%tag s\n%tag t\n0061 as s|0062 as s\n0063 as t|0064 as t\n"
-                           "0061-0063 as t|0062-0064 as t\n0062\n0064\n")
-CYRILLIC_OUTSIDE = "0061|!0430\n0062\n!0430|!0061\n"
+A_TYPE_OF_ITS_OWN = ("%type own\n%type both\n%type trad\n%action allocatable all own\n%action allocatable all both,trad\n"
+                     "%action blocked any own,both,trad\n0061 as own|0062 as both:!0063:0064 as trad\n0062..0065\n")
 FINAL_SIGMA = "%rule end _ $\n03B1..03C1\n03C3|03C2 when end\n03C2|03C3\n03C4..03C9\n"
 FINAL_TEH = "%rule end _ $\n0647|!0629 unless end:0629 when end\n0629\n"
 RRA_AND_HALANT = ("%set C 0915..0930 0932..0939\n%rule halant @C _\n%rule ya _ 092F / _ 0939\n0915..0930\n0932..0939\n"
                   "0931-094D when ya\n094D when halant\n")
 CONSONANTS_BY_TURNS = "%set C 0061..0063\n%rule x ^ (@C 0068)* @C _\n0061..0063\n0068\n0065 when x\n"
 ENDS_IN_PAIRS = "%never (^ / 0062) 0061 (0063 0063)* $\n0061..0063\n"
-LONGEST_FIRST = "0061\n0061-0062\n0062-0063\n0064\n"
-LONGEST_AT_THE_END = "%rule end _ $\n0061\n0061-0062 when end\n0062-0063\n0063\n"
-LONGEST_OF_A_VARIANT = "0061|0078\n0061-0062\n0062-0063\n0078|0061\n"
-LONGEST_UNLESS_IT_FAILS = "%rule r 0061 _\n0061\n0062 when r\n0062-0062 unless r\n"
-ONLY_AFTER_A = "%rule after_a 0061 _\n0061\n0062 when after_a|0063\n0063 when after_a|0062\n0064|0063\n"
 ALWAYS = "%rule always _\n0061 when always\n0062 unless always\n"
 DEAD = "%rule x 0061 _\n0061|!0063\n0063\n0062 when x\n"
 
@@ -41,8 +32,6 @@ DEAD = "%rule x 0061 _\n0061|!0063\n0063\n0062 when x\n"
 LISTINGS = [
     # What version 2 says is said the same, where each variant is a source.
     ("0061..0063\n0078|!0079:007A\n0079..007A\n", [([], "ax", "ax ax allocatable, ay ay blocked, az az allocatable, #end 3")]),
-    ("0061|!0062\n0061-0061|0062-0062\n0062\n", [
-        ([], "aa", "aa aa allocatable, ab ab blocked, ba ba blocked, bb bb allocatable, #end 4")]),
     ("0061\n", [([], "b", 40)]),
     # A condition: vowel signs follow a consonant.
     (VOWEL_SIGNS, [
@@ -78,26 +67,13 @@ LISTINGS = [
         (["--tries", "5"], "aa", "aa aa allocatable, ba ba blocked, #end 2")]),
     (SOME_KANA, [([], "日の", "日の xn--u9ju32n allocatable, #end 1"), ([], "日本", 41)]),
     ("%never 0061 .* 0061\n0061..007A\n", [([], "aba", 41)]),
-    # Tags.
-    (CHINESE, [
-        ([], "中国学", "中国学 xn--fiqs8s1vd allocatable, 中国學 xn--fiqs8slxd blocked, 中國学 xn--fiqz9suud blocked, "
-                       "中國學 xn--fiqz9sewd allocatable, #end 4"),
-        ([], "国學", "国学 xn--vcso6h allocatable, 国學 xn--vcs27h allocatable, 國学 xn--9cs44h blocked, "
-                     "國學 xn--9csw6h allocatable, #end 4"),
-        (["--after=中国學"], "中国学", "中國学 xn--fiqz9suud blocked, 中國學 xn--fiqz9sewd allocatable, #end 2"),
-        (["--limit", "2"], "中国学",
-         "中国学 xn--fiqs8s1vd allocatable, 中国學 xn--fiqs8slxd blocked, #stop 2 中国學")]),
-    (A_TAG_OF_ITS_OWN, [
+    # A label with a reflexive type, and variants of which one goes with both others.
+    (A_TYPE_OF_ITS_OWN, [
         ([], "aae", "aae aae allocatable, abe abe blocked, ace ace blocked, ade ade blocked, bae bae blocked, "
                     "bbe bbe allocatable, bce bce blocked, bde bde allocatable, cae cae blocked, cbe cbe blocked, "
                     "cce cce blocked, cde cde blocked, dae dae blocked, dbe dbe allocatable, dce dce blocked, "
                     "dde dde allocatable, #end 16")]),
-    ("%tag t\n0061|0062\n0062\n", [([], "a", "a a allocatable, b b allocatable, #end 2")]),
-    # Two segmentations, of which one is in a sub-table.
-    (TWO_TAGS_AND_A_SEQUENCE, [
-        ([], "ac", "ac ac allocatable, ad ad blocked, bc bc blocked, bd bd allocatable, #end 4")]),
-    # Outside sources.
-    (CYRILLIC_OUTSIDE, [([], "ab", "ab ab allocatable, аb xn--b-7sb blocked, #end 2"), ([], "аb", 40)]),
+    # An out-of-repertoire variant that may not end a label.
     ("%rule end _ $\n0061|!0430\n0062\n!0430 unless end\n", [
         ([], "aba", "aba aba allocatable, аba xn--ba-6kc blocked, #end 2")]),
     # Conditions of variants.
@@ -115,41 +91,6 @@ LISTINGS = [
         ([], "कऱ्य", "कऱ्य xn--11b6cf6i allocatable, #end 1"),
         ([], "कऱ्क", 41),
         ([], "ऱक", 40)]),
-    # Of several that stand the longest is taken, and there is no way back (RFC 7940, section 8.1).
-    (LONGEST_FIRST, [
-        ([], "ab", "ab ab allocatable, #end 1"),
-        ([], "aab", "aab aab allocatable, #end 1"),
-        ([], "bc", "bc bc allocatable, #end 1"),
-        ([], "abc", 41),
-        ([], "abd", "abd abd allocatable, #end 1"),
-        ([], "c", 40),
-        ([], "bd", 40)]),
-    (LONGEST_AT_THE_END, [
-        ([], "abc", "abc abc allocatable, #end 1"),
-        ([], "ab", "ab ab allocatable, #end 1"),
-        ([], "aab", "aab aab allocatable, #end 1"),
-        ([], "abab", 41)]),
-    (LONGEST_OF_A_VARIANT, [
-        ([], "xbc", "xbc xbc allocatable, #end 1"),
-        ([], "xx", "aa aa allocatable, ax ax allocatable, xa xa allocatable, xx xx allocatable, #end 4"),
-        ([], "abc", 41)]),
-    (LONGEST_UNLESS_IT_FAILS, [
-        ([], "abb", 41),
-        ([], "bb", "bb bb allocatable, #end 1"),
-        ([], "b", 41),
-        ([], "ab", "ab ab allocatable, #end 1"),
-        ([], "abbb", "abbb abbb allocatable, #end 1")]),
-    # Variants arise by each cut, and not by the longest first alone (RFC 7940, section 8.2).
-    ("0061|!0078\n0062\n0061-0062|0079\n0078\n0079\n", [
-        ([], "ab", "ab ab allocatable, xb xb blocked, y y allocatable, #end 3")]),
-    # A source that no label may begin with.
-    (ONLY_AFTER_A, [
-        ([], "ab", "ab ab allocatable, ac ac allocatable, #end 2"),
-        ([], "d", "d d allocatable, #end 1"),
-        (["--tries", "1"], "d", "d d allocatable, #stop 1 d"),
-        ([], "b", 41)]),
-    # A variant that is neither a source nor made of some is never listed.
-    ("0061|!0430\n0062\n", [([], "ab", "ab ab allocatable, #end 1")]),
     # A code point keeps its condition where it arises in a variant. A variant that is made of no sources is not listed.
     ("%rule x 0061 _\n0061\n0063|0062\n0062 when x\n", [
         ([], "acc", "abc abc allocatable, acc acc allocatable, #end 2")]),
@@ -167,11 +108,9 @@ LISTINGS = [
         ([], "aba", "aba aba allocatable, abc abc blocked, #end 2"),
         (["--tries", "3"], "aba", "aba aba allocatable, abc abc blocked, #end 2"),
         (["--tries", "2"], "aba", "aba aba allocatable, abc abc blocked, #stop 2 abc")]),
-    # Ranges with a mark, a tag, a condition.
+    # Ranges with '!' and with a condition.
     ("%rule r 0061 _\n0061\n!0062..0063 when r\n0064|!0063\n", [
         ([], "ad", "ac ac blocked, ad ad allocatable, #end 2")]),
-    ("%tag t\n%tag v\n0061..0062 as t\n0063 as v|0064 as t\n0064\n", [
-        ([], "ac", "ac ac allocatable, ad ad allocatable, #end 2")]),
     ("%rule r 0061 _\n0061\n0062..0063 when r\n", [([], "ca", 41)]),
 ]
 
@@ -179,21 +118,22 @@ CONDITIONS = "%rule r _ 0062\n%rule s 0062 _\n"
 # As many entries as there may be.
 FULL = "4E00..9FFF\nAC00..D7A3\n20000..2825B\n"
 
+# As many types of the file's own as there may be, and a quarter of all rules.
+TYPES = "".join(f"%type t{each}\n" for each in range(57))
+RULES = "".join(f"%rule r{each} _\n%whole w{each} .\n" for each in range(32))
+
 # All atoms that the patterns of a ruleset may have, but six.
 SIX_ATOMS_LEFT = "%set C 0061\n%rule start _\n%never" + " ." * 4000 + "\n%always" + " ." * 90 + "\n"
 
 # A ruleset, and what the check of it prints.
 CHECKS = [
     ("0061..0063\n0078|!0079:007A\n", "missing 0079|0078\nmissing 007A|0078\n#table 4 2\n"),
-    (CHINESE, "#table 5 0\n"),
-    (CYRILLIC_OUTSIDE, "#table 3 0\n"),
-    ("0061|!0430\n0062\n", "missing 0430|0061\n#table 2 1\n"),
     (FINAL_TEH, "missing 0629|0647\n#table 2 1\n"),
     (FINAL_SIGMA, "differs 03C2|03C3\n#table 25 0\n"),
     (CONDITIONS + "0061|0063 when r:0063 when s:!0063 unless r\n0063|0061\n", "differs 0061|0063\n#table 2 0\n"),
-    # Conditions are a set, and those of sources, marks and tags are none of them.
+    # Conditions are a set, and those of sources and types are none of them.
     (CONDITIONS + "0061|0063 when r:0063 unless s\n0063|0061 unless s:!0061 when r\n", "#table 2 0\n"),
-    (CONDITIONS + "%tag t\n0061 as t when r|!0063\n0063 unless s|0061 as t\n", "#table 2 0\n"),
+    (CONDITIONS + "0061 as valid when r|!0063\n0063 unless s|0061 as valid\n", "#table 2 0\n"),
     (CONDITIONS + "0061|0063 when r:0063 when s\n0063|0061 when s\n", "differs 0061|0063\n#table 2 0\n"),
     (CONDITIONS + "0061|0063 when r\n0063|0061 unless r\n", "differs 0061|0063\n#table 2 0\n"),
     (CONDITIONS + "0061|0063 when r\n0063|0061 when s\n", "differs 0061|0063\n#table 2 0\n"),
@@ -208,18 +148,20 @@ CHECKS = [
     # The ends of a span may be in a label; what is between them need not be.
     ("%set C 0900..097F\n%set D 0061..00E4\n", "#table 0 0\n"),
     # Names are no words of the notation.
-    ("%tag t\n%tag v\n%set A 0061\n%rule r _ 0062\n%tag a\n%tag R\n%set abcd 0061\n%rule U _ @abcd\n", "#table 0 0\n"),
-    ("%tag as\n%rule when _\n0061 as as when when\n", "#table 1 0\n"),
+    ("%set A 0061\n%rule r _ 0062\n%whole a .\n%rule R _\n%set abcd 0061\n%rule U _ @abcd\n", "#table 0 0\n"),
+    ("%type as\n%type any\n%rule when _\n%whole unless .\n%action valid unless unless any any,as\n0061 as as when when\n",
+     "#table 1 0\n"),
     # Limits that are just kept.
-    ("".join(f"%tag t{each}\n" for each in range(8)), "#table 0 0\n"),
+    (TYPES + f"%action valid any {','.join(f't{each}' for each in range(57))}\n", "#table 0 0\n"),
     ("".join(f"%set s{each} 0061\n" for each in range(256)), "#table 0 0\n"),
-    ("%never 0061\n%always 0061\n" * 64 + "".join(f"%rule r{each} _\n" for each in range(128)), "#table 0 0\n"),
+    ("%never .\n%always .\n%action valid\n" * 64 + RULES, "#table 0 0\n"),
     (f"%never {'0061 ' * 1024}\n" * 4, "#table 0 0\n"),
     ("%never " + "(" * 8 + "0061" + ")" * 8 + "\n%never ((0061* 0062)* 0063)\n", "#table 0 0\n"),
     ("%never " + "(0061)" * 1169 + "\n", "#table 0 0\n"),
     ("%rule r ((((((((0061)))))))) _\n%rule s (0061*)* _ ((.*)? $)*\n%never (0061* (0062*)*) 0063*\n", "#table 0 0\n"),
     (SIX_ATOMS_LEFT + "%never 0061 (0062) ^ . $\n", "#table 0 0\n"),
     (SIX_ATOMS_LEFT + "%rule abcd 0061? . . _ . . .*\n", "#table 0 0\n"),
+    (SIX_ATOMS_LEFT + "%whole abcd 0061? . . / . . .*\n", "#table 0 0\n"),
     (SIX_ATOMS_LEFT + "%set abcd 0061 0062 0063..0069\n%never . . .\n%rule r . . _ $\n", "#table 0 0\n"),
     (FULL, "#table 65536 0\n"),
     ("#" * 8192 + "\n0061\n", "#table 1 0\n"),
@@ -227,21 +169,21 @@ CHECKS = [
 ]
 
 # Definitions that the lines of the next three stand after, which so are on line 6.
-DEFINED = "%tag t\n%tag v\n%set A 0061\n%rule r _ 0062\n"
+DEFINED = "%type t\n%type v\n%set A 0061\n%rule r _ 0062\n"
 OF_NO_FORM = [
     "%set C", "%set C 0062 0061", "%set C 0061..0063 0063", "%set C 0063..0061", "%set C @A", "%set C 61", "%set 9c 0061",
-    "%set C-D 0061", "%set", "%tag", "%tag a b", "%tag " + "n" * 33, "%rule s @A", "%rule s @A _ _", "%rule s _ / @A",
+    "%set C-D 0061", "%set", "%type " + "n" * 33, "%rule s @A", "%rule s @A _ _", "%rule s _ / @A",
     "%rule s (_)", "%rule s $ _", "%rule s (@A / $) _", "%rule s _ ^", "%rule s", "%rule s 0061..0062 _",
     "%rule s 0061-0062 _", "%never", "%never @A _", "%never ()", "%never (@A", "%never @A)", "%never @A /", "%never ^*",
-    "%never @A**", "%never *", "%never @A@A", "%never ..", "%never @", "%always / @A", "%never A", "!0061 as t",
-    "0061|!0062 as t", "0061 as t,t", "0061 as", "0061 as t v", "0061 when r as t", "0061 when r unless r", "0061 when",
+    "%never @A**", "%never *", "%never @A@A", "%never ..", "%never @", "%always / @A", "%never A",
+    "0061 as t,t", "0061 as t v", "0061 when r as t", "0061 when r unless r", "0061 when",
     "0061 when r|", "when r", "0061-when", "0061|0062..0063", "0061-0062..0063", "!!0061", "0061|", "0061,0062", "0061 # a",
 ]
 OF_NO_NAME = [
     "%rule s @B _", "%rule s @r _", "%never (@A @B)", "0061 when s", "0061 when A", "0061 as u", "0061 as r",
     "0061|0062 unless s", "0061|0062 as u", "0061..0063 when s",
 ]
-OF_A_NAME_GIVEN_TWICE = ["%tag t", "%tag A", "%set t 0061", "%set r 0061", "%rule A _", "%rule r _"]
+OF_A_NAME_GIVEN_TWICE = ["%type t", "%type A", "%set t 0061", "%set r 0061", "%rule A _", "%rule r _"]
 
 # A ruleset, with the line and the number of its first fault.
 FAULTS = [
@@ -258,16 +200,16 @@ FAULTS = [
     ("%rule r 0041 _\n", 2, 33), ("%set t 0061\n%set t 0041\n", 3, 33), ("0061\n0061|0062:0062\n", 3, 32),
     ("0062\n0061..0063\n", 3, 31), ("%set D 0041..007A\n", 2, 33), ("-".join(["0041"] * 9) + " when nope\n", 2, 34),
     # A name is defined before the line that uses it.
-    ("%tag\n", 2, 30), ("%tag t u\n", 2, 30), ("% tag t\n", 2, 30), ("%Tag t\n", 2, 30), ("%set C 0062 0061\n", 2, 30),
-    ("%rule r @A\n", 2, 30), ("0061 as t\n%tag t\n", 2, 35), ("0061 when r\n%rule r _\n", 2, 35),
-    ("%tag r\n0061 when r\n", 3, 35), ("%tag t\n0061\n0061 as t\n", 4, 31), ("0061 as t,u\n", 2, 35),
+    ("% type t\n", 2, 30), ("%Type t\n", 2, 30), ("%set C 0062 0061\n", 2, 30),
+    ("%rule r @A\n", 2, 30), ("0061 as t\n%type t\n", 2, 35), ("0061 when r\n%rule r _\n", 2, 35),
+    ("%action valid any t\n%type t\n", 2, 35), ("%action valid when w\n%whole w .\n", 2, 35),
     ("%rule r _\n0061 when r\n0061..0062 when s\n", 4, 35), ("%always ^*\n", 2, 30), ("%rule r @A _\n%set A 0061\n", 2, 35),
-    ("%set A 0061\n%rule A _\n", 3, 36), ("%tag t\n\n%tag t\n", 4, 36), ("%set A 0041\n", 2, 33),
-    ("%rule r @A 0041 _\n", 2, 35), ("%rule r ((0061*)*)* @A _\n", 2, 34), ("%tag t\n0061\n0061\n", 4, 31),
+    ("%set A 0061\n%rule A _\n", 3, 36), ("%type t\n\n%type t\n", 4, 36), ("%set A 0041\n", 2, 33),
+    ("%rule r @A 0041 _\n", 2, 35), ("%rule r ((0061*)*)* @A _\n", 2, 34),
     # Limits that are passed.
-    ("".join(f"%tag t{each}\n" for each in range(9)), 10, 34),
     ("".join(f"%set s{each} 0061\n" for each in range(257)), 258, 34),
-    ("%never 0061\n" * 128 + "".join(f"%rule r{each} _\n" for each in range(129)), 258, 34),
+    ("%never .\n%always .\n%action valid\n" * 64 + RULES + "%never .\n", 258, 34),
+    (SIX_ATOMS_LEFT + "%whole w . . . . . . .\n", 6, 34),
     (f"%never {'0061 ' * 1024}\n" * 4 + "%rule r ^ _\n", 6, 34),
     ("%never " + "(" * 9 + "0061" + ")" * 9 + "\n", 2, 34), ("%never ((0061* 0062)* 0063)*\n", 2, 34),
     ("%never " + "(0061)" * 1170 + "\n", 2, 34), ("%never " + "(" * 2000 + "0061" + ")" * 2000 + "\n", 2, 34),
@@ -289,8 +231,8 @@ AS_THEY_STAND = [
 
 CANONICAL = [
     (" %set\tC  0061..0061 0062 .. 0064\n", "%set C 0061 0062..0064\n"),
-    ("0062\n%rule r u+0061  ( 00e4/. )? _/_ $\n0063..0064  when r\n%tag t\n0065 as t unless r | ! 0061 - 0061:00E4 as t\n",
-     "%tag t\n%rule r 0061 (00E4 / .)? _ / _ $\n0062\n0063 when r\n0064 when r\n"
+    ("0062\n%rule r u+0061  ( 00e4/. )? _/_ $\n0063..0064  when r\n%type t\n0065 as t unless r | ! 0061 - 0061:00E4 as t\n",
+     "%type t\n%rule r 0061 (00E4 / .)? _ / _ $\n0062\n0063 when r\n0064 when r\n"
      "0065 as t unless r|!0061-0061:00E4 as t\n"),
     ("%set C 0061\n%always @C*(^/(.)*)$\n! 0061|0062\n", "%set C 0061\n%always @C* (^ / (.)*) $\n!0061|0062\n"),
 ]
@@ -308,6 +250,11 @@ def rows():
     for text, option, line, number in [*faulty, *((text, option, line, 30) for text, option, line in AS_THEY_STAND)]:
         words = [] if option.startswith("--check") else ["a"]
         yield [option, "table", *words], "", {"table": text}, ("", f"idn2: table line {line}: {number} {TEXTS[number]}\n", 2)
+
+
+def canonical():
+    """Each text, and its canonical text."""
+    return [(VERSION_LINE + text, VERSION_LINE + wanted) for text, wanted in CANONICAL]
 
 
 def answer(wanted):

@@ -1,8 +1,6 @@
 """Worked rows of whole runs: labels, names, lines, listings, tables and rulesets, and what a run must print, worked out by hand
 from the standards. The file of the table is `t`."""
 
-from ruleset_rows import LONGEST_AT_THE_END, LONGEST_FIRST, LONGEST_UNLESS_IT_FAILS, ONLY_AFTER_A
-
 SHARP_S = "0061\n0065\n0072\n0073\n0074\n0073-0073|00DF\n00DF|0073-0073\n"
 DOUBLED = "0061|0061-0061\n"
 HYPHENS = "0061|002D\n"
@@ -12,7 +10,7 @@ SIGNS = "%version 3\n%set C 0915..0939\n%rule sign @C 093C? _\n0915..0939\n093C 
 # Digits of one kind, those of the other kind being blocked variants.
 DIGITS = ("%version 3\n%never (0030 / 0031) .* (0966 / 0967) / (0966 / 0967) .* (0030 / 0031)\n"
           "0030|!0966\n0031|!0967\n0966|!0030\n0967|!0031\n")
-# A letter from outside, and one that only ends a label.
+# An out-of-repertoire variant, and a letter that only ends a label.
 ENDS = "%version 3\n%rule end _ $\n0061|!0430\n0062|0063 when end\n0063|0062\n!0430|!0061\n"
 
 # Letters of Adlam, a sign that is ON by Unicode, and a mark that is L by Unicode.
@@ -75,6 +73,13 @@ DECODED = [
     # Empty labels and capitals in ASCII stay.
     (["-d"], "", "a..b\n.\nAB\n",
      "a..b\n.\nAB\n", "", 0),
+    # Labels of a zone: what may be registered, and old labels with their mark. Capitals of ASCII become small; all else is
+    # refused as by registration. What `xn--abc-` is decoded to is in ASCII, and has another name.
+    (["-d", "--old"], "", "xn--fa-hia\nXN--LS8H\nab--cd\nHaus\nxn--abc-\nStraße\na_b\n",
+     "faß\n💩\told\nab--cd\told\nhaus\nxn--abc-\told\n",
+     refused((6, "10 disallowed code point"), (7, "10 disallowed code point")), 1),
+    (["-d", "--old", "--json"], "", "xn--ls8h\nfaß\n",
+     '{"line":1,"input":"xn--ls8h","unicode":"💩","old":true}\n{"line":2,"input":"faß","unicode":"faß"}\n', "", 0),
 ]
 
 # Names for a query.
@@ -95,7 +100,7 @@ LOOKED_UP = [
 
 AA = "aa\taa\naaa\taaa\naaaa\taaaa\n#end 3\n"
 # The words of each mode that reads lines, and what is printed for the line `aa`.
-MODES = [(["-r"], "aa\n"), (["-d"], "aa\n"), ([], "aa\n"), (LIST, AA)]
+MODES = [(["-r"], "aa\n"), (["-d"], "aa\n"), (["-d", "--old"], "aa\n"), ([], "aa\n"), (LIST, AA)]
 # A line that each mode refuses, and its fault. The line after it is answered.
 BAD_LINES = [(b"", "3 empty"), (b"a" * 1025, "2 line too long"), (b"\xff", "1 not UTF-8")]
 
@@ -292,11 +297,11 @@ OF_VERSION_2 = [
 ]
 
 OF_RULESETS = [
-    # A label that may arise from two others, and is outside.
+    # A label that may arise from two others, and is invalid.
     (RULESET, "%version 3\n0061|0062\n!0062|0061\n0063|!0062\n", "ac\naa\nb\nabc\n",
      "ab\tab\tblocked\nac\tac\tallocatable\nbb\tbb\tblocked\nbc\tbc\tallocatable\n#end 4\n"
      "aa\taa\tallocatable\nab\tab\tallocatable\nba\tba\tallocatable\nbb\tbb\tallocatable\n#end 4\n",
-     refused((3, "40 not made of table entries"), (4, "40 not made of table entries")), 1),
+     refused((3, "41 not valid under the table"), (4, "41 not valid under the table")), 1),
     (RULESET, SIGNS, "क\u093C\u093E\nक\u093E\u093E\nकa\n",
      "क\u093C\u093E\txn--11b2fg\tallocatable\n#end 1\n",
      refused((2, "41 not valid under the table"), (3, "40 not made of table entries")), 1),
@@ -305,22 +310,6 @@ OF_RULESETS = [
     ([*RULESET, "--json"], SIGNS, "क\u093E\u093E\n",
      '{"line":1,"input":"क\u093E\u093E","refusal":{"number":41,"text":"not valid under the table",'
      '"code_point":"U+093E","place":3,"condition":"when","rule":"sign"}}\n', "", 1),
-    # Where the longest-first cut ends: the condition of the longest source there, or no entry.
-    ([*RULESET, "--explain"], f"%version 3\n{LONGEST_FIRST}", "abc\nabd\nc\nbd\n", "abd\tabd\tallocatable\n#end 1\n",
-     refused((1, "41 not valid under the table: U+0063 at place 3: no entry"), (3, "40 not made of table entries: U+0063 at place 1"),
-             (4, "40 not made of table entries: U+0062 at place 1")), 1),
-    ([*RULESET, "--json"], f"%version 3\n{LONGEST_FIRST}", "abc\n",
-     '{"line":1,"input":"abc","refusal":{"number":41,"text":"not valid under the table","code_point":"U+0063","place":3}}\n', "", 1),
-    ([*RULESET, "--explain"], f"%version 3\n{LONGEST_AT_THE_END}", "abab\n", "",
-     refused((1, "41 not valid under the table: U+0062 at place 2: no entry")), 1),
-    ([*RULESET, "--explain"], f"%version 3\n{LONGEST_UNLESS_IT_FAILS}", "abb\nb\n", "",
-     refused((1, "41 not valid under the table: U+0062 at place 3: when r"),
-             (2, "41 not valid under the table: U+0062 at place 1: when r")), 1),
-    ([*RULESET, "--json"], f"%version 3\n{LONGEST_UNLESS_IT_FAILS}", "b\n",
-     '{"line":1,"input":"b","refusal":{"number":41,"text":"not valid under the table","code_point":"U+0062","place":1,'
-     '"condition":"when","rule":"r"}}\n', "", 1),
-    ([*RULESET, "--explain"], f"%version 3\n{ONLY_AFTER_A}", "b\n", "",
-     refused((1, "41 not valid under the table: U+0062 at place 1: when after_a")), 1),
     # A beginning with both kinds of digits is a dead prefix: `--tries` doesn't count the labels after it.
     ([*RULESET, "--tries", "3"], DIGITS, "01\n",
      "01\t01\tallocatable\n०१\txn--d4bc\tblocked\n#end 2\n", "", 0),
@@ -328,10 +317,10 @@ OF_RULESETS = [
      "", refused((1, "41 not valid under the table: demand 1, never")), 1),
     ([*RULESET, "--json"], DIGITS, "0१\n",
      '{"line":1,"input":"0१","refusal":{"number":41,"text":"not valid under the table","demand":1,"kind":"never"}}\n', "", 1),
-    # A condition of a variant is asked in the label that is given; an outside source may only arise.
+    # A condition of a variant is asked in the label that is given; an out-of-repertoire source may only arise.
     (RULESET, ENDS, "ab\nba\nаb\n",
      "ab\tab\tallocatable\nac\tac\tallocatable\nаb\txn--b-7sb\tblocked\nаc\txn--c-7sb\tblocked\n#end 4\n"
-     "ba\tba\tallocatable\nbа\txn--b-8sb\tblocked\n#end 2\n", refused((3, "40 not made of table entries")), 1),
+     "ba\tba\tallocatable\nbа\txn--b-8sb\tblocked\n#end 2\n", refused((3, "41 not valid under the table")), 1),
     ([*RULESET, "--jump"], ENDS, "ab\tb\n", "аb\tblocked\tblocked\n", "", 0),
     (["--check-ruleset", "t", "--json"], ENDS, "", '{"source":"0062","differs":"0063"}\n{"entries":4,"gaps":0}\n', "", 1),
     # A byte order mark before the version line.

@@ -1,15 +1,15 @@
 """Where a line of a table has its fault, written a second time, from docs/idn2.1 and docs/NOTATION.md alone.
 
 `of_fault` gives what the message of a faulty line goes on with where causes are told, or None. A lexeme can't stand where it is if
-no entry, range or definition of the version begins with the lexemes up to it: whether one does is tried out by what may come after."""
+no line of the version begins with the lexemes up to it: whether one does is tried out by what may come after."""
 
 import bisect
-import collections
 import itertools
 import re
 
-from idn2_registry.notation.forms import Tokens, entry_of
+from idn2_registry.notation.forms import form_of
 from idn2_registry.notation.patterns import NoForm
+from idn2_registry.notation.ruleset import DISPOSITIONS
 
 SYNTAX, SAME_SOURCE, SAME_VARIANT, BAD_CLASS, LIMIT, NO_SUCH_NAME, SAME_NAME = range(30, 37)
 LINE_LIMITS = {1: 1024, 2: 1024, 3: 8192}
@@ -22,19 +22,22 @@ FORMS = {
     1: re.compile(rf"{SEQUENCE}(?:\|{SEQUENCE}(?::{SEQUENCE})*)?"),
     2: re.compile(rf"PRP|{SEQUENCE}(?:\|!?{SEQUENCE}(?::!?{SEQUENCE})*)?"),
 }
-# What completes each beginning of a form: nothing, a code point, the greatest one, or a name that no line has.
-ENDS = [[], [b"0061"], [b"10FFFF"], [b"n" * 32]]
+# What completes each beginning of a form: nothing, a code point, the greatest one; of a ruleset a name that no line has, too,
+# and of a definition a keyword, a disposition, what stands after its name.
+ENDS = [[], [b"0061"], [b"10FFFF"]]
+NEW_NAME = b"n" * 32
+RULESET_ENDS = [*ENDS, [NEW_NAME], [b"%type", NEW_NAME], [b"valid"], [NEW_NAME, b"0061"], [NEW_NAME, b"_"]]
 # A name comes after each of these.
-BEFORE_NAMES = (b"as", b",", b"when", b"unless")
+BEFORE_NAMES = (b"as", b"when", b"unless")
 NAME = re.compile(rb"[A-Za-z][A-Za-z0-9_]{0,31}")
-# What completes a beginning of a definition that is no pattern: a keyword, a name, what stands after it.
-DEFINITION_ENDS = ENDS + [[b"%tag", b"a"], [b"a"], [b"a", b"0061"], [b"a", b"_"]]
 # U+FEFF at the head of a text (RFC 3629, section 6).
 BYTE_ORDER_MARK = b"\xEF\xBB\xBF"
 MARK = "a byte order mark at byte 1"
-# How many definitions there may be of a kind, by their keywords.
-PATTERNS = (b"%rule", b"%never", b"%always")
-MOST = {(b"%tag",): 8, (b"%set",): 256, PATTERNS: 256}
+# What has a pattern, of which some have a name before it; and how many lines there may be of a kind, by their keywords.
+NAMED_PATTERNS, DEMANDS = (b"%rule", b"%whole"), (b"%never", b"%always")
+PATTERNS = NAMED_PATTERNS + DEMANDS
+MOST = {(b"%type",): 57, (b"%set",): 256, (*PATTERNS, b"%action"): 256}
+PREDEFINED = {name.encode() for name in DISPOSITIONS}
 # How many atoms all patterns may have together.
 MOST_ATOMS = 4096
 
@@ -75,9 +78,10 @@ def place_in(line, version, number, may_stand, before=()):
     found = [(match.start() + 1, match.group()) for match in LEXEME.finditer(line)]
     if version == 3 and line.lstrip(b" \t").startswith(b"%"):
         return definition_place(line, found, number, may_stand, [lexemes_of(each) for each in before])
+    lexemes = [lexeme for _, lexeme in found]
     if number == SYNTAX:
-        return wrong_place(line, found, lambda lexemes: begins_a_form(lexemes, version))
-    if not is_whole([lexeme for _, lexeme in found], version):
+        return wrong_place(line, found, version)
+    if not is_whole(lexemes, version):
         return None
     if number == NO_SUCH_NAME:
         return unknown_name(found, [lexemes_of(each) for each in before])
@@ -98,9 +102,9 @@ def kind_of(lexeme):
 
 
 def is_whole(lexemes, version):
-    """Whether the lexemes are an entry or a range."""
+    """Whether the lexemes are a line of the version."""
     if version == 3:
-        return entry_in(lexemes) is not None
+        return form_in(lexemes) is not None
     kinds = "".join(map(kind_of, lexemes))
     if not FORMS[version].fullmatch(kinds):
         return False
@@ -108,20 +112,20 @@ def is_whole(lexemes, version):
     return "R" not in kinds or points[0] <= points[1]
 
 
-def entry_in(lexemes):
-    """What the lexemes say, if they are an entry or a range of a ruleset."""
-    rest = Tokens(b"")
-    rest.rest = collections.deque(lexemes)
+def form_in(lexemes):
+    """What the lexemes say, if they are a line of a ruleset."""
     try:
-        form = entry_of(rest)
-        rest.end()
+        return form_of(b" ".join(lexemes))
     except NoForm:
         return None
-    return form
 
 
 def begins_a_form(lexemes, version):
-    return any(is_whole(lexemes + end, version) for end in ENDS)
+    if version < 3:
+        return any(is_whole(lexemes + end, version) for end in ENDS)
+    open_groups = [b")"] * max(lexemes.count(b"(") - lexemes.count(b")"), 0)
+    closings = [[*item, *open_groups, *place] for item in ([], [b"."]) for place in ([], [b"_"])]
+    return any(is_whole(lexemes + end, version) for end in RULESET_ENDS + closings)
 
 
 def quoted(byte, lexeme):
@@ -129,12 +133,12 @@ def quoted(byte, lexeme):
     return f"'{lexeme.decode()}' at byte {byte}" if is_quoted else f"word at byte {byte}"
 
 
-def wrong_place(line, found, begins):
+def wrong_place(line, found, version):
+    """The first lexeme that no line goes on with. A beginning of a line has beginnings only."""
     lexemes = [lexeme for _, lexeme in found]
-    for count, (byte, lexeme) in enumerate(found, 1):
-        if not begins(lexemes[:count]):
-            return quoted(byte, lexeme)
-    return f"the line ends at byte {len(line) + 1}"
+    wrong = lambda count: not begins_a_form(lexemes[:count], version)
+    count = bisect.bisect_left(range(1, len(found) + 1), True, key=wrong)
+    return f"the line ends at byte {len(line) + 1}" if count == len(found) else quoted(*found[count])
 
 
 def lexemes_of(line):
@@ -144,31 +148,54 @@ def lexemes_of(line):
 def definition_place(line, found, number, may_stand, before):
     """`before` has the lexemes of each line before."""
     lexemes = [lexeme for _, lexeme in found]
-    rest = found[1 if lexemes[0] in (b"%never", b"%always") else 2:]
+    if (number == SYNTAX) == is_whole(lexemes, 3):
+        return None
     if number == SYNTAX:
-        return None if is_definition(lexemes) else wrong_place(line, found, begins_a_definition)
+        return wrong_place(line, found, 3)
     if number == SAME_NAME:
         return quoted(*found[1])
     if number == NO_SUCH_NAME:
-        known = {each[1] for each in before if each[:1] == [b"%set"]}
-        return next(quoted(byte, lexeme) for byte, lexeme in found
-                    if lexeme[:1] == b"@" and NAME.fullmatch(lexeme[1:]) and lexeme[1:] not in known)
+        return unknown_name_of_action(found, before) if lexemes[0] == b"%action" else unknown_set(found, before)
     if number == BAD_CLASS:
-        points = [(byte, point_of(lexeme)) for byte, lexeme in rest if point_of(lexeme) is not None]
-        return next(f"U+{point:04X} at byte {byte}" for byte, point in points if not may_stand(point))
+        points = [(byte, point_of(lexeme)) for byte, lexeme in found[1 if lexemes[0] in DEMANDS else 2:]]
+        return next(f"U+{point:04X} at byte {byte}" for byte, point in points if point is not None and not may_stand(point))
     [(kind, most)] = [(kind, most) for kind, most in MOST.items() if lexemes[0] in kind]
     if sum(each[0] in kind for each in before if each) >= most:
         return quoted(*found[0])
-    if lexemes[0] not in PATTERNS:
-        return None
+    return place_past_limit(found, before) if lexemes[0] in PATTERNS else None
+
+
+def place_past_limit(found, before):
+    """The lexeme with which a pattern goes past a limit, if one does."""
     left = MOST_ATOMS - sum(atoms_in(pattern_of(each)) for each in before if each[:1] and each[0] in PATTERNS)
-    pattern = pattern_of(lexemes)
+    pattern = pattern_of([lexeme for _, lexeme in found])
     past = bisect.bisect_left(range(len(pattern)), True, key=lambda last: is_past(pattern[: last + 1], left))
     return None if past == len(pattern) else quoted(*found[len(found) - len(pattern) + past])
 
 
+def defined(before, *keywords):
+    """What the lines before define by these keywords."""
+    return {each[1] for each in before if each and each[0] in keywords}
+
+
+def unknown_set(found, before):
+    known = defined(before, b"%set")
+    return next(quoted(byte, lexeme) for byte, lexeme in found
+                if lexeme[:1] == b"@" and NAME.fullmatch(lexeme[1:]) and lexeme[1:] not in known)
+
+
+def unknown_name_of_action(found, before):
+    """An action's rule comes before its types."""
+    rules, types = ([found[3]], found[5::2]) if found[2][1] in (b"when", b"unless") else ([], found[3::2])
+    return first_unknown(rules, defined(before, b"%whole")) or first_unknown(types, PREDEFINED | defined(before, b"%type"))
+
+
+def first_unknown(names, known):
+    return next((quoted(byte, name) for byte, name in names if name not in known), None)
+
+
 def pattern_of(lexemes):
-    return lexemes[2 if lexemes[0] == b"%rule" else 1:]
+    return lexemes[2 if lexemes[0] in NAMED_PATTERNS else 1:]
 
 
 def atoms_in(lexemes):
@@ -192,51 +219,6 @@ def stars_within_each_other(lexemes):
         kinds = reduced
 
 
-def begins_a_definition(lexemes):
-    depth = max(lexemes.count(b"(") - lexemes.count(b")"), 0)
-    closings = [[*item, *[b")"] * depth, *place] for item in ([], [b"."]) for place in ([], [b"_"])]
-    return any(is_definition(lexemes + end) for end in DEFINITION_ENDS + closings)
-
-
-def is_definition(lexemes):
-    keyword, rest = lexemes[:1], lexemes[1:]
-    if keyword in ([b"%never"], [b"%always"]):
-        return is_pattern(rest) and b"_" not in rest
-    if not rest or not NAME.fullmatch(rest[0]):
-        return False
-    if keyword == [b"%set"]:
-        return are_spans(rest[1:])
-    if keyword == [b"%rule"]:
-        return is_pattern(rest[1:]) and all(map(is_context, branches_of(rest[1:])))
-    return keyword == [b"%tag"] and len(rest) == 1
-
-
-def are_spans(lexemes):
-    kinds = "".join(map(kind_of, lexemes))
-    if not re.fullmatch("(?:P(?:RP)?)+", kinds):
-        return False
-    points = [point_of(lexeme) for lexeme in lexemes]
-    low = -1
-    for place, point in enumerate(points):
-        if point is not None:
-            is_last = place > 0 and points[place - 1] is None
-            if point < low + (0 if is_last else 1):
-                return False
-            low = point
-    return True
-
-
-def is_pattern(lexemes):
-    """Reduces groups to an atom, innermost first, and looks at what is left."""
-    kinds = "".join(map(pattern_kind, lexemes))
-    branches = "(?:(?:A[?*]?|E)+(?:/|(?=\\)|$)))+(?<!/)"
-    while True:
-        reduced = re.sub(rf"\((?:{branches})\)", "A", kinds)
-        if reduced == kinds:
-            return re.fullmatch(branches, kinds) is not None
-        kinds = reduced
-
-
 def pattern_kind(lexeme):
     """A for an atom, E for '^', '$' and '_'."""
     if point_of(lexeme) is not None or lexeme == b"." or lexeme[:1] == b"@" and NAME.fullmatch(lexeme[1:]):
@@ -244,26 +226,6 @@ def pattern_kind(lexeme):
     if lexeme in (b"^", b"$", b"_"):
         return "E"
     return lexeme.decode() if lexeme in (b"(", b")", b"?", b"*", b"/") else "x"
-
-
-def branches_of(lexemes):
-    depth, branches = 0, [[]]
-    for lexeme in lexemes:
-        depth += (lexeme == b"(") - (lexeme == b")")
-        if lexeme == b"/" and depth == 0:
-            branches.append([])
-        else:
-            branches[-1].append((lexeme, depth))
-    return branches
-
-
-def is_context(branch):
-    """One '_', in no group, with no "$" before it and no "^" after it."""
-    lexemes = [lexeme for lexeme, _ in branch]
-    if lexemes.count(b"_") != 1 or (b"_", 0) not in branch:
-        return False
-    place = lexemes.index(b"_")
-    return b"$" not in lexemes[:place] and b"^" not in lexemes[place:]
 
 
 def points_of(found):
@@ -289,7 +251,7 @@ def bad_class(found, may_stand):
 def same_variant(found, may_stand):
     """The first variant that is equal to the source, or to one before it, unless both have conditions, and other ones."""
     sequences = points_of(found)
-    source, *variants = entry_in([lexeme for _, lexeme in found]).entry.mapped()
+    source, *variants = form_in([lexeme for _, lexeme in found]).entry.mapped()
     for number, variant in enumerate(variants):
         equal = [each.condition for each in variants[:number] if each.points == variant.points]
         if variant.points == source.points or (equal and (None in equal or variant.condition in (None, *equal))):
@@ -302,12 +264,15 @@ def same_source(found, may_stand):
 
 
 def unknown_name(found, before):
-    """The first name of an entry or a range that no earlier line defines, of a tag or of a rule. `before` has the lexemes of each
-    line before."""
-    tags, rules = ({each[1] for each in before if each[:1] == [keyword]} for keyword in (b"%tag", b"%rule"))
-    names = zip([(0, b""), *found], found)
-    return next(quoted(byte, lexeme) for (_, after), (byte, lexeme) in names
-                if after in BEFORE_NAMES and lexeme not in (rules if after in (b"when", b"unless") else tags))
+    """The first name of an entry or a range that no earlier line defines, as a type or as a rule."""
+    types, rules = PREDEFINED | defined(before, b"%type"), defined(before, b"%rule", b"%whole")
+    rest = iter(found)
+    for _, lexeme in rest:
+        if lexeme in BEFORE_NAMES:
+            byte, name = next(rest)
+            if name not in (types if lexeme == b"as" else rules):
+                return quoted(byte, name)
+    raise LookupError(found)
 
 
 def past_limit(found, may_stand):

@@ -19,10 +19,12 @@ import collision_rows
 import label_rows
 import ruleset_rows
 import run_rows
+import type_rows
 from idn2_registry.notation import canonical, reading
 from idn2_registry.notation.faults import TEXTS as FAULT_TEXTS
 from idn2_registry.unicode_data import Classes
-from reference_run import TEXTS, Reference, Unknown
+from objects import as_explained, without_what_objects_leave_out
+from reference_run import TEXTS, Options, Reference, Unknown, bodies
 from run_rows import ADLAM, DOUBLED, SHARP_S
 
 # The words before the table's file, the table, the label, and what is printed.
@@ -106,7 +108,7 @@ COLLISIONS = [
     (GAP, "a\n", [], "b\n", ("a\ta\tnone\tvariant\n#end 1\n", "", 0)),
     # 2^62 variants, none of them registered.
     (TWO_TO_THE_62, "abba\nabc\nbac\nc\nzoo\n", [], "a" * 62 + "\n", ("#end 0\n", "", 0)),
-    # A registered label that the table doesn't cover is no fault of the file.
+    # A registered label that can't be cut into sources of the table is no fault of the file.
     (GERMAN, "haus\nстол\n", [], "haus\n", ("haus\thaus\tallocatable\tallocatable\n#end 1\n", "", 0)),
     # The text may be longer than any label.
     (GERMAN, "haus\nstrasse\n", ["--after", "haus" + "a" * 1000], "haus\nstraße\n",
@@ -248,9 +250,10 @@ def rows_of_tables():
 
 
 def rows():
-    """These, and the rows of rulesets, of collisions, of whole runs, and of labels and names."""
+    """These, and the rows of rulesets, of types and actions, of collisions, of whole runs, and of labels and names."""
     yield from rows_of_tables()
     yield from ruleset_rows.rows()
+    yield from type_rows.rows()
     yield from collision_rows.rows()
     yield from run_rows.rows()
     yield from label_rows.rows()
@@ -268,26 +271,42 @@ def program_answer(program, words, given, files):
     return done.stdout.decode(), done.stderr.decode(), done.returncode
 
 
-def answers(second, program, words, given, files):
-    """Who was asked, and the answer: the reference implementation where it can tell, which has no objects, and the program where it is
+def in_words(words, given, wanted):
+    """What is wanted of a run, as a run with `--explain` has it if that is by objects: without what objects leave out."""
+    output, messages, status = wanted
+    if "--json" not in words:
+        return wanted
+    strings = Options([word for word in words if word != "--json"]).strings
+    lines = [string.encode() for string in strings] or list(bodies(given))
+    answers, told = as_explained(output.encode(), lines, "--others" in words)
+    return answers.decode(), told.decode() + messages, status
+
+
+def by_reference(second, words, given, files, wanted):
+    """The answer of the reference implementation, and what is wanted of it: in words, where the row asks for objects."""
+    explained = ["--explain" if word == "--json" else word for word in words]
+    output, messages, status = second.answer(explained, given, files)
+    messages = messages if explained == words else without_what_objects_leave_out(messages)
+    return (output.decode(), messages.decode(), status), in_words(words, given, wanted)
+
+
+def answers(second, program, words, given, files, wanted):
+    """Who was asked, the answer, and what is wanted: the reference implementation where it can tell, and the program where it is
     built."""
     try:
-        if "--json" not in words:
-            output, messages, status = second.answer(words, given, files)
-            yield "the reference implementation", (output.decode(), messages.decode(), status)
+        yield "the reference implementation", *by_reference(second, words, given, files, wanted)
     except Unknown:
         pass
     if program.exists():
-        yield "the program", program_answer(program.resolve(), words, given, files)
+        yield "the program", program_answer(program.resolve(), words, given, files), wanted
 
 
 def canonical_texts(classes):
     """Each text, what the reference implementation makes of it, and what is expected."""
     for table, wanted in CANONICAL:
         yield table, check.canonical_text(check.read(table.encode(), classes)), wanted
-    for ruleset, wanted in ruleset_rows.CANONICAL:
-        text = (ruleset_rows.VERSION_LINE + ruleset).encode()
-        yield ruleset, canonical.text_of(reading.read(text, classes.may_stand)), ruleset_rows.VERSION_LINE + wanted
+    for ruleset, wanted in [*ruleset_rows.canonical(), *type_rows.canonical()]:
+        yield ruleset, canonical.text_of(reading.read(ruleset.encode(), classes.may_stand)), wanted
 
 
 def main():
@@ -298,12 +317,12 @@ def main():
     for words, given, files, wanted in rows():
         given, files = in_bytes(given), {name: in_bytes(text) for name, text in files.items()}
         asked["worked rows"] += 1
-        for name, answer in answers(second, program, words, given, files):
+        for name, answer, expected in answers(second, program, words, given, files, wanted):
             asked[name] += 1
-            if answer != wanted:
+            if answer != expected:
                 wrong += 1
                 shown = {file: text[:80] for file, text in files.items()}
-                print(f"{words}, {given[:80]!r}, {shown}: {name} answered {answer}, expected {wanted}")
+                print(f"{words}, {given[:80]!r}, {shown}: {name} answered {answer}, expected {expected}")
     for table, found, wanted in canonical_texts(classes):
         asked["canonical texts"] += 1
         if found != wanted:
