@@ -134,25 +134,29 @@ def canonical_text(table):
 
 def check(text, classes):
     """What `idn2 --check-table` prints, and whether there is no fault and nothing is found."""
-    return report(lambda: {source: dict.fromkeys(variants, {None}) for source, variants in read(text, classes).entries.items()})
+    try:
+        entries = read(text, classes).entries
+    except TableFault as fault:
+        return [str(fault)], False
+    return report({source: dict.fromkeys(variants, {None}) for source, variants in entries.items()})
 
 
 def check_ruleset(text, classes):
     """What a check of a ruleset prints, and whether there is no fault and nothing is found."""
-    return report(lambda: reading.read(text, classes.may_stand).variants_of())
-
-
-def report(variants_of):
-    """The pairs that are found in what is read, and how many sources and gaps there are; or the fault. For each source it has
-    the variants, each with the set of its conditions."""
     try:
-        entries = variants_of()
+        ruleset = reading.read(text, classes.may_stand)
     except TableFault as fault:
         return [str(fault)], False
+    return report(ruleset.variants_of(), ruleset.idle_types())
+
+
+def report(entries, idle=()):
+    """The pairs that are found, the types that no action names, and how many sources and gaps there are. `entries` have for each
+    source the variants, each with the set of its conditions."""
     missing = gaps(entries)
-    found = [*(("missing", pair) for pair in missing), *(("differs", pair) for pair in differences(entries))]
-    lines = [f"{word} {spelled(a)}|{spelled(b)}" for word, (a, b) in found]
-    return lines + [f"#table {len(entries)} {len(missing)}"], not found
+    pairs = [*(("missing", pair) for pair in missing), *(("differs", pair) for pair in differences(entries))]
+    found = [f"{word} {spelled(a)}|{spelled(b)}" for word, (a, b) in pairs] + [f"idle {name}" for name in idle]
+    return found + [f"#table {len(entries)} {len(missing)}"], not found
 
 
 def main(words):

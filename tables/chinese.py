@@ -1,11 +1,12 @@
 """The ruleset of Chinese, rulesets/chinese.txt, which make.py makes together with the table han.txt: the same sets of
-variants, with a tag for each kind of character."""
+variants, with a type for each kind of character."""
 
 from idn2_registry.notation.points import spelled
 from idn2_registry.unicode_data import han_field
 
-# The tag of a character, by the field of Unihan that tells of the character set that it has to be in.
+# The type of a character, by the field of Unihan that tells of the character set that it has to be in.
 CHARACTER_SETS = {"simp": "kGB0", "trad": "kBigFive"}
+BOTH = "both"
 # The field that a character of a kind has where it is one end of a pair: which characters the other end is.
 DIRECTIONS = {"simp": "kTraditionalVariant", "trad": "kSimplifiedVariant"}
 
@@ -19,20 +20,26 @@ HEAD = """\
 # and the one that is traditional throughout, and nobody else can have a mixture of both. {pairs:,} characters have variants,
 # {others:,} have none.
 #
-# Compared with the directions of Unihan's pairs (kSimplifiedVariant, kTraditionalVariant): of {tagged:,} characters of one
+# Compared with the directions of Unihan's pairs (kSimplifiedVariant, kTraditionalVariant): of {of_one:,} characters of one
 # kind {directed:,} have that of their pairs. The others are {undirected}.
-%tag simp
-%tag trad
+%type simp
+%type r_simp
+%type trad
+%type r_trad
+%type both
+%action allocatable all simp,both,r_simp
+%action allocatable all trad,both,r_trad
+%action blocked any simp,trad,both
 """
 
 
 def text_of(variants, version):
     """The text, for each source its variants."""
     kinds = {point: kind_of(point) for source in variants for point in source if variants[source]}
-    tagged = {point for point in kinds if kinds[point]}
-    directed = {point for point in tagged if has_direction(point, kinds[point])}
-    numbers = {"pairs": len(kinds), "others": len(variants) - len(kinds), "tagged": len(tagged), "directed": len(directed)}
-    undirected = ", ".join(f"{point:04X}" for point in sorted(tagged - directed))
+    of_one = {point for point in kinds if kinds[point] != BOTH}
+    directed = {point for point in of_one if has_direction(point, kinds[point])}
+    numbers = {"pairs": len(kinds), "others": len(variants) - len(kinds), "of_one": len(of_one), "directed": len(directed)}
+    undirected = ", ".join(f"{point:04X}" for point in sorted(of_one - directed))
     runs = runs_of([(source, *others) for source, others in variants.items()])
     return HEAD.format(version=version, undirected=undirected, **numbers) + "".join(line_of(run, kinds) for run in runs)
 
@@ -49,9 +56,9 @@ DIRECTED = {kind: {point for point, value in han_field("Unihan_Variants.txt", fi
 
 
 def kind_of(point):
-    """The tag of a character; None if it is of both kinds."""
+    """The type of a character as a variant."""
     kinds = [kind for kind, points in CHARACTERS.items() if point in points]
-    return kinds[0] if len(kinds) == 1 else None
+    return kinds[0] if len(kinds) == 1 else BOTH
 
 
 def has_direction(point, kind):
@@ -73,10 +80,8 @@ def runs_of(entries):
 def line_of(run, kinds):
     if len(run) > 1:
         return f"{spelled(run[0][0])}..{spelled(run[-1][0])}\n"
-    source, *variants = (tagged(sequence, kinds) for sequence in run[0])
-    return source + ("|" + ":".join(variants) if variants else "") + "\n"
-
-
-def tagged(sequence, kinds):
-    kind = kinds.get(sequence[0])
-    return spelled(sequence) + (f" as {kind}" if kind else "")
+    source, *variants = ((sequence, kinds.get(sequence[0])) for sequence in run[0])
+    # A character that stays as it is, and is of both kinds or has no variant, is no matter of 'all'.
+    line = spelled(source[0]) + (f" as r_{source[1]}" if source[1] in CHARACTER_SETS else "")
+    told = ":".join(f"{spelled(sequence)} as {kind}" for sequence, kind in variants)
+    return f"{line}|{told}\n" if told else f"{line}\n"

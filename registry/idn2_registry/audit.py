@@ -14,7 +14,7 @@ from .holdings import Holdings
 from .output import Output
 from .program import HeldFile, Program, WrongRegistered
 from .since import Earlier
-from .tables import Table, read_table
+from .tables import Table, check_for_collisions, read_table
 from .words import counted, registered_words, shown
 from .work import Means, Task, parts_of, results
 
@@ -90,8 +90,7 @@ class AuditTask:
 
 def admission_words(table: Table) -> tuple[list[str], list[int]]:
     """The words and the files of a run that tells which labels a table admits, and little else of them."""
-    option, _ = table.kind.value
-    return [option, table.held.path, "--limit", "1", "--tries", "1"], [table.held.descriptor]
+    return table.listing("--limit", "1", "--tries", "1"), [table.held.descriptor]
 
 
 def lines_of(labels: Iterable[bytes]) -> bytes:
@@ -151,6 +150,7 @@ def findings(program: Program, admitting: Sequence[Table], zone: Table, holdings
              name: str) -> Findings:
     """All that is wrong with the labels of a register under some tables. The program reads no registered labels with one that
     may not be registered. Only where it says so, each label is tested alone."""
+    check_for_collisions(zone, program)
     try:
         return findings_among(program, admitting, zone, holdings.text, means, name)
     except WrongRegistered:

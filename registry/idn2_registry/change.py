@@ -39,8 +39,7 @@ class ChangeTask:
 
     def listed(self, table: Table, part: bytes) -> bytes:
         """All variants of the labels."""
-        option, _ = table.kind.value
-        words = [option, table.held.path, "--tries", str(self.limits.tries), "--steps", str(self.limits.steps)]
+        words = table.listing("--tries", str(self.limits.tries), "--steps", str(self.limits.steps))
         return self.program.answered(words, part, [table.held.descriptor])
 
     def done(self, part: bytes) -> bytes:

@@ -7,7 +7,7 @@ from .join import lacking
 from .output import Output
 from .program import Program
 from .register import open_register
-from .tables import Table, read_table
+from .tables import Table, table_of_zone
 from .words import counted
 
 # So many gaps of a table are named, and so many pairs that differ; the program tells all of them.
@@ -26,7 +26,7 @@ def check_tables(configuration: Configuration, program: Program, output: Output)
     tables: dict[str, Table] = {}
     for name, path in configuration.tables.items():
         try:
-            table = read_table(name, path, program)
+            table = table_of_zone(name, path, program)
         except Unusable as error:
             output.fact({"table": name, "fault": str(error)}, str(error), ExitStatus.NOT_KNOWN)
             continue
@@ -40,6 +40,9 @@ def check_tables(configuration: Configuration, program: Program, output: Output)
             # Advice, no fault: a registry may want it so.
             words = f"{path}: the pair {pair} has other conditions the other way, which RFC 7940, 5.3.5, advises against"
             output.fact({"table": name, "differs": pair}, words, ExitStatus.YES)
+        for kind in table.idle:
+            words = f"{path}: no action names the type {kind}, so that it blocks nothing: was it misspelt?"
+            output.fact({"table": name, "idle": kind}, words, ExitStatus.NO)
     if (zone := tables.get(configuration.zone)) is not None:
         admitting = [tables[name] for name in configuration.admitting if name in tables]
         if doubt := lacking(zone, admitting):

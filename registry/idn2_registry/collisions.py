@@ -38,9 +38,8 @@ class Collisions:
     """Collisions under one table, whichever of two labels is a variant of the other."""
 
     def __init__(self, table: Table) -> None:
-        self._list, _ = table.kind.value
         self._table = table
-        self._jump = Question((self._list, table.held.path, "--jump"), (table.held,))
+        self._jump = Question(tuple(table.listing("--jump")), (table.held,))
 
     async def of(self, label: str, transaction: Transaction, questions: Questions) -> list[Row]:
         """The registered labels that collide with a label, in label order, each with its holder; itself among them.
@@ -94,8 +93,7 @@ class Collisions:
 
     def audit_words(self, registered: HeldFile) -> tuple[list[str], list[int]]:
         """The words and the files of a run that is asked all registered labels, each on a line."""
-        words = [self._list, self._table.held.path, "--among", registered.path]
-        return words, [self._table.held.descriptor, registered.descriptor]
+        return self._table.listing("--among", registered.path), [self._table.held.descriptor, registered.descriptor]
 
 
 def found_in_audit(output: bytes, part: bytes, refused: Sequence[int]) -> tuple[int, list[tuple[str, str]]]:

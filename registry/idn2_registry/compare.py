@@ -2,14 +2,14 @@
 
 import re
 from collections.abc import Iterator
-from dataclasses import dataclass
+from dataclasses import dataclass, replace
 from enum import Enum
 from typing import Any
 
 from .answers import ExitStatus, Object
 from .notation import canonical
 from .notation.points import Points, spelled
-from .notation.ruleset import Mapped
+from .notation.ruleset import ALLOCATABLE, DISPOSITIONS, Action, Mapped, Rule
 from .output import Output
 from .parsed_table import ParsedTable
 from .words import counted
@@ -26,7 +26,7 @@ class Kind(Enum):
     VARIANT = "variant"
     RULE = "rule"
     DEMAND = "demand"
-    TAG = "tag"
+    ACTION = "action"
 
 
 class Relation(Enum):
@@ -109,37 +109,49 @@ def facts_of(parsed: ParsedTable, rules: dict[str, str]) -> Facts:
     facts: Facts = {}
     for source, entry in parsed.ruleset.entries.items():
         kind = Kind.POINT if len(source) == 1 else Kind.SEQUENCE
-        facts[kind, source] = with_condition("outside" if entry.is_outside else "", entry.source, rules)
+        own = f"as {entry.source.type}" if entry.source.type else ""
+        facts[kind, source] = with_condition(own, entry.source, rules)
         variants: dict[Points, list[str]] = {}
         for variant in entry.variants:
-            # No label has an outside source, so that its variants are neither blocked nor allocatable.
-            disposition = "outside" if entry.is_outside else "blocked" if variant.is_marked else "allocatable"
-            variants.setdefault(variant.points, []).append(with_condition(disposition, variant, rules))
+            variants.setdefault(variant.points, []).append(with_condition(kind_of(variant), variant, rules))
         facts.update({(Kind.VARIANT, (source, points)): " and ".join(sorted(said)) for points, said in variants.items()})
     facts.update({(Kind.RULE, rules[name]): text for name, text in rule_texts(parsed).items()})
     facts.update({(Kind.DEMAND, text): "" for text in demand_texts(parsed)})
-    facts.update({(Kind.TAG, tag): "" for tag in {tag for each in mapped_of(parsed) for tag in each.tags}})
+    for number, action in enumerate(parsed.ruleset.actions, 1):
+        facts[Kind.ACTION, number] = action_text(action, rules)
     return facts
 
 
-def with_condition(disposition: str, mapped: Mapped, rules: dict[str, str]) -> str:
-    """What stands with a sequence, the tags in their order."""
-    tags = f"as {','.join(sorted(mapped.tags))}" if mapped.tags else ""
+def kind_of(variant: Mapped) -> str:
+    """What is said of a variant. Without a type it is allocatable, as far as no action says something else."""
+    if variant.type is None:
+        return ALLOCATABLE
+    return variant.type if variant.type in DISPOSITIONS else f"as {variant.type}"
+
+
+def with_condition(said: str, mapped: Mapped, rules: dict[str, str]) -> str:
+    """What is said of a sequence, and where."""
     condition = f"{mapped.condition.word} {rules[mapped.condition.rule]}" if mapped.condition else ""
-    return " ".join(filter(None, (disposition, tags, condition)))
+    return " ".join(filter(None, (said, condition)))
 
 
-def mapped_of(parsed: ParsedTable) -> Iterator[Mapped]:
-    """All sources and variants."""
-    for entry in parsed.ruleset.entries.values():
-        yield from entry.mapped()
+def action_text(action: Action, rules: dict[str, str]) -> str:
+    """An action, with the name by which its rule is told."""
+    named = action.condition and replace(action.condition, rule=rules[action.condition.rule])
+    return canonical.action_line(replace(action, condition=named)).removeprefix("%action ")
 
 
 def rule_texts(parsed: ParsedTable) -> dict[str, str]:
-    """The rules that something names, each with its contexts."""
-    named = {each.condition.rule for each in mapped_of(parsed) if each.condition}
-    return {name: written_out(canonical.rule_line(name, contexts).split(" ", 2)[2], parsed)
-            for name, contexts in parsed.ruleset.rules.items() if name in named}
+    """The rules that something names, each with its contexts or its pattern."""
+    ruleset = parsed.ruleset
+    conditions = [each.condition for entry in ruleset.entries.values() for each in entry.mapped()]
+    named = {each.rule for each in [*conditions, *(action.condition for action in ruleset.actions)] if each}
+    return {name: rule_text(rule, parsed) for name, rule in ruleset.rules.items() if name in named}
+
+
+def rule_text(rule: Rule, parsed: ParsedTable) -> str:
+    """The contexts or the pattern of a rule."""
+    return written_out(canonical.rule_line("", rule).split("  ", 1)[1], parsed)
 
 
 def demand_texts(parsed: ParsedTable) -> list[str]:

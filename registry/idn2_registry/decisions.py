@@ -11,7 +11,7 @@ from .join import lacking
 from .processes import Pool, Question, Questions, only
 from .program import Program
 from .register import Transaction
-from .tables import Table, read_table
+from .tables import Table, table_of_zone
 
 REGISTER = Question(("--register",))
 
@@ -22,7 +22,7 @@ class Tables:
     def __init__(self, configuration: Configuration, program: Program) -> None:
         self.limits = configuration.limits
         self.program = program
-        tables = {name: read_table(name, path, program) for name, path in configuration.tables.items()}
+        tables = {name: table_of_zone(name, path, program) for name, path in configuration.tables.items()}
         self.by_name = tables
         self.admitting = {name: tables[name] for name in configuration.admitting}
         self._asked = {name: Collisions(table) for name, table in tables.items()}
@@ -36,7 +36,7 @@ class Tables:
     @staticmethod
     def question(table: Table, *options: str) -> Question:
         """What lists by a table."""
-        return Question((table.kind.value[0], table.held.path, *options), (table.held,))
+        return Question(tuple(table.listing(*options)), (table.held,))
 
     def bounds(self, most: int) -> tuple[str, ...]:
         """The options that bound a listing."""
@@ -96,7 +96,7 @@ class Tables:
         taken_by = tuple([RegisteredLabel(each, await self.alabel_of(each, questions), held)
                           for each, held in await self.collisions.of(label, transaction, questions)])
         is_own = holder is not None and all(each.ulabel != label and each.holder == holder for each in taken_by)
-        is_offered = is_own and all([await self.is_offered(label, each.ulabel, questions) for each in taken_by])
+        is_offered = is_own and all([await self.is_offered(tested, each.ulabel, questions) for each in taken_by])
         if taken_by and not is_offered:
             return replace(tested, status=Status.TAKEN, taken_by=taken_by)
         if self.doubt:
@@ -108,11 +108,12 @@ class Tables:
         alabel: str = only(await questions.ask(REGISTER, ulabel.encode()), "alabel").get("alabel", ulabel)
         return alabel
 
-    async def is_offered(self, label: str, registered: str, questions: Questions) -> bool:
-        """Whether the holder of a registered label may have the label, too: under each table that admits both, and one
-        does."""
-        both = [self._asked[name] for name in self.admitting
-                if not any([await self.refusal(name, each, questions) for each in (label, registered)])]
+    async def is_offered(self, tested: Answer, registered: str, questions: Questions) -> bool:
+        """Whether the holder of a registered label may have an admitted label, too: under each table that admits both,
+        and one does."""
+        assert tested.ulabel is not None
+        label = tested.ulabel
+        both = [self._asked[name] for name in tested.tables or () if not await self.refusal(name, registered, questions)]
         return bool(both) and all([await each.is_offered(label, registered, questions) for each in both])
 
 

@@ -1,65 +1,49 @@
 """`join`: one table that tells which labels collide, from several."""
 
-import re
 from collections.abc import Iterator, Sequence
 from pathlib import Path
+from typing import NamedTuple
 
 from .faults import Unusable
+from .notation.forms import EntryLine, RangeLine
 from .notation.points import Points, spelled
+from .parsed_table import ParsedTable, forms_of
 from .program import Program
 from .tables import Table, checked
 
 
 def entries_of(table: Table) -> Iterator[list[Points]]:
-    """The entries of a table, each as its source and its variants, outside sources among them. Tags and conditions don't
-    matter, since each label is tested under its own table."""
-    return ([points for points, _ in mapped] for _, mapped in marked_entries_of(table))
-
-
-def marked_entries_of(table: Table) -> Iterator[tuple[int, list[tuple[Points, bool]]]]:
-    """The same with their lines, each sequence with whether it is marked by '!'."""
-    for number, line in enumerate(table.data.decode("ascii", "replace").split("\n"), 1):
-        if not line.strip() or line.strip()[0] in "#%":
-            continue
-        # Tags and conditions end where a bar or a colon is.
-        line = re.sub(r"[ \t](as|when|unless)[ \t][^|:]*", "", line)
-        entry = "".join(line.split()).upper().replace("U+", "")
-        first, _, last = entry.partition("..")
-        if last:
-            for point in range(int(first.removeprefix("!"), 16), int(last, 16) + 1):
-                yield number, [((point,), first.startswith("!"))]
-        else:
-            yield number, [(points_of(part), part.startswith("!")) for part in re.split("[|:]", entry)]
-
-
-def points_of(part: str) -> Points:
-    """A sequence, which may be marked."""
-    return tuple(int(point, 16) for point in part.removeprefix("!").split("-"))
+    """The entries of a table, each as its source and its variants. Types and conditions don't matter, since each label
+    is tested under its own table."""
+    forms = (form for _, form in forms_of(table) if isinstance(form, EntryLine | RangeLine))
+    return ([mapped.points for mapped in entry.mapped()] for form in forms for entry in form.entries())
 
 
 def check_dispositions(tables: Sequence[Table]) -> None:
-    """No pair is blocked in one table and allocatable in another. Version 1 says neither; and of an outside source no label
-    has variants."""
-    said: dict[tuple[Points, Points], tuple[Table, int, set[bool]]] = {}
-    for table in tables:
-        for line, (source, *variants) in marked_entries_of(table) if table.version > 1 else ():
-            for variant in {points for points, _ in variants} if not source[1] else ():
-                own = table, line, {is_marked for points, is_marked in variants if points == variant}
-                other = said.setdefault((source[0], variant), own)
-                if other[2] != own[2]:
-                    pair = f"{spelled(source[0])}|{spelled(variant)}"
-                    raise Unusable(f"{place_of(other)}: {pair} is {disposition_of(other)}, and in {place_of(own)} it is "
-                                   f"{disposition_of(own)}: make both the same")
+    """No pair is blocked in one table and allocatable in another. Version 1 says neither; and no label has a source that
+    is invalid by its type."""
+    said: dict[tuple[Points, Points], Said] = {}
+    for parsed in (ParsedTable.read(table) for table in tables if table.version > 1):
+        for source, entry in parsed.ruleset.entries.items():
+            told: dict[Points, set[str]] = {}
+            for variant in () if parsed.refuses(entry) else entry.variants:
+                told.setdefault(variant.points, set()).add(parsed.disposition_of(variant))
+            for points, dispositions in told.items():
+                own = Said(parsed.place(source), dispositions)
+                other = said.setdefault((source, points), own)
+                if other.dispositions != own.dispositions:
+                    pair = f"{spelled(source)}|{spelled(points)}"
+                    raise Unusable(f"{other.place}: {pair} is {other}, and in {own.place} it is {own}: make both the same")
 
 
-def place_of(said: tuple[Table, int, set[bool]]) -> str:
-    """The file and the line that say something."""
-    return f"{said[0].path}: line {said[1]}"
+class Said(NamedTuple):
+    """The file and the line that say something of a pair, and what they say."""
 
+    place: str
+    dispositions: set[str]
 
-def disposition_of(said: tuple[Table, int, set[bool]]) -> str:
-    """A disposition in words."""
-    return "both by conditions" if len(said[2]) > 1 else "blocked" if True in said[2] else "allocatable"
+    def __str__(self) -> str:
+        return "both by conditions" if len(self.dispositions) > 1 else next(iter(self.dispositions))
 
 
 def lacking(zone: Table, tables: Sequence[Table]) -> str | None:

@@ -165,12 +165,18 @@ class Pool:
         told: list[list[Object] | Unknown] = []
         lines = [request[:MOST_BYTES] for request in requests]
         while len(told) < len(lines):
-            try:
-                with self._process(question, until) as process:
-                    for objects in process.ask(lines[len(told):], until):
-                        told.append(objects)
-            except Unknown as fault:
-                told.append(fault)
+            told += self._told_by_one(question, lines[len(told):], until)
+        return told
+
+    def _told_by_one(self, question: Question, lines: Sequence[bytes], until: Time) -> list[list[Object] | Unknown]:
+        """What one process answers, up to the line at which it fails."""
+        told: list[list[Object] | Unknown] = []
+        try:
+            with self._process(question, until) as process:
+                for objects in process.ask(lines, until):
+                    told.append(objects)
+        except Unknown as fault:
+            told.append(fault)
         return told
 
     @contextlib.contextmanager

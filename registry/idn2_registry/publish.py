@@ -2,14 +2,15 @@
 
 import itertools
 import re
-from collections.abc import Iterator, Sequence
+from collections.abc import Callable, Iterator, Sequence
 from pathlib import Path
+from typing import Any
 
 from .faults import Unknown, Unsayable
 from .form import Form
 from .metadata import read_metadata
 from .notation.points import Points, spelled
-from .notation.ruleset import Entry
+from .notation.ruleset import BLOCKED, Entry, Mapped
 from .parsed_table import ParsedTable
 from .program import Program
 from .publish_xml import Element, ruleset_element
@@ -17,8 +18,6 @@ from .rfc7940 import reader, verified
 from .rfc7940.ruleset import Ruleset
 from .tables import Table
 
-# Whether a source is outside, and its variants, each with whether it is blocked.
-Marks = tuple[bool, list[tuple[Points, bool]]]
 DECLARATION = '<?xml version="1.0" encoding="UTF-8"?>'
 
 
@@ -72,11 +71,13 @@ class Xml:
         if back is None:
             found = re.match(r"lines? (\d+)\S*.*?: (.*)", told)
             raise self.unsayable(int(found[1]) if found else None, f"XML can't say it: {found[2] if found else told}")
-        check_same(self.parsed, back, "XML")
+        check_same(self.parsed, back, "XML", lambda entry: (entry.source, frozenset(entry.variants)))
+        if back.ruleset.actions != self.parsed.ruleset.actions:
+            raise self.unsayable(None, "XML can't say it: the actions read back otherwise")
 
     def check_answers(self, ruleset: Ruleset) -> None:
         """What the program lists of labels is what RFC 7940 says of them."""
-        words, mode = [self.program.path, *self.program.options], self.parsed.table.kind.value[0]
+        words, mode = [self.program.path, *self.program.options], self.parsed.table.kind.lists
         labels = verified.labels_for(ruleset, [])
         try:
             for difference in itertools.islice(verified.differences(words, mode, self.parsed.table.data, ruleset, labels), 1):
@@ -94,7 +95,7 @@ class Lines:
     def text(self, meta: Sequence[Element]) -> bytes:
         """The text, after it was read back."""
         self.check()
-        marks = {variant.is_marked for entry in self.parsed.ruleset.entries.values() for variant in entry.variants}
+        marks = {is_blocked(variant) for entry in self.parsed.ruleset.entries.values() for variant in entry.variants}
         if len(marks) > 1:
             raise self.unsayable(self.first_line_of_both(), "blocked variants beside allocatable ones")
         lines = [f"# {element.name}: {line}" for element in flat(meta) for line in element.text.split("\n")]
@@ -107,7 +108,8 @@ class Lines:
         back, told = read_back(text, self.parsed, self.program, "--untyped", untyped)
         if back is None:
             raise Unsayable(f"{self.parsed.table.path}: RFC 4290 can't say it: {told}")
-        check_same(self.parsed, back, "RFC 4290")
+        check_same(self.parsed, back, "RFC 4290",
+                   lambda entry: (entry.source, [(each.points, is_blocked(each)) for each in entry.variants]))
         return text
 
     def unsayable(self, line: int, what: str) -> Unsayable:
@@ -122,12 +124,15 @@ class Lines:
     def lacking(self) -> Iterator[tuple[int, str]]:
         """What RFC 4290 lacks, with its lines."""
         ruleset, lines = self.parsed.ruleset, self.parsed.lines
-        for words, names in (("tags", ruleset.tags), ("rules", list(ruleset.rules))):
+        for words, names in (
+            ("types", ruleset.types), ("rules", list(ruleset.rules)),
+            ("demands", [f"demand {number}" for number in range(len(ruleset.demands))]),
+            ("actions", [f"action {number}" for number in range(len(ruleset.actions))]),
+        ):
             yield from ((lines[name], words) for name in names)
-        yield from ((lines[number], "demands") for number in range(len(ruleset.demands)))
         for source, entry in ruleset.entries.items():
-            if entry.is_outside:
-                yield lines[source], "outside sources"
+            if entry.source.type:
+                yield lines[source], "types of sources"
             if len(source) > 1:
                 yield lines[source], "sources of several code points"
 
@@ -136,9 +141,9 @@ class Lines:
         seen = None
         for source, entry in self.parsed.ruleset.entries.items():
             for variant in entry.variants:
-                if seen not in (None, variant.is_marked):
+                if seen not in (None, is_blocked(variant)):
                     return self.parsed.lines[source]
-                seen = variant.is_marked
+                seen = is_blocked(variant)
         raise AssertionError("it is called where they differ")
 
 
@@ -181,30 +186,24 @@ def read_back(text: bytes, parsed: ParsedTable, program: Program, *words: str) -
 
 
 def check_variants(parsed: ParsedTable) -> None:
-    """Each variant has code points of sources alone: what is no source can be in no label (RFC 7940, section 8.3)."""
+    """Before version 3 a variant may have what is in no source; by RFC 7940, section 8.3, no label has it then."""
     known = {point for source in parsed.ruleset.entries for point in source}
-    for source, entry in parsed.ruleset.entries.items():
+    for source, entry in parsed.ruleset.entries.items() if parsed.table.version < 3 else ():
         for variant in entry.variants:
             if lost := [point for point in variant.points if point not in known]:
                 reason = f"by RFC 7940 no label has the variant {spelled(variant.points)}, since no entry has {lost[0]:04X}"
-                remedy = f": add !{lost[0]:04X}" if parsed.table.version == 3 else ""
-                raise Unsayable(f"{parsed.place(source)}: {reason}{remedy}")
+                raise Unsayable(f"{parsed.place(source)}: {reason}")
 
 
-def check_same(parsed: ParsedTable, back: ParsedTable, form: str) -> None:
-    """What is read back has the same sources and variants, each blocked or not."""
-    one, other = marks_of(parsed), marks_of(back)
+def check_same(parsed: ParsedTable, back: ParsedTable, form: str, said: Callable[[Entry], Any]) -> None:
+    """What is read back has the same sources, with what is said of each."""
+    one, other = ({source: said(entry) for source, entry in each.ruleset.entries.items()} for each in (parsed, back))
     for source in [*one, *other]:
         if one.get(source) != other.get(source):
             place = parsed.place(source) if source in one else str(parsed.table.path)
             raise Unsayable(f"{place}: {form} can't say it: {spelled(source)} reads back otherwise")
 
 
-def marks_of(parsed: ParsedTable) -> dict[Points, Marks]:
-    """For each source whether it is outside, and its variants. No label has an outside source, so that its variants are neither
-    blocked nor allocatable."""
-    marks: dict[Points, Marks] = {}
-    for source, entry in parsed.ruleset.entries.items():
-        variants = [(variant.points, variant.is_marked or entry.is_outside) for variant in entry.variants]
-        marks[source] = entry.is_outside, sorted(variants)
-    return marks
+def is_blocked(variant: Mapped) -> bool:
+    """Whether nobody may have a variant by its type."""
+    return variant.type == BLOCKED

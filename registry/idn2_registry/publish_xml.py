@@ -6,14 +6,14 @@ from html import escape
 
 from .notation.patterns import Branch, Group, Item, Optional, Pattern, Point, Set, Sign
 from .notation.points import Points
-from .notation.ruleset import Entry, Mapped, Ruleset
+from .notation.ruleset import ALLOCATABLE, INVALID, ContextRule, Entry, Mapped, Rule
 from .parsed_table import ParsedTable
 
 NAMESPACE = "urn:ietf:params:xml:ns:lgr-1.0"
 CONDITIONS = {"when": "when", "unless": "not-when"}
-# 7.3
-INVALID, BLOCKED, ALLOCATABLE = "invalid", "blocked", "allocatable"
-PREDEFINED = (INVALID, BLOCKED, ALLOCATABLE, "activated", "valid")
+# 7.1, 7.2
+MATCHES = {"when": "match", "unless": "not-match"}
+ASKS = {"any": "any-variant", "all": "all-variants", "only": "only-variants"}
 # 6.2, 6.4
 SIGNS = {Sign.ANY: "any", Sign.START: "start", Sign.END: "end"}
 
@@ -47,10 +47,9 @@ class Element:
 
 def ruleset_element(parsed: ParsedTable, meta: Sequence[Element]) -> Element:
     """The whole file, below the metadata."""
-    types = Types(parsed.ruleset)
-    rules = [*definitions(parsed), *demands(parsed), *types.actions()]
+    rules = [*definitions(parsed), *demands(parsed), *actions(parsed)]
     sections = [Element("meta", children=list(meta))] if meta else []
-    sections.append(Element("data", children=list(entries(parsed, types))))
+    sections.append(Element("data", children=list(entries(parsed))))
     sections += [Element("rules", children=rules)] if rules else []
     return Element("lgr", {"xmlns": NAMESPACE}, sections)
 
@@ -58,7 +57,7 @@ def ruleset_element(parsed: ParsedTable, meta: Sequence[Element]) -> Element:
 # ---- Entries (5)
 
 
-def entries(parsed: ParsedTable, types: "Types") -> Iterator[Element]:
+def entries(parsed: ParsedTable) -> Iterator[Element]:
     """A `char` for each entry, and a `range` for each run of them that a range can stand for."""
     for run in runs_of(parsed.ruleset.entries.values()):
         first = run[0].source
@@ -67,7 +66,8 @@ def entries(parsed: ParsedTable, types: "Types") -> Iterator[Element]:
             ends = {"first-cp": cp((first.points[0],)), "last-cp": cp((run[-1].source.points[0],))}
             yield Element("range", {**ends, **condition(first)}, line=line)
         else:
-            yield Element("char", {"cp": cp(first.points), **condition(first)}, list(variants(run[0], types)), line=line)
+            each = list(variants(run[0], ALLOCATABLE if parsed.table.version < 3 else None))
+            yield Element("char", {"cp": cp(first.points), **condition(first)}, each, line=line)
 
 
 def runs_of(given: Iterable[Entry]) -> Iterator[list[Entry]]:
@@ -83,7 +83,7 @@ def runs_of(given: Iterable[Entry]) -> Iterator[list[Entry]]:
 
 def is_plain(entry: Entry) -> bool:
     """Whether it says no more than that a code point may stand somewhere."""
-    return not (entry.variants or entry.source.is_marked or entry.source.tags) and len(entry.source.points) == 1
+    return not (entry.variants or entry.source.type) and len(entry.source.points) == 1
 
 
 def follows(one: Mapped, other: Mapped) -> bool:
@@ -91,13 +91,14 @@ def follows(one: Mapped, other: Mapped) -> bool:
     return one.points[0] + 1 == other.points[0] and one.condition == other.condition
 
 
-def variants(entry: Entry, types: "Types") -> Iterator[Element]:
-    """The variants, and first the reflexive one, if the source has a type."""
-    reflexive = types.of_source(entry.source)
-    if reflexive:
-        yield Element("var", {"cp": cp(entry.source.points), "type": reflexive})
+def variants(entry: Entry, untyped: str | None) -> Iterator[Element]:
+    """The variants, and first the reflexive one (5.3.4), if the source has a type. `untyped` is the type of those that
+    have none."""
+    if entry.source.type:
+        yield Element("var", {"cp": cp(entry.source.points), "type": entry.source.type})
     for variant in entry.variants:
-        yield Element("var", {"cp": cp(variant.points), "type": types.of_variant(variant), **condition(variant)})
+        kind = variant.type or untyped
+        yield Element("var", {"cp": cp(variant.points), **({"type": kind} if kind else {}), **condition(variant)})
 
 
 def cp(points: Points) -> str:
@@ -110,57 +111,6 @@ def condition(mapped: Mapped) -> dict[str, str]:
     return {CONDITIONS[mapped.condition.word]: mapped.condition.rule} if mapped.condition else {}
 
 
-# ---- Types of variants, and actions on them (5.3.4, 7)
-
-
-class Types:
-    """What the marks and tags of a table are as types. An unmarked variant is allocatable, a marked one blocked, and a marked
-    source, which no label may have, invalid: about these the default actions say the same (7.6). Each group of tags is a type,
-    and so is each group of a source that stays as it is."""
-
-    def __init__(self, ruleset: Ruleset) -> None:
-        self.tags = tuple(ruleset.tags)
-        given = [each for entry in ruleset.entries.values() for each in entry.mapped()]
-        sources = {entry.source.tags for entry in ruleset.entries.values() if entry.source.tags}
-        groups = {each.tags for each in given if each.tags}
-        self.groups = {frozenset(tags): self.name_of(tags) for tags in sorted(groups, key=self.in_order)}
-        self.reflexive = {self.groups[frozenset(tags)] for tags in sources}
-        self.has_outside = any(entry.is_outside for entry in ruleset.entries.values())
-
-    def in_order(self, tags: Sequence[str]) -> list[int]:
-        """The numbers of tags in the order of the table."""
-        return sorted(map(self.tags.index, tags))
-
-    def name_of(self, tags: Sequence[str]) -> str:
-        """The type of a group. No name of the notation has a full stop or a hyphen, so that no two types are the same."""
-        name = ".".join(self.tags[number] for number in self.in_order(tags))
-        return f"t-{name}" if name in PREDEFINED else name
-
-    def of_source(self, source: Mapped) -> str | None:
-        """The type of a source where it stays as it is."""
-        if source.is_marked:
-            return INVALID
-        return f"r-{self.groups[frozenset(source.tags)]}" if source.tags else None
-
-    def of_variant(self, variant: Mapped) -> str:
-        """The type of a variant."""
-        if variant.is_marked:
-            return BLOCKED
-        return self.groups[frozenset(variant.tags)] if variant.tags else ALLOCATABLE
-
-    def actions(self) -> Iterator[Element]:
-        """A label is allocatable whose parts all have one tag or none; else it is blocked, if a part of it is a variant."""
-        if not self.tags:
-            return
-        if self.has_outside:
-            yield Element("action", {"disp": INVALID, "any-variant": INVALID})
-        for tag in self.tags:
-            own = [name for tags, name in self.groups.items() if tag in tags]
-            own += [f"r-{name}" for name in own if name in self.reflexive]
-            yield Element("action", {"disp": ALLOCATABLE, "all-variants": " ".join([ALLOCATABLE, *own])})
-        yield Element("action", {"disp": BLOCKED, "any-variant": " ".join([BLOCKED, ALLOCATABLE, *self.groups.values()])})
-
-
 # ---- Rules (6)
 
 
@@ -169,9 +119,8 @@ def definitions(parsed: ParsedTable) -> Iterator[Element]:
     for name, spans in parsed.ruleset.sets.items():
         text = " ".join(f"{first:04X}" if first == last else f"{first:04X}-{last:04X}" for first, last in spans)
         yield Element("class", {"name": name}, text=text, line=parsed.lines[name])
-    for name, contexts in parsed.ruleset.rules.items():
-        each = [list(context_parts(*context)) for context in contexts]
-        yield Element("rule", {"name": name}, one_of(each), line=parsed.lines[name])
+    for name, rule in parsed.ruleset.rules.items():
+        yield Element("rule", {"name": name}, rule_parts(rule), line=parsed.lines[name])
 
 
 def demands(parsed: ParsedTable) -> Iterator[Element]:
@@ -180,10 +129,25 @@ def demands(parsed: ParsedTable) -> Iterator[Element]:
     for number, demand in enumerate(parsed.ruleset.demands):
         # No name of the notation has a hyphen.
         names.append(f"demand-{number + 1}")
-        yield Element("rule", {"name": names[-1]}, whole_parts(demand.pattern), line=parsed.lines[number])
+        yield Element("rule", {"name": names[-1]}, whole_parts(demand.pattern), line=parsed.lines[f"demand {number}"])
     for number, demand in enumerate(parsed.ruleset.demands):
         asks = "match" if demand.word == "%never" else "not-match"
-        yield Element("action", {"disp": INVALID, asks: names[number]}, line=parsed.lines[number])
+        yield Element("action", {"disp": INVALID, asks: names[number]}, line=parsed.lines[f"demand {number}"])
+
+
+def actions(parsed: ParsedTable) -> Iterator[Element]:
+    """The actions (7)."""
+    for number, action in enumerate(parsed.ruleset.actions):
+        match = {MATCHES[action.condition.word]: action.condition.rule} if action.condition else {}
+        types = {ASKS[action.types.word]: " ".join(action.types.names)} if action.types else {}
+        yield Element("action", {"disp": action.disposition, **match, **types}, line=parsed.lines[f"action {number}"])
+
+
+def rule_parts(rule: Rule) -> list[Element]:
+    """The parts of a rule of either kind."""
+    if isinstance(rule, ContextRule):
+        return one_of([list(context_parts(*context)) for context in rule.contexts])
+    return whole_parts(rule.pattern)
 
 
 def context_parts(before: Branch, after: Branch) -> Iterator[Element]:

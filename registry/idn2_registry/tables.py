@@ -1,10 +1,11 @@
 """Tables and rulesets: what is read of them, and what the program says of them."""
 
 import json
-from collections.abc import Iterable, Mapping
+from collections.abc import Iterable, Mapping, Sequence
 from dataclasses import dataclass, field
 from enum import Enum
 from pathlib import Path
+from typing import Any
 
 from .answers import Object, Refusal
 from .faults import Unknown, Unusable
@@ -20,11 +21,22 @@ class Kind(Enum):
     TABLE = ("--variants", "--check-table")
     RULESET = ("--ruleset", "--check-ruleset")
 
+    @property
+    def lists(self) -> str:
+        """The option by which it lists."""
+        return self.value[0]
+
+    @property
+    def checks(self) -> str:
+        """The option by which it checks."""
+        return self.value[1]
+
 
 @dataclass(frozen=True)
 class Table:
-    """A table as it was read, with its gaps as `source|missing`, and as `source|differs` the pairs whose conditions one way
-    aren't those of the other way. It is asked by its bytes, whatever becomes of its file."""
+    """A table as it was read, with its gaps as `source|missing`, as `source|differs` the pairs whose conditions one way
+    aren't those of the other way, and the types that no action names. It is asked by its bytes, whatever becomes of its
+    file."""
 
     name: str
     path: Path
@@ -32,12 +44,13 @@ class Table:
     gaps: tuple[str, ...] = ()
     entries: int = 0
     differences: tuple[str, ...] = ()
+    idle: tuple[str, ...] = ()
 
     def __post_init__(self) -> None:
         object.__setattr__(self, "_held", HeldFile(self.data))
 
-    def __reduce__(self) -> tuple[type["Table"], tuple[str, Path, bytes, tuple[str, ...], int, tuple[str, ...]]]:
-        return Table, (self.name, self.path, self.data, self.gaps, self.entries, self.differences)
+    def __reduce__(self) -> tuple[type["Table"], tuple[Any, ...]]:
+        return Table, (self.name, self.path, self.data, self.gaps, self.entries, self.differences, self.idle)
 
     @property
     def held(self) -> HeldFile:
@@ -55,6 +68,14 @@ class Table:
         """Whether it is a ruleset."""
         return Kind.RULESET if self.version == 3 else Kind.TABLE
 
+    def listing(self, *options: str) -> list[str]:
+        """The words of a process that lists by it, and has its file."""
+        return [self.kind.lists, self.held.path, *options]
+
+    def check(self) -> list[str]:
+        """The words of a process that checks it, and has its file."""
+        return [self.kind.checks, self.held.path]
+
 
 def read_table(name: str, path: Path, program: Program) -> Table:
     """The table in a file. Raises Unusable with the file, the line and the remedy."""
@@ -69,16 +90,28 @@ def read_table(name: str, path: Path, program: Program) -> Table:
     return checked(Table(name, path, data), program)
 
 
+def table_of_zone(name: str, path: Path, program: Program) -> Table:
+    """The table in a file, by which collisions are asked for. Raises Unusable."""
+    table = read_table(name, path, program)
+    check_for_collisions(table, program)
+    return table
+
+
+def check_for_collisions(table: Table, program: Program) -> None:
+    """Raises Unusable for a table by which no collision can be found: only there is a limit of sources."""
+    answers_about(table, program, table.listing("--jump"))
+
+
 def read_tables(paths: Mapping[str, Path], names: Iterable[str], program: Program) -> list[Table]:
     """Tables by their names in a configuration, or by their paths."""
     return [read_table(name, paths.get(name, Path(name)), program) for name in names]
 
 
-def answers_about(table: Table, program: Program, option: str, *more: str) -> list[Object]:
+def answers_about(table: Table, program: Program, words: Sequence[str]) -> list[Object]:
     """What a run under a table tells that is given no line. Raises Unusable for a faulty table."""
-    held = table.held
+    option = words[0]
     try:
-        done = program.run(["--json", option, held.path, *more], files=[held.descriptor])
+        done = program.run(["--json", *words], files=[table.held.descriptor])
     except Unknown as error:
         raise Unusable(f"{table.path}: {error}: try it with {option}") from error
     told = [json.loads(line) for line in done.stdout.splitlines()]
@@ -93,14 +126,12 @@ def answers_about(table: Table, program: Program, option: str, *more: str) -> li
 
 def checked(table: Table, program: Program) -> Table:
     """The table with what the program finds in it. Raises Unusable for a faulty table."""
-    listing, check = table.kind.value
-    told = answers_about(table, program, check)
+    told = answers_about(table, program, table.check())
     if not told or "entries" not in told[-1]:
-        raise Unusable(f"{table.path}: the program gave no answer: try it with {check}")
-    # Only where collisions are asked for, there is a limit of sources.
-    answers_about(table, program, listing, "--jump")
+        raise Unusable(f"{table.path}: the program gave no answer: try it with {table.kind.checks}")
     if not told[-1]["entries"]:
         raise Unusable(f"{table.path}: line 1: no entry in it: each label would be refused: was it cut short?")
     gaps, differences = (
         tuple(f"{pair['source']}|{pair[word]}" for pair in told[:-1] if word in pair) for word in ("missing", "differs"))
-    return Table(table.name, table.path, table.data, gaps, told[-1]["entries"], differences)
+    idle = tuple(each["idle"] for each in told[:-1] if "idle" in each)
+    return Table(table.name, table.path, table.data, gaps, told[-1]["entries"], differences, idle)

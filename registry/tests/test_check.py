@@ -11,12 +11,17 @@ from idn2_registry import Status, Variant
 
 # The holder may have what is simplified, or traditional, throughout, and no mixture.
 KINDS = """%version 3
-%tag simp
-%tag trad
-56FD as simp|570B as trad
-570B as trad|56FD as simp
-5B66 as simp|5B78 as trad
-5B78 as trad|5B66 as simp
+%type simp
+%type r_simp
+%type trad
+%type r_trad
+%action allocatable all simp,r_simp
+%action allocatable all trad,r_trad
+%action blocked any simp,trad
+56FD as r_simp|570B as trad
+570B as r_trad|56FD as simp
+5B66 as r_simp|5B78 as trad
+5B78 as r_trad|5B66 as simp
 """
 
 
@@ -211,10 +216,10 @@ def test_finds_what_only_the_registered_label_shows(bare: Place) -> None:
 
 
 def test_finds_registered_labels_that_the_table_refuses_today(bare: Place) -> None:
-    """By an outside source, or since it is made of no sources. They are blocked, also to their holders."""
-    bare.write("outside.txt", "%version 3\n0061|!0430\n0062\n!0430|!0061\n")
+    """By a source that is invalid, or since it is made of no sources. They are blocked, also to their holders."""
+    bare.write("invalid.txt", "%version 3\n0061|!0430\n0062\n!0430|!0061\n")
     bare.write("piece.txt", "%version 2\n0061|0062-0063\n0078\n")
-    for table, there, asked in (("outside.txt", "аb", "ab"), ("piece.txt", "bcx", "ax")):
+    for table, there, asked in (("invalid.txt", "аb", "ab"), ("piece.txt", "bcx", "ax")):
         bare.configure(own=table)
         bare.load()
         with sqlite3.connect(bare.folder / "register.db") as database:

@@ -84,25 +84,30 @@ def with_gaps(table: Sets, chance: random.Random, share: float) -> Sets:
     return {source: [each for each in variants if chance.random() < share] for source, variants in table.items()}
 
 
-RULES = ("start", "before_b", "after_a")
-DEFINITIONS = "%version 3\n%tag t\n%tag v\n%rule start ^ _\n%rule before_b _ 0062\n%rule after_a 0061 _\n"
+RULES = ("start", "before_b", "after_a", "has_c")
+DEFINITIONS = ("%version 3\n%type t\n%type v\n%rule start ^ _\n%rule before_b _ 0062\n%rule after_a 0061 _\n"
+               "%whole has_c 0063\n")
+ACTIONS = ("invalid any v", "invalid when has_c all t", "blocked any t", "blocked only t,v", "blocked unless has_c",
+           "allocatable any invalid,blocked")
 
 
 def ruleset_of(table: Sets, chance: random.Random) -> str:
-    """The text of a ruleset of these pairs: with marks, tags and conditions, and at times with outside sources."""
+    """The text of a ruleset of these pairs: with types, conditions and actions, and at times with sources that are
+    invalid."""
     def condition(share: float) -> str:
         return f" {chance.choice(('when', 'unless'))} {chance.choice(RULES)}" if chance.random() < share else ""
 
-    def marked(text: str) -> str:
-        mark = chance.choice(("!", "", "", " as t", " as v"))
+    def mapped(text: str, types: tuple[str, ...], share: float) -> str:
+        kind = chance.choice(types)
         points = "-".join(f"{ord(letter):04X}" for letter in text)
-        return (mark + points if mark == "!" else points + mark) + condition(0.3)
+        return (kind + points if kind == "!" else points + kind) + condition(share)
 
-    def source(text: str) -> str:
-        points = "-".join(f"{ord(letter):04X}" for letter in text)
-        return ("!" if chance.random() < 0.1 else "") + points + condition(0.1)
+    def entry(source: str, variants: list[str]) -> str:
+        others = [mapped(each, ("!", "", "", " as t", " as v"), 0.3) for each in variants]
+        return mapped(source, ("!", " as t", *[""] * 8), 0.1) + "|" * bool(others) + ":".join(others)
 
-    lines = [source(each) + "|" * bool(variants) + ":".join(map(marked, variants)) for each, variants in table.items()]
+    actions = [f"%action {each}" for each in chance.sample(ACTIONS, chance.randrange(3))]
+    lines = [*actions, *(entry(*each) for each in table.items())]
     return DEFINITIONS + "".join(f"{line}\n" for line in lines)
 
 
@@ -121,7 +126,7 @@ def listings(place: Place, labels: list[str]) -> dict[str, set[str]]:
 
 
 def test_finds_what_the_whole_listings_of_both_sides_have(kind: Place) -> None:
-    """Under random tables of all versions, with gaps, sequences, conditions, tags and outside sources."""
+    """Under random tables of all versions, with gaps, sequences, conditions, types and actions."""
     chance = random.Random(60)
     collisions = 0
     for _ in range(8):
@@ -200,9 +205,9 @@ def test_joins_tables_so_that_nothing_is_missed(bare: Place) -> None:
 
 
 def test_joins_rulesets(bare: Place) -> None:
-    """Of a ruleset its sources, outside ones among them, and its pairs, without tags and conditions."""
-    bare.write("ruleset.txt", "%version 3\n%tag as\n%tag BEEF\n%rule when _ 0062\n"
-               "0061 as as , BEEF when when|0062 as BEEF:!0063\tunless when\n"
+    """Of a ruleset its sources, and its pairs, without types and conditions."""
+    bare.write("ruleset.txt", "%version 3\n%type as\n%type BEEF\n%rule when _ 0062\n%action blocked any as , BEEF\n"
+               "0061 as as when when|0062 as BEEF:!0063\tunless when\n"
                "!0430 unless when|! 0061\n0064 .. 0065 as BEEF when when\n0065-0066\n")
     bare.write("other.txt", "0062|0067\n")
     joined = ("0061", "0062", "0063", "0067", "0430")
@@ -213,17 +218,21 @@ def test_joins_rulesets(bare: Place) -> None:
 
 
 def test_joins_no_tables_that_disagree_in_a_disposition(bare: Place) -> None:
-    """Both lines are named, and the remedy. Version 1 says nothing of dispositions, and no label has an outside source."""
+    """Both lines are named, and the remedy. Version 1 says nothing of dispositions, and no label has a source that is
+    invalid."""
     bare.write("one.txt", "%version 2\n0061\n0062|0063\n0063|0062\n")
     bare.write("two.txt", "%version 3\n%rule end _ $\n0062 unless end|!0063\n0063|0062\n")
     bare.write("both.txt", "%version 3\n%rule end _ $\n0063|0062 when end:!0062 unless end\n0062|0063\n")
     bare.write("first.txt", "0062|0063\n")
-    bare.write("outside.txt", "%version 3\n0063|0062\n!0062|!0063\n")
+    bare.write("invalid.txt", "%version 3\n0063|0062\n!0062|!0063\n")
+    bare.write("types.txt", "%version 3\n%type t\n%action blocked any t\n0062|0063 as t\n0063|0062 as valid\n")
     told = "one.txt: line 3: 0062|0063 is allocatable, and in two.txt: line 3 it is blocked: make both the same"
     bare.expect(["join", "one.txt", "two.txt"], "", 75, told)
     told = "one.txt: line 4: 0063|0062 is allocatable, and in both.txt: line 3 it is both by conditions: make both the same"
     bare.expect(["join", "first.txt", "one.txt", "both.txt"], "", 75, told)
-    for names in (["one.txt", "first.txt", "outside.txt"], ["two.txt", "first.txt"]):
+    told = "one.txt: line 3: 0062|0063 is allocatable, and in types.txt: line 4 it is blocked: make both the same"
+    bare.expect(["join", "one.txt", "types.txt"], "", 75, told)
+    for names in (["one.txt", "first.txt", "invalid.txt"], ["two.txt", "first.txt"]):
         assert bare.run("join", *names).returncode == 0, names
 
 

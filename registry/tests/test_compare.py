@@ -13,18 +13,22 @@ ROWS = [
     # Names, order, spelling, and definitions that nothing names say nothing.
     (ONE, "%version 3\n%set x 0066\n%set all 0030..0034 0035..0039\n%rule r ^ _ / _ $\n%rule idle _\n%never @all @all\n"
      "!0430|!0061\nU+0061|!0430\n0030..0039\n0062\n2D unless r\n".replace("\n2D", "\n002D"), "identical", []),
-    # Nor does a mark before a variant that no label has.
-    (ONE, ONE.replace("!0430|!0061", "!0430|0061"), "identical", []),
+    # A mark is a type.
+    (ONE, ONE.replace("!0430|!0061", "0430 as invalid|0061 as blocked"), "identical", []),
     ("0061\n0062\n", "%version 2\n0061..0062\n", "identical", []),
     ("0061..0063\n".replace("0061..0063", "0061\n0062\n0063"), "%version 2\n0061..0062\n", "contained",
      ["code point U+0063: only in one.txt"]),
     ("%version 2\n0061|0062\n0062|0061\n0063..0065\n", "%version 2\n0061|!0062\n0062|0061\n0065..0067\n", "overlapping",
      ["code point U+0063..U+0064: only in one.txt", "code point U+0066..U+0067: only in two.txt",
       "variant 0061|0062: in one.txt allocatable, in two.txt blocked"]),
-    ("0061\n", "%version 3\n%tag t\n0062 as t|0063\n!0063\n", "apart",
+    ("0061\n", "%version 3\n%type t\n%type u\n%action blocked any t\n0062 as t|0063:0064 as u\n!0063\n", "apart",
      ["code point U+0061: only in one.txt", "code point U+0062: only in two.txt: as t",
-      "code point U+0063: only in two.txt: outside", "variant 0062|0063: only in two.txt: allocatable",
-      "tag t: only in two.txt"]),
+      "code point U+0063: only in two.txt: as invalid", "variant 0062|0063: only in two.txt: allocatable",
+      "variant 0062|0064: only in two.txt: as u", "action 1: only in two.txt: blocked any t"]),
+    # A rule of an action by what it says, in the place of the action.
+    ("%version 3\n%whole r 0061\n%action blocked when r\n%action valid\n0061\n",
+     "%version 3\n%set s 0061\n%whole x @s\n%action valid\n0061\n%action blocked when x\n", "overlapping",
+     ["action 1: in one.txt blocked when r, in two.txt valid", "action 2: in one.txt valid, in two.txt blocked when r"]),
     ("%version 3\n%rule r ^ _\n%rule s 0061 _\n0061\n0062 when r|0061 when s\n0061-0062\n",
      "%version 3\n%rule r ^ _ / _ $\n%always 0061 / 0062\n0061\n0062 when r|0061\n", "overlapping",
      ["sequence 0061-0062: only in one.txt", "variant 0062|0061: in one.txt allocatable when s, in two.txt allocatable",

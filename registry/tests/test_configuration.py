@@ -143,6 +143,11 @@ def test_check_config_tells_all(bare: Place) -> None:
         "sigma.txt: sigma: 2 entries, 0 gaps",
         "sigma.txt: the pair 03C2|03C3 has other conditions the other way, which RFC 7940, 5.3.5, advises against",
     ], done
+    bare.write("slip.txt", "%version 3\n%type bloked\n%action valid any blocked\n0061|0062 as bloked\n0062|!0061\n")
+    bare.configure(slip="slip.txt")
+    done = bare.run("check-config")
+    assert done.returncode == 1 and done.stdout.decode().splitlines()[1] == (
+        "slip.txt: no action names the type bloked, so that it blocks nothing: was it misspelt?"), done
     bare.configure()
     done = bare.run("check-config")
     assert done.returncode == 0 and f"sqlite:{bare.folder}/register.db" not in done.stderr.decode(), done

@@ -24,17 +24,23 @@ from idn2_registry.tables import Table, checked, read_table
 from idn2_registry.zone import Tables
 
 KINDS = """%version 3
-%tag simp
-%tag trad
+%type simp
+%type r_simp
+%type trad
+%type r_trad
 %set digit 0030..0039
 %rule edge ^ _ / _ $ / ^ . . 002D _
+%whole han 56FD / 570B
 %never @digit .* @digit
+%action allocatable all simp,r_simp
+%action allocatable all trad,r_trad
+%action blocked when han any simp,trad
 002D unless edge
 0030..0039
 0061|!0430
 !0430|!0061
-56FD as simp|570B as trad
-570B as trad|56FD as simp
+56FD as r_simp|570B as trad
+570B as r_trad|56FD as simp
 """
 
 
@@ -199,15 +205,17 @@ def view_of(place: Place, text: str) -> View:
 def test_shows_a_ruleset_as_people_read_it(place: Place) -> None:
     words = words_of(table_page(Frame(), view_of(place, KINDS), Shown()))
     for said in ("15 entries of a ruleset.", "Digits (10)", "Latin (1)", "Ideographs (2)",
-                 "Outside: only variants have them, no label (1)",
-                 "а U+0430 CYRILLIC SMALL LETTER A outside", "2 sets of sequences", "国 U+56FD simp", "國 U+570B trad",
-                 "⊘ blocked а U+0430 CYRILLIC SMALL LETTER A outside",
+                 "Out of repertoire: only variants have them, no label (1)",
+                 "а U+0430 CYRILLIC SMALL LETTER A out of repertoire", "2 sets of sequences", "国 U+56FD r_simp",
+                 "國 U+570B r_trad", "⊘ blocked а U+0430 CYRILLIC SMALL LETTER A out of repertoire",
                  "Holds at the start of the label; or at the end of the label; or directly after the start of the label, "
                  "then any code point, then any code point, then - U+002D.",
                  "There may not stand: - U+002D.",
                  "No part of a label is a code point of digit, then any number of code points, then a code point of digit.",
-                 "A variant whose letters all are simp or trad, or have no tag, throughout, and none of them blocked, is "
-                 "allocatable."):
+                 "Holds everywhere in a label of which some part is 国 U+56FD ; or 國 U+570B. It is asked by action 3.",
+                 "One in which all that is mapped has the type simp or r_simp is allocatable.",
+                 "One for which the rule han holds, and in which something has the type simp or trad is blocked.",
+                 "One in which something has the type invalid is refused."):
         assert said in words, (said, words)
 
 
@@ -293,7 +301,7 @@ PLANTED = (
     ("latin", {"\n0063|!0441": "\n0063|0441"}, UNEVEN),
     ("latin", {"!0501|!0064\n": ""}, "Missing: 1 pair of variants. Each goes both ways,"),
     ("latin", {"75|!03C5": "75|!03BD", "76|!03BD": "76|!03C5", "!03C5|!0075": "!03C5|!0076", "!03BD|!0076": "!03BD|!0075"},
-     "u U+0075 LATIN SMALL LETTER U ⊘ blocked ν U+03BD GREEK SMALL LETTER NU outside"),
+     "u U+0075 LATIN SMALL LETTER U ⊘ blocked ν U+03BD GREEK SMALL LETTER NU out of repertoire"),
     ("devanagari", {"nukta_base 0915..0917": "nukta_base 0915..0918"}, "8 code points: क ख ग घ ज ड ढ फ"),
     ("devanagari", {"vowel 0905..090B": "vowel 0905..090C"}, "Not in the repertoire: ऌ U+090C."),
     ("devanagari", {"base @nukta_base _": "base @consonant _"}, "7 code points: क ख ग ज ड ढ फ No rule names this set."),

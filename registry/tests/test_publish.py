@@ -25,7 +25,7 @@ SHARP = """<?xml version="1.0" encoding="UTF-8"?>
   <char cp="002D" not-when="edge"/>
   <range first-cp="0061" last-cp="007A"/>
   <char cp="0073 0073">
-   <var cp="00DF" type="allocatable"/>
+   <var cp="00DF"/>
   </char>
   <char cp="00DF">
    <var cp="0073 0073" type="blocked" when="edge"/>
@@ -56,7 +56,7 @@ SHARP = """<?xml version="1.0" encoding="UTF-8"?>
 CHARS = '<range first-cp="0061" last-cp="0065"/>'
 PARTS = [
     ("0066|!0061", CHARS + '<char cp="0066"><var cp="0061" type="blocked"/></char>', ""),
-    # A source that no label has keeps to itself: by the default actions (7.6).
+    # A source that no label has: by the default actions (7.6).
     ("!0066|!0061", CHARS + '<char cp="0066"><var cp="0066" type="invalid"/><var cp="0061" type="blocked"/></char>', ""),
     ("%set s 0061 0063..0065\n%rule r @s? (0061 / 0062 0063)* _ .\n0066 when r",
      CHARS + '<char cp="0066" when="r"/>',
@@ -64,30 +64,38 @@ PARTS = [
      '<char cp="0061"/><rule><char cp="0062"/><char cp="0063"/></rule></choice></look-behind><anchor/><look-ahead><any/>'
      "</look-ahead></rule>"),
     ("%rule end _ $\n0066|0061 when end:!0061 unless end",
-     CHARS + '<char cp="0066"><var cp="0061" type="allocatable" when="end"/><var cp="0061" type="blocked" not-when="end"/>'
-     "</char>",
+     CHARS + '<char cp="0066"><var cp="0061" when="end"/><var cp="0061" type="blocked" not-when="end"/></char>',
      '<rule name="end"><anchor/><look-ahead><end/></look-ahead></rule>'),
     ("%never ^ 0061 $ / (0062 0063)?0064*0065\n%always 0061",
      CHARS,
      '<rule name="demand-1"><choice><rule><start/><char cp="0061"/><end/></rule><rule><rule count="0:1"><char cp="0062"/>'
      '<char cp="0063"/></rule><char cp="0064" count="0+"/><char cp="0065"/></rule></choice></rule><rule name="demand-2">'
      '<char cp="0061"/></rule><action disp="invalid" match="demand-1"/><action disp="invalid" not-match="demand-2"/>'),
-    ("%tag simp\n%tag trad\n0066 as simp|0067 as trad\n0067 as trad|0066 as simp",
-     CHARS + '<char cp="0066"><var cp="0066" type="r-simp"/><var cp="0067" type="trad"/></char>'
-     '<char cp="0067"><var cp="0067" type="r-trad"/><var cp="0066" type="simp"/></char>',
-     '<action disp="allocatable" all-variants="allocatable simp r-simp"/>'
-     '<action disp="allocatable" all-variants="allocatable trad r-trad"/>'
-     '<action disp="blocked" any-variant="blocked allocatable simp trad"/>'),
+    ("%whole w 0061 . $\n0066 unless w|0061 as valid when w",
+     CHARS + '<char cp="0066" not-when="w"><var cp="0061" type="valid" when="w"/></char>',
+     '<rule name="w"><char cp="0061"/><any/><end/></rule>'),
+    ("%type simp\n%type r_simp\n%type trad\n%whole w 0061 / 0062\n%action allocatable only simp,r_simp\n"
+     "%action blocked unless w any simp,trad\n%action invalid when w all trad\n%action valid\n"
+     "0066 as r_simp|0067 as trad\n0067|0066 as simp",
+     CHARS + '<char cp="0066"><var cp="0066" type="r_simp"/><var cp="0067" type="trad"/></char>'
+     '<char cp="0067"><var cp="0066" type="simp"/></char>',
+     '<rule name="w"><choice><char cp="0061"/><char cp="0062"/></choice></rule>'
+     '<action disp="allocatable" only-variants="simp r_simp"/><action disp="blocked" not-match="w" any-variant="simp trad"/>'
+     '<action disp="invalid" match="w" all-variants="trad"/><action disp="valid"/>'),
+    # A variant that isn't made of sources is in no label (8.3).
+    ("0066|!0430", CHARS + '<char cp="0066"><var cp="0430" type="blocked"/></char>', ""),
+    # One label in two ways (8.4).
+    ("%rule p 0061 _\n%rule q 0062 _\n0066|0061 when p:!0061 when q", CHARS + '<char cp="0066"><var cp="0061" when="p"/>'
+     '<var cp="0061" type="blocked" when="q"/></char>',
+     "".join(f'<rule name="{name}"><look-behind><char cp="{cp}"/></look-behind><anchor/></rule>'
+             for name, cp in (("p", "0061"), ("q", "0062")))),
 ]
 
 # Lines of version 3 with what XML can't say, or can't read back, and the message after the name of the file.
 REFUSED = [
-    ("0061..0063\n0066|0067", "line 3: by RFC 7940 no label has the variant 0067, since no entry has 0067: add !0067"),
     ("%rule r 0061 ^ _\n0061\n0066 when r", "line 2: XML can't say it: look-behind: not what the schema has in it, or in "
      "another order"),
     ("%rule r (^)? 0061 _\n0061\n0066 when r", "line 2: XML can't say it: start: the attribute 'count' can't stand here"),
-    ("%rule p 0061 _\n%rule q 0062 _\n0061..0062\n0066|0061 when p:!0061 when q", "line 5: XML can't say it: 0061 is given "
-     "twice as a variant, and not under opposite conditions"),
 ]
 
 
@@ -134,13 +142,16 @@ def test_publishes_tables_of_versions_1_and_2(with_meta: Place) -> None:
 
 
 def test_says_no_table_that_cuts_labels_otherwise(with_meta: Place) -> None:
-    """By RFC 7940 a label has the longest entry at each place, as under version 3; before it any way to cut a label will do."""
+    """By RFC 7940 a label has the longest entry at each place, as under version 3; before it any way to cut a label will do.
+    And a variant is made of entries, of which under version 3 those are that aren't."""
     lines = "0061\n0061-0062\n0062-0063\n"
     message = ("XML can't say it: label 0061-0062-0063: accepted, and by RFC 7940 refused: it can be cut into entries, but not "
                "by the longest at each place (8.1)")
     for version in ("", "%version 2\n"):
         assert published(with_meta, version + lines) == ("", f"idn2-registry: table.txt: {message}\n", 1)
     assert published(with_meta, "%version 3\n" + lines)[1:] == ("", 0)
+    message = "line 1: by RFC 7940 no label has the variant 0067, since no entry has 0067"
+    assert published(with_meta, "0066|0067\n") == ("", f"idn2-registry: table.txt: {message}\n", 1)
 
 
 @pytest.mark.parametrize(("lines", "message"), REFUSED)
@@ -153,18 +164,19 @@ def test_refuses_what_xml_cannot_say(with_meta: Place, lines: str, message: str)
 @pytest.mark.parametrize(("owner", "name", "wrong"), [
     (publish_xml, "condition", lambda mapped: {}),
     (publish_xml, "demands", lambda parsed: iter(())),
-    (publish_xml, "variants", lambda entry, types: iter(())),
+    (publish_xml, "variants", lambda entry, untyped: iter(())),
     (publish_xml, "context_parts", lambda before, after: iter([publish_xml.Element("anchor")])),
     (publish_xml, "branch_parts", lambda items: publish_xml.item_parts(items[0])),
-    (publish_xml.Types, "of_variant", lambda self, variant: "allocatable"),
-    (publish_xml.Types, "of_source", lambda self, source: None),
-    (publish_xml.Types, "actions", lambda self: iter(())),
+    (publish_xml, "actions", lambda parsed: iter(())),
+    (publish_xml, "ASKS", {"any": "all-variants", "all": "any-variant", "only": "all-variants"}),
+    (publish_xml, "MATCHES", {"when": "not-match", "unless": "match"}),
 ])
 def test_prints_nothing_that_says_something_else(with_meta: Place, monkeypatch: pytest.MonkeyPatch, owner: object, name: str,
                                                  wrong: object) -> None:
     """Of a writer that is wrong in one thing. This table has all that it writes."""
-    lines = ("%version 3\n%tag s\n%tag t\n%rule end _ 0063? $\n%never 0061 0062\n0061..0062\n0063 unless end|!0061\n"
-             "!0065|!0061\n0066 as s|0067 as t:!0061\n0067 as t|0066 as s\n")
+    lines = ("%version 3\n%type s\n%type t\n%rule end _ 0063? $\n%whole w 0061\n%never 0061 0062\n"
+             "%action blocked when w any s\n%action blocked all t\n0061..0062\n0063 unless end|!0061\n!0065|!0061\n"
+             "0066 as s|0067 as t:!0061\n0067 as t|0066 as s\n")
     assert published(with_meta, lines)[2] == 0
     monkeypatch.setattr(owner, name, wrong)
     text, told, status = published(with_meta, lines)
@@ -229,9 +241,11 @@ def test_publishes_the_lines_of_rfc_4290(with_meta: Place) -> None:
 
 @pytest.mark.parametrize(("lines", "message"), [
     ("%rule r _\n0061 when r", "line 2: RFC 4290 has no rules"),
-    ("0061\n%tag t\n", "line 3: RFC 4290 has no tags"),
+    ("0061\n%type t\n", "line 3: RFC 4290 has no types"),
+    ("0061\n%action blocked any blocked", "line 3: RFC 4290 has no actions"),
     ("%never 0061 0061\n0061", "line 2: RFC 4290 has no demands"),
-    ("0061|!0430\n!0430|!0061", "line 3: RFC 4290 has no outside sources"),
+    ("0061|!0430\n!0430|!0061", "line 3: RFC 4290 has no types of sources"),
+    ("0061|!0430", "RFC 4290 can't say it: 0430 reads back otherwise"),
     ("0061\n0061-0061", "line 3: RFC 4290 has no sources of several code points"),
     ("0061|!0062\n0062|0061", "line 3: RFC 4290 has no blocked variants beside allocatable ones"),
 ])

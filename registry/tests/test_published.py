@@ -19,7 +19,9 @@ def test_reads_back_to_the_same_tables(tmp_path: Path) -> None:
     program = Program(PROGRAM)
     found = {name: published.Publishing(program, tmp_path).outcome(text)
              for name, text in published.examples(program) if text is not None}
-    assert set(found.values()) == {published.LETTER} and len(found) > 12, found
+    # The class of its rule `joiner` has none of the file's code points, so nothing matches the rule. XML has no such rule.
+    assert "XML can't say it: rule" in found.pop("tests/rulesets/many-features.xml"), found
+    assert set(found.values()) == {published.LETTER} and len(found) > 11, found
 
 
 def test_reads_back_to_the_same_tables_that_are_drawn() -> None:

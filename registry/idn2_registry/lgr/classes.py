@@ -29,7 +29,7 @@ class Classes:
         self.points = frozenset(points)
         self.tagged: dict[str, set[int]] = {}
         for entry in ruleset.entries:
-            for tag in entry.tags if len(entry.source) == 1 else ():
+            for tag in entry.tags:
                 self.tagged.setdefault(tag, set()).add(entry.source[0])
         classes = [each for each in ruleset.definitions if each.name != "rule"]
         self.names: References[AbstractSet[int] | None] = References(classes, self.set_of)

@@ -8,13 +8,12 @@ from collections.abc import Callable, Sequence
 from ..configuration import LabelRules
 from ..faults import Unusable
 from ..program import Program
-from . import gaps, rfc4290, rfc7940
+from . import gaps, rfc4290, rfc7940, ruleset_text
 from .convert import ALLOCATABLE, Converter
-from .exact import Exact
-from .losses import TOLD, Loss, Losses, Unsayable, counted
+from .lines import Lines
+from .losses import ACCEPTS_MORE, TOLD, Loss, Losses, counted
 from .program import STANDARD, Asked
 from .ruleset import Fault, Ruleset
-from .ruleset_text import RulesetText
 from .table import check_limits, check_size, check_versions
 from .verification import RULESET, verify
 from .writing import text_of
@@ -102,18 +101,13 @@ def head_of(ruleset: Ruleset, options: argparse.Namespace) -> list[str]:
 
 def ruleset_of(ruleset: Ruleset, asked: Asked, options: argparse.Namespace, losses: Losses) -> bytes:
     """The text of a ruleset of version 3, where it can be said; what no ruleset says is among the losses."""
-    refusals = asked.refusals(ruleset.points())
     untyped = options.untyped or (None if ruleset.is_closed else BLOCKED)
-    exact = Exact(ruleset, refusals, untyped, losses)
-    try:
-        entries = exact.entries()
-    except Unsayable as error:
-        losses.refuse(error.line, "the ruleset", error.reason)
+    of_file = Lines(ruleset, asked.refusals(ruleset.points()), untyped, losses)
+    lines = of_file.all()
     if losses.count(Loss.UNSAYABLE):
         return b""
-    text = RulesetText(head_of(ruleset, options) + losses.lines(*TOLD), exact.definitions, entries)
-    text.check(exact.repertoire.possible.__contains__, losses)
-    return text.encoded()
+    ruleset_text.check_limits(lines, of_file.possible.__contains__, losses)
+    return ruleset_text.ruleset_text(head_of(ruleset, options) + losses.lines(*TOLD), lines)
 
 
 def refusal_of(losses: Losses, options: argparse.Namespace) -> list[str]:
@@ -186,7 +180,8 @@ def main(words: Sequence[str]) -> int:
         text = made(data, Asked(program), options, tell)
         if text is None:
             return UNSAYABLE
-        if is_xml(data) and not options.accept_more:
+        # --accept-more that had nothing to drop promises what any conversion does.
+        if is_xml(data) and ACCEPTS_MORE.encode() not in text:
             verify(text, data, program, options)
         return write(text)
     except Fault as fault:

@@ -4,13 +4,14 @@ What only narrows is left out or blocked: no label is given away by it. What wou
 the caller to refuse it. A variant is left out only where no label has it; one that can't be said as it is, is blocked.
 """
 
-from collections.abc import Mapping, Sequence
+from collections.abc import Mapping
 
 from ..notation.points import Points, spelled
 from .dispositions import Action, Dispositions
 from .losses import Loss, Losses
 from .patterns import Patterns
-from .program import IMPOSSIBLE, Number
+from .program import Number
+from .repertoire import Repertoire
 from .ruleset import Entry, Ruleset, Variant
 from .standard import Standard
 from .table import TableEntry, is_cut
@@ -24,17 +25,16 @@ class Converter:
 
     def __init__(self, ruleset: Ruleset, refusals: Mapping[int, Number], viramas: frozenset[int], untyped: str,
                  losses: Losses) -> None:
-        self.ruleset, self.refusals, self.untyped, self.losses = ruleset, refusals, untyped, losses
-        self.possible = {point for point in refusals if refusals[point] not in IMPOSSIBLE}
-        self.patterns = Patterns(ruleset, self.possible)
+        self.ruleset, self.untyped, self.losses = ruleset, untyped, losses
+        repertoire = Repertoire(ruleset, refusals, losses)
+        self.entries, self.patterns = repertoire.entries, Patterns(ruleset, repertoire.possible)
         self.standard = Standard(refusals, viramas)
 
     def table_entries(self) -> list[TableEntry]:
-        possible = self.possible_entries()
-        self.repertoire = {point for entry in possible for point in entry.source}
+        self.repertoire = {point for entry in self.entries for point in entry.source}
         actions = [action for action in self.ruleset.actions if not self.is_enforced(action)]
-        self.dispositions = Dispositions(possible, actions)
-        kept = self.kept_of(possible)
+        self.dispositions = Dispositions(self.entries, actions)
+        kept = self.kept_of()
         self.sources = {entry.source for entry in kept}
         for entry in kept:
             self.check_condition(entry)
@@ -48,22 +48,12 @@ class Converter:
 
     # What labels the ruleset accepts.
 
-    def possible_entries(self) -> list[Entry]:
-        possible = []
-        for entry in self.ruleset.entries:
-            if self.possible.issuperset(entry.source):
-                possible.append(entry)
-            else:
-                name = f"{spelled(entry.source)} of {entry.name}" if entry.is_of_range else entry.name
-                self.losses.leave_out(entry.line, name, map(self.refusals.get, entry.source))
-        return possible
-
-    def kept_of(self, possible: Sequence[Entry]) -> list[Entry]:
+    def kept_of(self) -> list[Entry]:
         """All but those with which each label is refused."""
         outside = self.dispositions.outside
-        points = {point for entry in possible if entry.source not in outside for point in entry.source}
+        points = {point for entry in self.entries if entry.source not in outside for point in entry.source}
         kept = []
-        for entry in possible:
+        for entry in self.entries:
             if entry.source not in outside:
                 kept.append(entry)
                 continue
@@ -84,15 +74,19 @@ class Converter:
 
     def is_enforced(self, action: Action) -> bool:
         """Whether each label that the action refuses is one that the program refuses."""
-        rules = [self.patterns.rule(name, action.line) for name in (action.match, action.not_match) if name is not None]
-        return action.match is not None and not action.allows() and self.standard.refuses_all(rules[0])
+        if action.condition is None:
+            return False
+        rule = self.patterns.rule(action.condition.rule, action.line)
+        return action.condition.word == "match" and not action.allows() and self.standard.refuses_all(rule)
 
     def check_actions(self) -> None:
         """Each action that can refuse a label which isn't made by a variant."""
         for action in self.dispositions.refusing_rules + self.dispositions.refusing_actions():
-            by = [f"labels that match the rule '{action.match}'"] if action.match is not None else []
-            by += [f"labels that don't match the rule '{action.not_match}'"] if action.not_match is not None else []
-            by += ["labels by the types of their code points"] if action.asks_for_types() else []
+            by = []
+            if action.condition:
+                verb = "match" if action.condition.word == "match" else "don't match"
+                by.append(f"labels that {verb} the rule '{action.condition.rule}'")
+            by += ["labels by the types of their code points"] if action.asks else []
             reason = "it refuses " + " and ".join(by or ["any label that no other action allows"])
             self.losses.add(Loss.RULE, action.line, f"action '{action.disposition}'", reason)
 
@@ -104,12 +98,7 @@ class Converter:
         for variant in entry.others():
             if variant.condition:
                 self.patterns.rule(variant.condition.rule, variant.line)
-            if not variant.points:
-                self.losses.add(Loss.UNSAYABLE, variant.line, entry.name, "a null variant, which no table can have")
-            elif not self.possible.issuperset(variant.points):
-                name = f"{entry.name}, variant {spelled(variant.points)}"
-                self.losses.leave_out(variant.line, name, map(self.refusals.get, variant.points))
-            elif self.ruleset.is_closed and not self.repertoire.issuperset(variant.points):
+            if self.ruleset.is_closed and not self.repertoire.issuperset(variant.points):
                 self.tell(entry, "left out, since it has a code point that is in no entry", variant)
             else:
                 variants[variant.points] = self.is_blocked(entry, variant)

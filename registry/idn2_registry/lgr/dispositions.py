@@ -9,7 +9,7 @@ import dataclasses
 from collections.abc import Iterable, Iterator, Sequence
 from collections.abc import Set as AbstractSet
 
-from .ruleset import Entry
+from .ruleset import Condition, Entry
 
 # The type of a variant; None of one that has none.
 Kind = str | None
@@ -20,47 +20,36 @@ ALLOWING = {"valid", "allocatable", "activated"}
 
 @dataclasses.dataclass(frozen=True)
 class Action:
+    """It asks for types by 'any', 'all' or 'only', or not at all if that is empty."""
+
     line: int
     disposition: str
-    match: str | None = None
-    not_match: str | None = None
-    any_variant: frozenset[str] | None = None
-    all_variants: frozenset[str] | None = None
-    only_variants: frozenset[str] | None = None
+    condition: Condition | None = None
+    asks: str = ""
+    types: tuple[str, ...] = ()
 
     def allows(self) -> bool:
         return self.disposition in ALLOWING
 
-    def has_rule(self) -> bool:
-        return self.match is not None or self.not_match is not None
-
-    def asks_for_types(self) -> bool:
-        return any(types is not None for types in (self.any_variant, self.all_variants, self.only_variants))
-
-    def names(self, kind: Kind) -> bool:
-        return any(types and kind in types for types in (self.any_variant, self.all_variants, self.only_variants))
-
     def can_be_triggered(self, kind: Kind, kinds: AbstractSet[Kind]) -> bool:
         """Whether by a label with a mapping of the type `kind`, which is among `kinds`, and with others of `kinds`."""
-        if self.any_variant is not None and not any(each in self.any_variant for each in kinds):
-            return False
-        wholes = [whole for whole in (self.all_variants, self.only_variants) if whole is not None]
         # A mapping without a type records nothing, so it stands in the way of nothing.
-        return all(kind in whole if kind else any(each in whole for each in kinds) for whole in wholes)
+        if kind and self.asks in ("all", "only"):
+            return kind in self.types
+        return not self.asks or not kinds.isdisjoint(self.types)
 
     def must_be_triggered(self, kind: Kind, kinds: AbstractSet[Kind]) -> bool:
-        if self.has_rule() or self.only_variants is not None:
+        if self.condition or self.asks == "only":
             return False
-        is_any = self.any_variant is None or kind in self.any_variant
-        is_all = self.all_variants is None or (kind is not None and kinds - {None} <= self.all_variants)
-        return is_any and is_all
+        is_all = kind is not None and kinds - {None} <= set(self.types)
+        return is_all if self.asks == "all" else not self.asks or kind in self.types
 
 
 # Section 7.6, without those that allow: a label that triggers none is valid. The second isn't there, but the type says
 # nothing else.
 DEFAULTS = (
-    Action(0, "blocked", any_variant=frozenset({"blocked"})),
-    Action(0, "invalid", any_variant=frozenset({"invalid", "out-of-repertoire-var"})),
+    Action(0, "blocked", asks="any", types=("blocked",)),
+    Action(0, "invalid", asks="any", types=("invalid", "out-of-repertoire-var")),
     Action(0, "valid"),
 )
 
@@ -70,7 +59,7 @@ class Dispositions:
 
     def __init__(self, entries: Sequence[Entry], actions: Sequence[Action]) -> None:
         self.refusing_rules = [action for action in actions
-                               if action.has_rule() and not action.allows() and not action.asks_for_types()]
+                               if action.condition and not action.allows() and not action.asks]
         self.actions = [action for action in actions if action not in self.refusing_rules] + list(DEFAULTS)
         reflexive = {variant.type for entry in entries for variant in entry.reflexive() if variant.type is not None}
         mapped = {variant.type for entry in entries for variant in entry.others()}
@@ -108,7 +97,7 @@ class Dispositions:
 
     def is_meant(self, kind: Kind) -> bool:
         """Whether the standard or an action says that the type allows something: any other may be a slip."""
-        is_named = any(action.allows() and action.names(kind) for action in self.actions)
+        is_named = any(action.allows() and kind in action.types for action in self.actions)
         return kind is None or kind in ALLOWING or is_named
 
     def is_sometimes_allowed(self, kind: Kind) -> bool:
@@ -118,8 +107,8 @@ class Dispositions:
         """The actions on types that can refuse a label which no variant made, each once."""
         found = [action for kind in sorted(self.original) for action in self.triggered(kind, self.original)]
         for action in self.actions:
-            if not action.asks_for_types():
+            if not action.asks:
                 found.append(action)
-                if not action.has_rule():
+                if not action.condition:
                     break
         return sorted({action for action in found if not action.allows()}, key=lambda action: action.line)

@@ -1,7 +1,7 @@
 """Regular expressions over code points, by which rules are said: what a label matches, or a part of it.
 
-They are made by the functions below, and these leave out what can't match: NOTHING matches no part of any label, and stands in
-no other expression.
+They are made by the functions below. EMPTY matches the empty part at each place, and NOTHING no part of any label:
+neither stands in another expression.
 """
 
 import dataclasses
@@ -13,10 +13,10 @@ MOST_LABEL_POINTS = 63
 
 @dataclasses.dataclass(frozen=True)
 class Points:
-    """One code point of a set; `name` is what the ruleset calls the set, if it has a name."""
+    """One code point of a set; `name` is what the ruleset calls the set, or the rule that it stands in."""
 
     points: frozenset[int]
-    name: str | None = dataclasses.field(default=None, compare=False)
+    name: str = dataclasses.field(default="", compare=False)
 
 
 @dataclasses.dataclass(frozen=True)
@@ -46,11 +46,11 @@ class Repeat:
 
 
 Expression = Points | Sign | Sequence | Choice | Repeat
-START, END, ANCHOR = Sign("start"), Sign("end"), Sign("anchor")
+START, END, ANCHOR = Sign("^"), Sign("$"), Sign("_")
 EMPTY, NOTHING = Sequence(()), Choice(())
 
 
-def one_of(points: Iterable[int], name: str | None = None) -> Points | Choice:
+def one_of(points: Iterable[int], name: str = "") -> Points | Choice:
     known = frozenset(points)
     return Points(known, name) if known else NOTHING
 
@@ -70,32 +70,21 @@ def choice(branches: Iterable[Expression]) -> Expression:
     flat: dict[Expression, None] = {}
     for branch in branches:
         flat.update(dict.fromkeys(branch.branches if isinstance(branch, Choice) else [branch]))
-    # An empty part matches already.
-    if any(is_everywhere(branch) for branch in flat if branch != EMPTY):
-        flat.pop(EMPTY, None)
+    if EMPTY in flat:
+        return repeat(choice(branch for branch in flat if branch != EMPTY), 0, 1)
     return next(iter(flat)) if len(flat) == 1 else Choice(tuple(flat))
 
 
 def repeat(part: Expression, least: int, most: int | None) -> Expression:
-    """The part `least` to `most` times."""
-    if most == 0 or part == EMPTY or (part == NOTHING and least == 0):
+    """The part `least` to `most` times, and no more often than a label has room for."""
+    if part == EMPTY or (part == NOTHING and least == 0):
         return EMPTY
     if part == NOTHING or (least, most) == (1, 1):
         return part
-    if isinstance(part, Sign):
-        return part if least else EMPTY
     shortest = least_length(part)
-    if is_everywhere(part):
-        least = 0
-    elif shortest == 0:
-        # It may match an empty part, but not each one, as the start of a label does: so it isn't left out.
-        return Repeat(part, least, most)
-    elif least * shortest > MOST_LABEL_POINTS:
+    if least * shortest > MOST_LABEL_POINTS:
         return NOTHING
-    elif most is not None and most * shortest >= MOST_LABEL_POINTS:
-        most = None
-    is_star = isinstance(part, Repeat) and (part.least, part.most) == (0, None)
-    return part if is_star else Repeat(part, least, most)
+    return Repeat(part, least, None if most is None or most * shortest >= MOST_LABEL_POINTS else most)
 
 
 def least_length(expression: Expression) -> int:
@@ -118,18 +107,9 @@ def parts_of(expression: Expression) -> tuple[Expression, ...]:
     return (expression.part,) if isinstance(expression, Repeat) else ()
 
 
-def has(expression: Expression, sign: Sign) -> bool:
-    """Whether the sign stands in an expression."""
-    return expression == sign or any(has(part, sign) for part in parts_of(expression))
-
-
-def is_everywhere(expression: Expression) -> bool:
-    """Whether an empty part matches at each place."""
-    if isinstance(expression, Sequence):
-        return all(map(is_everywhere, expression.parts))
-    if isinstance(expression, Choice):
-        return any(map(is_everywhere, expression.branches))
-    return isinstance(expression, Repeat) and (expression.least == 0 or is_everywhere(expression.part))
+def has(expression: Expression, *signs: Sign) -> bool:
+    """Whether one of these signs stands in an expression."""
+    return expression in signs or any(has(part, *signs) for part in parts_of(expression))
 
 
 def size(expression: Expression) -> int:

@@ -13,6 +13,10 @@ MOST_LINES = 5
 Place = tuple[int | None, str]
 
 
+# How a table that accepts more begins to say so.
+ACCEPTS_MORE = "WARNING: THIS TABLE ACCEPTS LABELS THAT THE RULESET REFUSES."
+
+
 class Loss(enum.Enum):
     """What comes of it."""
 
@@ -85,8 +89,7 @@ class Losses:
                   if self.count(loss)]
         if not counts:
             return None
-        return ("WARNING: THIS TABLE ACCEPTS LABELS THAT THE RULESET REFUSES. --accept-more dropped "
-                + " and ".join(counts) + ".")
+        return f"{ACCEPTS_MORE} --accept-more dropped {' and '.join(counts)}."
 
 
 def line_of(elements: Sequence[Place], reason: str) -> str:

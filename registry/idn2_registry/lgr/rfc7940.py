@@ -14,6 +14,9 @@ from .xml_tree import NAMESPACE, Element, root_of
 # For each element its attributes.
 Attributes = Mapping[str, set[str]]
 NOTES = {"comment", "ref"}
+CONDITIONS, MATCHES = ("when", "not-when"), ("match", "not-match")
+# How an action asks for types, by the attribute.
+ASKS = {"any-variant": "any", "all-variants": "all", "only-variants": "only"}
 SETS = ("union", "intersection", "difference", "symmetric-difference", "complement")
 CONTENTS_OF_CLASS = {"by-ref", "from-tag", "property"}
 ATTRIBUTES_OF_META: Attributes = {
@@ -29,7 +32,7 @@ ATTRIBUTES_OF_DATA = {
 ATTRIBUTES_OF_VARIANTS = {"var": {"cp", "type", "when", "not-when"} | NOTES}
 # What has a name, and what stands within rules and within sets without one.
 ATTRIBUTES_OF_RULES = {
-    "action": {"disp", "match", "not-match", "any-variant", "all-variants", "only-variants"} | NOTES,
+    "action": {"disp", *MATCHES, *ASKS} | NOTES,
     "class": {"name"} | CONTENTS_OF_CLASS | NOTES,
     **{name: {"name"} | NOTES for name in (*SETS, "rule")},
 }
@@ -64,7 +67,7 @@ def read(data: bytes) -> Ruleset:
     check_rules(rules, ATTRIBUTES_OF_RULES)
     actions = [action_of(element) for element in rules if element.name == "action"]
     definitions = [element for element in rules if element.name != "action"]
-    check_tags(definitions, {tag for entry in entries for tag in entry.tags if len(entry.source) == 1})
+    check_tags(definitions, {tag for entry in entries for tag in entry.tags})
     return Ruleset("RFC 7940", entries, actions, definitions, facts_of(children(parts["meta"])))
 
 
@@ -93,8 +96,6 @@ def check_element(element: Element, attributes: Attributes) -> None:
     more = sorted(set(element.attributes) - attributes[element.name])
     if more:
         raise Fault(element.line, f"'{more[0]}' is not an attribute of '{element.name}' in RFC 7940 here")
-    if "when" in element.attributes and "not-when" in element.attributes:
-        raise Fault(element.line, f"{element.name} has both 'when' and 'not-when'")
     if element.text.strip() and element.name not in WITH_TEXT:
         raise Fault(element.line, f"{element.name} has a text within it")
 
@@ -147,6 +148,8 @@ def entries_of(element: Element) -> list[Entry]:
     if element.name == "range":
         return entries_of_range(element, tags)
     source = some_points_of(element)
+    if tags and len(source) > 1:
+        raise Fault(element.line, "a sequence has a tag, and a class is of single code points")
     entry = Entry(element.line, f"char {spelled(source)}", source, condition_of(element), tags)
     entry.variants = [variant_of(child) for child in element.children]
     check_variants(entry)
@@ -178,38 +181,42 @@ def check_type(text: str, line: int) -> None:
 
 
 def check_variants(entry: Entry) -> None:
-    """A variant is given again only under the opposite condition, so that never both hold (RFC 7940, section 5.3.5)."""
+    """A variant is given again only under another condition (RFC 7940, section 5.3.5)."""
     conditions: dict[Points, list[Condition | None]] = {}
     for variant in entry.variants:
         others = conditions.setdefault(variant.points, [])
-        if not all(are_opposite(variant.condition, other) for other in others):
+        if others and (variant.condition is None or None in others or variant.condition in others):
             name = f"{entry.name}: {spelled(variant.points) or 'null'}"
-            raise Fault(variant.line, f"{name} is given twice as a variant, and not under opposite conditions")
+            raise Fault(variant.line, f"{name} is given twice as a variant, and not under conditions that differ")
         others.append(variant.condition)
 
 
-def are_opposite(one: Condition | None, other: Condition | None) -> bool:
-    return one is not None and other is not None and one.rule == other.rule and one.word != other.word
+def condition_of(element: Element, names: Iterable[str] = CONDITIONS) -> Condition | None:
+    name = only_one_of(element, names)
+    return Condition(name, element.attributes[name]) if name else None
 
 
-def condition_of(element: Element) -> Condition | None:
-    return next((Condition(word, element.attributes[word]) for word in ("when", "not-when")
-                 if word in element.attributes), None)
-
-
-def types_of(element: Element, name: str) -> frozenset[str] | None:
-    """The types that an attribute of an action names, one or more; None where it isn't there."""
-    if name not in element.attributes:
-        return None
+def types_of(element: Element, name: str) -> tuple[str, ...]:
+    """The types that an attribute of an action names, one or more."""
     types = words(element.attributes[name])
     if not types:
         raise Fault(element.line, f"'{name}' names no type")
     for text in types:
         check_type(text, element.line)
-    return frozenset(types)
+    return tuple(dict.fromkeys(types))
 
 
 def action_of(element: Element) -> Action:
-    types = (types_of(element, name) for name in ("any-variant", "all-variants", "only-variants"))
-    match, not_match = element.attributes.get("match"), element.attributes.get("not-match")
-    return Action(element.line, element.needed("disp"), match, not_match, *types)
+    disposition, condition = element.needed("disp"), condition_of(element, MATCHES)
+    asked = only_one_of(element, ASKS)
+    if not asked:
+        return Action(element.line, disposition, condition)
+    return Action(element.line, disposition, condition, ASKS[asked], types_of(element, asked))
+
+
+def only_one_of(element: Element, names: Iterable[str]) -> str | None:
+    """That of these attributes which the element has, if it has one."""
+    given = [name for name in names if name in element.attributes]
+    if len(given) > 1:
+        raise Fault(element.line, f"{element.name} has both '{given[0]}' and '{given[1]}'")
+    return given[0] if given else None

@@ -62,8 +62,8 @@ class Rules:
             return SIGNS[element.name]
         made = self.once(element)
         least, most = count_of(element)
-        if (least, most) != (1, 1) and expressions.has(made, ANCHOR):
-            raise Unsayable(element.line, "an anchor within what is counted")
+        if "count" in element.attributes and expressions.has(made, START, END, ANCHOR):
+            raise Unsayable(element.line, "a start, an end or an anchor within what is counted")
         return expressions.repeat(made, least, most)
 
     def once(self, element: Element) -> Expression:
@@ -85,21 +85,18 @@ class Rules:
         points = self.classes.set_of(element)
         if points is None:
             raise Unsayable(element.line, self.classes.reason_of(element))
-        return expressions.one_of(points, name_of_class(element))
-
-
-def name_of_class(element: Element) -> str | None:
-    """What the ruleset calls a class: by its name, its tag or its property."""
-    return next((element.attributes[word] for word in ("by-ref", "from-tag", "property") if word in element.attributes), None)
+        return expressions.one_of(points, element.attributes.get("by-ref") or self.names.open_names[-1])
 
 
 def count_of(element: Element) -> tuple[int, int | None]:
     """The least and the most by the element's 'count': n, n+ or n:m (RFC 7940, section 6.3)."""
     text = element.attributes.get("count", "1")
     count = re.fullmatch(r"([0-9]{1,4})(\+|:([0-9]{1,4}))?", text)
-    if not count or (count[3] and int(count[3]) < int(count[1])):
-        raise Fault(element.line, f"'{text}' is not a count")
+    fault = Fault(element.line, f"'{text}' is not a count")
+    if not count:
+        raise fault
     least = int(count[1])
-    if count[2] is None:
-        return least, least
-    return least, None if count[3] is None else int(count[3])
+    most = None if count[2] == "+" else int(count[3] or least)
+    if most is not None and not least <= most >= 1:
+        raise fault
+    return least, most

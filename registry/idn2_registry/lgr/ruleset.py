@@ -21,7 +21,7 @@ class Fault(Exception):
 
 @dataclasses.dataclass(frozen=True)
 class Condition:
-    """'when' or 'not-when', and the name of a rule (RFC 7940, section 5.2)."""
+    """'when' or 'not-when', of an action 'match' or 'not-match', and the name of a rule (RFC 7940, 5.2 and 7.1)."""
 
     word: str
     rule: str
@@ -56,6 +56,9 @@ class Entry:
     def others(self) -> list[Variant]:
         return [variant for variant in self.variants if variant.points != self.source]
 
+    def sequences(self) -> list[Points]:
+        return [self.source, *(variant.points for variant in self.variants)]
+
 
 @dataclasses.dataclass
 class Ruleset:
@@ -71,9 +74,7 @@ class Ruleset:
 
     def points(self) -> set[int]:
         """All code points of sources and variants: no label, and no variant of one, has any other."""
-        sequences = [entry.source for entry in self.entries]
-        sequences += [variant.points for entry in self.entries for variant in entry.variants]
-        return {point for sequence in sequences for point in sequence}
+        return {point for entry in self.entries for sequence in entry.sequences() for point in sequence}
 
 
 def check_sources(entries: Sequence[Entry]) -> None:

@@ -3,7 +3,7 @@
 lines, faults, points  what all versions have in common
 tokens                 what a line is cut into
 patterns               patterns of code points, and the contexts of a rule
-forms                  the form of a line: a tag, a set, a rule, a demand, an entry or a range
+forms                  the form of a line: a type, a set, a rule, a demand, an action, an entry or a range
 ruleset                what a text spells
 canonical              the one spelling of a definition and of an entry
 reading                the ruleset of a text, or its first fault

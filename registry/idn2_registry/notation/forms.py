@@ -9,16 +9,29 @@ from typing import Any
 from . import tokens
 from .patterns import NoForm, PatternReader, contexts_of
 from .points import point_of
-from .ruleset import Condition, Demand, Entry, Mapped, name_of
+from .ruleset import (
+    BLOCKED,
+    DISPOSITIONS,
+    INVALID,
+    Action,
+    Condition,
+    ContextRule,
+    Demand,
+    Entry,
+    Mapped,
+    Types,
+    WholeLabelRule,
+    name_of,
+)
 
-TAG, SET, RULE = "tag", "set", "rule"
-# What a line names, as a tag, a set or a rule.
-Name = tuple[str, str]
+TYPE, SET, RULE, WHOLE = "type", "set", "rule", "whole"
+# A name that a line uses, and as which of these it may be defined.
+Use = tuple[str, tuple[str, ...]]
 
 
 @dataclasses.dataclass
 class Definition:
-    """A tag without a value, a set with its spans, or a rule with its contexts. `pattern` is what was read of a rule."""
+    """A type without a value, a set with its spans, or a rule. `pattern` is what was read of a rule."""
 
     kind: str
     name: str
@@ -30,8 +43,8 @@ class Definition:
             return [point for span in self.value for point in span]
         return self.pattern.points if self.pattern else []
 
-    def names(self) -> list[Name]:
-        return [(SET, name) for name in self.pattern.names] if self.pattern else []
+    def uses(self) -> list[Use]:
+        return uses_of(self.pattern) if self.pattern else []
 
 
 @dataclasses.dataclass
@@ -42,8 +55,22 @@ class DemandLine:
     def points(self) -> Sequence[int]:
         return self.pattern.points
 
-    def names(self) -> list[Name]:
-        return [(SET, name) for name in self.pattern.names]
+    def uses(self) -> list[Use]:
+        return uses_of(self.pattern)
+
+
+@dataclasses.dataclass
+class ActionLine:
+    action: Action
+    pattern = None
+
+    def points(self) -> Sequence[int]:
+        return []
+
+    def uses(self) -> list[Use]:
+        condition, types = self.action.condition, self.action.types
+        names = types.names if types else ()
+        return [*([(condition.rule, (WHOLE,))] if condition else []), *((name, (TYPE,)) for name in names)]
 
 
 @dataclasses.dataclass
@@ -53,8 +80,8 @@ class EntryLine:
     def points(self) -> Sequence[int]:
         return [point for mapped in self.entry.mapped() for point in mapped.points]
 
-    def names(self) -> list[Name]:
-        return [name for mapped in self.entry.mapped() for name in names_of(mapped)]
+    def uses(self) -> list[Use]:
+        return [use for mapped in self.entry.mapped() for use in uses_of_mapped(mapped)]
 
     def count(self) -> int:
         return 1
@@ -73,8 +100,8 @@ class RangeLine:
     def points(self) -> Sequence[int]:
         return range(self.mapped.points[0], self.last + 1)
 
-    def names(self) -> list[Name]:
-        return names_of(self.mapped)
+    def uses(self) -> list[Use]:
+        return uses_of_mapped(self.mapped)
 
     def count(self) -> int:
         return len(self.points())
@@ -83,18 +110,26 @@ class RangeLine:
         return (Entry(dataclasses.replace(self.mapped, points=(point,))) for point in self.points())
 
 
-Form = Definition | DemandLine | EntryLine | RangeLine
+Form = Definition | DemandLine | ActionLine | EntryLine | RangeLine
 
 
-def names_of(mapped: Mapped) -> list[Name]:
-    return [(TAG, tag) for tag in mapped.tags] + ([(RULE, mapped.condition.rule)] if mapped.condition else [])
+def uses_of(pattern: PatternReader) -> list[Use]:
+    return [(name, (SET,)) for name in pattern.names]
+
+
+def uses_of_mapped(mapped: Mapped) -> list[Use]:
+    uses: list[Use] = [(mapped.type, (TYPE,))] if mapped.type else []
+    if mapped.condition:
+        uses.append((mapped.condition.rule, (RULE, WHOLE)))
+    return uses
 
 
 def form_of(line: bytes) -> Form:
     """What a line says that is neither blank nor a comment; NoForm if it is of no form."""
     rest = Tokens(line)
     readers: dict[bytes, Callable[[Tokens, bytes], Form]] = {
-        b"%tag": tag_of, b"%set": set_of, b"%rule": rule_of, b"%never": demand_of, b"%always": demand_of}
+        b"%type": type_of, b"%set": set_of, b"%rule": rule_of, b"%whole": whole_of, b"%never": demand_of,
+        b"%always": demand_of, b"%action": action_of}
     word = rest.takes(*readers)
     form = readers[word](rest, word) if word else entry_of(rest)
     rest.end()
@@ -140,8 +175,8 @@ class Tokens:
 # Definitions.
 
 
-def tag_of(rest: Tokens, _: bytes) -> Definition:
-    return Definition(TAG, rest.name())
+def type_of(rest: Tokens, _: bytes) -> Definition:
+    return Definition(TYPE, rest.name())
 
 
 def set_of(rest: Tokens, _: bytes) -> Definition:
@@ -158,7 +193,12 @@ def set_of(rest: Tokens, _: bytes) -> Definition:
 
 def rule_of(rest: Tokens, _: bytes) -> Definition:
     name, pattern = rest.name(), PatternReader(has_anchors=True)
-    return Definition(RULE, name, contexts_of(pattern.read(rest.all())), pattern)
+    return Definition(RULE, name, ContextRule(contexts_of(pattern.read(rest.all()))), pattern)
+
+
+def whole_of(rest: Tokens, _: bytes) -> Definition:
+    name, pattern = rest.name(), PatternReader(has_anchors=False)
+    return Definition(WHOLE, name, WholeLabelRule(pattern.read(rest.all())), pattern)
 
 
 def demand_of(rest: Tokens, word: bytes) -> DemandLine:
@@ -166,24 +206,45 @@ def demand_of(rest: Tokens, word: bytes) -> DemandLine:
     return DemandLine(Demand(word.decode(), pattern.read(rest.all())), pattern)
 
 
+def action_of(rest: Tokens, _: bytes) -> ActionLine:
+    disposition = rest.name()
+    if disposition not in DISPOSITIONS:
+        raise NoForm
+    return ActionLine(Action(disposition, condition_of(rest), types_of(rest)))
+
+
+def types_of(rest: Tokens) -> Types | None:
+    """How an action asks for types, none of them twice."""
+    word = rest.takes(b"any", b"all", b"only")
+    if word is None:
+        return None
+    names = [rest.name()]
+    while rest.takes(b","):
+        names.append(rest.name())
+    if len(set(names)) < len(names):
+        raise NoForm
+    return Types(word.decode(), tuple(names))
+
+
 # Entries.
 
 
 def entry_of(rest: Tokens) -> EntryLine | RangeLine:
-    source, last = mapped_of(rest, takes_range=True)
+    source, last = mapped_of(rest, INVALID, takes_range=True)
     if last is not None:
         return RangeLine(source, last)
     variants = []
     sign = b"|"
     while rest.takes(sign):
-        variants.append(mapped_of(rest)[0])
+        variants.append(mapped_of(rest, BLOCKED)[0])
         sign = b":"
     return EntryLine(Entry(source, tuple(variants)))
 
 
-def mapped_of(rest: Tokens, takes_range: bool = False) -> tuple[Mapped, int | None]:
-    """A sequence with its mark, tags and condition; for a range the last code point, too."""
-    is_marked = bool(rest.takes(b"!"))
+def mapped_of(rest: Tokens, marked: str, takes_range: bool = False) -> tuple[Mapped, int | None]:
+    """A sequence with its type, which is `marked` where it has '!', and its condition; for a range the last code point,
+    too."""
+    is_marked = rest.takes(b"!")
     points, last = [rest.point()], None
     if takes_range and rest.takes(tokens.TO):
         last = rest.point()
@@ -191,20 +252,8 @@ def mapped_of(rest: Tokens, takes_range: bool = False) -> tuple[Mapped, int | No
             raise NoForm
     while last is None and rest.takes(b"-"):
         points.append(rest.point())
-    tags = () if is_marked else tags_of(rest)
-    return Mapped(tuple(points), is_marked, tags, condition_of(rest)), last
-
-
-def tags_of(rest: Tokens) -> tuple[str, ...]:
-    """The names after 'as', none of them twice."""
-    if not rest.takes(b"as"):
-        return ()
-    names = [rest.name()]
-    while rest.takes(b","):
-        names.append(rest.name())
-    if len(set(names)) < len(names):
-        raise NoForm
-    return tuple(names)
+    name = marked if is_marked else rest.name() if rest.takes(b"as") else None
+    return Mapped(tuple(points), name, condition_of(rest)), last
 
 
 def condition_of(rest: Tokens) -> Condition | None:

@@ -1,4 +1,4 @@
-"""Patterns of code points, and the contexts of a rule, read from tokens.
+"""Patterns of code points, and the contexts of a context rule, read from tokens.
 
 A pattern is a tuple of branches, a branch a tuple of items. A context is two branches, which may be empty here: what stands
 before the anchor, and what after it.
@@ -87,9 +87,9 @@ SUFFIXES: dict[bytes, type[Optional] | type[Many]] = {b"?": Optional, b"*": Many
 
 
 class PatternReader:
-    """Reads a demand's pattern, or the contexts of a rule: there each branch of the whole has one place. `atoms` are
-    counted as the limits of the notation count them, `groups` are those within each other; `names` and `points` stand in the
-    pattern."""
+    """Reads a pattern, or the contexts of a context rule: there each branch of the whole has one place. `atoms` are
+    counted as the limits of the notation count them, `groups` are those within each other; `names` and `points` stand
+    in the pattern."""
 
     def __init__(self, has_anchors: bool) -> None:
         self.has_anchors, self.has_anchor, self.has_end = has_anchors, False, False
@@ -172,6 +172,6 @@ class PatternReader:
 
 
 def contexts_of(branches: Pattern) -> Contexts:
-    """The contexts of a rule's branches."""
+    """The contexts of a context rule's branches."""
     anchors = [branch.index(Sign.ANCHOR) for branch in branches]
     return tuple((branch[:at], branch[at + 1:]) for branch, at in zip(branches, anchors, strict=True))

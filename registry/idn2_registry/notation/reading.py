@@ -4,20 +4,21 @@ from collections.abc import Callable
 
 from . import canonical, faults
 from .faults import TableFault
-from .forms import SET, TAG, Definition, DemandLine, EntryLine, Form, RangeLine, form_of
+from .forms import SET, TYPE, ActionLine, Definition, DemandLine, EntryLine, Form, RangeLine, form_of
 from .lines import first_line, raw_lines, says_nothing, without_return
 from .patterns import NoForm
 from .points import Points
-from .ruleset import Condition, Entry, Ruleset
+from .ruleset import DISPOSITIONS, Condition, Entry, Ruleset
 
 MOST_LINE_BYTES = 8192
 MOST_TEXT_BYTES = 8_388_608
 MOST_ENTRIES = 65_536
 MOST_VARIANTS = 16
 MOST_POINTS = 8
-MOST_TAGS = 8
+# The predefined types are among them.
+MOST_TYPES = 62
 MOST_SETS = 256
-MOST_RULES_AND_DEMANDS = 256
+MOST_RULES_DEMANDS_AND_ACTIONS = 256
 MOST_ATOMS = 4096
 MOST_GROUPS = 8
 MOST_STARS = 2
@@ -55,25 +56,25 @@ class RulesetReader:
     def __init__(self, may_stand: Callable[[int], bool]) -> None:
         self.may_stand, self.ruleset = may_stand, Ruleset()
         self.size, self.atoms = len(canonical.VERSION_LINE) + 1, 0
-        self.rules_and_demands = 0
-        self.kinds: dict[str, str] = {}
+        # As what each name is defined.
+        self.kinds: dict[str, str] = dict.fromkeys(DISPOSITIONS, TYPE)
 
     def take(self, form: Form) -> int | None:
         """Takes what a line says into the ruleset, or answers the number of the line's first fault."""
-        if isinstance(form, Definition | DemandLine):
-            fault = self.fault_of_definition(form)
-            if not fault:
-                self.define(form)
-        else:
+        if isinstance(form, EntryLine | RangeLine):
             fault = self.fault_of_entries(form)
             if not fault:
                 self.ruleset.entries.update((entry.source.points, entry) for entry in form.entries())
+        else:
+            fault = self.fault_of_definition(form)
+            if not fault:
+                self.define(form)
         return fault
 
-    def fault_of_definition(self, form: Definition | DemandLine) -> int | None:
+    def fault_of_definition(self, form: Definition | DemandLine | ActionLine) -> int | None:
         if self.passes_limit(form):
             return faults.LIMIT
-        if self.names_another(form):
+        if self.uses_another(form):
             return faults.NO_SUCH_NAME
         if self.has_long_line(form):
             return faults.LIMIT
@@ -81,45 +82,48 @@ class RulesetReader:
             return fault
         return faults.SAME_NAME if isinstance(form, Definition) and form.name in self.kinds else None
 
-    def passes_limit(self, form: Definition | DemandLine) -> bool:
-        """Whether a definition goes past a limit of its kind or of its pattern; what it takes of each one is counted."""
-        pattern = form.pattern
+    def passes_limit(self, form: Definition | DemandLine | ActionLine) -> bool:
+        """Whether a line goes past a limit of its kind or of its pattern; the atoms that it takes are counted."""
+        pattern, ruleset = form.pattern, self.ruleset
         if pattern:
             self.atoms += pattern.atoms
-            self.rules_and_demands += 1
             if pattern.groups > MOST_GROUPS or pattern.stars > MOST_STARS or self.atoms > MOST_ATOMS:
                 return True
-        tags, sets = (len(each) + (getattr(form, "kind", None) == kind)
-                      for each, kind in ((self.ruleset.tags, TAG), (self.ruleset.sets, SET)))
-        return tags > MOST_TAGS or sets > MOST_SETS or self.rules_and_demands > MOST_RULES_AND_DEMANDS
+        if isinstance(form, Definition) and form.kind == TYPE:
+            return len(DISPOSITIONS) + len(ruleset.types) >= MOST_TYPES
+        if isinstance(form, Definition) and form.kind == SET:
+            return len(ruleset.sets) >= MOST_SETS
+        return len(ruleset.rules) + len(ruleset.demands) + len(ruleset.actions) >= MOST_RULES_DEMANDS_AND_ACTIONS
 
-    def has_long_line(self, form: Definition | DemandLine) -> bool:
+    def has_long_line(self, form: Definition | DemandLine | ActionLine) -> bool:
         """Whether the canonical line or text of a definition is; its bytes are counted."""
         line = canonical.line_of(form)
         self.size += len(line) + 1
         return len(line) > MOST_LINE_BYTES or self.size > MOST_TEXT_BYTES
 
-    def names_another(self, form: Form) -> bool:
+    def uses_another(self, form: Form) -> bool:
         """Whether a name is none that an earlier line defines as what it is to be."""
-        return any(self.kinds.get(name) != kind for kind, name in form.names())
+        return any(self.kinds.get(name) not in kinds for name, kinds in form.uses())
 
     def fault_of_parts(self, form: Form) -> int | None:
         """A name that no earlier line defines, or a code point that may not stand in a table."""
-        if self.names_another(form):
+        if self.uses_another(form):
             return faults.NO_SUCH_NAME
         return None if all(map(self.may_stand, form.points())) else faults.BAD_CLASS
 
-    def define(self, form: Definition | DemandLine) -> None:
+    def define(self, form: Definition | DemandLine | ActionLine) -> None:
         if isinstance(form, DemandLine):
             self.ruleset.demands.append(form.demand)
-            return
-        self.kinds[form.name] = form.kind
-        if form.kind == TAG:
-            self.ruleset.tags.append(form.name)
-        elif form.kind == SET:
-            self.ruleset.sets[form.name] = form.value
+        elif isinstance(form, ActionLine):
+            self.ruleset.actions.append(form.action)
         else:
-            self.ruleset.rules[form.name] = form.value
+            self.kinds[form.name] = form.kind
+            if form.kind == TYPE:
+                self.ruleset.types.append(form.name)
+            elif form.kind == SET:
+                self.ruleset.sets[form.name] = form.value
+            else:
+                self.ruleset.rules[form.name] = form.value
 
     def fault_of_entries(self, form: EntryLine | RangeLine) -> int | None:
         if len(self.ruleset.entries) + form.count() > MOST_ENTRIES:

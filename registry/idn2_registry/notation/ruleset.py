@@ -10,6 +10,9 @@ if TYPE_CHECKING:
     from .patterns import Contexts, Pattern
 
 NAME = re.compile(rb"[A-Za-z][A-Za-z0-9_]{0,31}")
+# RFC 7940, section 7.3: the dispositions, and the types of the same names, which no line defines.
+DISPOSITIONS = INVALID, BLOCKED, ALLOCATABLE, ACTIVATED, VALID = (
+    "invalid", "blocked", "allocatable", "activated", "valid")
 
 
 def name_of(word: bytes) -> str | None:
@@ -19,7 +22,8 @@ def name_of(word: bytes) -> str | None:
 
 @dataclasses.dataclass(frozen=True)
 class Condition:
-    """Where a sequence may be used: where the rule holds; or, with 'unless', where it doesn't."""
+    """Where a sequence may be used, or an action is triggered: where the rule holds; or, with 'unless', where it
+    doesn't."""
 
     word: str
     rule: str
@@ -27,11 +31,10 @@ class Condition:
 
 @dataclasses.dataclass(frozen=True)
 class Mapped:
-    """A source or a variant. The mark is '!': before a source, that it is outside; before a variant, that it is blocked."""
+    """A source with its reflexive type, or a variant with its type; None for no type."""
 
     points: Points
-    is_marked: bool = False
-    tags: tuple[str, ...] = ()
+    type: str | None = None
     condition: Condition | None = None
 
 
@@ -40,36 +43,62 @@ class Entry:
     source: Mapped
     variants: tuple[Mapped, ...] = ()
 
-    @property
-    def is_outside(self) -> bool:
-        return self.source.is_marked
-
     def mapped(self) -> tuple[Mapped, ...]:
         return (self.source, *self.variants)
 
-    def replacements(self) -> tuple[Mapped, ...]:
-        """What may stand in place of the source: itself first. Where the source may stand is no condition of it."""
-        itself = Mapped(self.source.points, tags=self.source.tags)
-        return (itself, *self.variants)
+
+@dataclasses.dataclass(frozen=True)
+class ContextRule:
+    """It holds of a part of a label that stands in one of its contexts."""
+
+    contexts: "Contexts"
+
+
+@dataclasses.dataclass(frozen=True)
+class WholeLabelRule:
+    """It holds of a label of which some part matches, and so of each part of that label."""
+
+    pattern: "Pattern"
+
+
+Rule = ContextRule | WholeLabelRule
 
 
 @dataclasses.dataclass(frozen=True)
 class Demand:
-    """What no part of a valid label matches ('%never'), or some part of each one ('%always')."""
+    """What no part of an accepted label matches ('%never'), or some part of each one ('%always')."""
 
     word: str
     pattern: "Pattern"
 
 
+@dataclasses.dataclass(frozen=True)
+class Types:
+    """Which types an action asks for, and how: by 'any', 'all' or 'only'."""
+
+    word: str
+    names: tuple[str, ...]
+
+
+@dataclasses.dataclass(frozen=True)
+class Action:
+    """The disposition of a label that it is the first to be triggered by. Its condition names a whole-label rule."""
+
+    disposition: str
+    condition: Condition | None = None
+    types: Types | None = None
+
+
 @dataclasses.dataclass
 class Ruleset:
-    """Each kind in the order of the lines. `sets` has for each name its spans, (first, last) each; `rules` the contexts of
-    each name; `entries` each entry by its source."""
+    """Each kind in the order of the lines. `types` are the file's own; `sets` has for each name its spans, (first, last) each;
+    `entries` each entry by its source."""
 
-    tags: list[str] = dataclasses.field(default_factory=list)
+    types: list[str] = dataclasses.field(default_factory=list)
     sets: dict[str, tuple[tuple[int, int], ...]] = dataclasses.field(default_factory=dict)
-    rules: dict[str, "Contexts"] = dataclasses.field(default_factory=dict)
+    rules: dict[str, Rule] = dataclasses.field(default_factory=dict)
     demands: list[Demand] = dataclasses.field(default_factory=list)
+    actions: list[Action] = dataclasses.field(default_factory=list)
     entries: dict[Points, Entry] = dataclasses.field(default_factory=dict)
 
     def variants_of(self) -> dict[Points, dict[Points, set[Condition | None]]]:
@@ -79,3 +108,8 @@ class Ruleset:
             for variant in entry.variants:
                 found[source].setdefault(variant.points, set()).add(variant.condition)
         return found
+
+    def idle_types(self) -> list[str]:
+        """The types of the file's own that no action names."""
+        named = {name for action in self.actions if action.types for name in action.types.names}
+        return [name for name in self.types if name not in named]

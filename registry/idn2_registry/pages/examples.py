@@ -13,7 +13,7 @@ from ..collisions import refusals_in
 from ..faults import Unknown
 from ..notation.patterns import Contexts, Sign
 from ..notation.points import Points
-from ..notation.ruleset import Demand, Mapped
+from ..notation.ruleset import ContextRule, Demand, Mapped, Rule
 from ..parsed_table import ParsedTable
 from ..program import Program
 from ..tables import Table
@@ -72,7 +72,7 @@ class Examples:
     """Examples of all rules and demands of a table, by one run of the program."""
 
     def __init__(self, parsed: ParsedTable, program: Program) -> None:
-        self._ruleset = parsed.ruleset
+        self._parsed, self._ruleset = parsed, parsed.ruleset
         self._fillers = fillers(parsed)
         self._beside = sorted(itertools.product(self.beside(), repeat=2), key=lambda pair: len(pair[0] + pair[1]))
         self.rules = {name: self.of_rule(name) for name in self._ruleset.rules}
@@ -106,7 +106,8 @@ class Examples:
         """Labels with sources that have a condition with this rule: where it holds, and elsewhere."""
         sources = [entry.source.points for entry in self._ruleset.entries.values()
                    if entry.source.condition and entry.source.condition.rule == name][:SOURCES]
-        labels = in_turn(self.around(source, self._ruleset.rules[name]) for source in sources)
+        contexts = contexts_of(self._ruleset.rules[name])
+        labels = in_turn(self.around(source, contexts) for source in sources)
         return Drawn(list(itertools.islice(dict.fromkeys(labels), MOST_OF_RULE)), [spelled(source) for source in sources])
 
     def of_variants(self, name: str) -> Iterator[tuple[str, str, str]]:
@@ -117,12 +118,13 @@ class Examples:
         # Those of one word, so that the examples say one thing.
         chosen = max((word for word, _ in given), default=None)
         told = [pair for word, pair in given if word == chosen][:SOURCES]
-        return in_turn(self.of_variant_of(source, variant, self._ruleset.rules[name]) for source, variant in told)
+        contexts = contexts_of(self._ruleset.rules[name])
+        return in_turn(self.of_variant_of(source, variant, contexts) for source, variant in told)
 
     def of_variant_of(self, source: Points, variant: Mapped, contexts: Contexts) -> Iterator[tuple[str, str, str]]:
         """Those of one source and its variant."""
         old, new = spelled(source), spelled(variant.points)
-        disposition = "blocked" if variant.is_marked else "allocatable"
+        disposition = self._parsed.disposition_of(variant)
         for label in self.around(source, contexts):
             if label.count(old) == 1:
                 yield label, label.replace(old, new), disposition
@@ -168,6 +170,13 @@ class Examples:
         return Drawn(list(dict.fromkeys([*alone, *near, *labels]))[:MOST_OF_RULE], [""])
 
 
+def contexts_of(rule: Rule) -> Contexts:
+    """The contexts of a rule; of one about the whole label what matches it, directly before or after a place."""
+    if isinstance(rule, ContextRule):
+        return rule.contexts
+    return tuple(context for branch in rule.pattern for context in ((branch, ()), ((), branch)))
+
+
 def in_turn(each: Iterable[Iterable[Each]]) -> Iterator[Each]:
     """The first ones of all, then the second ones, and so on."""
     return (one for turn in itertools.zip_longest(*each) for one in turn if one is not None)
@@ -183,7 +192,7 @@ def fillers(parsed: ParsedTable) -> list[int]:
     found: dict[tuple[bool, bool], int] = {}
     for entry in parsed.entries:
         source, condition = entry.source, entry.source.condition
-        is_fixed = entry.is_outside or condition and condition.word == "when"
+        is_fixed = parsed.refuses(entry) or condition and condition.word == "when"
         if len(source.points) == 1 and source.points != HYPHEN and not is_fixed:
             found.setdefault((not is_letter(source.points[0]), condition is not None), source.points[0])
     return [point for _, point in sorted(found.items())][:FILLERS]
@@ -197,8 +206,7 @@ def is_letter(point: int) -> bool:
 def told_of(table: Table, program: Program, labels: Iterable[str]) -> dict[str, Object | None] | None:
     """What the program says of labels under a table: None of one that it admits, else its refusal. None without an answer."""
     asked = [label for label in dict.fromkeys(labels) if label and len(label) <= LONGEST][:MOST]
-    option, _ = table.kind.value
-    words = [option, table.held.path, "--limit", "1", "--tries", "1"]
+    words = table.listing("--limit", "1", "--tries", "1")
     try:
         output = program.answered(words, "".join(f"{label}\n" for label in asked).encode(), [table.held.descriptor], SECONDS)
     except Unknown:
@@ -211,8 +219,7 @@ def listed_of(table: Table, program: Program, labels: Iterable[str]) -> dict[str
     """The variants of labels under a table, with their dispositions. Labels that are refused, or whose listing isn't complete,
     aren't there. None if the program doesn't answer."""
     asked = [label for label in dict.fromkeys(labels) if label and len(label) <= LONGEST][:MOST]
-    option, _ = table.kind.value
-    words = [option, table.held.path, "--limit", str(LISTED), "--tries", str(TRIES)]
+    words = table.listing("--limit", str(LISTED), "--tries", str(TRIES))
     try:
         output = program.answered(words, "".join(f"{label}\n" for label in asked).encode(), [table.held.descriptor], SECONDS)
     except Unknown:

@@ -15,13 +15,15 @@ from ..zone import Zone
 from .classes import Class, Classes
 from .frame import Frame, way_to
 from .html import Child, Markup, element, joined
-from .patterns import demand_sentence, rule_sentence
+from .patterns import action_sentence, demand_sentence, rule_sentence
 from .points import glyph_of, name_of, number_of
 from .sentences import holder_words, label_words, refusal_sentence, verdict
 from .table_page import parsed_table
 
 MOST_POINTS, NOT_UTF_8 = 63, 1
 UNKNOWN_CLASS = Class("", "not known")
+# What of a table refuses a label, and the member of a refusal by which that is known (docs/JSON.md).
+REFUSING = {"action": "action", "rule": "condition", "demand": "demand"}
 MARKS = {Status.AVAILABLE: "✓", Status.TAKEN: "●", Status.REFUSED: "✕"}
 
 
@@ -138,14 +140,21 @@ def verdict_part(told: Found) -> Markup:
 
 
 def rule_of(table: Table, refusal: Refusal) -> Markup | None:
-    """The rule or the demand of a table that refuses a label, in words where what reads tables is installed."""
+    """What of a table refuses a label: the rule, the demand or the action, in words where what reads tables is
+    installed."""
     told = refusal.details
-    if "condition" not in told and "demand" not in told:
+    kind = next((kind for kind, member in REFUSING.items() if member in told), None)
+    if kind is None:
         return None
-    kind, name = ("rule", told["rule"]) if "condition" in told else ("demand", told["demand"])
+    name = told[kind]
     try:
         ruleset = parsed_table(table).ruleset
-        words = rule_sentence(ruleset.rules[name]) if kind == "rule" else demand_sentence(ruleset.demands[name - 1])
+        if kind == "rule":
+            words = rule_sentence(ruleset.rules[name])
+        elif kind == "demand":
+            words = demand_sentence(ruleset.demands[name - 1])
+        else:
+            words = action_sentence(ruleset.actions[name - 1])
     except Unusable:
         words = f"See the table {table.name}."
     way = way_to(table.name)

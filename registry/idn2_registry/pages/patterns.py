@@ -5,7 +5,7 @@ from collections.abc import Iterable, Iterator, Mapping, Sequence
 
 from ..notation.patterns import Branch, Contexts, Group, Item, Many, Optional, Pattern, Point, Set, Sign
 from ..notation.points import Points
-from ..notation.ruleset import Demand
+from ..notation.ruleset import Action, ContextRule, Demand, Rule, WholeLabelRule
 from .html import Child, element
 from .points import glyph_of, number_of
 
@@ -80,9 +80,35 @@ def rule_words(contexts: Contexts) -> Child:
     return joined_words([context_words(before, after) for before, after in contexts], "; or ")
 
 
-def rule_sentence(contexts: Contexts) -> Child:
+def rule_sentence(rule: Rule) -> Child:
     """A rule in a sentence."""
-    return ["Holds ", rule_words(contexts), "."]
+    if isinstance(rule, ContextRule):
+        return ["Holds ", rule_words(rule.contexts), "."]
+    return ["Holds everywhere in a label of which some part is ", pattern_words(rule.pattern), "."]
+
+
+def branches_of(rule: Rule) -> Iterator[Branch]:
+    """The branches of a rule of either kind."""
+    return iter(rule.pattern) if isinstance(rule, WholeLabelRule) else itertools.chain(*rule.contexts)
+
+
+# What a label is by its disposition, and how an action asks for types (RFC 7940, sections 7.2 and 7.3).
+BECOMES = {"invalid": "is refused", "blocked": "is blocked"}
+ASKS = {"any": "in which something has the type ", "all": "in which all that is mapped has the type ",
+        "only": "in which everything has the type "}
+
+
+def action_sentence(action: Action) -> Child:
+    """An action in a sentence."""
+    told: list[Child] = []
+    if action.condition:
+        words = "for which the rule " if action.condition.word == "when" else "for which not the rule "
+        told.append([words, element("a", action.condition.rule, href=f"#rule-{action.condition.rule}"), " holds"])
+    if action.types:
+        names = [element("b", name) for name in action.types.names]
+        told.append([ASKS[action.types.word], joined_words(names, " or ")])
+    subject = ["One ", joined_words(told, ", and ")] if told else "Every other one"
+    return [subject, f" {BECOMES.get(action.disposition, 'is allocatable')}."]
 
 
 def demand_sentence(demand: Demand) -> Child:

@@ -26,14 +26,16 @@ SENTENCES: Mapping[int | None, str] = {
     40: "{point}{at} isn’t in {table}.",
     41: "It isn’t valid under {table}.",
 }
-CONDITIONS = {
-    "when": "{point}{at} may stand only where the rule {rule} of {table} holds.",
-    "unless": "{point}{at} may not stand where the rule {rule} of {table} holds.",
-}
-DEMANDS = {
-    "never": "It has a part that demand {demand} of {table} bars.",
-    "always": "It has no part that demand {demand} of {table} wants.",
-}
+# The same of 41, by a member of its cause: the first that is there, with this value if it has one.
+CAUSES: tuple[tuple[str, str | None, str], ...] = (
+    ("unclear", None, "It arises in several ways under {table}, with types that differ."),
+    ("default_action", None, "{point}{at} has the type {type} under {table}, and no label may."),
+    ("action", None, "Action {action} of {table} refuses it."),
+    ("condition", "when", "{point}{at} may stand only where the rule {rule} of {table} holds."),
+    ("condition", "unless", "{point}{at} may not stand where the rule {rule} of {table} holds."),
+    ("kind", "never", "It has a part that demand {demand} of {table} bars."),
+    ("kind", "always", "It has no part that demand {demand} of {table} wants."),
+)
 
 
 def refusal_sentence(refusal: Refusal, table: str | None = None) -> str:
@@ -41,7 +43,8 @@ def refusal_sentence(refusal: Refusal, table: str | None = None) -> str:
     told = refusal.details
     sentence = SENTENCES.get(refusal.number, str(refusal))
     if refusal.number == 41:
-        sentence = CONDITIONS.get(told.get("condition", ""), DEMANDS.get(told.get("kind", ""), sentence))
+        causes = (words for member, value, words in CAUSES if member in told and value in (None, told[member]))
+        sentence = next(causes, sentence)
     where = f" at place {told['place']}" if "place" in told else ""
     filled = {"point": point_words(told.get("code_point")), "at": where, "rule": told.get("rule", ""),
               "table": "the table" if table is None else f"the table {table}"}

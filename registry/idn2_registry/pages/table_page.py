@@ -5,9 +5,8 @@ import itertools
 from collections.abc import Iterator, Sequence
 from dataclasses import dataclass
 
-from ..notation.patterns import Contexts
 from ..notation.points import Points
-from ..notation.ruleset import Entry, Mapped
+from ..notation.ruleset import DISPOSITIONS, Action, Entry, Mapped, Rule
 from ..parsed_table import ParsedTable
 from ..program import Program
 from ..tables import Table
@@ -15,12 +14,13 @@ from ..words import counted
 from .examples import Example, Examples, VariantExample
 from .frame import Frame
 from .html import Child, Markup, element
-from .patterns import demand_sentence, joined_words, rule_sentence, sets_named
+from .patterns import action_sentence, branches_of, demand_sentence, joined_words, rule_sentence, sets_named
 from .points import glyph_of, name_of, names_of, number_of, numbers_of
-from .variant_sets import Pair, VariantSet, uneven_pairs, variant_sets
+from .variant_sets import Pair, VariantSet, pairs_of, uneven_pairs, variant_sets
 
 # So many letters and so many sets of variants one page has, unless it stands alone.
 MOST_TILES, MOST_SETS, MOST_GAPS, MOST_USERS, MOST_MEMBERS = 1_000, 200, 200, 100, 400
+OUT_OF_REPERTOIRE = "out of repertoire"
 # More than any table has.
 ALL = 1_000_000
 KINDS = {1: "variant table of version 1, which doesn’t say which variants are blocked", 2: "variant table", 3: "ruleset"}
@@ -98,7 +98,7 @@ def uneven_part(parsed: ParsedTable) -> Markup | None:
 
 def way_words(pairs: Sequence[Pair]) -> Child:
     """What a variant of a source is, where it is that."""
-    told = [[disposition_of(pair.variant), [[" ", note] for note in notes_of(pair.variant)]] for pair in pairs]
+    told = [[pair.disposition, [[" ", note] for note in notes_of(pair.variant)]] for pair in pairs]
     first = pairs[0]
     return ["for ", sequence(first.source), " the variant ", sequence(first.variant.points), " is ",
             joined_words(told, ", and ")]
@@ -115,10 +115,12 @@ def sequence(points: Points) -> Markup:
 def repertoire_part(frame: Frame, view: View, shown: Shown) -> Markup:
     """The letters that labels may have, by the first words of their names, and the sequences."""
     entries = [entry for entry in view.parsed.entries if entry.source.points[0] >= shown.start]
+    told = [(view.parsed.refuses(entry), len(entry.source.points) > 1, entry) for entry in entries[:shown.tiles]]
     groups: dict[str, list[Markup]] = {}
     # Those of no label come last.
-    for entry in sorted(entries[:shown.tiles], key=lambda entry: (entry.is_outside, len(entry.source.points) > 1)):
-        groups.setdefault(group_of(entry), []).append(tile(entry))
+    for is_refused, _, entry in sorted(told, key=lambda each: each[:2]):
+        group = "Out of repertoire: only variants have them, no label" if is_refused else group_of(entry)
+        groups.setdefault(group, []).append(tile(entry, is_refused))
     parts = [[element("h3", f"{name} ({len(tiles)})"), element("ul", *tiles, class_="tiles")] for name, tiles in groups.items()]
     more = None
     if len(entries) > shown.tiles and not frame.stands_alone:
@@ -129,27 +131,26 @@ def repertoire_part(frame: Frame, view: View, shown: Shown) -> Markup:
 
 def group_of(entry: Entry) -> str:
     """How the name of its first code point begins: that of a letter names its script."""
-    if entry.is_outside:
-        return "Outside: only variants have them, no label"
     if len(entry.source.points) > 1:
         return "Sequences"
     first = name_of(entry.source.points[0]).split(" ")[0]
     return "Ideographs" if first == "CJK" else "Digits" if first == "DIGIT" else first.capitalize()
 
 
-def tile(entry: Entry) -> Markup:
-    """A letter, or a sequence."""
+def tile(entry: Entry, is_refused: bool) -> Markup:
+    """A letter, or a sequence; no label may have one that is refused."""
     source = entry.source
-    notes = [element("span", note, class_="note") for note in (*notes_of(source), *(["outside"] if entry.is_outside else []))]
+    told = [*notes_of(source), *([OUT_OF_REPERTOIRE] if is_refused else [])]
+    notes = [element("span", note, class_="note") for note in told]
     return element("li", glyph_of(*source.points), element("span", numbers_of(source.points), class_="number"),
                    element("span", names_of(source.points), class_="name"), *notes,
-                   class_="tile outside" if entry.is_outside else "tile")
+                   class_="tile variant-only" if is_refused else "tile")
 
 
 def notes_of(mapped: Mapped) -> Iterator[Child]:
-    """The tags of a sequence, and where it may stand."""
-    if mapped.tags:
-        yield f"as {', '.join(mapped.tags)}"
+    """The type of a sequence, if the ruleset has it, and where it may stand."""
+    if mapped.type and mapped.type not in DISPOSITIONS:
+        yield f"as {mapped.type}"
     if mapped.condition:
         words = "only where " if mapped.condition.word == "when" else "not where "
         yield [words, element("a", mapped.condition.rule, href=f"#rule-{mapped.condition.rule}")]
@@ -192,32 +193,28 @@ def joined_blocked(parts: Sequence[Markup], blocked: Markup) -> list[Child]:
 
 def together(points: Sequence[Points], parsed: ParsedTable, says_which: bool) -> Markup:
     """Sequences that go together."""
-    chips = [chip(each, parsed.ruleset.entries.get(each)) for each in points]
+    chips = [chip(each, parsed) for each in points]
     several = len(points) > 1 and says_which
     caption = element("figcaption", "allocatable", class_="heard") if several else None
     return element("figure", *chips, caption, class_="together several" if several else "together")
 
 
-def chip(points: Points, entry: Entry | None) -> Markup:
+def chip(points: Points, parsed: ParsedTable) -> Markup:
     """A sequence in a set."""
-    kind = "outside" if entry and entry.is_outside else "" if entry else "only a variant"
-    tags = ", ".join(entry.source.tags) if entry else ""
-    notes = [element("span", note, class_="kind") for note in (kind, tags) if note]
+    entry = parsed.ruleset.entries.get(points)
+    kind = "only a variant" if entry is None else OUT_OF_REPERTOIRE if parsed.refuses(entry) else ""
+    own = entry.source.type if entry and entry.source.type in parsed.ruleset.types else None
+    notes = [element("span", note, class_="kind") for note in (kind, own) if note]
     # The name of an ideograph is its number.
     is_named = not all(name_of(point).startswith("CJK ") for point in points)
     name = element("span", names_of(points), class_="name") if is_named else None
     return element("span", glyph_of(*points), element("span", numbers_of(points), class_="number"), name, *notes,
-                   class_="chip outside" if kind else "chip")
-
-
-def disposition_of(variant: Mapped) -> str:
-    """What a variant of an entry is by itself."""
-    return "blocked" if variant.is_marked else "allocatable"
+                   class_="chip variant-only" if kind else "chip")
 
 
 def pair_row(pair: Pair, says_which: bool) -> Markup:
     """A source with a variant."""
-    kind = disposition_of(pair.variant) if says_which else "not told"
+    kind = pair.disposition if says_which else "not told"
     notes = [[" ", note] for note in notes_of(pair.variant)]
     return element("tr", element("td", sequence(pair.source)), element("td", sequence(pair.variant.points)),
                    element("td", element("span", kind, class_=f"disposition {kind}"), *notes))
@@ -228,15 +225,14 @@ def pair_row(pair: Pair, says_which: bool) -> Markup:
 
 def rules_part(view: View) -> Markup | None:
     """The rules in words, each with what asks it, and with examples."""
-    rules = [rule(view, name, contexts) for name, contexts in view.parsed.ruleset.rules.items()]
+    rules = [rule_part(view, name, rule) for name, rule in view.parsed.ruleset.rules.items()]
     return element("section", element("h2", "Rules", id="rules"), *rules) if rules else None
 
 
-def rule(view: View, name: str, contexts: Contexts) -> Markup:
+def rule_part(view: View, name: str, rule: Rule) -> Markup:
     """A rule."""
-    entries = view.parsed.entries
-    sources = [(entry.source, sequence(entry.source.points)) for entry in entries]
-    pairs = [(variant, variant_words(entry.source, variant)) for entry in entries for variant in entry.variants]
+    sources = [(entry.source, sequence(entry.source.points)) for entry in view.parsed.entries]
+    pairs = [(pair.variant, variant_words(pair)) for pair in pairs_of(view.parsed)]
     told: list[Child] = [users(sources, name, "when", "There alone may stand: "),
                          users(sources, name, "unless", "There may not stand: ")]
     if any(told):
@@ -245,15 +241,20 @@ def rule(view: View, name: str, contexts: Contexts) -> Markup:
         told += [users(pairs, name, "when", "Variants only there: "),
                  users(pairs, name, "unless", "Variants everywhere but there: "),
                  variant_examples(view.examples.of_variant(name))]
+    actions = [element("a", f"action {number}", href=f"#action-{number}")
+               for number, action in enumerate(view.parsed.ruleset.actions, 1)
+               if action.condition and action.condition.rule == name]
+    if actions:
+        told.append(element("p", "It is asked by ", joined_words(actions, ", "), "."))
     if not any(told):
         told.append(element("p", element("strong", "Nothing asks this rule.")))
-    return element("article", element("h3", name, id=f"rule-{name}"), element("p", rule_sentence(contexts)), *told,
+    return element("article", element("h3", name, id=f"rule-{name}"), element("p", rule_sentence(rule)), *told,
                    class_="rule")
 
 
-def variant_words(source: Mapped, variant: Mapped) -> Markup:
+def variant_words(pair: Pair) -> Markup:
     """A variant of a source."""
-    return element("span", sequence(variant.points), " of ", sequence(source.points), f" ({disposition_of(variant)})")
+    return element("span", sequence(pair.variant.points), " of ", sequence(pair.source), f" ({pair.disposition})")
 
 
 def asks(mapped: Mapped, name: str, word: str | None = None) -> bool:
@@ -301,10 +302,10 @@ def drawn(label: str | None) -> Child:
 def sets_part(parsed: ParsedTable) -> Markup | None:
     """The sets of code points that rules name."""
     ruleset = parsed.ruleset
-    patterns = [*(side for contexts in ruleset.rules.values() for context in contexts for side in context),
+    patterns = [*(branch for rule in ruleset.rules.values() for branch in branches_of(rule)),
                 *(branch for demand in ruleset.demands for branch in demand.pattern)]
     used = set(sets_named(patterns))
-    letters = {point for entry in parsed.entries if not entry.is_outside for point in entry.source.points}
+    letters = {point for entry in parsed.entries if not parsed.refuses(entry) for point in entry.source.points}
     parts = [named_set(name, spans, letters, name in used) for name, spans in ruleset.sets.items()]
     return element("section", element("h2", "Sets that rules name"), *parts) if parts else None
 
@@ -316,9 +317,9 @@ def named_set(name: str, spans: Sequence[tuple[int, int]], letters: set[int], is
     size = sum(last - first + 1 for first, last in spans)
     missing = size - sum(first <= point <= last for point in letters for first, last in spans)
     if missing:
-        outside = (sequence((point,)) for point in points_of(spans) if point not in letters)
+        lacking = (sequence((point,)) for point in points_of(spans) if point not in letters)
         more = f" and {missing - MOST_USERS} more" if missing > MOST_USERS else ""
-        shown = joined_words(list(itertools.islice(outside, MOST_USERS)), ", ")
+        shown = joined_words(list(itertools.islice(lacking, MOST_USERS)), ", ")
         told.append(element("p", element("strong", "Not in the repertoire: "), shown, f"{more}."))
     if not is_used:
         told.append(element("p", element("strong", "No rule names this set.")))
@@ -349,12 +350,20 @@ def actions_part(parsed: ParsedTable) -> Markup:
         steps.append(["One that breaks a ", element("a", "demand", href="#demands"), " is refused."])
     if parsed.table.version == 1:
         steps.append("Every other one is a variant. The table doesn’t say which are blocked.")
-    elif ruleset.tags:
-        tags = joined_words([element("b", tag) for tag in ruleset.tags], " or ")
-        steps += [["A variant whose letters all are ", tags,
-                   ", or have no tag, throughout, and none of them blocked, is allocatable."],
-                  "Every other variant is blocked."]
-    else:
+    elif parsed.table.version == 2:
         steps += ["A variant that arises without a blocked one is allocatable.", "Every other variant is blocked."]
+    else:
+        steps += ["One that arises in several ways, with types that differ, is refused as a label, blocked as a variant.",
+                  *(element("span", action_sentence(action), id=f"action-{number}")
+                    for number, action in enumerate(ruleset.actions, 1))]
+        steps += default_steps(ruleset.actions)
     return element("section", element("h2", "What becomes of a label", id="actions"),
                    element("ol", *(element("li", step) for step in steps)))
+
+
+def default_steps(actions: Sequence[Action]) -> list[Child]:
+    """What becomes of what no action of the ruleset has decided (RFC 7940, section 7.6)."""
+    if any(action.types is None and action.condition is None for action in actions):
+        return []
+    return ["One in which something has the type invalid is refused.",
+            "One in which something has the type blocked is blocked.", "Every other one is allocatable."]
