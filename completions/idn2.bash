@@ -28,6 +28,7 @@ _idn2_options() {
     local options="-N --tr46nt --usestd3asciirules --standard --explain --json --quiet -h --help -V --version" option
     case $given in
         *" -- "*) return ;;
+        *" -d "* | *" --decode "*) options="--old $options" ;;
         *" --variants "* | *" --ruleset "*) modes= options="$(_idn2_beside_variants "$given") $options" ;;
     esac
     for option in $modes; do
@@ -42,7 +43,7 @@ _idn2_options() {
 _idn2_beside_variants() {
     case $1 in
         *" --jump "*) ;;
-        *" --among "*) echo "--after --limit --among" ;;
+        *" --among "*) echo "--after --limit --among --others" ;;
         *" --tries "* | *" --steps "*) echo "--after --limit --tries --steps" ;;
         *" --after "* | *" --limit "*) echo "--after --limit --tries --steps --among" ;;
         *) echo "--after --limit --tries --steps --among --jump" ;;

@@ -25,6 +25,11 @@ function __idn2_listing_option
     complete -c idn2 -n "__idn2_has --variants --ruleset; and not __idn2_has $barring" $argv[2..]
 end
 
+# The same, with --among or with --decode.
+function __idn2_option_beside
+    complete -c idn2 -n "__idn2_has $argv[1]; and not __idn2_has $argv[2]" $argv[3..]
+end
+
 complete -c idn2 -f
 
 set -l modes '-l --lookup -r --register -d --decode --variants --check-table --ruleset --check-ruleset'
@@ -39,6 +44,8 @@ __idn2_option $modes -l check-ruleset -r -F -d 'Print the pairs that the ruleset
 __idn2_listing_option '--among --jump --tries --steps' -l among -r -F -d 'With --variants: list labels in FILE that collide'
 __idn2_listing_option '--jump --among --after --limit --tries --steps' -l jump \
     -d 'With --variants: answer LABEL TAB TEXT by a label'
+__idn2_option_beside --among --others -l others -d 'With --among: leave out the label itself'
+__idn2_option_beside '-d --decode' --old -l old -d 'With --decode: print lines of registered labels'
 __idn2_listing_option '--after --jump' -l after -x -d 'With --variants: list only variants after TEXT'
 __idn2_listing_option '--limit --jump' -l limit -x -d 'With --variants: stop after N variants of a line'
 __idn2_listing_option '--tries --jump --among' -l tries -x -d 'With --variants: stop after N tested labels'

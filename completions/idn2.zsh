@@ -12,6 +12,9 @@ local -a listing
     '(--jump --among)--tries=[With --variants: stop after N tested labels]:N: '
     '(--jump --among)--steps=[With --variants: stop after N steps of the search]:N: '
 )
+# What goes with --among, and with --decode.
+(( $words[(I)--among(|=*)] )) && listing+=('--others[With --among: leave out the label itself]')
+(( $words[(I)(-d|--decode)] )) && listing+=('--old[With --decode: print lines of registered labels]')
 _arguments -S : $listing \
     "($modes)"{-l,--lookup}'[Convert each name for a query; the default]' \
     "($modes)"{-r,--register}'[Test each line, one label, and print its A-label]' \

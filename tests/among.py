@@ -8,11 +8,14 @@ full listings. The last line is 'N passed, M failed', and the exit status is 0 w
 import functools
 import os
 import random
-import sqlite3
 import subprocess
 import sys
 
-from program import LIMIT, PROGRAM, TABLES, expect, is_registrable, run, run_tests, table_file
+from program import LIMIT, PROGRAM, ROOT, TABLES, expect, is_registrable, run, run_tests, table_file
+
+sys.path.append(os.path.join(ROOT, "conformance"))
+
+from jumps import NOTHING, Jumps, by_turns
 
 GERMAN = os.path.join(TABLES, "german.txt")
 ALIKE = "%version 2\n0030\n006F|!0030\n0073\n0074\n0073-0073|00DF\n"
@@ -197,6 +200,12 @@ def refuses_options_that_do_not_go_together(folder):
         [*TABLE_WORDS, *among, "--limit", "0", "haus"],
         [*TABLE_WORDS, "--among", GERMAN, "haus"],
         ["--variants", "/dev/stdin", "--among", "/dev/stdin", "haus"],
+        [*TABLE_WORDS, "--others", "haus"],
+        [*TABLE_WORDS, *among, "--others", "--others", "haus"],
+        [*TABLE_WORDS, "--jump", "--others", "haus"],
+        [*TABLE_WORDS, "--old", "haus"],
+        ["--register", "--old", "haus"],
+        ["--old", "haus"],
         [*TABLE_WORDS, "--among"],
         [*TABLE_WORDS, "--jump=haus"],
         [*among, "haus"],
@@ -261,61 +270,6 @@ def answers_the_least_label_from_a_text_on(folder):
         words = ["--variants", table_of(folder, table), "--jump"]
         expect(words, encoded(lines), encoded(answers), encoded(messages), 1 if messages else 0)
     expect([*TABLE_WORDS, "--jump", "sss\tssz", "sss"], b"", both("sß", "sss").encode(), b"", 0)
-
-
-class Partner:
-    """A program that is kept open for jumps under a table."""
-
-    def __init__(self, table):
-        streams = {"stdin": subprocess.PIPE, "stdout": subprocess.PIPE, "stderr": subprocess.DEVNULL}
-        self.program = subprocess.Popen([PROGRAM, "--variants", table, "--jump"], **streams)
-
-    def __enter__(self):
-        return self
-
-    def __exit__(self, *reason):
-        self.program.kill()
-        self.program.communicate()
-
-    def least(self, requests):
-        """To each label and text the least label from there on with what it is to the label, and back, or none. All
-        answers come before the next requests are sent."""
-        self.program.stdin.write("".join(f"{label}\t{text}\n" for label, text in requests).encode())
-        self.program.stdin.flush()
-        answers = [self.program.stdout.readline().decode() for _ in requests]
-        assert all(answer.endswith("\n") for answer in answers), (requests, answers)
-        return [None if answer == "#end\n" else answer[:-1].split("\t") for answer in answers]
-
-
-class Database:
-    """Registered labels with an index in byte order, and the collisions that jumps find by it."""
-
-    def __init__(self, labels):
-        self.labels = sqlite3.connect(":memory:")
-        self.labels.execute("create table registered (label blob primary key) without rowid")
-        self.labels.executemany("insert into registered values (?)", ((label.encode(),) for label in labels))
-
-    def least(self, text):
-        query = "select label from registered where label >= ? order by label limit 1"
-        row = self.labels.execute(query, (text,)).fetchone()
-        return row and row[0].decode()
-
-    def collisions(self, partner, labels):
-        """For each label all registered labels that collide with it, and how many jumps that took."""
-        found, jumps = {label: [] for label in labels}, dict.fromkeys(labels, 0)
-        at = dict.fromkeys(labels, self.least(b""))
-        while requests := [(label, registered) for label, registered in at.items() if registered is not None]:
-            at = {}
-            for (label, registered), least in zip(requests, partner.least(requests)):
-                jumps[label] += 1
-                if least is None:
-                    continue
-                if least[0] != registered:
-                    at[label] = self.least(least[0].encode())
-                    continue
-                found[label] += [least] if least[1:] != ["none", "none"] else []
-                at[label] = self.least(registered.encode() + b"\0")
-        return found, jumps
 
 
 def blocks_of(words, labels):
@@ -386,7 +340,7 @@ def near_of(table, label):
 
 def finds_the_same_in_three_ways(folder):
     """By the file, by a database with jumps, and by whole listings of both labels: under random tables with gaps, from
-    a fixed seed. A jump passes at least one registered label."""
+    a fixed seed."""
     chance = random.Random(5890)
     asked, found = 0, 0
     for _ in range(30):
@@ -397,15 +351,13 @@ def finds_the_same_in_three_ways(folder):
         whole = [{label: (*fields, "variant")[0] for label, *fields in block}
                  for block in blocks_of(words, labels + registered)]
         back = dict(zip(registered, whole[len(labels):]))
-        database = Database(registered)
-        with Partner(words[1]) as partner:
-            collisions, jumps = database.collisions(partner, labels)
+        with Jumps([PROGRAM, *words]) as jumps:
+            collisions = by_turns(jumps, labels, registered)
         for label, block, listed in zip(labels, among, whole):
             regards = [[each, listed.get(each, "none"), back[each].get(label, "none")] for each in registered]
-            expected = [each for each in regards if each[1:] != ["none", "none"]]
+            expected = [each for each in regards if each[1:] != NOTHING]
             case = (table, registered, label)
             assert block == expected == collisions[label], (*case, expected, block, collisions[label])
-            assert jumps[label] <= len(registered), (*case, jumps[label])
             asked, found = asked + 1, found + len(block)
     assert asked > 200 and found > 300, (asked, found)
 
@@ -462,6 +414,34 @@ def sees_a_collision_from_either_side(folder):
     assert seen > 100, seen
 
 
+def compares_a_register_with_itself(folder):
+    """With `--others` each block is that of `--among` without the label itself, under its name; an empty one isn't there."""
+    chance = random.Random(8228)
+    seen = 0
+    for _ in range(12):
+        table = random_table(chance, "abß")
+        labels, registered = drawn_labels(chance, table)
+        file = lines_file(folder, [*labels, *registered])
+        words = ["--variants", table_file(folder, text_of(chance, table).encode()), "--among", file]
+        with open(file, "rb") as lines:
+            given = lines.read()
+        all_of_it, others = run(words, given), run([*words, "--others"], given)
+        assert (all_of_it.stderr, all_of_it.returncode) == (others.stderr, others.returncode), (table, registered)
+        wanted, block = [], []
+        refused = {int(message.split()[2].rstrip(b":")) for message in all_of_it.stderr.splitlines()}
+        answered = (line for number, line in enumerate(given.decode().splitlines(), 1) if number not in refused)
+        for line in all_of_it.stdout.decode().splitlines():
+            if not line.startswith("#"):
+                block.append(line)
+                continue
+            label = next(answered)
+            block = [each for each in block if each.split("\t")[0] != label]
+            wanted += [*block, f"#end {len(block)} {label}"] if block else []
+            block, seen = [], seen + len(block)
+        assert others.stdout.decode().splitlines() == wanted, (table, registered)
+    assert seen > 100, seen
+
+
 TESTS = [
     refuses_a_file_by_its_first_wrong_line,
     measures_labels_as_another_program,
@@ -475,6 +455,7 @@ TESTS = [
     jumps_to_the_least_of_all_that_is_near,
     finds_in_parts_what_the_whole_has,
     sees_a_collision_from_either_side,
+    compares_a_register_with_itself,
 ]
 
 

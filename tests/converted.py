@@ -1,22 +1,24 @@
 #!/usr/bin/env python3
 """Makes rulesets of version 3 of the table notation with idn2-registry convert, and asks them for labels.
 
-Each part of RFC 7940 has a small ruleset here (converted_rows.py), with the text that it becomes and with answers that the RFC
-gives. Random rulesets (rich_ruleset.py) are asked beside a plain reading of the RFC (plain_ruleset.py). The reference implementation
-(conformance/ruleset_labels.py) answers, and the program, which has to say the same. And a converter that was made wrong on
-purpose has to print nothing. The last line is 'N passed, M failed', and the exit status is 0 where nothing failed."""
+Each part of RFC 7940 has a small ruleset here (converted_rows.py), with the text that it becomes and with answers that the
+RFC gives. Random rulesets (rich_ruleset.py) are asked beside the evaluator of RFC 7940 (idn2_registry.rfc7940). The reference
+implementation (conformance/ruleset_labels.py) answers, and the program, which has to say the same. And a converter that was
+made wrong on purpose has to print nothing. The last line is 'N passed, M failed', and the exit status is 0 where nothing
+failed."""
 
 import itertools
 import os
 import pathlib
 import random
+import re
 import sys
 from unittest import mock
 
 from converted_rows import (BY_STANDARD, DIFFERENCES, FAULTS, LABELS, LIMITS, NO_PROPERTIES, PROFILE, PROPERTIES, REFUSALS, ROWS,
                             UNICODE_FILES, VERIFIED, VIRAMAS, WITH_CONDITION, WITH_RULE, WITH_VARIANT, long_set, many_entries,
                             refusing, rule)
-from plain_ruleset import PlainRuleset
+from evaluator import all_verdicts
 from program import PROGRAM, ROOT, run, run_tests, table_file
 from rich_ruleset import RichRuleset
 from rulesets import comments_of, converted as verified, entries_of, listings, registrable, ruleset, stored
@@ -26,22 +28,24 @@ sys.path += [os.path.join(ROOT, folder) for folder in ("conformance", "registry"
 
 from idn2_registry import unicode_data
 from idn2_registry.configuration import LabelRules
-from idn2_registry.lgr import command, convert, exact, tags
-from idn2_registry.lgr.contexts import Holds
-from idn2_registry.lgr.joinings import Joinings
+from idn2_registry.lgr import command, convert
+from idn2_registry.lgr import lines as exact
 from idn2_registry.lgr.program import Asked
-from idn2_registry.lgr.ruleset import Fault
+from idn2_registry.lgr.ruleset import Entry, Fault
 from idn2_registry.notation import reading
-from idn2_registry.notation.ruleset import Mapped
+from idn2_registry.notation.ruleset import BLOCKED
 from idn2_registry.program import Program
 from idn2_registry.rfc7940 import drawn_labels
-from ruleset_labels import NOT_VALID, RulesetLabels, Unknown
+from idn2_registry.rfc7940.reader import read
+from ruleset_labels import NOT_VALID, UNCLEAR, RulesetLabels, Unknown
 
 UNSAYABLE = "refused: there is no such table\n"
 SEEDS = range(1, 71)
 # So many random rulesets at least are converted, and so many of their labels accepted. Labels with more variants are left out.
-LEAST_CONVERTED, LEAST_ACCEPTED = 20, 300
+LEAST_CONVERTED, LEAST_ACCEPTED = 65, 300
 MOST_SPELLED = 60
+# Labels are made of so many entries of a ruleset.
+MOST_PARTS = 20
 
 
 class KnownProgram(Asked):
@@ -83,7 +87,8 @@ def program_says(folder, text, answers):
     known = registrable(set(answers).union(*(variants or () for variants in answers.values())))
     found = listings(folder, text, known.intersection(answers))
     for label in known.intersection(answers):
-        expected = {variant: kind for variant, kind in (answers[label] or {}).items() if variant in known}
+        expected = {variant: BLOCKED if kind == UNCLEAR else kind
+                    for variant, kind in (answers[label] or {}).items() if variant in known}
         assert found.get(label, {}) == expected, (label.encode("unicode_escape"), found.get(label), expected)
 
 
@@ -97,9 +102,9 @@ def says_each_part(folder):
         assert status == 0, (name, told)
         found = entries_of(text).removeprefix("%version 3\n")
         assert found == "".join(line + "\n" for line in lines), (name, found)
-        labels, plain = labels_under(text), PlainRuleset(path)
+        labels, of_file = labels_under(text), read(command.bytes_of(path))
         for label, row in answers.items():
-            found = labels.answer(label), plain.variants(label)
+            found = labels.answer(label), all_verdicts(of_file, label)
             assert found == (wanted(row), wanted(row)), (name, label, row, found)
         program_says(folder, text, {label: wanted(row) for label, row in answers.items()})
 
@@ -168,8 +173,14 @@ def leaves_out_what_the_program_does_not_register_only_if_asked(folder):
                 text, messages, status = converted(path, *options, "--leave-out")
             if lines is not None:
                 assert status == 0 and messages.startswith(told) and ("profile" in messages) == bool(told), (data, messages)
-                assert entries_of(text) == f"%version {version}\n" + "".join(line + "\n" for line in lines), (data, text)
+                assert entries_of(text) == in_version(version, lines), (data, text)
                 assert told[:20] in text, (data, text)
+
+
+def in_version(version, lines):
+    """A text of these lines of version 3, as a table of version 2 says them if it is to be one."""
+    told = [re.sub("([0-9A-F]+) as blocked", r"!\1", line) if version == "2" else line for line in lines]
+    return f"%version {version}\n" + "".join(line + "\n" for line in told)
 
 
 def has_all_of_the_standard_if_asked(folder):
@@ -178,7 +189,7 @@ def has_all_of_the_standard_if_asked(folder):
         for version in ("3", "2"):
             text, messages, status = verified(ruleset(folder, data), "--standard", "--version", version)
             assert status == 0 and "profile" not in messages and "# It is for idn2 --standard.\n" in text, (data, messages)
-            assert entries_of(text) == f"%version {version}\n" + "".join(line + "\n" for line in lines), (data, text)
+            assert entries_of(text) == in_version(version, lines), (data, text)
             path, check = table_file(folder, text.encode()), "--check-ruleset" if version == "3" else "--check-table"
             is_read = [run([check, path, *words]).returncode < 2 for words in ([], ["--standard"])]
             assert is_read == [lines == ["0061"], True], (data, is_read)
@@ -214,23 +225,7 @@ def says_large_rulesets(folder):
     program_says(folder, text, answers)
 
 
-def joins_in_two_ways(folder):
-    """Whether a label that words make, one of them among these, is one that others make, too."""
-    each = lambda text: {tuple(word) for word in text.split()}
-    for word, words, others, can in (
-        ("b", "a b bc", "a bc", False),
-        ("b", "a b bc c", "a bc", True),
-        ("ad", "a b c ad", "a b c db", True),
-        ("ad", "a c ad", "a b c db", False),
-        ("a", "a ab", "ab", False),
-        ("a", "a b ab", "ab", True),
-        ("aa", "a aa", "a", True),
-        ("bab", "bab a", "ab ba", True),
-    ):
-        assert Joinings(each(words), each(others)).can_have(tuple(word)) == can, (word, words, others)
-
-
-# Beside a plain reading.
+# Beside the evaluator.
 
 
 def says_what_stored_rulesets_say(folder):
@@ -241,17 +236,14 @@ def says_what_stored_rulesets_say(folder):
             refused.append((name, told.splitlines()[0]))
         else:
             assert compared(folder, stored(name), text, random.Random(name), 60) > 10, name
-    assert refused == [
-        ("rfc4290.txt", "no entry of it can stand in a table"),
-        ("standard-rules.xml", "line 50: action 'invalid': the action on line 49 goes first, and is 'blocked'"),
-        ("types-of-its-own.xml", "line 31: type 'unheard-of': no action names it, so that it would refuse and block no label"),
-    ], refused
+    assert refused == [("rfc4290.txt", "no entry of it can stand in a table")], refused
 
 
 def compared(folder, path, text, chosen, count):
-    """Some labels of up to four parts have the answers of a plain reading. How many of them were accepted is the answer."""
-    plain, labels, answers = PlainRuleset(path), labels_under(text), {}
-    parts = sorted(part for part in plain.parts if all(map(BY_PROGRAM.may_stand, map(ord, part))))
+    """Some labels of up to four entries have the answers of the evaluator. How many of them were accepted is the answer."""
+    of_file, labels, answers = read(command.bytes_of(path)), labels_under(text), {}
+    parts = sorted(part for part in of_file.entries if all(map(BY_PROGRAM.may_stand, map(ord, part))))
+    parts = chosen.sample(parts, min(len(parts), MOST_PARTS))
     each = sorted({"".join(some) for size in (1, 2, 3) for some in itertools.product(parts, repeat=size)})
     each = chosen.sample(each, min(len(each), count)) + ["".join(chosen.choices(parts, k=4))]
     for label in each:
@@ -259,7 +251,7 @@ def compared(folder, path, text, chosen, count):
             found = labels.answer(label)
         except Unknown:
             continue
-        expected = plain.variants(label)
+        expected = all_verdicts(of_file, label)
         if expected is not None:
             expected = {variant: kind for variant, kind in expected.items()
                         if all(map(BY_PROGRAM.may_stand, map(ord, variant)))}
@@ -293,15 +285,15 @@ OTHERWISE = "refused: what was made of the file doesn't say what the file says\n
 # What is wrong in the converter, for the file and the version: of a class or a module what is called, and what stands in
 # its place.
 WRONG = [
-    # Conditions are dropped, or never hold; rules are dropped; types are dropped, or all of them block; variants are
-    # dropped; each '!' is dropped.
-    (VERIFIED, "3", exact.Exact, "holds", lambda *_: Holds.ALWAYS),
-    (VERIFIED, "3", exact.Exact, "holds", lambda self, condition, *_: Holds.NEVER if condition else Holds.ALWAYS),
-    (VERIFIED, "3", exact, "say_demands", NOTHING_SAID),
-    (VERIFIED, "3", tags.Tags, "of_variant", lambda *_: ()),
-    (VERIFIED, "3", tags.Tags, "of_variant", NOTHING_SAID),
-    (VERIFIED, "3", exact.Exact, "kept", NOTHING_SAID),
-    (VERIFIED, "3", exact, "Mapped", lambda points, _, *rest: Mapped(points, False, *rest)),
+    # Conditions are dropped, or turned round; demands are dropped, or actions; types are dropped, or all of them are
+    # 'blocked'; variants are dropped.
+    (VERIFIED, "3", exact.Lines, "condition", lambda *_: ""),
+    (VERIFIED, "3", exact, "WORDS", dict.fromkeys(exact.WORDS, "unless")),
+    (VERIFIED, "3", exact.Lines, "demand_lines", lambda *_: ()),
+    (VERIFIED, "3", exact.Lines, "action_lines", lambda *_: ()),
+    (VERIFIED, "3", exact.Types, "after", lambda *_: ""),
+    (VERIFIED, "3", exact.Types, "after", lambda *_: " as blocked"),
+    (VERIFIED, "3", Entry, "others", lambda _: []),
     (WITH_CONDITION, "2", convert.Converter, "check_condition", NOTHING_SAID),
     (WITH_RULE, "2", convert.Converter, "check_actions", NOTHING_SAID),
     (WITH_VARIANT, "2", convert.Converter, "is_blocked", lambda *_: False),
@@ -322,21 +314,22 @@ def prints_nothing_that_says_something_else(folder):
         assert output and not status, (of_file, version, told)
 
 
-def tells_where_version_3_reads_otherwise(folder):
-    """What the notation reads in another way than RFC 7940 isn't converted, and is told as what it is."""
-    for data, options, difference in DIFFERENCES:
-        output, told, status = verified(ruleset(folder, data), *options)
+def tells_where_version_2_reads_otherwise(folder):
+    """What the notation reads in another way than RFC 7940 isn't converted, and is told as what it is; version 3 says it."""
+    for data, difference in DIFFERENCES:
+        assert verified(ruleset(folder, data))[2] == 0
+        output, told, status = verified(ruleset(folder, data), "--version", "2")
         assert (output, status) == ("", 1) and told.endswith(f": {difference}\n{OTHERWISE}"), (output, told)
 
 
 def verifies_with_the_labels_of_a_registry(folder):
     """The labels of a file, with holders and as A-labels; what isn't asked, and what can't be used."""
-    path, lines = ruleset(folder, *VERIFIED), table_file(folder, b"U+0061\n", "lines.txt")
+    path, of_lines = ruleset(folder, *VERIFIED), table_file(folder, b"U+0061\n", "lines.txt")
     labels = table_file(folder, "ab\tH1\nxn--4ca\n\n-\n".encode(), "labels.txt")
     drawn = mock.patch.object(drawn_labels.DrawnLabels, "labels", lambda _: [])
     with drawn:
         assert verified(path, "--verify", labels)[2] == 0
-        with mock.patch.object(exact, "say_demands", NOTHING_SAID):
+        with mock.patch.object(exact.Lines, "demand_lines", lambda *_: ()):
             assert verified(path)[2] == 0, "nothing is drawn"
             for label, points in (("de\tH1", "0064-0065"), ("xn--de-wia", "0064-0065-00E4")):
                 _, told, status = verified(path, "--verify", table_file(folder, f"a\n{label}\n".encode(), "labels.txt"))
@@ -345,7 +338,7 @@ def verifies_with_the_labels_of_a_registry(folder):
     for words, message in (
             ([path, "--verify", not_utf8], f"{not_utf8}: not UTF-8\n"),
             ([path, "--verify", missing], f"{missing}: No such file or directory\n"),
-            ([lines, "--verify", labels], "only a ruleset of RFC 7940 is verified, and this is a table of RFC 4290: leave out --verify\n")):
+            ([of_lines, "--verify", labels], "only a ruleset of RFC 7940 is verified, and this is a table of RFC 4290: leave out --verify\n")):
         output, told, status = verified(*words)
         assert (output, status) == ("", 2) and told.endswith(message), (output, told)
     assert verified(path, "--version", "2", "--accept-more", "--verify", labels)[::2] == ("", 2)
@@ -385,18 +378,22 @@ def writes_version_3_unless_one_is_named(folder):
 
 
 def says_untyped_variants(folder):
-    """Of RFC 7940 by the actions, or as the option says; of RFC 4290, which has no types, blocked, or as it says."""
+    """Of RFC 7940 without a type, or as the option says; of RFC 4290, which has no types, blocked, or as it says. There what
+    is only a variant becomes a source that no label has."""
     path = ruleset(folder, '<char cp="0061"><var cp="0062"/></char><char cp="0062"><var cp="0061"/></char>')
-    lines = table_file(folder, b"U+0061|U+0062\nU+0062|U+0061\n", "lines.txt")
+    of_lines = table_file(folder, b"U+0061|U+0062\nU+0062|U+0061\n", "lines.txt")
     for file, options, entries in (
         (path, [], "0061|0062\n0062|0061\n"),
-        (path, ["--untyped", "allocatable"], "0061|0062\n0062|0061\n"),
-        (path, ["--untyped", "blocked"], "0061|!0062\n0062|!0061\n"),
-        (lines, [], "0061|!0062\n0062|!0061\n"),
-        (lines, ["--untyped", "allocatable"], "0061|0062\n0062|0061\n"),
+        (path, ["--untyped", "allocatable"], "0061|0062 as allocatable\n0062|0061 as allocatable\n"),
+        (path, ["--untyped", "blocked"], "0061|0062 as blocked\n0062|0061 as blocked\n"),
+        (of_lines, [], "0061|0062 as blocked\n0062|0061 as blocked\n"),
+        (of_lines, ["--untyped", "allocatable"], "0061|0062 as allocatable\n0062|0061 as allocatable\n"),
     ):
         text, told, status = verified(file, *options)
         assert (entries_of(text), told, status) == ("%version 3\n" + entries, "", 0), (file, options, text, told)
+    of_lines = table_file(folder, b"U+0061|U+0430-U+0431:U+0061-U+0432\nU+0062", "lines.txt")
+    wanted = ["0061|0430-0431 as blocked:0061-0432 as blocked", "0062", "0430..0432 as invalid"]
+    assert entries_of(verified(of_lines)[0]).split("\n")[1:-1] == wanted
 
 
 TESTS = [
@@ -410,11 +407,10 @@ TESTS = [
     drops_no_condition_that_the_program_does_not_ask,
     keeps_limits,
     says_large_rulesets,
-    joins_in_two_ways,
     says_what_stored_rulesets_say,
     says_what_random_rulesets_say,
     prints_nothing_that_says_something_else,
-    tells_where_version_3_reads_otherwise,
+    tells_where_version_2_reads_otherwise,
     verifies_with_the_labels_of_a_registry,
     needs_a_program_that_answers,
     has_no_options_that_say_less,

@@ -39,8 +39,12 @@ HAN_ACTIONS = ('<action disp="valid" only-variants="r-simp r-trad"/>'
                '<action disp="allocatable" only-variants="simp r-simp"/>'
                '<action disp="allocatable" only-variants="trad r-trad"/>'
                '<action disp="blocked" any-variant="simp trad"/>')
-HAN_LINES = ["%tag simp", "%tag trad", "56FD as simp|570B as trad", "570B as trad|56FD as simp",
-             "5B66 as simp|5B78 as trad", "5B78 as trad|5B66 as simp"]
+HAN_LINES = ["%type r_simp", "%type trad", "%type r_trad", "%type simp", "%action valid only r_simp,r_trad",
+             "%action allocatable only simp,r_simp", "%action allocatable only trad,r_trad", "%action blocked any simp,trad",
+             "56FD as r_simp|570B as trad", "570B as r_trad|56FD as simp", "5B66 as r_simp|5B78 as trad",
+             "5B78 as r_trad|5B66 as simp"]
+
+TWO = char("0061", ("0062", "x"), ("0063", "valid")) + char("0062") + char("0063")
 
 # What is shown, the data, the rules, the lines without comments, and answers.
 ROWS = [
@@ -72,7 +76,7 @@ ROWS = [
     # Section 6.2: classes.
     ("tags", CONSONANTS + char("0061", tag="vowel sign", when="r") + char("0065", tag="vowel"),
      rule('<look-behind><class from-tag="consonant"/></look-behind><anchor/>'),
-     ["%set consonant 0062..0064", "%rule r @consonant _", "0062..0064", "0061 when r", "0065"],
+     ["%set r 0062..0064", "%rule r_2 @r _", "0062..0064", "0061 when r_2", "0065"],
      {"ba": "ba", "ea": "invalid", "da": "da"}),
     ("a class by its code points, by a name", ABC,
      '<class name="two">0061 0063-0070</class>' + refusing('<class by-ref="two"/><end/>'),
@@ -81,22 +85,22 @@ ROWS = [
      refusing('<start/><class property="gc:Mn"/>')
      + rule('<class property="ccc:9"/><class property="General_Category:Lo"/>', "s")
      + '<action disp="invalid" match="s"/>',
-     ["%set gc_Mn 0301 094D", "%never ^ @gc_Mn", "%never 094D 0915", "0061", "0915", "094D", "0301"],
+     ["%set r 0301 094D", "%never ^ @r", "%never 094D 0915", "0061", "0915", "094D", "0301"],
      {"a\u0301": "a\u0301", "\u0301a": "invalid", "\u0915\u094D\u0915": "invalid", "\u0915\u094Da": "\u0915\u094Da"}),
     ("a class by a class of the Bidi rule", char("0061") + char("0628") + char("0661"),
      refusing('<start/><class property="bc:AL"/><class property="Bidi_Class:AN"/>'),
      ["%never ^ 0628 0661", "0061", "0628", "0661"], {"\u0628\u0661": "invalid", "\u0628\u0628\u0661": "\u0628\u0628\u0661"}),
     ("a union", ABC, refusing("<start/><union><class>0061</class><class>0062</class></union>"),
-     ["%set r_set 0061..0062", "%never ^ @r_set", "0061..0063"], {"a": "invalid", "b": "invalid", "ca": "ca"}),
+     ["%set r 0061..0062", "%never ^ @r", "0061..0063"], {"a": "invalid", "b": "invalid", "ca": "ca"}),
     ("an intersection", ABC, refusing("<intersection><class>0061-0062</class><class>0062-0063</class></intersection>"),
      ["%never 0062", "0061..0063"], {"ac": "ac", "ab": "invalid"}),
     ("a difference", ABC, refusing("<difference><class>0061-0063</class><class>0062</class></difference><end/>"),
-     ["%set r_set 0061 0063", "%never @r_set $", "0061..0063"], {"ab": "ab", "c": "invalid"}),
+     ["%set r 0061 0063", "%never @r $", "0061..0063"], {"ab": "ab", "c": "invalid"}),
     ("a symmetric difference", ABC,
      refusing("<symmetric-difference><class>0061-0062</class><class>0062-0063</class></symmetric-difference><end/>"),
-     ["%set r_set 0061 0063", "%never @r_set $", "0061..0063"], {"ab": "ab", "c": "invalid"}),
+     ["%set r 0061 0063", "%never @r $", "0061..0063"], {"ab": "ab", "c": "invalid"}),
     ("a complement, of what labels can have", ABC, refusing("<complement><class>0061 0078</class></complement><end/>"),
-     ["%set r_set 0062..0063", "%never @r_set $", "0061..0063"], {"ba": "ba", "c": "invalid"}),
+     ["%set r 0062..0063", "%never @r $", "0061..0063"], {"ba": "ba", "c": "invalid"}),
     # Section 6.3: rules.
     ("any, the start and the end", ABC, refusing('<start/><any/><any/><char cp="0063"/><end/>'),
      ["%never ^ . . 0063 $", "0061..0063"], {"abc": "invalid", "cabc": "cabc", "abca": "abca", "c": "c"}),
@@ -115,167 +119,166 @@ ROWS = [
     ("a choice that may match nothing", ABC,
      refusing('<char cp="0061"/><choice><char cp="0062" count="0:1"/><char cp="0063"/></choice><end/>'),
      ["%never 0061 (0062? / 0063) $", "0061..0063"], {"a": "invalid", "ab": "invalid", "ac": "invalid", "abb": "abb"}),
-    ("a count of what may be the start of a label", ABC,
-     refusing('<choice count="1:2"><start/><char cp="0061"/></choice><char cp="0062"/>'),
-     ["%never (^ / 0061) (^ / 0061)? 0062", "0061..0063"], {"b": "invalid", "cab": "invalid", "cb": "cb", "cbb": "cbb"}),
     ("a rule within a rule", ABC, rule('<char cp="0061"/><char cp="0062"/>', "ab") + refusing('<rule by-ref="ab" count="2"/>'),
      ["%never 0061 0062 0061 0062", "0061..0063"], {"abab": "invalid", "ab": "ab", "cabab": "invalid"}),
     ("what has to match", ABC, refusing("<class>0061-0062</class>", "not-match"),
-     ["%set r_set 0061..0062", "%always @r_set", "0061..0063"], {"c": "invalid", "ca": "ca", "b": "b"}),
+     ["%set r 0061..0062", "%always @r", "0061..0063"], {"c": "invalid", "ca": "ca", "b": "b"}),
     ("more than a label can have", ABC, refusing('<char cp="0061" count="1:63"/><char cp="0063" count="64"/>')
      + rule('<start/><char cp="0061" count="1:99"/><end/>', "s") + '<action disp="invalid" match="s"/>',
      ["%never ^ 0061 0061* $", "0061..0063"], {"aaa": "invalid", "ab": "ab"}),
     ("a rule without an anchor, for a code point anywhere", char("00B7", when="r") + ABC, rule("<class>0061-0062</class>"),
-     ["%set r_set 0061..0062", "%rule r @r_set .* _ / _ .* @r_set", "00B7 when r", "0061..0063"],
+     ["%set r 0061..0062", "%whole r_2 @r", "00B7 when r_2", "0061..0063"],
      {"\u00B7ca": "\u00B7ca", "c\u00B7": "invalid", "bc\u00B7": "bc\u00B7", "c": "c"}),
     ("the same, said of the whole label", char("00B7", when="r") + ABC,
      rule('<start/><any count="0+"/><class>0061-0062</class><any count="0+"/><end/>'),
-     ["%set r_set 0061..0062", "%rule r @r_set .* _ / _ .* @r_set", "00B7 when r", "0061..0063"],
+     ["%set r 0061..0062", "%whole r_2 ^ .* @r .* $", "00B7 when r_2", "0061..0063"],
      {"\u00B7ca": "\u00B7ca", "c\u00B7": "invalid", "bc\u00B7": "bc\u00B7", "c": "c"}),
     ("the same, for a code point that is one of them", char("0061", when="r") + char("0062", not_when="r") + char("0063"),
-     rule("<class>0061-0062</class>"), ["%rule always _", "0061", "0062 unless always", "0063"],
+     rule("<class>0061-0062</class>"), ["%set r 0061..0062", "%whole r_2 @r", "0061 when r_2", "0062 unless r_2", "0063"],
      {"a": "a", "ac": "ac", "b": "invalid", "c": "c"}),
     # Section 5.3: variants.
     ("types of section 7.3",
      char("0061", ("0062", "allocatable"), ("0063", "blocked"), ("0064", "activated"), ("0065", "valid"))
      + "".join(map(char, ("0062", "0063", "0064", "0065"))), "",
-     ["0061|0062:!0063:0064:0065", "0062..0065"], {"a": "a b !c d e", "b": "b"}),
+     ["0061|0062 as allocatable:0063 as blocked:0064 as activated:0065 as valid", "0062..0065"], {"a": "a b !c d e", "b": "b"}),
     ("no type", char("0061", ("0062",)) + char("0062"), "", ["0061|0062", "0062"], {"a": "a b"}),
     ("a type 'invalid', which makes no variant",
      char("0061", ("0062", "invalid"), ("0063", "blocked")) + char("0062") + char("0063"), "",
-     ["0061|!0063", "0062..0063"], {"a": "a !c", "aa": "aa !ac !ca !cc"}),
+     ["0061|0062 as invalid:0063 as blocked", "0062..0063"], {"a": "a !c", "aa": "aa !ac !ca !cc"}),
     ("each variant is a label of its own", char("0061", ("0062", "blocked")) + char("0062", when="r") + char("0063"),
      rule('<look-behind><char cp="0063"/></look-behind><anchor/>'),
-     ["%rule r 0063 _", "0061|!0062", "0062 when r", "0063"], {"a": "a", "ca": "ca !cb", "caa": "caa !cba"}),
+     ["%rule r 0063 _", "0061|0062 as blocked", "0062 when r", "0063"], {"a": "a", "ca": "ca !cb", "caa": "caa !cba"}),
     ("a demand on variants", char("0061", ("0062", "allocatable")) + char("0062"),
      refusing('<char cp="0062"/><char cp="0062"/>'),
-     ["%never 0062 0062", "0061|0062", "0062"], {"aa": "aa ab ba", "ab": "ab"}),
+     ["%never 0062 0062", "0061|0062 as allocatable", "0062"], {"aa": "aa ab ba", "ab": "ab"}),
     ("a variant in a context, asked where its source stands",
      char("0061", ("0062", "allocatable", ' when="r"')) + char("0062"),
-     rule(BEHIND_A), ["%rule r 0061 _", "0061|0062 when r", "0062"], {"aa": "aa ab", "aaa": "aaa aab aba abb", "ba": "ba"}),
+     rule(BEHIND_A), ["%rule r 0061 _", "0061|0062 as allocatable when r", "0062"], {"aa": "aa ab", "aaa": "aaa aab aba abb", "ba": "ba"}),
     ("one variant in two contexts",
      char("0061", ("0062", "allocatable", ' when="r"'), ("0062", "blocked", ' not-when="r"')) + char("0062"),
-     rule("<anchor/><look-ahead><end/></look-ahead>"), ["%rule r _ $", "0061|0062 when r:!0062 unless r", "0062"],
+     rule("<anchor/><look-ahead><end/></look-ahead>"), ["%rule r _ $", "0061|0062 as allocatable when r:0062 as blocked unless r", "0062"],
      {"a": "a b", "aa": "aa ab !ba !bb"}),
-    ("a variant in a context that holds always, and in the opposite one",
+    ("a variant in a context that holds nowhere, and in the opposite one",
      char("0061", ("0062", "allocatable", ' when="none"'), ("0062", "blocked", ' not-when="none"')) + char("0062"),
      rule('<look-behind><char cp="0078"/></look-behind><anchor/>', "none"),
-     ["0061|!0062", "0062"], {"a": "a !b", "aa": "aa !ab !ba !bb"}),
+     ["%whole none . ^", "0061|0062 as allocatable when none:0062 as blocked unless none", "0062"],
+     {"a": "a !b", "aa": "aa !ab !ba !bb"}),
     ("a sequence for a code point", char("0061 0065", ("00E4", "allocatable")) + char("00E4", ("0061 0065", "blocked"))
-     + char("0061") + char("0065"), "", ["0061-0065|00E4", "00E4|!0061-0065", "0061", "0065"],
+     + char("0061") + char("0065"), "", ["0061-0065|00E4 as allocatable", "00E4|0061-0065 as blocked", "0061", "0065"],
      {"aea": "aea \u00E4a", "\u00E4": "\u00E4 !ae"}),
-    ("sources that are outside", char("0061", ("0430", "blocked")) + char("0062")
+    ("an out-of-repertoire variant", char("0061", ("0430", "blocked")) + char("0062")
      + char("0430", ("0430", "out-of-repertoire-var"), ("0061", "blocked")),
-     '<action disp="invalid" any-variant="out-of-repertoire-var"/>', ["0061|!0430", "0062", "!0430|!0061"],
+     '<action disp="invalid" any-variant="out-of-repertoire-var"/>',
+     ["%type out_of_repertoire_var", "%action invalid any out_of_repertoire_var", "0061|0430 as blocked", "0062",
+      "0430 as out_of_repertoire_var|0061 as blocked"],
      {"ab": "ab !\u0430b", "\u0430b": "invalid", "\u0430": "invalid"}),
-    ("an outside source in a context", char("0061", ("0430", "blocked")) + char("0062")
+    ("the same in a context", char("0061", ("0430", "blocked")) + char("0062")
      + char("0430", ("0430", "x"), not_when="r"),
      '<action disp="invalid" any-variant="x"/>' + rule("<anchor/><look-ahead><end/></look-ahead>"),
-     ["%rule r _ $", "0061|!0430", "0062", "!0430 unless r"], {"aba": "aba !\u0430ba", "a": "a"}),
+     ["%type x", "%rule r _ $", "%action invalid any x", "0061|0430 as blocked", "0062", "0430 as x unless r"], {"aba": "aba !\u0430ba", "a": "a"}),
     # Section 7: actions on types.
     ("types that go together", han(), HAN_ACTIONS, HAN_LINES,
      {"国学": "国学 !国學 !國学 國學", "國學": "國學 国学 !国學 !國学", "国學": "国學 国学 國學 !國学"}),
     ("sources without a reflexive variant, under only-variants", han() + char("0061"), HAN_ACTIONS,
-     ["%tag simp", "%tag trad", "%tag itself", *HAN_LINES[2:], "0061 as itself"], {"国a": "国a !國a", "国": "国 國", "a": "a"}),
+     [*HAN_LINES, "0061"], {"国a": "国a !國a", "国": "国 國", "a": "a"}),
     ("the same under all-variants, which looks at what is mapped", han() + char("0061"), HAN_ACTIONS.replace("only", "all"),
-     [*HAN_LINES, "0061"], {"国a": "国a 國a", "国学": "国学 !国學 !國学 國學", "a": "a"}),
+     [line.replace("only", "all") for line in [*HAN_LINES, "0061"]],
+     {"国a": "国a 國a", "国学": "国学 !国學 !國学 國學", "a": "a"}),
     ("the first action decides", char("0061", ("0062", "x"), ("0063", "y")) + char("0062") + char("0063"),
      '<action disp="allocatable" all-variants="x"/><action disp="blocked" any-variant="x y"/>',
-     ["0061|0062:!0063", "0062..0063"], {"aa": "aa ab ba bb !ac !bc !ca !cb !cc"}),
+     ["%type x", "%type y", "%action allocatable all x", "%action blocked any x,y", "0061|0062 as x:0063 as y", "0062..0063"],
+     {"aa": "aa ab ba bb !ac !bc !ca !cb !cc"}),
     ("the same actions the other way round", char("0061", ("0062", "x"), ("0063", "y")) + char("0062") + char("0063"),
      '<action disp="blocked" any-variant="x y"/><action disp="allocatable" all-variants="x"/>',
-     ["0061|!0062:!0063", "0062..0063"], {"a": "a !b !c"}),
+     ["%type x", "%type y", "%action blocked any x,y", "%action allocatable all x", "0061|0062 as x:0063 as y", "0062..0063"],
+     {"a": "a !b !c"}),
     ("explicit actions before those of the standard", char("0061", ("0062", "blocked")) + char("0062"),
-     '<action disp="valid" any-variant="blocked"/>', ["0061|0062", "0062"], {"a": "a b"}),
-    ("types that the actions name alike", "".join(char(f"{0x61 + each:04X}", (f"{0x71 + each:04X}", f"x{each}"))
-                                                  + char(f"{0x71 + each:04X}", (f"{0x61 + each:04X}", f"y{each}"))
-                                                  for each in range(8)),
-     f'<action disp="blocked" any-variant="{" ".join(f"x{each}" for each in range(8))}"/>'
-     f'<action disp="valid" any-variant="{" ".join(f"y{each}" for each in range(8))}"/>',
-     [line for each in range(8) for line in (f"{0x61 + each:04X}|!{0x71 + each:04X}", f"{0x71 + each:04X}|{0x61 + each:04X}")],
-     {"ab": "ab !qb !ar !qr", "qr": "qr ar qb ab", "ar": "ar ab !qr !qb"}),
-    ("a refusal by a rule before an action that is never triggered", ABC,
+     '<action disp="valid" any-variant="blocked"/>', ["%action valid any blocked", "0061|0062 as blocked", "0062"],
+     {"a": "a b"}),
+    ("a refusal by a rule after an action of another disposition", char("0061", ("0062", "x")) + char("0062"),
      '<action disp="blocked" any-variant="x"/>' + refusing('<char cp="0062"/>'),
-     ["%never 0062", "0061..0063"], {"b": "invalid"}),
-    ("an action by a rule and types that makes no difference", char("0061", ("0062", "allocatable")) + char("0062"),
+     ["%type x", "%whole r 0062", "%action blocked any x", "%action invalid when r", "0061|0062 as x", "0062"],
+     {"a": "a !b", "b": "invalid"}),
+    ("a refusal by a rule after one by types, and one of no rule and no types", char("0061", ("0062", "x")) + char("0062"),
+     '<action disp="invalid" any-variant="y"/>' + refusing('<char cp="0062"/><char cp="0062"/>') + '<action disp="blocked"/>',
+     ["%type x", "%type y", "%never 0062 0062", "%action invalid any y", "%action blocked", "0061|0062 as x", "0062"],
+     {"a": "!a !b", "aa": "!aa !ab !ba", "bb": "invalid"}),
+    ("a label that is blocked by a rule", ABC, rule('<char cp="0061"/>') + '<action disp="blocked" match="r"/>',
+     ["%whole r 0061", "%action blocked when r", "0061..0063"], {"a": "!a", "b": "b", "ba": "!ba"}),
+    ("variants that are blocked by a type and a rule that doesn't match", TWO,
+     rule('<char cp="0063"/>') + '<action disp="blocked" any-variant="x" not-match="r"/>',
+     ["%type x", "%whole r 0063", "%action blocked unless r any x", "0061|0062 as x:0063 as valid", "0062..0063"],
+     {"a": "a !b c", "aa": "aa !ab !ba !bb ac ca bc cb cc"}),
+    ("an action that lets through what another would refuse", ABC, '<action disp="valid"/>' + refusing('<char cp="0062"/>'),
+     ["%whole r 0062", "%action valid", "%action invalid when r", "0061..0063"], {"b": "b"}),
+    ("rules that each label matches, or none", ABC, refusing('<any count="0+"/>') + '<action disp="invalid" not-match="s"/>'
+     + rule('<char cp="0078"/>', "s"), ["%never .*", "%always . ^", "0061..0063"], {"a": "invalid", "abc": "invalid"}),
+    ("every label is blocked", ABC, '<action disp="blocked"/>', ["%action blocked", "0061..0063"], {"a": "!a"}),
+    ("a label that is invalid by its reflexive types alone", char("0061", ("0061", "x")) + char("0062", ("0062", "valid")),
+     '<action disp="invalid" only-variants="x"/><action disp="valid" any-variant="x"/>',
+     ["%type x", "%action invalid only x", "%action valid any x", "0061 as x", "0062 as valid"],
+     {"a": "invalid", "aa": "invalid", "ab": "ab", "b": "b"}),
+    ("variants that are invalid by types together", TWO,
+     '<action disp="blocked" all-variants="x"/><action disp="invalid" any-variant="x"/>',
+     ["%type x", "%action blocked all x", "%action invalid any x", "0061|0062 as x:0063 as valid", "0062..0063"],
+     {"aa": "aa !ab !ba !bb ac ca cc"}),
+    ("a part without a type isn't among all", char("0061", ("0062", "x"), ("0063",)) + char("0062") + char("0063"),
+     '<action disp="valid" all-variants="x"/><action disp="blocked" any-variant="x"/>',
+     ["%type x", "%action valid all x", "%action blocked any x", "0061|0062 as x:0063", "0062..0063"],
+     {"aa": "aa ab ba bb ac ca cc !bc !cb"}),
+    ("an action by a rule and types", char("0061", ("0062", "allocatable")) + char("0062"),
      '<action disp="allocatable" all-variants="allocatable" not-match="r"/>' + rule('<char cp="0062"/>'),
-     ["0061|0062", "0062"], {"a": "a b"}),
-    ("a reflexive variant in a context, of a type without an effect", char("0061", ("0061", "valid", ' when="r"')) + char("0062"),
-     rule(BEHIND_A) + '<action disp="blocked" any-variant="blocked"/>', ["0061..0062"], {"aa": "aa"}),
+     ["%whole r 0062", "%action allocatable unless r all allocatable", "0061|0062 as allocatable", "0062"], {"a": "a b"}),
+    ("a reflexive variant without a type, beside types", char("0061", ("0061",), ("0062", "x"), ("0063",)) + char("0062")
+     + char("0063"), '<action disp="valid" all-variants="x"/><action disp="blocked" any-variant="x"/>',
+     ["%type x", "%type untyped", "%action valid all x", "%action blocked any x",
+      "0061 as untyped|0062 as x:0063 as untyped", "0062..0063"], {"a": "a b c", "aa": "aa bb cc !ab ac !ba ca !bc !cb"}),
+    ("the same without types", char("0061", ("0061",), ("0062",)) + char("0062"), "", ["0061|0062", "0062"], {"aa": "aa ab ba bb"}),
+    # Sections 8.1, 8.3 and 8.4.
+    ("a variant that isn't made of entries", char("0061", ("0062", "blocked")) + char("0062 0063"), "",
+     ["0061|0062 as blocked", "0062-0063"], {"a": "a", "bc": "bc"}),
+    ("one that is together with what stands beside it", char("0061") + char("0062")
+     + char("0063", ("0061 0063 0062", "blocked"), ("0061 0064", "blocked")) + char("0064 0062"), "",
+     ["0061..0062", "0063|0061-0063-0062 as blocked:0061-0064 as blocked", "0064-0062"],
+     {"c": "c !acb", "cb": "cb !acbb !adb", "db": "db"}),
+    ("a source that no label has, within sources", char("0061 0061", ("0061 0061", "x"), ("0062", "blocked")) + char("0061")
+     + char("0062"), '<action disp="invalid" any-variant="x"/>',
+     ["%type x", "%action invalid any x", "0061-0061 as x|0062 as blocked", "0061..0062"], {"a": "a", "aa": "invalid"}),
+    ("the longest entry, with no way back", char("0061") + char("0061 0062") + char("0062 0063"), "",
+     ["0061", "0061-0062", "0062-0063"], {"aab": "aab", "abc": "invalid", "bcab": "bcab"}),
     # Names of the notation.
-    ("names", char("0061", tag="0-vowel") + char("0062", when="a-rule-with-a-very-long-name-for-two") + char("0063", when="c d")
+    ("names", char("0061", tag="0-vowel") + char("0062", when="a-rule-with-a-very-long-name-for-two") + char("0063", when="c.d")
      + char("0064", when="a-rule-with-a-very-long-name-for-three"),
-     rule('<look-behind><complement><class from-tag="0-vowel"/></complement></look-behind><anchor/>', "c d")
+     rule('<look-behind><complement><class from-tag="0-vowel"/></complement></look-behind><anchor/>', "c.d")
      + rule(BEHIND_A, "a-rule-with-a-very-long-name-for-two")
      + rule('<look-behind><char cp="0061"/><any/></look-behind><anchor/>', "a-rule-with-a-very-long-name-for-three"),
-     ["%set c_d_set 0062..0064", "%rule a_rule_with_a_very_long_nam 0061 _", "%rule c_d @c_d_set _",
-      "%rule a_rule_with_a_very_long_nam_2 0061 . _", "0061", "0062 when a_rule_with_a_very_long_nam", "0063 when c_d",
+     ["%set c_d 0062..0064", "%rule c_d_2 @c_d _", "%rule a_rule_with_a_very_long_name_for 0061 _",
+      "%rule a_rule_with_a_very_long_nam_2 0061 . _", "0061", "0062 when a_rule_with_a_very_long_name_for", "0063 when c_d_2",
       "0064 when a_rule_with_a_very_long_nam_2"], {"ab": "ab", "abc": "abc", "abd": "abd", "ad": "invalid"}),
 ]
 
-TWO = char("0061", ("0062", "x"), ("0063", "valid")) + char("0062") + char("0063")
 WITH_RULE = "line 4: rule 'r': "
 # The data, the rules, and the messages.
 REFUSALS = [
     # Mappings.
     (char("0061", ("",)), "", "line 2: char 0061: a null variant, which no table can have\n"),
-    (char("0061") + char("0062") + char("0063", ("0061 0063 0062", "blocked"), ("0061 0064", "blocked"))
-     + char("0064 0062"), "",
-     "line 2: char 0063, variant 0061-0064: it is not made of entries, but labels can have it together with what "
-     "stands beside it\n"),
     (char("0061", ("0061", "x", ' when="r"')) + char("0062"), rule(BEHIND_A) + '<action disp="blocked" any-variant="x"/>',
-     "line 2: char 0061: a reflexive variant with a condition, and a type that counts\n"),
-    (char("0430", ("0430", "out-of-repertoire-var")) + char("0061"), "",
-     "line 2: type 'out-of-repertoire-var': no action names it, so that it would refuse and block no label\n"),
-    (char("0061", ("0062", "bloked")) + char("0062"), '<action disp="blocked" any-variant="blocked"/>',
-     "line 2: type 'bloked': no action names it, so that it would refuse and block no label\n"),
-    (char("0061 0061", ("0061 0061", "x"), ("0062", "blocked")) + char("0061") + char("0062"),
-     '<action disp="invalid" any-variant="x"/>',
-     "line 2: char 0061-0061: each label with it is refused, but labels of other entries can have it, and then variants\n"),
+     "line 2: char 0061: a reflexive variant with a condition\n"),
     # Actions.
     (ABC, '<action disp="allowed" any-variant="x"/>',
      "line 4: action 'allowed': a disposition that is none of RFC 7940, section 7.3\n"),
-    (ABC, rule('<char cp="0061"/>') + '<action disp="blocked" match="r"/>',
-     "line 4: action 'blocked': it makes labels 'blocked' by a rule of no mapping\n"),
-    (TWO, rule('<char cp="0061"/>') + '<action disp="blocked" any-variant="x" not-match="r"/>',
-     "line 4: action 'blocked': it makes labels 'blocked' by a rule of 'x'\n"),
-    (TWO, '<action disp="blocked" any-variant="x"/>' + refusing('<char cp="0062"/>'),
-     "line 4: action 'invalid': the action on line 4 goes first, and is 'blocked'\n"),
-    (ABC, '<action disp="valid"/>' + refusing('<char cp="0062"/>'),
-     "line 4: action 'invalid': the action on line 4 goes first, and is 'valid'\n"),
-    (ABC, rule('<char cp="0061"/>') + '<action disp="invalid" match="r" not-match="r"/>',
-     "line 4: action 'invalid': it asks for one rule and against another\n"),
-    (ABC, refusing('<any count="0+"/>'), "line 4: action 'invalid': it refuses each label\n"),
-    (ABC, refusing('<char cp="0078"/>', "not-match"), "line 4: action 'invalid': it refuses each label\n"),
     (ABC, refusing(BEHIND_A),
      "line 4: action 'invalid': its rule has an anchor, so that it is about a place and not about a label\n"),
-    (ABC, '<action disp="blocked"/>',
-     "line 4: action 'blocked': it makes labels blocked that are asked about, by no mapping\n"),
-    (char("0061", ("0061", "x")) + char("0062", ("0062", "valid")),
-     '<action disp="invalid" only-variants="x"/><action disp="valid" any-variant="x"/>',
-     "line 4: action 'invalid': it makes labels invalid that are asked about, by 'x'\n"),
-    (TWO, '<action disp="blocked" all-variants="x"/><action disp="invalid" any-variant="x"/>',
-     "line 4: action 'invalid': it makes variants invalid by several types at once: 'valid', 'x'\n"),
-    (char("0061", ("0062", "x"), ("0063",)) + char("0062") + char("0063"),
-     '<action disp="valid" all-variants="x"/><action disp="blocked" any-variant="x"/>',
-     "line 4: action 'valid': it makes labels 'valid' by all types, where the standard can be read in two ways, of 'x', "
-     "no type\n"),
-    (TWO, '<action disp="blocked" only-variants="x"/><action disp="valid"/>',
-     "line 4: action 'blocked': labels of 'x' are blocked, and allowed with further types\n"),
-    (char("0061", *((f"{0x62 + each:04X}", f"x{each}") for each in range(12))) + '<range first-cp="0062" last-cp="006D"/>',
-     "".join(f'<action disp="blocked" any-variant="x{each}"/>' for each in range(12)),
-     "line 2: the ruleset: more than 12 kinds of variants\n"),
     # Rules.
     (char("0061", when="r"), rule("<look-behind><any/><end/></look-behind><anchor/>"),
      WITH_RULE + "the end of a label before the anchor, or its start behind it, which no label has\n"),
     (char("0061", not_when="r"), rule("<anchor/><look-ahead><start/></look-ahead>"),
      WITH_RULE + "the end of a label before the anchor, or its start behind it, which no label has\n"),
-    (char("0061", when="r"), rule("<any/><any/>"),
-     WITH_RULE + "a rule without an anchor, in a condition, that is about more than one code point\n"),
     (char("0061", when="r"), rule("<anchor/><anchor/>"), WITH_RULE + "two anchors one behind the other\n"),
     (char("0061", when="r"), rule("<choice><anchor/><any/></choice>"),
      WITH_RULE + "an anchor in one part of a choice, and none in another\n"),
-    (char("0061", when="r"), rule('<rule count="2"><anchor/></rule>'), WITH_RULE + "an anchor within what is counted\n"),
+    *((char("0061", when="r"), rule(f'<rule count="2"><{sign}/><any/></rule><anchor/>'),
+       WITH_RULE + "a start, an end or an anchor within what is counted\n") for sign in ("start", "end", "anchor")),
     (char("0061", when="r"), rule("<choice/><anchor/>"), WITH_RULE + "a choice without a part\n"),
     (char("0061", when="r"), rule('<class property="gc:Xx"/>'), WITH_RULE + "the property 'gc:Xx', which has no such value\n"),
     (char("0061"), '<class name="letters" property="Alphabetic:Y"/>' + refusing('<union><class by-ref="letters"/></union>'),
@@ -287,8 +290,8 @@ REFUSALS = [
      "line 4: action 'invalid': a rule that takes more than 4,096 parts to write\n"),
     # All of them are told.
     (char("0061", ("",)) + "\n" + char("0062", ("",)), '<action disp="no" any-variant="x"/>',
-     "line 5: action 'no': a disposition that is none of RFC 7940, section 7.3\n"
-     "lines 2, 3: char 0061 and 1 more: a null variant, which no table can have\n"),
+     "lines 2, 3: char 0061 and 1 more: a null variant, which no table can have\n"
+     "line 5: action 'no': a disposition that is none of RFC 7940, section 7.3\n"),
 ]
 # A part of Unicode's data, and what properties say by it of the code points 0061, 0301, 0430, 0628, 0915, 094D and 0149.
 UNICODE_FILES = {
@@ -314,7 +317,7 @@ FAULTS = [
     (ABC, '<action disp="blocked" any-variant="x" not-match="r"/>', "line 4: no rule has the name 'r'\n"),
     (ABC, rule('<class by-ref="c"/>'), "line 4: no class has the name 'c'\n"),
     (ABC, rule('<rule by-ref="r"/>'), "line 4: rule 'r' is a part of itself, or too deep in others\n"),
-    (ABC, refusing('<any count="2:1"/>'), "line 4: '2:1' is not a count\n"),
+    *((ABC, refusing(f'<any count="{count}"/>'), f"line 4: '{count}' is not a count\n") for count in ("2:1", "0", "0:0", "+")),
     (ABC, refusing('<any count="1+"><start/></any>'), "line 4: 'start' is not an element of RFC 7940 here\n"),
     (ABC, refusing('<class from-tag="t">0061</class>'), "line 4: class says in two ways what it is\n"),
     (ABC, refusing('<class from-tag="t" property="gc:Mn"/>'), "line 4: class says in two ways what it is\n"),
@@ -327,8 +330,6 @@ FAULTS = [
     (ABC, refusing("<any/>behind"), "line 4: rule has a text within it\n"),
     ('<char cp="0061">0062</char>', "", "line 2: char has a text within it\n"),
     ('<char cp="0061"><var cp="0062"><var cp="0063"/></var></char>', "", "line 2: 'var' is not an element of RFC 7940 here\n"),
-    (char("0061", ("0061", "x")), '<action disp="invalid" any-variant="x"/>',
-     "line 2: each label is refused by the types of its code points, which begin here\n"),
     # A class that would be smaller than its list.
     (ABC, rule("<class>0061 0063-0062</class>"), "line 4: the range ends at 0062, before it begins\n"),
     (ABC, refusing("<difference><class>0061-0063</class><class>0063-0062</class></difference>"),
@@ -354,15 +355,18 @@ FAULTS = [
     (char("0061", tag="digit"), rule('<class from-tag="digits"/>'), "line 4: no code point has the tag 'digits'\n"),
     (char("0061", tag="digit letter"), rule('<choice><class from-tag="digit letter"/><any/></choice>'),
      "line 4: no code point has the tag 'digit letter'\n"),
-    (char("0061 0062", tag="t") + char("0063"), '<union name="c"><class from-tag="t"/></union>',
-     "line 4: no code point has the tag 't'\n"),
+    (char("0061 0062", tag="t") + char("0063"), "", "line 2: a sequence has a tag, and a class is of single code points\n"),
+    # An action that would ask for two things.
+    (ABC, rule('<char cp="0061"/>') + '<action disp="invalid" match="r" not-match="r"/>',
+     "line 4: action has both 'match' and 'not-match'\n"),
+    *((ABC, f'<action disp="valid" {one}="x" {other}="x"/>', f"line 4: action has both '{one}' and '{other}'\n")
+      for one, other in (("any-variant", "all-variants"), ("any-variant", "only-variants"), ("all-variants", "only-variants"))),
     # A variant that would be allocatable and blocked.
     *((char("0061", ("0062", "allocatable", one), ("0062", "blocked", other)) + char("0062"), rule(BEHIND_A) + rule(BEHIND_A, "s"),
-       "line 2: char 0061: 0062 is given twice as a variant, and not under opposite conditions\n")
-      for one, other in (("", ""), (' when="r"', ""), (' when="r"', ' when="r"'), (' when="r"', ' when="s"'),
-                         (' not-when="r"', ' not-when="s"'), (' when="r"', ' not-when="s"'))),
+       "line 2: char 0061: 0062 is given twice as a variant, and not under conditions that differ\n")
+      for one, other in (("", ""), (' when="r"', ""), (' when="r"', ' when="r"'))),
     (char("0061", *(("0062", "blocked", f' {word}="r"') for word in ("when", "not-when", "when"))) + char("0062"), rule(BEHIND_A),
-     "line 2: char 0061: 0062 is given twice as a variant, and not under opposite conditions\n"),
+     "line 2: char 0061: 0062 is given twice as a variant, and not under conditions that differ\n"),
     # A type that would be no type of an action.
     (char("0061", ("0062", "blocked ")) + char("0062"), "", "line 2: 'blocked ' is not a type\n"),
     (char("0061", ("0062", "blocked allocatable")) + char("0062"), "", "line 2: 'blocked allocatable' is not a type\n"),
@@ -375,48 +379,35 @@ FAULTS = [
 ]
 # What is left out, or makes no difference, is told: the data, the rules, the lines, and the messages.
 LABELS = [
-    (char("0061 0062", tag="t") + char("0062", tag="t") + char("0063"), refusing('<class from-tag="t"/><end/>'),
-     ["%never 0062 $", "0061-0062", "0062..0063"],
-     "line 2: char 0061-0062: its tag makes no difference, since a class is of single code points\n"),
     # A class by a tag that only a code point has which no label has; and classes that lose code points.
     (char("0041", tag="a") + ABC.replace('"0062"', '"0062" not-when="r"'),
      rule('<look-behind><class from-tag="a"/></look-behind><anchor/>'),
-     ["0061..0063"], "line 2: char 0041: left out, since it has a code point that no label can have\n"
-     "line 2: char 0062: not-when 'r' makes no difference, since it always holds there\n"
+     ["%whole r . ^", "0061", "0062 unless r", "0063"],
+     "line 2: char 0041: left out, since it has a code point that no label can have\n"
      "line 4: class: 'a' loses 1 code point that no label of these entries has, first 0041\n"),
     (ABC, '<class name="c">0061 0070-0072</class><class name="d">0061-0062</class><class name="e" property="gc:Ll"/>'
      + refusing('<class by-ref="c"/><class by-ref="d"/><class by-ref="e"/><class>0070</class>'),
-     ["0061..0063"], "line 4: action 'invalid': no label of these entries triggers it by the rule 'r'\n"
+     ["0061..0063"], "line 4: action 'invalid': no label of these entries triggers it\n"
      "line 4: class: 'c' loses 3 code points that no label of these entries has, first 0070\n"
      "line 4: class: it loses 1 code point that no label of these entries has, first 0070\n"),
     (char("0061", when="r") + char("0062", not_when="r"), rule("<class>0078</class>"),
-     ["%rule always _", "0061 unless always", "0062"],
-     "line 2: char 0061: no label has it, since when 'r' never holds there\n"
-     "line 2: char 0062: not-when 'r' makes no difference, since it always holds there\n"
+     ["%whole r . ^", "0061 when r", "0062 unless r"],
      "line 4: class: it loses 1 code point that no label of these entries has, first 0078\n"),
-    # The variant would have to end within a source.
-    (char("0061", ("0062", "blocked")) + char("0062 0063"), "", ["0061", "0062-0063"],
-     "line 2: char 0061, variant 0062: left out, since it is not made of entries\n"),
+    (ABC, refusing('<class count="0+">0078</class>', "not-match") + rule('<choice><class count="0:1">0078</class><any/></choice>', "s")
+     + '<action disp="blocked" match="s"/>', ["%whole s .?", "%always .*", "%action blocked when s", "0061..0063"],
+     "line 4: class: it loses 1 code point that no label of these entries has, first 0078\n"),
     ('<range first-cp="0060" last-cp="0062"/>' + char("0063", ("0041", "blocked"), ("0064", "blocked")), "",
-     ["0061..0063"],
+     ["0061..0062", "0063|0064 as blocked"],
      "line 2: 0060 of range 0060..0062 and 1 more: left out, since it has a code point that no label can have\n"
-     "line 2: char 0063, variant 0064: left out, since it is not made of entries\n"),
-    (char("0061", ("0062", "x")) + char("0062"), '<action disp="invalid" any-variant="x"/>', ["0061..0062"],
-     "line 2: char 0061, variant 0062: left out, since each label with it is refused by its type\n"),
-    (char("0061", ("0062", "allocatable", ' when="r"')) + char("0062", when="r"),
-     rule('<look-behind><char cp="0078"/></look-behind><anchor/>'),
-     ["%rule always _", "0061", "0062 unless always"],
-     "line 2: char 0061, variant 0062: left out, since when 'r' never holds there\n"
-     "line 2: char 0062: no label has it, since when 'r' never holds there\n"),
-    (char("0061", ("0062", "valid")) + char("0062"),
+     "the table has 1 gap: idn2 --check-ruleset prints them\n"),
+    (char("0061", ("0062", "bloked"), ("0063", "valid")) + char("0062") + char("0063"),
      rule("<any/>") + '<class name="c">0061</class>' + refusing('<char cp="0078"/>').replace('"r"', '"s"')
      + refusing("<start/><class property='gc:Mn'/>").replace('"r"', '"leading-combining-mark"'),
-     ["0061|0062", "0062"],
-     "line 2: type 'valid': no action names it, so that it refuses and blocks no label\n"
-     "line 4: action 'invalid': no label of these entries triggers it by the rule 's'\n"
-     "line 4: action 'invalid': no label of these entries triggers it, the default action of published rulesets\n"
+     ["%type bloked", "0061|0062 as bloked:0063 as valid", "0062..0063"],
+     "line 4: action 'invalid': no label of these entries triggers it\n"
+     "line 2: type 'bloked': no action names it, so that it refuses and blocks no label\n"
      "line 4: rule 'r' and 1 more: it makes no difference\n"
-     "the table has 1 gap: idn2 --check-ruleset prints them\n"),
+     "the table has 2 gaps: idn2 --check-ruleset prints them\n"),
 ]
 # What RFC 5892 allows and the program doesn't register: the data, the lines with --leave-out, and what is told of it.
 OUTSIDE = "left out, since the profile of idn2 has no such code point (docs/PROFILE.md), though RFC 5892 allows it\n"
@@ -424,8 +415,8 @@ PROFILE = [
     # Adlam letters and digits; a capital one is barred by RFC 5892.
     (char("0061") + '<range first-cp="1E922" last-cp="1E943"/><range first-cp="1E950" last-cp="1E959"/>', ["0061"],
      "line 2: 1E922 of range 1E922..1E943 and 43 more: " + OUTSIDE),
-    (char("0061", ("10840", "blocked"), ("0062", "blocked")) + char("0062") + char("0061 10840"), ["0061|!0062", "0062"],
-     "line 2: char 0061-10840 and 1 more: " + OUTSIDE),
+    (char("0061", ("10840", "blocked"), ("0062", "blocked")) + char("0062") + char("0061 10840"), ["0061|0062 as blocked", "0062"],
+     "line 2: char 0061, variant 10840 and 1 more: " + OUTSIDE),
     (char("0061") + char("1E900"), ["0061"], ""),
     (char("0061") + char("1E900 1E922"), ["0061"], ""),
     (char("0061") + char("FB50"), ["0061"], ""),
@@ -435,7 +426,7 @@ PROFILE = [
 BY_STANDARD = [
     (PROFILE[0][0], ["0061", "1E922..1E943", "1E950..1E959"]),
     (char("0061", ("10840", "blocked")) + char("10840", ("0061", "blocked")) + char("0061 10840"),
-     ["0061|!10840", "10840|!0061", "0061-10840"]),
+     ["0061|10840 as blocked", "10840|0061 as blocked", "0061-10840"]),
     (char("0061") + char("1E900 1E922"), ["0061"]),
     (char("FB1E 1E922"), ["FB1E-1E922"]),
 ]
@@ -449,27 +440,25 @@ VIRAMAS = [
     (char("0915") + char("094D") + char("1039") + JOINER, AFTER.format("1039"), False),
 ]
 # Each limit of the notation.
-TOO_LONG = "it is too long, or has too many parts within each other\n"
+TOO_MUCH = "with it the ruleset is past a limit (docs/NOTATION.md)\n"
 LIMITS = [
     ('<range first-cp="4E00" last-cp="9FFF"/><range first-cp="AC00" last-cp="D7A3"/>'
-     '<range first-cp="20000" last-cp="2825C"/>', "", "the ruleset: 65,537 entries, and it can have 65,536\n"),
+     '<range first-cp="20000" last-cp="2825C"/>', "", f"line 2: range 20000..2825C: {TOO_MUCH}"),
     (char("0061", *((f"{0x4E00 + each:04X}", "valid") for each in range(17))) + '<range first-cp="4E00" last-cp="4E20"/>', "",
-     "line 2: char 0061: 17 variants, and an entry can have 16\n"),
+     f"line 2: char 0061: {TOO_MUCH}"),
     (char(" ".join(["0061"] * 9)) + char("0061", (" ".join(["0061"] * 10),)), "",
-     f"line 2: char {'-'.join(['0061'] * 9)}: 9 code points, and a sequence can have 8\n"
-     f"line 2: char 0061, variant {'-'.join(['0061'] * 10)}: 10 code points, and a sequence can have 8\n"),
+     f"line 2: char {'-'.join(['0061'] * 9)}: {TOO_MUCH}"),
     (ABC, refusing("<choice><any/><rule><any/>" * 10 + "<any/>" + "</rule></choice>" * 10),
-     f"line 4: action 'invalid': {TOO_LONG}"),
+     f"line 4: action 'invalid': {TOO_MUCH}"),
     (ABC, refusing('<rule count="0+"><any/>' * 3 + "<any/>" + "</rule>" * 3 + '<char cp="0061"/><end/>'),
-     f"line 4: action 'invalid': {TOO_LONG}"),
-    (ABC, refusing("<class>0061-0062</class>" * 1200), f"line 4: action 'invalid': {TOO_LONG}"),
+     f"line 4: action 'invalid': {TOO_MUCH}"),
+    (ABC, refusing("<class>0061-0062</class>" * 3000), f"line 4: action 'invalid': {TOO_MUCH}"),
     (ABC.replace('"0062"', '"0062" when="r"'),
-     rule("<look-behind>" + "<class>0061-0062</class>" * 1200 + "</look-behind><anchor/>"), f"line 4: rule 'r': {TOO_LONG}"),
+     rule("<look-behind>" + "<class>0061-0062</class>" * 3000 + "</look-behind><anchor/>"), f"line 4: rule 'r': {TOO_MUCH}"),
     (ABC, rule('<char cp="0061 0062"/>') + '<action disp="invalid" match="r"/>' * 257,
-     "the ruleset: 257 rules and demands, and it can have 256\n"),
-    (char("0061", *((f"{0x62 + each:04X}", f"x{each}") for each in range(9))) + '<range first-cp="0062" last-cp="006A"/>',
-     "".join(f'<action disp="valid" all-variants="x{each}"/>' for each in range(9)) + '<action disp="blocked" any-variant="'
-     + " ".join(f"x{each}" for each in range(9)) + '"/>', "the ruleset: 9 tags, and it can have 8\n"),
+     f"line 4: action 'invalid': {TOO_MUCH}"),
+    (char("0061") + "\n" + char("0062", *(("0061", f"x{each}", f' when="r{each}"') for each in range(58))),
+     "".join(rule("<anchor/>", f"r{each}") for each in range(58)), f"line 3: type 'x57': {TOO_MUCH}"),
 ]
 
 
@@ -498,12 +487,8 @@ WITH_CONDITION = ABC + char("0064", when="r"), AFTER_A
 WITH_RULE = ABC, refusing('<char cp="0061 0062"/>')
 WITH_VARIANT = char("0061", ("0062", "blocked")) + char("0062", ("0061", "blocked")), ""
 
-# What a version reads in another way than RFC 7940: the data, the options, and the difference.
+# What versions 1 and 2 read in another way than RFC 7940: the data, and the difference.
 LONGEST = "it can be cut into entries, but not by the longest at each place (8.1)"
-UNCLEAR = "it arises in several ways, with types that differ (8.4)"
-OVERLAP = char("0061") + char("0061 0062") + char("0062 0063")
 DIFFERENCES = [
-    (OVERLAP, ["--version", "2"], f"accepted, and by RFC 7940 refused: {LONGEST}"),
-    (char("0061", ("0063", "blocked")) + char("0062") + char("0063") + char("0061 0062", ("0063 0062", "allocatable")), [],
-     f"allocatable, and by RFC 7940 unclear: {UNCLEAR}"),
+    (char("0061") + char("0061 0062") + char("0062 0063"), f"accepted, and by RFC 7940 refused: {LONGEST}"),
 ]

@@ -7,6 +7,7 @@ import concurrent.futures
 import fcntl
 import itertools
 import os
+import re
 import resource
 import subprocess
 import sys
@@ -26,13 +27,15 @@ STRASSE = "strasse\tstrasse\nstraße\txn--strae-oqa\n#end 2\n"
 # Of version 2: in the first ß is blocked where ss stands, in the second nothing is blocked.
 BLOCKING = b"%version 2\n0061..0063\n0073-0073|!00DF:0078\n00DF|0073-0073\n"
 ALLOCATING = b"%version 2\n0061..0063\n0073-0073|00DF\n00DF|0073-0073\n"
-# A ruleset that defines a tag, a set and a rule.
-DEFINING = b"%version 3\n%tag t\n%set A 0061..0063 0065\n%rule r ^ (@A / 0062)* _ / _ $\n0061|!0062\n0062\n"
-# A ruleset with two outside sources.
-OUTSIDE = b"%version 3\n0061|!0430\n!0430|!0061\n0062\n!0063|!0062\n"
-# A ruleset with two tags, a demand, and conditions of sources and of variants: after a letter of A comes no `c`, and an `e`
-# comes nowhere else; a `c` stands in place of `a` and `d` there alone, so it is a variant that is never valid.
-CONDITIONS = (b"%version 3\n%tag s\n%tag t\n%set A 0061..0063\n%rule r @A _\n%never 0064 0064\n0061 as s|0062 as t:!0063 when r\n"
+# A ruleset that defines a type, a set, a rule of each kind and an action.
+DEFINING = (b"%version 3\n%type t\n%set A 0061..0063 0065\n%rule r ^ (@A / 0062)* _ / _ $\n%whole w @A\n"
+            b"%action blocked unless w any t\n0061|!0062\n0062\n")
+# A ruleset with two out-of-repertoire variants.
+INVALID = b"%version 3\n0061|!0430\n!0430|!0061\n0062\n!0063|!0062\n"
+# A ruleset with two types, a demand, and conditions of sources and of variants: after a letter of A comes no `c`, and an `e`
+# comes nowhere else; a `c` stands in place of `a` and `d` there alone, so it is a variant that is never eligible.
+CONDITIONS = (b"%version 3\n%type s\n%type t\n%set A 0061..0063\n%rule r @A _\n%never 0064 0064\n%action valid all s\n"
+              b"%action valid all t\n%action blocked any s,t\n0061 as s|0062 as t:!0063 when r\n"
               b"0062 as t|0061 as s\n0063 unless r\n0064|0063 when r\n0065 when r\n")
 # A ruleset with two variants of each other, one way at the end alone.
 DIFFERING = b"%version 3\n%rule r _ $\n0061|0062 when r:0063\n0062|0061\n"
@@ -109,8 +112,8 @@ CASES = [
          [("a\n", "a\ta\tallocatable\nb\tb\tblocked\nß\txn--zca\tallocatable\n#end 3\n", "")], 0),
     Case(["--variants", "table", "--limit", "1"], ALLOCATING, [("ass\n", "ass\tass\tallocatable\n#stop 1 ass\n", "")], 0),
     Case(["--variants", "table"], b"%version 2\n0063..0061\n", [("", "", "idn2: table line 2: 30 table syntax\n")], 2),
-    Case(["--ruleset", "table"], OUTSIDE, [("ab\n", "ab\tab\tallocatable\nаb\txn--b-7sb\tblocked\n#end 2\n", ""),
-                                           ("аb\n", "", "idn2: line 2: 40 not made of table entries\n")], 1),
+    Case(["--ruleset", "table"], INVALID, [("ab\n", "ab\tab\tallocatable\nаb\txn--b-7sb\tblocked\n#end 2\n", ""),
+                                           ("аb\n", "", "idn2: line 2: 41 not valid under the table\n")], 1),
     Case(["--ruleset", "table"], CONDITIONS,
          [("aae\n", "aae\taae\tallocatable\nabe\tabe\tblocked\nbae\tbae\tblocked\nbbe\tbbe\tallocatable\n#end 4\n", ""),
           ("ea\n", "", "idn2: line 2: 41 not valid under the table\n"),
@@ -122,7 +125,7 @@ CASES = [
     Case(["--ruleset", "table", "--among", "registered"], CONDITIONS,
          [("aae\n", "abe\tabe\tblocked\tallocatable\nace\tace\tblocked\tnone\nbbe\tbbe\tallocatable\tallocatable\n"
            "#end 3\n", "")], 0, b"abe\nace\nbbe\n"),
-    # What a jump answers need not be valid.
+    # What a jump answers need not be eligible.
     Case(["--ruleset", "table", "--jump"], CONDITIONS, [("aae\tabf\n", "ace\tblocked\tnone\n", "")], 0),
     Case(["--ruleset", "table", "--json"], CONDITIONS,
          [("ad\n", '{"line":1,"ulabel":"ad","alabel":"ad","disposition":"allocatable"}\n'
@@ -140,8 +143,8 @@ CASES = [
     Case(["--check-ruleset", "table"], DEFINING, [("", "missing 0062|0061\n#table 2 1\n", "")], 1),
     Case(["--ruleset", "table"], b"%version 3\n%set A 0061\n%rule r @A @B _\n",
          [("", "", "idn2: table line 3: 35 name not defined\n")], 2),
-    Case(["--ruleset", "table"], b"%version 3\n%tag t\n%rule t _\n", [("", "", "idn2: table line 3: 36 name given twice\n")], 2),
-    Case(["--check-ruleset", "table"], OUTSIDE, [("", "missing 0062|0063\n#table 4 1\n", "")], 1),
+    Case(["--ruleset", "table"], b"%version 3\n%type t\n%rule t _\n", [("", "", "idn2: table line 3: 36 name given twice\n")], 2),
+    Case(["--check-ruleset", "table"], INVALID, [("", "missing 0062|0063\n#table 4 1\n", "")], 1),
     Case(["--check-table", "table"], BLOCKING, [("", "missing 0078|0073-0073\nmissing 00DF|0078\n#table 5 2\n", "")], 1),
     Case(["--check-table", "table"], SHARP_S, [("", "#table 7 0\n", "")], 0),
     Case(["--check-table", "table"], DOUBLED, [("", "missing 0061-0061|0061\n#table 1 1\n", "")], 1),
@@ -179,7 +182,7 @@ CASES = [
                                            "RFC 5892 2.2 Unstable\n")], 2, "Faß\n".encode()),
     Case(["--variants", "table", "--explain"], b"0061\n0062|\n",
          [("", "", "idn2: table line 2: 30 table syntax: the line ends at byte 6\n")], 2),
-    Case(["--check-ruleset", "table", "--explain"], b"%version 3\n%tag t\n0061|0062-0041\n",
+    Case(["--check-ruleset", "table", "--explain"], b"%version 3\n%type t\n0061|0062-0041\n",
          [("", "", "idn2: table line 3: 33 code point not allowed in a table: U+0041 at byte 11\n")], 2),
     Case(["--check-ruleset", "table", "--explain"], b"%version 3\n%set A 0061\n%rule r @A @B _\n",
          [("", "", "idn2: table line 3: 35 name not defined: '@B' at byte 12\n")], 2),
@@ -227,13 +230,13 @@ CASES = [
     Case(["--variants", "table", "--limit", "1", "--json"], ALLOCATING,
          [("ass\n", '{"line":1,"ulabel":"ass","alabel":"ass","disposition":"allocatable"}\n'
            '{"line":1,"input":"ass","count":1,"complete":false,"after":"ass"}\n', "")], 0),
-    Case(["--ruleset", "table", "--json"], OUTSIDE,
+    Case(["--ruleset", "table", "--json"], INVALID,
          [("ab\n", '{"line":1,"ulabel":"ab","alabel":"ab","disposition":"allocatable"}\n'
            '{"line":1,"ulabel":"аb","alabel":"xn--b-7sb","disposition":"blocked"}\n'
            '{"line":1,"input":"ab","count":2,"complete":true}\n', ""),
-          ("аb\n", '{"line":2,"input":"аb","refusal":{"number":40,"text":"not made of table entries","code_point":"U+0430",'
-           '"place":1}}\n', "")], 1),
-    Case(["--check-ruleset", "table", "--json"], b"%version 3\n%tag t\n0061|0062-0041\n",
+          ("аb\n", '{"line":2,"input":"аb","refusal":{"number":41,"text":"not valid under the table","code_point":"U+0430",'
+           '"place":1,"default_action":1,"type":"invalid"}}\n', "")], 1),
+    Case(["--check-ruleset", "table", "--json"], b"%version 3\n%type t\n0061|0062-0041\n",
          [("", '{"table_line":3,"refusal":{"number":33,"text":"code point not allowed in a table","code_point":"U+0041",'
            '"byte":11}}\n', "")], 2),
     Case(["--check-ruleset", "table", "--json"], b"%version 3\n%set A 0024\n",
@@ -495,9 +498,13 @@ def sets_at_their_limits():
     return f"%version 3\n{sets}%never {' / '.join(f'@{name} @{name} 0061' for name in names)}\n4E00..5FFF\n0061|0062\n0062|0061\n"
 
 
+# As many types as there may be, and an action that names them.
+TYPES = [*(f"%type t{number}" for number in range(57)), f"%action valid any {','.join(f't{number}' for number in range(57))}"]
+
+
 def serves_hostile_rulesets(folder):
     """Within a second: 4,096 atoms with stars within each other; 256 sets of thousands of spans; as many entries as there may be,
-    in falling order, each with 8 tags."""
+    in falling order, of as many types."""
     table = table_file(folder, conditions_at_every_limit().encode())
     for label in ("a" * 63, "ab" * 31):
         done = within_a_second(["--ruleset", table, "--limit", "3", "--tries", "10", label])
@@ -510,25 +517,25 @@ def serves_hostile_rulesets(folder):
     assert (done.stdout, done.returncode) == (b"", 1) and b": 41 not valid under the table" in done.stderr, done
     spans = (range(0x4E00, 0xA000), range(0xAC00, 0xD7A4), range(0x20000, 0x2825C))
     points = [f"{point:04X}" for span in spans for point in span]
-    tags = "abcdefgh"
-    lines = ["%version 3", *(f"%tag {tag}" for tag in tags), *(f"{point} as {','.join(tags)}" for point in reversed(points))]
+    entries = [f"{point} as t{number % 57}" for number, point in enumerate(reversed(points))]
+    lines = ["%version 3", *TYPES, *entries]
     table = table_file(folder, "\n".join(lines).encode())
     assert within_a_second(["--check-ruleset", table]).stdout == b"#table 65536 0\n"
     assert within_a_second(["--ruleset", table, "\u4e2d"]).stdout.decode() == "中\txn--fiq\tallocatable\n#end 1\n"
 
 
 def lists_in_the_largest_nets_of_rulesets(folder):
-    """Each substitution has the kinds of 8 tags: eight sources begin at each place, each with sixteen variants of eight code points,
-    which are sources, too."""
-    tags = "stuvwxyz"
+    """Eight sources begin at each place, each with sixteen variants of eight code points, which are sources, too, and have as many
+    types as there may be."""
+    numbers = itertools.count()
     with open(table_of_the_largest_nets(folder), encoding="ascii") as file:
-        entries = [line.replace(":", f" as {','.join(tags)}:") for line in file.read().splitlines()]
+        entries = [re.sub(":", lambda _: f" as t{next(numbers) % 57}:", line) for line in file.read().splitlines()]
     entries += map(points, "bcdefghijklmnopq12345678")
-    table = table_file(folder, "\n".join(["%version 3", *(f"%tag {tag}" for tag in tags), *entries]).encode())
+    table = table_file(folder, "\n".join(["%version 3", *TYPES, *entries]).encode())
     done = within_a_second(["--ruleset", table, "--limit", "100"], b"a" * 63)
     variants = done.stdout.splitlines()
     assert (len(variants), variants[-1].split()[:2]) == (101, [b"#stop", b"100"]), variants[-1]
-    assert variants[:-1] == sorted(set(variants[:-1])) and all(line.endswith(b"\tallocatable") for line in variants[:-1])
+    assert variants[:-1] == sorted(set(variants[:-1]))
 
 
 def serves_a_table_cut_in_its_last_line(folder):

@@ -14,9 +14,14 @@ import subprocess
 import sys
 import textwrap
 
+from program import ROOT
+
+sys.path += [os.path.join(ROOT, folder) for folder in ("conformance", "registry")]
+
+import type_rows
 from explained import (DECODE, GERMAN, LOOKUP, MORE_ROWS, REGISTER, REGISTERED_ROWS, ROWS as CAUSES, SOURCES, TABLE_ROWS,
                        VERSION_3, given_of, words_of)
-from program import (LIMIT, PROGRAM, ROOT, TABLES, expect, is_installed, is_there, python_with, run, run_tests, table_file,
+from program import (LIMIT, PROGRAM, TABLES, expect, is_installed, is_there, python_with, run, run_tests, table_file,
                      text_of as text_of_file)
 
 try:
@@ -127,7 +132,7 @@ ROWS = [
      [{"line": 1, "ulabel": "ac", "alabel": "ac", "disposition": "allocatable"},
       {"line": 1, "ulabel": "a\u0441", "alabel": "xn--a-7tb", "disposition": "blocked"},
       {"line": 1, "input": "ac", "count": 2, "complete": False, "after": "a\u0441"}], 0),
-    ("\u0430c", LATIN, [refused("\u0430c", 40, "not made of table entries", **point("U+0430", 1))], 1),
+    ("\u0430c", LATIN, [refused("\u0430c", 41, "not valid under the table", **point("U+0430", 1), default_action=1, type="invalid")], 1),
     ("काा", DEVANAGARI,
      [refused("काा", 41, "not valid under the table", code_point="U+093E", place=3, condition="when", rule="after_consonant")], 1),
     ("कअ्", DEVANAGARI,
@@ -235,8 +240,8 @@ def checks_a_table(folder):
     found = [{"source": "00DF", "missing": "0073-0073"}, {"entries": 2, "gaps": 1}]
     expect(words + ["--json"], b"", text_of(found), b"", 1)
     objects_of(text_of(found))
-    words = ["--check-ruleset", table_file(folder, b"%version 3\n%rule end _ $\n03C3|03C2 when end\n03C2|03C3\n")]
-    found = [{"source": "03C2", "differs": "03C3"}, {"entries": 2, "gaps": 0}]
+    words = ["--check-ruleset", table_file(folder, b"%version 3\n%type t\n%rule end _ $\n03C3|03C2 when end\n03C2|03C3\n")]
+    found = [{"source": "03C2", "differs": "03C3"}, {"idle": "t"}, {"entries": 2, "gaps": 0}]
     expect(words + ["--json"], b"", text_of(found), b"", 1)
     objects_of(text_of(found))
     expect(["--check-ruleset", LATIN[1], "--json"], b"", text_of([{"entries": 64, "gaps": 0}]), b"", 0)
@@ -446,12 +451,13 @@ SHAPES = {
     19: [shape | more for shape in OF_A_LABELS for more in (set(), {"label"})],
     20: [set()], 21: [{"octets"}, {"label", "octets"}], 30: [set(), {"byte"}, {"code_point", "byte"}], 31: [{"byte"}], 32: [{"byte"}],
     33: [{"code_point", "byte"}], 34: [set(), {"byte"}, {"code_point", "byte"}], 35: [{"byte"}], 36: [{"byte"}], 40: [PLACED],
-    41: [PLACED, PLACED | {"condition", "rule"}, {"demand", "kind"}],
+    41: [PLACED, PLACED | {"condition", "rule"}, {"demand", "kind"}, {"condition", "rule", "action"}, {"action"}, {"unclear"},
+         PLACED | {"action", "type"}, PLACED | {"default_action", "type"}],
 }
 # A value of each member of a refusal.
 MEMBERS = {"label": 2, "decoded": True, "code_point": "U+200C", "place": 1, "rule": None, "bidi_class": "AL", "nfc": "U+00E1",
            "code_points": 64, "octets": 64, "alabel": "a", "byte": 1, "condition": "when", "demand": 1, "kind": "never",
-           "ulabel": "faß"}
+           "ulabel": "faß", "action": 1, "default_action": 1, "type": "invalid", "unclear": True}
 RULES = {10: "RFC 5892 2.2", 11: "RFC 5892 2.10", 13: "RFC 5890 2.3.2.1", 15: "RFC 5892 A.1", 16: "RFC 5892 A.3", 17: "RFC 5893 2 condition 1",
          19: "RFC 3492 6.2", 41: "after_consonant"}
 OF_NO_TYPE = (None, True, 1.5, [], {})
@@ -467,8 +473,16 @@ def written_objects(folder):
             words = ["--check-ruleset"] if text.startswith(VERSION_3.encode()) else before
             yield from objects_of(run([*words, table_file(folder, text), "--json"]).stdout)
     yield from objects_of(run(["--check-table", table_file(folder, b"0073-0073|00DF\n00DF\n"), "--json"]).stdout)
+    yield from objects_of_types()
     registered = table_file(folder, b"haus\n", "registered.txt")
     yield from objects_of(run([*GERMAN, "--among", registered, "--json", "haus"]).stdout)
+
+
+def objects_of_types():
+    """Those of the worked rows of types and actions, which worked_runs.py asks the program for."""
+    for words, _, _, (output, _, _) in type_rows.rows():
+        if "--json" in words:
+            yield from objects_of(output.encode())
 
 
 def refusal_with(number, members):
@@ -518,7 +532,8 @@ WRONG = (("line", 0), ("line", 2 ** 32 + 1), ("table_line", 0), ("count", -1), (
          ("byte", 0), ("label", 0), ("octets", -1), ("code_point", "U+00FG"), ("code_point", "u+0041"), ("code_point", "U+110000"),
          ("alabel", "É"), ("rule", "RFC 5892 2.5"), ("nfc", ""), ("after", ""),
          ("disposition", "valid"), ("there", "valid"), ("back", ""), ("source", "61"),
-         ("condition", "if"), ("demand", 0), ("demand", 257), ("kind", "sometimes"))
+         ("condition", "if"), ("demand", 0), ("demand", 257), ("kind", "sometimes"),
+         ("action", 0), ("action", 257), ("default_action", 2), ("type", "9"), ("unclear", False), ("idle", "9"))
 
 
 def changed(each):
@@ -547,7 +562,7 @@ def describes_no_other_objects(folder):
             tried.append(other)
             # Without its disposition a variant is one of a table of version 1. Without its line the answer of a
             # registration is that of a listing.
-            may_be = optional | {"disposition", *(("input",) if {"input", "alabel"} <= each.keys() else ())}
+            may_be = optional | {"disposition", "unclear", *(("input",) if {"input", "alabel"} <= each.keys() else ())}
             assert how == "lacks" and name in may_be or not is_described(other), (how, name, each, other)
     agree(random.Random(8259).sample(tried, 200))
 

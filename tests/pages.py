@@ -210,7 +210,7 @@ def has_the_names_of_the_definition(folder):
 
 
 # What stands for each word in italics in a form of a cause, and what has no form of its own.
-PLACEHOLDERS = {"n": r"\d+", "k": r"\d+", "XXXX": "[0-9A-F]{4,6}", "FF": "[0-9A-F]{2}", "class": "[A-Z]+", "label": "[a-z0-9-]+",
+PLACEHOLDERS = {"n": r"\d+", "k": r"\d+", "m": r"\d+", "type": r"[A-Za-z]\w*", "XXXX": "[0-9A-F]{4,6}", "FF": "[0-9A-F]{2}", "class": "[A-Z]+", "label": "[a-z0-9-]+",
                 "ulabel": r"\S+", "text": r"\S+", "rule": r"[A-Za-z]\w*"}
 # Normalization Form C never ends where a label goes on.
 NEVER_TOLD = ("12", "NFC ends")
@@ -341,10 +341,12 @@ def completes_words_in_each_shell(folder):
     helped = set(re.findall(r"(?<![\w-])--?[A-Za-z][\w-]*", help.split("Examples:")[0]))
     meanings = re.findall(r"^ +(?:-\w, )?--[\w-]+(?: <\w+>)?  +(.*)", help, re.MULTILINE)
     for shell in filter(is_installed, COMPLETES):
-        *found, alone, beside = completed(shell, [*(line for line, _ in COMPLETED), "-", "--variants t -"])
+        lines = [*(line for line, _ in COMPLETED), "-", "-d -", "--variants t -", "--variants t --among r -"]
+        *found, alone, decoding, listing, among = completed(shell, lines)
         for (line, wanted), each in zip(COMPLETED, found):
             assert each == wanted, (shell, line, each)
-        assert {*alone, *beside} == helped - {"--after=TEXT"}, (shell, helped ^ {*alone, *beside})
+        options = {*alone, *decoding, *listing, *among}
+        assert options == helped - {"--after=TEXT"}, (shell, helped ^ options)
         text = text_of("completions", f"idn2.{shell}")
         assert shell == "bash" or meanings and all(each in text for each in meanings), (shell, meanings)
 

@@ -1,8 +1,8 @@
 """A plain reading of RFC 7940, for small rulesets and short labels: which labels a ruleset accepts, and their variants.
 
-Written from the RFC and not from the converter: it tries all ways to cut a label and all mappings, and follows each rule
-as it is written. Where the RFC can be read in two ways, the readings are those that the table notation has: a label may
-be cut in any way, and one way by which a variant is allowed is enough."""
+Written from the RFC and not from the converter: it tries all ways to cut a label and all mappings, and follows each
+rule as it is written. Section 8.4 calls each duplicate variant label an error; here it is unclear if its readings
+record different types, and else no error."""
 
 import itertools
 import re
@@ -10,8 +10,7 @@ import unicodedata
 import xml.etree.ElementTree
 
 NAMESPACE = "{urn:ietf:params:xml:ns:lgr-1.0}"
-ALLOWED = ("valid", "allocatable", "activated")
-# Section 7.6. A type that no action names doesn't matter (section 8.3).
+# Section 7.6.
 DEFAULT_ACTIONS = [
     {"disp": "invalid", "any-variant": "invalid"},
     {"disp": "blocked", "any-variant": "blocked"},
@@ -19,6 +18,9 @@ DEFAULT_ACTIONS = [
     {"disp": "activated", "all-variants": "activated"},
     {"disp": "valid"},
 ]
+PREDEFINED = {"invalid", "blocked", "allocatable", "activated", "valid"}
+# What is recorded where there is no type: of a variant, and of an entry that stays.
+UNTYPED, UNMAPPED = "(untyped)", "(unmapped)"
 
 
 def label_of(text):
@@ -38,10 +40,12 @@ class PlainRuleset:
         rules = [] if rules is None else list(rules)
         self.rules = {each.get("name"): each for each in rules if each.tag == "rule"}
         self.classes = {each.get("name"): each for each in rules if each.tag not in ("rule", "action")}
-        self.actions = [dict(each.attrib) for each in rules if each.tag == "action"] + DEFAULT_ACTIONS
+        self.actions = [dict(each.attrib) for each in rules if each.tag == "action"]
+        kinds = {kind for _, variants in self.entries.values() for _, kind, _ in variants}
+        self.has_types = bool(kinds - {UNTYPED})
 
     def add(self, element):
-        variants = [(label_of(each.get("cp")), each.get("type"), self.condition(each)) for each in element]
+        variants = [(label_of(each.get("cp")), each.get("type", UNTYPED), self.condition(each)) for each in element]
         if element.tag == "char":
             sources = [label_of(element.get("cp"))]
         else:
@@ -134,66 +138,85 @@ class PlainRuleset:
 
     # Labels (section 8).
 
+    def stands(self, source, label, start):
+        place = start, start + len(source)
+        return label.startswith(source, start) and self.holds(self.entries[source][0], label, place)
+
+    def is_eligible(self, label):
+        """Whether the longest entry that stands, and then the longest after it, and so on, reach the end (8.1)."""
+        place = 0
+        while place < len(label):
+            longest = max((source for source in self.entries if self.stands(source, label, place)), key=len, default="")
+            if not longest:
+                return False
+            place += len(longest)
+        return label != ""
+
     def cuts(self, label, start=0):
-        """All ways to cut the rest of the label into entries whose conditions hold: lists of (source, place)."""
+        """All ways to cut the rest of the label into entries that stand: lists of (source, place)."""
         if start == len(label):
             yield []
-        for source, (conditions, _) in self.entries.items():
-            place = (start, start + len(source))
-            if label.startswith(source, start) and self.holds(conditions, label, place):
-                for rest in self.cuts(label, place[1]):
-                    yield [(source, place), *rest]
-
-    def disposition(self, label, types, are_all_mapped):
-        """By the first action that the label triggers; `types` are those that it records."""
-        for action in self.actions:
-            wanted = {key: set(action[key].split()) for key in action if "-variant" in key}
-            triggered = (
-                ("match" not in action or self.matches(action["match"], label))
-                and ("not-match" not in action or not self.matches(action["not-match"], label))
-                and ("any-variant" not in wanted or types & wanted["any-variant"])
-                and ("all-variants" not in wanted or (types and types <= wanted["all-variants"]))
-                and ("only-variants" not in wanted or (types and are_all_mapped and types <= wanted["only-variants"]))
-            )
-            if triggered:
-                return action["disp"]
-        raise AssertionError("the last action is triggered by each label")
+        for source in self.entries:
+            if self.stands(source, label, start):
+                for rest in self.cuts(label, start + len(source)):
+                    yield [(source, (start, start + len(source))), *rest]
 
     def mappings(self, source, label, place):
-        """What may stand in place of a source: (replacement, type, whether it is mapped)."""
-        there = [each for each in self.entries[source][1] if self.holds(each[2], label, place)]
-        reflexive = [(source, kind, True) for target, kind, _ in there if target == source]
-        return (reflexive or [(source, None, False)]) + [(target, kind, True) for target, kind, _ in there
-                                                         if target != source]
+        """What may stand in place of a source, with what it records: the source first, then its variants."""
+        _, variants = self.entries[source]
+        there = [(target, kind) for target, kind, condition in variants if self.holds(condition, label, place)]
+        itself = [each for each in there if each[0] == source] or [(source, UNMAPPED)]
+        return itself, [each for each in there if each[0] != source]
 
-    def accepts(self, label):
-        records = (self.recorded(self.unmapped(cut, label)) for cut in self.cuts(label))
-        return any(self.disposition(label, *record) in ALLOWED for record in records)
+    def readings(self, label):
+        """Each label that arises, with the sets of kinds that its readings record; of the label itself only those in
+        which each entry stays."""
+        found = {}
+        for cut in self.cuts(label):
+            mappings = [self.mappings(source, label, place) for source, place in cut]
+            for chosen in itertools.product(*(itself + variants for itself, variants in mappings)):
+                arisen = "".join(target for target, _ in chosen)
+                stays = all(target == source for (target, _), (source, _) in zip(chosen, cut, strict=True))
+                if arisen and (stays or arisen != label):
+                    found.setdefault(arisen, set()).add(frozenset(kind for _, kind in chosen))
+        return found
 
-    def unmapped(self, cut, label):
-        return [self.mappings(source, label, place)[0] for source, place in cut]
+    def is_triggered(self, action, label, kinds):
+        """By the rule of an action, and by its types (7.1, 7.2)."""
+        wanted = {key: set(action[key].split()) for key in action if "-variant" in key}
+        mapped = kinds - {UNMAPPED}
+        return (("match" not in action or self.matches(action["match"], label))
+                and ("not-match" not in action or not self.matches(action["not-match"], label))
+                and ("any-variant" not in wanted or bool(kinds & wanted["any-variant"]))
+                and ("all-variants" not in wanted or (bool(mapped) and mapped <= wanted["all-variants"]))
+                and ("only-variants" not in wanted or kinds <= wanted["only-variants"]))
 
-    @staticmethod
-    def recorded(chosen):
-        return {kind for _, kind, _ in chosen if kind}, all(is_mapped for _, _, is_mapped in chosen)
+    def disposition(self, label, kinds):
+        """That of the first action that is triggered; the default ones see no other types (8.3)."""
+        for actions, seen in ((self.actions, kinds), (DEFAULT_ACTIONS, kinds & {*PREDEFINED, UNTYPED, UNMAPPED})):
+            for action in actions:
+                if self.is_triggered(action, label, seen):
+                    return action["disp"]
+        raise AssertionError("the last action is triggered by each label")
+
+    def is_barred(self, label):
+        """Whether the label is invalid whatever is recorded: by an action with a rule alone, where none before it has
+        another disposition."""
+        first = itertools.takewhile(lambda action: action["disp"] == "invalid", self.actions)
+        by_rule = [action for action in first if not any("-variant" in key for key in action)]
+        return any(self.is_triggered(action, label, {UNMAPPED}) for action in by_rule)
+
+    def told(self, label, readings):
+        """What becomes of an eligible label that arises; None if nothing does."""
+        if self.has_types and len(readings) > 1:
+            return None if self.is_barred(label) else "unclear"
+        disposition = self.disposition(label, next(iter(readings)))
+        return {"invalid": None, "blocked": "blocked"}.get(disposition, "allocatable")
 
     def variants(self, label):
         """None of a label that is not accepted; else its variants with what becomes of them."""
-        if not self.accepts(label):
+        readings = self.readings(label) if self.is_eligible(label) else {}
+        if not readings or self.told(label, readings[label]) in (None, "unclear"):
             return None
-        found = {label: "allocatable"}
-        for variant, chosen in self.replaced(label):
-            disposition = self.disposition(variant, *self.recorded(chosen))
-            if disposition in ALLOWED:
-                found[variant] = "allocatable"
-            elif disposition == "blocked":
-                found.setdefault(variant, "blocked")
-        return found
-
-    def replaced(self, label):
-        """Each way to replace the sources of a label that makes another label: that one, and what was chosen for it."""
-        for cut in self.cuts(label):
-            for chosen in itertools.product(*(self.mappings(source, label, place) for source, place in cut)):
-                variant = "".join(replacement for replacement, _, _ in chosen)
-                if variant != label and variant and next(self.cuts(variant), None) is not None:
-                    yield variant, chosen
+        found = {arisen: self.told(arisen, kinds) for arisen, kinds in readings.items() if self.is_eligible(arisen)}
+        return {arisen: told for arisen, told in found.items() if told}

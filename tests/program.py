@@ -133,7 +133,9 @@ Options:
       --ruleset <FILE>        List each label's variants by the ruleset in FILE
       --check-ruleset <FILE>  Print the pairs that the ruleset in FILE lacks
       --among <FILE>          With --variants: list labels in FILE that collide
+      --others                With --among: leave out the label itself
       --jump                  With --variants: answer LABEL TAB TEXT by a label
+      --old                   With --decode: print lines of registered labels
   -N, --tr46nt                Non-transitional lookup, which lookup does anyway
       --usestd3asciirules     Lookup refuses ASCII but letters, digits, hyphens
       --standard              Test labels by Unicode's own data, not by lists

@@ -544,7 +544,7 @@ def faults_of_the_file(folder):
     for data, fault in (
         ('<char cp="0061"/>\n<range first-cp="0060" last-cp="0062"/>', "line 3: 0061 is given twice, first on line 2"),
         ('<char cp="0062"><var cp="0063"/><var cp="0063"/></char>',
-         "line 2: char 0062: 0063 is given twice as a variant, and not under opposite conditions"),
+         "line 2: char 0062: 0063 is given twice as a variant, and not under conditions that differ"),
         ('<range first-cp="0062" last-cp="0061"/>', "line 2: the range ends at 0061, before it begins"),
         ('<range first-cp="0061" last-cp="0062"><var cp="0063"/></range>', "line 2: a range has no variants"),
         ('<char cp="D800"/>', "line 2: D800 is not a scalar value"),
@@ -672,8 +672,8 @@ def line_format(folder):
         "lines 2, 3, 4, 5: entry 2200 and 3 more: left out, since it has a code point that no label can have\n"), told
     text = "U+0061|U+0062:U+0043\nU+0061-U+0063|U+0064-U+0064\n"
     told = (
-        "lines 1, 2: entry 0061, variant 0062 and 1 more: blocked, since it has no type\n"
         "line 1: entry 0061, variant 0043: left out, since it has a code point that no label can have\n"
+        "lines 1, 2: entry 0061, variant 0062 and 1 more: blocked, since it has no type\n"
         "the table has 2 gaps: idn2 --check-table prints them\n")
     expect_table(table_file(folder, text.encode()), [], "%version 2\n0061|!0062\n0061-0063|!0064-0064\n", told)
 

@@ -5,6 +5,7 @@ points may stand in a table, the program tells the reference implementation. The
 is 0 where nothing failed."""
 
 import functools
+import itertools
 import os
 import random
 import re
@@ -18,17 +19,25 @@ sys.path += [os.path.join(ROOT, folder) for folder in ("conformance", "registry"
 
 import check
 import ruleset_rows
+import type_rows
+from evaluator_answers import answer_of_evaluator
 from idn2_registry import unicode_data
 from idn2_registry.notation import canonical, reading
 from idn2_registry.notation.gaps import gaps
+from idn2_registry.rfc7940 import reader
+from idn2_registry.rfc7940.ruleset import Asked
 from reference_run import Run, Reference, Unknown
 from ruleset_labels import RulesetLabels
+from worked_rows import by_reference
 
 DISALLOWED, UNASSIGNED = 10, 11
 
 
 class ByProgram:
-    """What the reference implementation asks of labels and code points, by the program's registration."""
+    """What the reference implementation asks of labels and code points, by the program's registration. No row has the cause of a
+    label that can't be registered."""
+
+    known = None
 
     @functools.cache
     def first_fault(self, label):
@@ -66,25 +75,41 @@ def told(answer):
 def reference_implementation_answers(folder):
     """All but one row, whose label spells a million labels."""
     second, unknown = Reference(Run(BY_PROGRAM, BY_PROGRAM)), []
-    for words, given, files, wanted in ruleset_rows.rows():
+    for words, given, texts, wanted in [*ruleset_rows.rows(), *type_rows.rows()]:
+        files = {name: text.encode() for name, text in texts.items()}
         try:
-            output, messages, status = second.answer(words, given.encode(), {"table": files["table"].encode()})
+            found, expected = by_reference(second, words, given.encode(), files, wanted)
         except Unknown:
             unknown.append(given)
             continue
-        found = output.decode(), messages.decode(), status
-        assert found == wanted, (words, given, files["table"][:400], told(found), told(wanted))
+        assert found == expected, (words, given, texts, told(found), told(expected))
     assert unknown == ["0" * 20 + "\n"], unknown
 
 
 def reference_implementation_spells(folder):
     """The canonical text of a ruleset, which is read as the same one."""
-    for text, wanted in ruleset_rows.CANONICAL:
-        ruleset = reading.read((ruleset_rows.VERSION_LINE + text).encode(), BY_PROGRAM.may_stand)
+    for text, wanted in [*ruleset_rows.canonical(), *type_rows.canonical()]:
+        ruleset = reading.read(text.encode(), BY_PROGRAM.may_stand)
         found = canonical.text_of(ruleset)
-        assert found == ruleset_rows.VERSION_LINE + wanted, (text, found)
+        assert found == wanted, (text, found)
         again = reading.read(found.encode(), BY_PROGRAM.may_stand)
         assert again == ruleset, (text, again)
+
+
+def reads_xml_as_its_evaluator_does(folder):
+    """A ruleset that is made of XML says of labels what the evaluator reads in the XML."""
+    compared = 0
+    for xml, text, _ in type_rows.from_xml():
+        if text is None:
+            continue
+        standards = reader.read(f'<lgr xmlns="urn:ietf:params:xml:ns:lgr-1.0">{xml}</lgr>'.encode())
+        labels = RulesetLabels(reading.read(text.encode(), BY_PROGRAM.may_stand))
+        letters = sorted({letter for source in labels.entries for letter in source})
+        for label in ("".join(each) for size in (1, 2, 3) for each in itertools.product(letters, repeat=size)):
+            answer, wanted = labels.answer(label), answer_of_evaluator(Asked(standards, label))
+            assert answer == wanted, (xml, label, answer, wanted)
+            compared += 1
+    assert compared > 200, compared
 
 
 # The rulesets of tables/rulesets/: words that are to be accepted, labels that are not, each with its number, and variants that
@@ -103,7 +128,7 @@ EXAMPLES = {
     },
     "latin.txt": {
         "accepted": "paypal x-ray 4you",
-        "refused": {"раураl": 40, "а": 40, "\u03B1": 40, "\u00E4": 40},
+        "refused": {"раураl": 41, "а": 41, "\u03B1": 41, "\u00E4": 40},
         "variants": {"ac": {"ac": True, "\u0430c": False, "\u0430\u0441": False, "\u03B1\u0441": False, "\u0430d": None}},
     },
 }
@@ -138,8 +163,8 @@ def example_rulesets_hold(folder):
         answers = {word: answer_of_program(path, word) for word in refused}
         assert all((answers[word] == number) if number else answers[word][word] for word, number in refused.items()), answers
         for label, variants in wanted["variants"].items():
-            allocatable, valid = labels.allocatable(label), set(filter(labels.is_valid, labels.spelled(label)))
-            found = {variant: variant in allocatable if variant in valid else None for variant in variants}
+            dispositions = labels.answer(label)
+            found = {variant: dispositions[variant] == "allocatable" if variant in dispositions else None for variant in variants}
             assert found == variants, (name, label, found)
             listed = answer_of_program(path, label)
             assert {variant: listed.get(variant) for variant in variants} == variants, (name, label, listed)
@@ -154,36 +179,46 @@ def notation_shows_a_ruleset(folder):
     labels = RulesetLabels(ruleset)
     refused = {label: labels.refusal(label) for label in ("काa", "का", "ा", "क1", "क०", "1०", "a-1", "-a", "aa-a", "аa")}
     assert refused == {"काa": None, "का": None, "ा": 41, "क1": None, "क०": None, "1०": 41, "a-1": None, "-a": 41,
-                       "aa-a": None, "аa": 40}, refused
-    assert labels.allocatable("国0") == {"国0", "國0"} and "國०" in labels.spelled("国0"), labels.allocatable("国0")
+                       "aa-a": None, "аa": 41}, refused
+    answers = {label: labels.answer(label) for label in DISPOSITIONS_IN_THE_NOTATION}
+    assert answers == DISPOSITIONS_IN_THE_NOTATION, answers
     path = table_file(folder, text)
     for label, number in refused.items():
         number = BY_PROGRAM.first_fault(label) or number
         answer = answer_of_program(path, label)
         assert answer == number if number else answer[label], (label, answer)
-    assert answer_of_program(path, "国0") == {"国0": True, "國0": True, "国०": False, "國०": False}
+    for label, dispositions in DISPOSITIONS_IN_THE_NOTATION.items():
+        allocatable = {variant: disposition == "allocatable" for variant, disposition in dispositions.items()}
+        assert answer_of_program(path, label) == allocatable, label
+
+
+DISPOSITIONS_IN_THE_NOTATION = {
+    "国0": {"国0": "allocatable", "國0": "allocatable", "国०": "blocked", "國०": "blocked"},
+    "国学": {"国学": "allocatable", "國学": "blocked"},
+}
 
 
 def chinese_ruleset_is_as_others_have_it(folder):
-    """It has the entries of tables/han.txt, and the tags that Python's codecs of GB 2312 and Big Five tell."""
+    """It has the entries of tables/han.txt, and the types that Python's codecs of GB 2312 and Big Five tell."""
     with open(os.path.join(ROOT, "tables", "han.txt"), "rb") as file:
         table = check.read(file.read(), BY_PROGRAM)
     with open(os.path.join(ROOT, "tables", "rulesets", "chinese.txt"), "rb") as file:
         entries = reading.read(file.read(), BY_PROGRAM.may_stand).entries
     found = {source: {variant.points: False for variant in entry.variants} for source, entry in entries.items()}
     assert found == table.entries
-    for entry in entries.values():
-        for mapped in entry.mapped() if entry.variants else ():
-            [kind] = [tags for tags, wanted in KINDS_OF_HAN.items() if wanted == kinds_of_han(chr(*mapped.points))]
-            assert mapped.tags == kind, mapped
+    for entry in filter(lambda entry: entry.variants, entries.values()):
+        assert entry.source.type == REFLEXIVE_TYPES[codecs_of(chr(*entry.source.points))], entry
+        assert all(variant.type == TYPES[codecs_of(chr(*variant.points))] for variant in entry.variants), entry
 
 
-# The tags of a character, by the codecs that have it.
-KINDS_OF_HAN = {("simp",): ("gb2312",), ("trad",): ("big5",), (): ("gb2312", "big5")}
+# The type of a variant, and the reflexive type of a source, by the codecs that have the character.
+SIMPLIFIED, TRADITIONAL, BOTH = ("gb2312",), ("big5",), ("gb2312", "big5")
+TYPES = {SIMPLIFIED: "simp", TRADITIONAL: "trad", BOTH: "both"}
+REFLEXIVE_TYPES = {SIMPLIFIED: "r_simp", TRADITIONAL: "r_trad", BOTH: None}
 
 
-def kinds_of_han(character):
-    return tuple(codec for codec in ("gb2312", "big5") if character.encode(codec, "ignore"))
+def codecs_of(character):
+    return tuple(codec for codec in BOTH if character.encode(codec, "ignore"))
 
 
 # The sets of tables/rulesets/devanagari.txt, by Unicode's Indic_Syllabic_Category.
@@ -231,34 +266,38 @@ def check_script_tells_what_it_cannot_read(folder):
 
 CONTEXTS = ("@A _", "_ @A", "^ _ / @A _", "_ @A? $", "@A .* _", "0061 _ / _ 0062", "_")
 DEMANDS = ("%never 0061 .* 0062", "%never @A @A $", "%always @A", "%never ^ 0063 $")
+# Labels are refused by demands, by actions that ask for a rule alone and come first, and by types of sources.
+REFUSING = ("%action invalid when w", "%action invalid any out")
+ACTIONS = ("%action blocked any s", "%action allocatable all s,valid", "%action valid only t,blocked", "%action blocked unless w")
 
 
 def random_ruleset(chance):
     """Sets of letters that are variants of each other, without gaps and conditions of variants; with conditions of sources, demands,
-    tags and outside sources."""
+    types and actions."""
     letters, sets = "abcdefgh", {}
     for letter in letters:
         sets.setdefault(chance.randrange(4), []).append(f"{ord(letter):04X}")
-    lines = ["%version 3", "%tag s", "%tag t", f"%set A 0061..{chance.choice(('0062', '0064'))}"]
+    lines = ["%version 3", "%type s", "%type t", "%type out", f"%set A 0061..{chance.choice(('0062', '0064'))}", "%whole w 0063 @A"]
     lines += [f"%rule r{number} {chance.choice(CONTEXTS)}" for number in range(2)] + chance.sample(DEMANDS, chance.choice((0, 1, 1)))
-    tags = lambda: chance.choice(("", "", " as s", " as t", " as s,t"))
+    lines += [*chance.sample(REFUSING, chance.choice((0, 1, 2))), *chance.sample(ACTIONS, chance.choice((0, 1, 2)))]
+    typed = lambda *more: chance.choice(("", "", " as s", " as t", *more))
     for members in sets.values():
         for source in members:
-            variants = [chance.choice((f"!{each}", each + tags())) for each in members if each != source]
+            variants = [chance.choice((f"!{each}", each + typed())) for each in members if each != source]
             condition = chance.choice(("", "", "", " when r0", " unless r1"))
-            first = f"!{source}" if chance.random() < 0.15 else source + tags()
+            first = f"!{source}" if chance.random() < 0.15 else source + typed(" as out")
             lines.append(first + condition + ("|" if variants else "") + ":".join(variants))
     return "\n".join(lines).encode()
 
 
 def finds_collisions_by_least_variants(folder):
-    """Under random rulesets without gaps, of single code points and without conditions of variants, labels that aren't refused have
-    one least variant exactly if they collide, whichever of the two is asked about."""
+    """Under random rulesets without gaps, of single code points and without conditions of variants, of which sources alone refuse,
+    labels that aren't refused have one least variant exactly if they collide, whichever of the two is asked about."""
     chance, compared = random.Random(7940), 0
     for _ in range(40):
         path = table_file(folder, random_ruleset(chance))
         checked = run(["--check-ruleset", path])
-        assert checked.stdout == b"#table 8 0\n", checked
+        assert checked.stdout.splitlines()[-1] == b"#table 8 0", checked
         labels = sorted({"".join(chance.choices("abcdefgh", k=chance.randint(1, 3))) for _ in range(25)})
         done = run(["--ruleset", path], "\n".join(labels).encode())
         refused = set(re.findall(r"^idn2: line (\d+): 4[01] ", done.stderr.decode(), re.MULTILINE))
@@ -276,6 +315,7 @@ def finds_collisions_by_least_variants(folder):
 TESTS = [
     reference_implementation_answers,
     reference_implementation_spells,
+    reads_xml_as_its_evaluator_does,
     example_rulesets_hold,
     notation_shows_a_ruleset,
     chinese_ruleset_is_as_others_have_it,

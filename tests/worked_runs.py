@@ -14,6 +14,7 @@ import collision_rows
 import label_rows
 import ruleset_rows
 import run_rows
+import type_rows
 import worked_rows
 from worked_rows import in_bytes
 
@@ -57,6 +58,10 @@ def answers_rows_of_rulesets(folder):
     expect_rows(folder, ruleset_rows.rows())
 
 
+def answers_rows_of_types(folder):
+    expect_rows(folder, type_rows.rows())
+
+
 TESTS = [
     answers_rows_of_labels_and_names,
     answers_rows_of_runs,
@@ -64,6 +69,7 @@ TESTS = [
     answers_rows_of_tables_collisions_and_jumps,
     answers_rows_of_collisions,
     answers_rows_of_rulesets,
+    answers_rows_of_types,
 ]
 
 
