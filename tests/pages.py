@@ -755,7 +755,7 @@ def quotes_definitions_as_they_stand(folder):
     """Each definition that the tour quotes is all of one in its file, and the twelve to believe first are among them."""
     text = text_of("docs", "DEFINITIONS.md")
     quotes = quoted.quotes(text)
-    assert text.count("```antt\n") == len(quoted.BLOCK.findall(text)) and len(quotes) > 30, len(quotes)
+    assert text.count("```antt\n") == len(quoted.BLOCK.findall(text)) and len(quotes) >= 12, len(quotes)
     changed = [(file, quoted.name_of(part)) for file, part in quotes if part not in quoted.definitions(file).values()]
     assert not changed, (changed, "python3 tests/quoted.py --write")
     first = re.findall(r"^\| \d+ \| \[`(\w+)`\]", text, re.MULTILINE)
