@@ -185,10 +185,9 @@ def has_the_version_that_the_changes_name(folder):
         version, unicode = re.search(r"^## (\S+)\n\nUnicode (\S+)\. ", file.read(), re.MULTILINE).groups()
     for words in (["--version"], ["--version", "--bogus"]):
         expect(words, b"", f"idn2 {version} (Unicode {unicode})\n".encode(), b"", 0)
-    with open(os.path.join(ROOT, "docs", "idn2.1"), encoding="utf-8") as file:
-        assert f'"idn2 {version}"' in file.read(), version
-    with open(os.path.join(ROOT, "docs", "GUIDE.md"), encoding="utf-8") as file:
-        assert f"tar xf idn2-{version}.tar.gz &&\n" in file.read(), version
+    for document, words in (("docs/idn2.1", f'"idn2 {version}"'), ("docs/idn2-registry.1", f'"idn2 {version}"'),
+                            ("docs/GUIDE.md", f"tar xf idn2-{version}.tar.gz &&\n"), ("registry/pyproject.toml", f'version = "{version}"\n')):
+        assert words in text_of(document), (document, version)
 
 
 def needs_only_the_c_library(folder):
