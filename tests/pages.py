@@ -578,7 +578,12 @@ def names_only_paths_that_are_there(folder):
     named = {path for document in documents for path in named_paths(document) if not BUILT.fullmatch(path)}
     named |= {"crates/" + path for path in re.findall(r"\b\w+/specs/[\w/]+\.antt", text_of("docs", "DEFINITIONS.md"))}
     absent = [path for path in sorted(named) if not os.path.exists(os.path.join(ROOT, path))]
-    assert len(named) > 50 and not absent, absent
+    # A file that is named without its crate or its folder.
+    folders = ("crates/*/[!o]*", "registry", "tests", "conformance", "tables", "bench")
+    files = {os.path.basename(path) for folder in folders for path in glob.glob(os.path.join(ROOT, folder, "**"), recursive=True)}
+    short = {name for document in documents for name in re.findall(r"`(?:[\w/]+/)?(\w+\.(?:rt|antt|py|edit))`", text_of(document))}
+    absent += sorted(short - files)
+    assert len(named) > 50 and len(short) > 50 and not absent, absent
 
 
 def names_the_logic_that_proves_it(folder):
