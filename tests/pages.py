@@ -541,7 +541,7 @@ def of_crates(names):
 
 
 def names_what_is_proved(folder):
-    """docs/PROOFS.md names each law, and no other; calls that there are, and in the table of promises clauses and definitions, too."""
+    """docs/PROOFS.md names each law, and calls, clauses and definitions that are there."""
     named, wrong = collections.defaultdict(set), []
     for head, names in proved_cells():
         cell = collections.defaultdict(set)
