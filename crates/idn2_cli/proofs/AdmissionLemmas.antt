@@ -18,7 +18,7 @@ use Rattle.idn2_cli.specs.inner.Ruling.{IsOwnBy, IsRefusedBy, ruling_of}
 module _ (table : TableValue) (label : List ℕ) (sound : IsSound table) (some : label ≢ []) where
   free_admits : (d : Disposition) → true ≡ asks_nothing table → d ≡ outcomes.Valid → IsMadeOfSources table label → IsAdmission table label (Admitted d)
   free_admits d free own made =
-      subst (λ (x : Disposition). IsAdmission table label (Admitted x)) (sym own) (nothing-is-asked.admitted table label sound.entries ((tests-agree.nothing table sound.entries).0 (sym free)) some made)
+      subst (λ (x : Disposition). IsAdmission table label (Admitted x)) (sym own) (nothing-is-asked.admitted table label sound.entries (nothing-is-asked.of_sources table ((tests-agree.nothing table sound.entries).0 (sym free))) some made)
 
   -- a label that is made of sources, with its disposition
   pub own-admission : (d : Disposition) → IsMadeOfSources table label → IsOwnBy (ruling_of table) label d → IsAdmission table label (Admitted d)

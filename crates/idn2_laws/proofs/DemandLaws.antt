@@ -1,4 +1,4 @@
--- A demand that no label may match a pattern says what an action says that makes invalid what matches it.
+-- A demand says what an action says that makes invalid what doesn't meet it.
 use Rattle.std.proofs.Common.{◌≡◌, ◌↔◌, inl, inr, ◌&&◌, ◌||◌, ℕ, zero, suc, ◌+◌, ◌<◌, Bool, true, false, List, [], ◌∷◌, ◌++◌, length, map, Option, Some, None, refl, sym, ap, subst, ◌∙◌, if◌then◌else◌, not, arith}
 use Rattle.std.specs.Prelude.{bytes_eq, cond, option_map, unwrap_or}
 use Rattle.std.specs.List.{AllByRecursion, Contains, find, list_any}
@@ -12,12 +12,12 @@ use Rattle.label_patterns.specs.Patterns.{Pattern}
 use Rattle.label_patterns.specs.Rules.{Holds, Occurs, is_context_rule}
 use Rattle.label_patterns.specs.Tests.{occurs_in}
 use Rattle.label_patterns.specs.declared.condition.Condition.{Condition}
-use Rattle.label_patterns.specs.declared.condition.ConditionKind.TheVariants.{When}
 use Rattle.label_patterns.proofs.TestLemmas.{occurs-agrees}
 use Rattle.ruleset_text.specs.Actions.{NamedAction, NamedTrigger, knows_action, knows_rule, knows_types}
 use Rattle.ruleset_text.specs.Definitions.{Definitions, Demand, type_names, whole_names, whole_rules}
 use Rattle.ruleset_text.specs.Names.{is_one_of, number_of}
-use Rattle.ruleset_text.specs.declared.definition.DemandKind.TheVariants.{Never}
+use Rattle.ruleset_text.specs.declared.definition.DemandKind.{DemandKind}
+use Rattle.ruleset_text.specs.declared.definition.DemandKind.TheVariants.{Never, Always}
 use Rattle.ruleset_text.specs.declared.named_condition.NamedCondition.{NamedCondition}
 use Rattle.variant_dispositions.specs.declared.action.Action.{Action}
 use Rattle.variant_dispositions.specs.declared.action.TypeTrigger.{TypeTrigger}
@@ -33,6 +33,7 @@ use Rattle.variant_table.specs.Segmentations.{AllHold, IsSegmentation, seen_unde
 use Rattle.variant_table.specs.WellFormed.{HasItsNames, HasItsRule, IsNamed, IsTable}
 use Rattle.variant_table.proofs.MemberLemmas.{Contains-cases, Contains-head, Contains-later, Contains-none}
 use Rattle.valid_labels.specs.Actions.{action_of, actions_of, matches_rule, trigger_by, trigger_of, with_type, with_types}
+use Rattle.valid_labels.specs.Demands.{IsMet, IsWanted}
 use Rattle.valid_labels.specs.Dispositions.{IsClearItself, IsOwnDisposition, disposition_by}
 use Rattle.valid_labels.specs.Eligible.{IsEligible, IsLongest, LongestLeads, Stands}
 use Rattle.valid_labels.specs.Validity.{IsAdmitted, IsValid}
@@ -46,7 +47,7 @@ use Rattle.idn2_options.specs.Settings.{Settings}
 use Rattle.idn2_answers.specs.Dispositions.{HasOutcome, IsAllocatableIn, IsAllocation, IsClear, IsDisposition, IsFieldOf, IsLeftOut, IsReadingFor}
 use Rattle.idn2_answers.specs.Listings.{IsListed}
 use Rattle.idn2_answers.proofs.ReadingTests.{some-reading}
-use Rattle.idn2_laws.specs.DemandLaws.{DemandsAreActions, MayGet, with_action, with_demand}
+use Rattle.idn2_laws.specs.DemandLaws.{DemandsAreActions, MayGet, refused_by, with_action, with_demand}
 
 -- ---- tables of the same entries and sets
 
@@ -181,15 +182,18 @@ whole-is_one (other ∷ names) (p ∷ rules) name h = by_test (is_context_rule p
 
 -- ---- the two rulesets
 
-module _ (name : List ℕ) (p : Pattern) (table : TableValue) (get : MayGet name table) where
+module _ (name : List ℕ) (demand : Demand) (table : TableValue) (get : MayGet name table) where
+  abbrev p : Pattern
+  p = demand.pattern
+
   abbrev d : Definitions
   d = table.definitions
 
   abbrev demanded : Parts
-  demanded = record { names = d.rule_names; rules = d.rules; demands = record { kind = Never; pattern = p } ∷ d.demands; actions = d.actions }
+  demanded = record { names = d.rule_names; rules = d.rules; demands = demand ∷ d.demands; actions = d.actions }
 
   abbrev refuse : NamedAction
-  refuse = record { disposition = Invalid; condition = Some (record { kind = When; rule = name }); trigger = None }
+  refuse = record { disposition = Invalid; condition = Some (record { kind = refused_by demand.kind; rule = name }); trigger = None }
 
   abbrev acted : Parts
   acted = record { names = d.rule_names ++ name ∷ []; rules = d.rules ++ p ∷ []; demands = d.demands; actions = refuse ∷ d.actions }
@@ -269,23 +273,44 @@ module _ (name : List ℕ) (p : Pattern) (table : TableValue) (get : MayGet name
 
   -- ---- the action that is more
 
-  refuse-told : (v : List ℕ) (kinds : List Kind) → is_triggered (matches_rule A v) kinds (action_of A.definitions refuse) ≡ occurs_in (seen_under D v) p
+  -- whether it is triggered, whatever a reading records
+  abbrev is_refused : List ℕ → Bool
+  is_refused v = is_as_asked (refused_by demand.kind) (occurs_in (seen_under D v) p)
+
+  refuse-told : (v : List ℕ) (kinds : List Kind) → is_triggered (matches_rule A v) kinds (action_of A.definitions refuse) ≡ is_refused v
   refuse-told v kinds =
-      ap (λ (n : ℕ). occurs_in (seen_under D v) (rule_at (d.rules ++ p ∷ []) n)) (number-new d.rule_names name get.unused ∙ same-count) ∙ ap (occurs_in (seen_under D v)) (rule-new d.rules p)
+      ap (λ (n : ℕ). is_as_asked (refused_by demand.kind) (occurs_in (seen_under D v) (rule_at (d.rules ++ p ∷ []) n))) (number-new d.rule_names name get.unused ∙ same-count)
+      ∙ ap (λ (rule : Pattern). is_as_asked (refused_by demand.kind) (occurs_in (seen_under D v) rule)) (rule-new d.rules p)
 
-  matching-invalid : (v : List ℕ) (kinds : List Kind) → occurs_in (seen_under D v) p ≡ true → disposition_by A v kinds ≡ Invalid
-  matching-invalid v kinds matched =
+  refused-invalid : (v : List ℕ) (kinds : List Kind) → is_refused v ≡ true → disposition_by A v kinds ≡ Invalid
+  refused-invalid v kinds refused =
       ap (λ (b : Bool). unwrap_or (option_map (λ (x : Action). x.disposition) (if b then Some (action_of A.definitions refuse) else find (is_triggered (matches_rule A v) kinds) (map (action_of A.definitions) d.actions))) (unwrap_or (default_disposition (matches_rule A v) kinds) Valid))
-      (refuse-told v kinds ∙ matched)
+      (refuse-told v kinds ∙ refused)
 
-  other-same : (v : List ℕ) (kinds : List Kind) → occurs_in (seen_under D v) p ≡ false → disposition_by A v kinds ≡ disposition_by D v kinds
+  other-same : (v : List ℕ) (kinds : List Kind) → is_refused v ≡ false → disposition_by A v kinds ≡ disposition_by D v kinds
   other-same v kinds none =
       ap (λ (b : Bool). unwrap_or (option_map (λ (x : Action). x.disposition) (if b then Some (action_of A.definitions refuse) else find (is_triggered (matches_rule A v) kinds) (map (action_of A.definitions) d.actions))) (unwrap_or (default_disposition (matches_rule A v) kinds) Valid))
       (refuse-told v kinds ∙ none)
       ∙ ap (λ (first : Option Outcome). unwrap_or first (unwrap_or (default_disposition (matches_rule A v) kinds) Valid)) (first-same v kinds d.actions get.of_table.without_fault.known)
 
-  no-match : (v : List ℕ) → ¬ Occurs (seen_under D v) p → occurs_in (seen_under D v) p ≡ false
-  no-match v none = false_from_ne_true (occurs_in (seen_under D v) p) (λ h. none ((occurs-agrees (seen_under D v) p).0 h))
+  -- a label meets the demand exactly if the action isn't triggered
+  met-passes : (v : List ℕ) → IsMet (seen_under D v) demand → is_refused v ≡ false
+  met-passes v met = by_kind demand.kind met
+    where
+      by_kind : (kind : DemandKind) → IsWanted kind (Occurs (seen_under D v) p) → is_as_asked (refused_by kind) (occurs_in (seen_under D v) p) ≡ false
+      by_kind Never none = false_from_ne_true (occurs_in (seen_under D v) p) (λ h. none ((occurs-agrees (seen_under D v) p).0 h))
+      by_kind Always occurs = ap not ((occurs-agrees (seen_under D v) p).1 occurs)
+
+  passes-met : (v : List ℕ) → is_refused v ≡ false → IsMet (seen_under D v) demand
+  passes-met v passed = by_kind demand.kind passed
+    where
+      by_test : (b : Bool) → not b ≡ false → b ≡ true
+      by_test true e = refl
+      by_test false e = let clash : true ≡ false = e in cc
+
+      by_kind : (kind : DemandKind) → is_as_asked (refused_by kind) (occurs_in (seen_under D v) p) ≡ false → IsWanted kind (Occurs (seen_under D v) p)
+      by_kind Never passed = λ occurs. (let clash : true ≡ false = sym ((occurs-agrees (seen_under D v) p).1 occurs) ∙ passed in cc)
+      by_kind Always passed = (occurs-agrees (seen_under D v) p).0 (by_test (occurs_in (seen_under D v) p) passed)
 
   -- ---- labels that may be asked about
 
@@ -300,18 +325,17 @@ module _ (name : List ℕ) (p : Pattern) (table : TableValue) (get : MayGet name
     cut = inr (eligible-there table demanded acted to_action to_demand label (eligible-of demanded label is));
     met = is.met.1;
     clear = λ one other first second. is.clear one other (segmentation-there table acted demanded to_demand to_action label one first) (segmentation-there table acted demanded to_demand to_action label other second);
-    not_invalid = λ h. is.not_invalid (h.0, segmentation-there table acted demanded to_demand to_action label h.0 h.1, sym (other-same label _ (no-match label is.met.0)) ∙ h.2);
+    not_invalid = λ h. is.not_invalid (h.0, segmentation-there table acted demanded to_demand to_action label h.0 h.1, sym (other-same label _ (met-passes label is.met.0)) ∙ h.2);
   }
 
   admitted-back : (label : List ℕ) → IsAdmitted A label → IsAdmitted D label
   admitted-back label is =
-      let none : ¬ Occurs (seen_under D label) p = λ occurs.
-      (let s = cut-segmentation A label is.cut in is.not_invalid (s.0, s.1, matching-invalid label _ ((occurs-agrees (seen_under D label) p).1 occurs))) in
+      let passed : is_refused label ≡ false = false_from_ne_true (is_refused label) (λ refused. (let s = cut-segmentation A label is.cut in is.not_invalid (s.0, s.1, refused-invalid label _ refused))) in
       record {
         cut = inr (eligible-there table acted demanded to_demand to_action label (eligible-of acted label is));
-        met = (none, is.met);
+        met = (passes-met label passed, is.met);
         clear = λ one other first second. is.clear one other (segmentation-there table demanded acted to_action to_demand label one first) (segmentation-there table demanded acted to_action to_demand label other second);
-        not_invalid = λ h. is.not_invalid (h.0, segmentation-there table demanded acted to_action to_demand label h.0 h.1, other-same label _ (no-match label none) ∙ h.2);
+        not_invalid = λ h. is.not_invalid (h.0, segmentation-there table demanded acted to_action to_demand label h.0 h.1, other-same label _ passed ∙ h.2);
       }
 
   -- ---- labels that are listed
@@ -337,12 +361,12 @@ module _ (name : List ℕ) (p : Pattern) (table : TableValue) (get : MayGet name
     clear-back (inl none) = inl none
     clear-back (inr clear) = inr (λ one other first second. clear one other (for-there table demanded acted to_action to_demand label v one first) (for-there table demanded acted to_action to_demand label v other second))
 
-    module _ (none : ¬ Occurs (seen_under D v) p) where
+    module _ (passed : is_refused v ≡ false) where
       outcome-there : (o : Outcome) → HasOutcome D label v o → HasOutcome A label v o
-      outcome-there o h = (h.0, for-there table demanded acted to_action to_demand label v h.0 h.1, other-same v (kinds_of h.0) (no-match v none) ∙ h.2)
+      outcome-there o h = (h.0, for-there table demanded acted to_action to_demand label v h.0 h.1, other-same v (kinds_of h.0) passed ∙ h.2)
 
       outcome-back : (o : Outcome) → HasOutcome A label v o → HasOutcome D label v o
-      outcome-back o h = (h.0, for-there table acted demanded to_demand to_action label v h.0 h.1, sym (other-same v (kinds_of h.0) (no-match v none)) ∙ h.2)
+      outcome-back o h = (h.0, for-there table acted demanded to_demand to_action label v h.0 h.1, sym (other-same v (kinds_of h.0) passed) ∙ h.2)
 
       -- the same disposition
       allocation-same : (P Q : Type 0) (f : Option Disposition) → P ↔ Q → IsAllocation P f → IsAllocation Q f
@@ -373,26 +397,26 @@ module _ (name : List ℕ) (p : Pattern) (table : TableValue) (get : MayGet name
       valid = record { cut = inr (eligible-there table demanded acted to_action to_demand v (eligible-valid demanded v is.valid)); met = is.valid.met.1 };
       greater = is.greater;
       spelled = spells-there is.spelled;
-      kept = λ out. is.kept (record { of_ruleset = out.of_ruleset; clear = clear-back out.clear; invalid = outcome-back is.valid.met.0 Invalid out.invalid });
+      kept = λ out. is.kept (record { of_ruleset = out.of_ruleset; clear = clear-back out.clear; invalid = outcome-back (met-passes v is.valid.met.0) Invalid out.invalid });
     }
 
     listed-back : (o : Settings) → IsListed o A label v → IsClear A label v → IsListed o D label v
     listed-back o is clear =
         let reading = some-reading A label v is.spelled in
-        let none : ¬ Occurs (seen_under D v) p = λ occurs.
-        is.kept (record { of_ruleset = get.version; clear = clear; invalid = (reading.0, reading.1, matching-invalid v (kinds_of reading.0) ((occurs-agrees (seen_under D v) p).1 occurs)) }) in
+        let passed : is_refused v ≡ false = false_from_ne_true (is_refused v)
+        (λ refused. is.kept (record { of_ruleset = get.version; clear = clear; invalid = (reading.0, reading.1, refused-invalid v (kinds_of reading.0) refused) })) in
         record {
           registrable = is.registrable;
-          valid = record { cut = inr (eligible-there table acted demanded to_demand to_action v (eligible-valid acted v is.valid)); met = (none, is.valid.met) };
+          valid = record { cut = inr (eligible-there table acted demanded to_demand to_action v (eligible-valid acted v is.valid)); met = (passes-met v passed, is.valid.met) };
           greater = is.greater;
           spelled = spells-back is.spelled;
-          kept = λ out. is.kept (record { of_ruleset = out.of_ruleset; clear = clear-there out.clear; invalid = outcome-there none Invalid out.invalid });
+          kept = λ out. is.kept (record { of_ruleset = out.of_ruleset; clear = clear-there out.clear; invalid = outcome-there passed Invalid out.invalid });
         }
 
 pub demands-are-actions : DemandsAreActions
 demands-are-actions = record {
-  admitted = λ name p table label get. (admitted-there name p table get label, admitted-back name p table get label);
-  listed = λ o name p table label v get is. listed-there name p table get label v o is;
-  disposed = λ o name p table label v field get is. disposed-same name p table get label v is.valid.met.0 field;
-  unless_unclear = λ o name p table label v get is clear. listed-back name p table get label v o is clear;
+  admitted = λ name demand table label get. (admitted-there name demand table get label, admitted-back name demand table get label);
+  listed = λ o name demand table label v get is. listed-there name demand table get label v o is;
+  disposed = λ o name demand table label v field get is. disposed-same name demand table get label v (met-passes name demand table get v is.valid.met.0) field;
+  unless_unclear = λ o name demand table label v get is clear. listed-back name demand table get label v o is clear;
 }

@@ -13,7 +13,8 @@ use Rattle.variant_table.specs.declared.version.Version.TheVariants.{One, Two, T
 use Rattle.variant_table.specs.Entries.{TableValue}
 use Rattle.variant_table.specs.WellFormed.{IsTable, IsWellFormed}
 use Rattle.valid_labels.specs.Dispositions.{IsOwnDisposition}
-use Rattle.valid_labels.specs.Validity.{AsksNothing, IsAdmitted, IsSound, IsValid}
+use Rattle.valid_labels.specs.Laws.{AdmitsSources}
+use Rattle.valid_labels.specs.Validity.{IsAdmitted, IsSound, IsValid}
 use Rattle.valid_labels.proofs.NothingLemmas.{admitted-valid, nothing-is-asked}
 use Rattle.variant_list.specs.Labels.{IsBelow, IsListOf}
 use Rattle.variant_list.specs.MutualLaws.{IsMutual}
@@ -113,7 +114,7 @@ listed-mutual o table label other vs ws of_table symmetric refuses asked asked_t
 
 -- ---- a table that asks nothing
 
-pub never-invalid : (table : TableValue) (label : List ℕ) → IsWellFormed table.entries → AsksNothing table → label ≢ [] → IsRefusedAs table label NotValid → ⊥
+pub never-invalid : (table : TableValue) (label : List ℕ) → IsWellFormed table.entries → AdmitsSources table → label ≢ [] → IsRefusedAs table label NotValid → ⊥
 never-invalid table label formed nothing some (inl h) = absurd (let clash : NotValid ≡ NotInTable = h.1 in cc)
 never-invalid table label formed nothing some (inr h) = h.1 (nothing-is-asked.admitted table label formed nothing some h.0).0
 

@@ -160,7 +160,7 @@ module _ (table : TableValue) (single : IsSingle table) where
 
   admitted-version : (m n : Version) (label : List ℕ) → label ≢ [] → IsAdmitted (table_of m table.definitions table.entries) label → IsAdmitted (table_of n table.definitions table.entries) label
   admitted-version m n label some h =
-      (nothing-is-asked.admitted (table_of n table.definitions table.entries) label single.of_table.well_formed (nothing_in n) some
+      (nothing-is-asked.admitted (table_of n table.definitions table.entries) label single.of_table.well_formed (nothing-is-asked.of_sources (table_of n table.definitions table.entries) (nothing_in n)) some
       (made-version table.definitions table.entries m n label (admitted-made (table_of m table.definitions table.entries) label h))).0
 
   refused-version : (m n : Version) (label : List ℕ) (refusal : Refusal) → label ≢ [] → IsRefusedAs (table_of m table.definitions table.entries) label refusal → IsRefusedAs (table_of n table.definitions table.entries) label refusal
@@ -560,5 +560,5 @@ rulesets-say-the-same = record {
       subst (λ (n : Version). IsAllocatableIn n (table_of n table.definitions table.entries) label v ↔ IsAllocatableIn Three (as_ruleset table) label v) (sym single.version)
       (allocatable-there table single label v some (spells-version table.definitions table.entries table.version Three label v spells), allocatable-back table single label v);
   refused = λ table label refusal single some. (refused-version table single table.version Three label refusal some, refused-version table single Three table.version label refusal some);
-  valid = λ table label is older some. never-invalid table label is.well_formed (older-asks_nothing table is (λ newer. (let clash : Two ≡ Three = sym older ∙ newer in cc))) some;
+  valid = λ table label is older some. never-invalid table label is.well_formed (nothing-is-asked.of_sources table (older-asks_nothing table is (λ newer. (let clash : Two ≡ Three = sym older ∙ newer in cc)))) some;
 }

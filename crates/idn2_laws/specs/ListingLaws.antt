@@ -20,6 +20,7 @@ use Rattle.variant_table.specs.Texts.{IsTextOf}
 use Rattle.variant_table.specs.Versions.{is_version_line}
 use Rattle.variant_table.specs.WellFormed.{IsTable, IsWellFormed}
 use Rattle.valid_labels.specs.Dispositions.{IsOwnDisposition}
+use Rattle.valid_labels.specs.Laws.{AdmitsSources}
 use Rattle.valid_labels.specs.Validity.{AsksNothing, HasVariantsOfSources, IsAdmitted, IsSound, IsValid}
 use Rattle.variant_list.specs.Laws.{IsOfPoints}
 use Rattle.variant_list.specs.Spelling.{Spells}
@@ -108,14 +109,13 @@ pub record RulesetsSayTheSame : Type 0 where
   pub valid : (table : TableValue) (label : List ℕ) → IsTable table → table.version ≡ Two → label ≢ [] →
       ¬ IsRefusedAs table label NotValid
 
--- where the table asks nothing of its labels, 41 is never answered to a label of one code point or more, nor to a
--- request with one
+-- where the table asks nothing of a label that is made of sources, 41 is never answered to a label of one code point or
+-- more, nor to a request with one
 pub record NotValidIsNeverTold : Type 0 where
-  pub listing : (o : Settings) (table : TableValue) (label : List ℕ) → IsWellFormed table.entries → AsksNothing table →
-      label ≢ [] → ¬ IsListing o table label (Err NotValid)
-  pub jump : (o : Settings) (table : TableValue) (request : List ℕ) → IsWellFormed table.entries → AsksNothing table →
-      requested_label request ≢ [] →
-      ¬ IsJumpAnswer o table request (Err NotValid)
+  pub listing : (o : Settings) (table : TableValue) (label : List ℕ) → IsWellFormed table.entries →
+      AdmitsSources table → label ≢ [] → ¬ IsListing o table label (Err NotValid)
+  pub jump : (o : Settings) (table : TableValue) (request : List ℕ) → IsWellFormed table.entries →
+      AdmitsSources table → requested_label request ≢ [] → ¬ IsJumpAnswer o table request (Err NotValid)
 
 -- under a table that asks nothing what a label spells is valid
 abbrev pub SpelledAreValid : Type 0

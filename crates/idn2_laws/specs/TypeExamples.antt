@@ -65,9 +65,14 @@ abbrev pub untyped_ways : List Entry
 untyped_ways = entry (codes "a") (untyped (codes "c") ∷ []) ∷ entry (codes "b") [] ∷ entry (codes "c") []
     ∷ entry (codes "ab") (untyped (codes "cb") ∷ []) ∷ []
 
+-- the lines 0061|0062 as s, 0062 and 0061-0061|0062-0062 as t
+abbrev pub two_types : List Entry
+two_types = entry (codes "a") (of_type 5 (codes "b") ∷ []) ∷ entry (codes "b") []
+    ∷ entry (codes "aa") (of_type 6 (codes "bb") ∷ []) ∷ []
+
 -- bb is blocked as two letters, and untyped as a pair: as a variant of a ruleset it is unclear, and in version 2 one
 -- way is enough. Where both ways are blocked it is clear; and without a type nothing is unclear, though one way leaves
--- b as it is
+-- b as it is. Where both ways record another type it is unclear, though without actions each has the disposition valid
 pub record UnclearVariants : Type 0 where
   pub unclear : disposition (typed [] [] pair) (codes "aa") (codes "bb") ≡ Some Unclear
   pub one_way : disposition (typed [] [] pair) (codes "aa") (codes "ab") ≡ Some Blocked
@@ -78,6 +83,8 @@ pub record UnclearVariants : Type 0 where
       disposition (record (empty_table Profile Two) { entries = pair }) (codes "aa") (codes "ab") ≡ Some Blocked
   pub clear : disposition (typed [] [] blocked_pair) (codes "aa") (codes "bb") ≡ Some Blocked
   pub untyped : disposition (typed [] [] untyped_ways) (codes "ab") (codes "cb") ≡ Some Allocatable
+  pub one_disposition : disposition (typed (codes "s" ∷ codes "t" ∷ []) [] two_types) (codes "aa") (codes "bb")
+      ≡ Some Unclear
 
 -- the lines %action allocatable any blocked, %action blocked any allocatable and 0061|!0062:0063 as allocatable: a
 -- file's own actions stand before the default ones

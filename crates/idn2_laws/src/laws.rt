@@ -43,7 +43,7 @@ pub fn listed_labels_are_mutual()
     ensures { ListedAreMutual }
 {}
 
-/// A demand that no label may match a pattern says what an action says that makes invalid what matches it.
+/// A demand says what an action says that makes invalid what doesn't meet it.
 pub fn demands_are_actions()
     ensures { DemandsAreActions }
 {}
@@ -53,7 +53,7 @@ pub fn rulesets_say_the_same()
     ensures { RulesetsSayTheSame }
 {}
 
-/// Where a table asks nothing of its labels, none is refused as not valid.
+/// Where a table asks nothing of labels that are made of sources, none is refused as not valid.
 pub fn not_valid_is_never_told()
     ensures { NotValidIsNeverTold }
 {}

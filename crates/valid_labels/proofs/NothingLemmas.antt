@@ -32,7 +32,7 @@ use Rattle.valid_labels.specs.Dispositions.{IsOwnDisposition, disposition_by, ki
 use Rattle.valid_labels.specs.Eligible.{IsEligible, LongestLeads}
 use Rattle.valid_labels.specs.Demands.{IsMet, MeetsDemands}
 use Rattle.valid_labels.specs.Validity.{AllowsAnyCut, AsksNothing, AsksTypesAlone, HasVariantsOfSources, IsAdmitted, IsOfPoints, IsValid}
-use Rattle.valid_labels.specs.Laws.{AdmittedAreValid, NothingIsAsked}
+use Rattle.valid_labels.specs.Laws.{AdmitsSources, AdmittedAreValid, NothingIsAsked}
 use Rattle.valid_labels.proofs.EligibleLemmas.{eligible-segmentation, point-leads, points-eligible}
 use Rattle.valid_labels.proofs.ItselfLemmas.{kinds-unmapped, one-disposition, some-unmapped, typeless-clear}
 use Rattle.variant_table.proofs.MemberLists.{Contains-flat_map, all-map}
@@ -66,7 +66,16 @@ admitted-valid = record {
 pub any-cut-asks_nothing : (table : TableValue) → AllowsAnyCut table → AsksNothing table
 any-cut-asks_nothing table any = record { conditions = any.conditions; demands = any.demands; types = any.types; actions = any.actions; cuts = inl any.earlier }
 
-abbrev any-cut : (table : TableValue) → AsksNothing table → table.version ≢ Three → AllowsAnyCut table
+of-sources : (table : TableValue) → AsksNothing table → AdmitsSources table
+of-sources table nothing = record {
+  conditions = nothing.conditions;
+  demands = nothing.demands;
+  types = nothing.types;
+  actions = nothing.actions;
+  cuts = elim nothing.cuts [ inl earlier ↦ inl earlier | inr single ↦ inr single.0 ];
+}
+
+abbrev any-cut : (table : TableValue) → AdmitsSources table → table.version ≢ Three → AllowsAnyCut table
 any-cut table nothing earlier = record { earlier = earlier; conditions = nothing.conditions; demands = nothing.demands; types = nothing.types; actions = nothing.actions }
 
 -- each source is one code point, and each variant is made of sources
@@ -129,7 +138,7 @@ module _ (table : TableValue) (label : List ℕ) (conditions : HasNoConditions t
 replacements-valid : (table : TableValue) (label : List ℕ) → AsksNothing table → IsMadeOfReplacements table label → IsValid table label
 replacements-valid table label nothing made = record {
   cut = elim nothing.cuts [
-    | inl earlier ↦ inl (any-cut table nothing earlier)
+    | inl earlier ↦ inl (any-cut table (of-sources table nothing) earlier)
     | inr single ↦ inr (replacements-eligible table label nothing.conditions single.0 single.1 made)
   ];
   met = no-demands table label nothing.demands;
@@ -163,13 +172,13 @@ older-asks_nothing table is older =
       cuts = inl older;
     }
 
--- ---- a label under a table that asks nothing
+-- ---- a label under a table that asks nothing of it
 
-module _ (table : TableValue) (label : List ℕ) (formed : IsWellFormed table.entries) (nothing : AsksNothing table) (some : label ≢ []) where
+module _ (table : TableValue) (label : List ℕ) (formed : IsWellFormed table.entries) (nothing : AdmitsSources table) (some : label ≢ []) where
   cut-of : IsMadeOfSources table label → (AllowsAnyCut table × IsMadeOfSources table label) ⊎ IsEligible table label
   cut-of made = elim nothing.cuts [
     | inl earlier ↦ inl (any-cut table nothing earlier, made)
-    | inr single ↦ inr (points-eligible table label single.0 (segmentation-free table label nothing.conditions made))
+    | inr points ↦ inr (points-eligible table label points (segmentation-free table label nothing.conditions made))
   ]
 
   -- no action is triggered
@@ -231,6 +240,7 @@ pub nothing-is-asked : NothingIsAsked
 nothing-is-asked = record {
   admitted = λ table label formed nothing some. admitted-if_made table label formed nothing some;
   never_invalid = λ table label formed nothing some refused. refused.1 (admitted-if_made table label formed nothing some refused.0).0;
+  of_sources = of-sources;
   valid = replacements-valid;
   older = older-asks_nothing;
 }

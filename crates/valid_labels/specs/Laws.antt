@@ -1,5 +1,5 @@
 -- Laws of the definitions.
-use Rattle.std.specs.Prelude.{◌≡◌, ◌≢◌, ◌↔◌, ℕ, Bool, List, [], ◌++◌, length, Some, None, IsTrue}
+use Rattle.std.specs.Prelude.{◌≡◌, ◌≢◌, ◌⊎◌, ◌↔◌, ℕ, Bool, List, [], ◌++◌, length, Some, None, IsTrue}
 use Rattle.std.specs.List.{AllByRecursion}
 use Rattle.reading_kinds.specs.Readings.{Substitution, AreSubstitutions, SubstitutionsSpell}
 use Rattle.variant_dispositions.specs.declared.action.Action.{Action}
@@ -17,7 +17,7 @@ use Rattle.variant_table.specs.Segmentations.{IsMadeOfSources, HasSegmentation, 
 use Rattle.valid_labels.specs.Dispositions.{IsClearItself, IsOwnDisposition, told_itself}
 use Rattle.valid_labels.specs.Readings.{told_by}
 use Rattle.valid_labels.specs.Testing.{IsAdmission}
-use Rattle.valid_labels.specs.Validity.{IsSound, IsOfPoints, AsksNothing, IsAdmitted, IsValid, IsDeadUnder}
+use Rattle.valid_labels.specs.Validity.{IsSound, IsOfPoints, AsksNothing, AsksTypesAlone, IsAdmitted, IsValid, IsDeadUnder}
 use Rattle.valid_labels.specs.Tests as tests
 
 -- longest first accepts no more labels than any cut; and the same where each source is one code point
@@ -79,14 +79,24 @@ TypelessAreClear =
     (table : TableValue) (label : List ℕ) → IsWellFormed table.entries
     → AllByRecursion (λ e. e.type ≡ None) table.entries → IsClearItself table label
 
--- under a table that asks nothing a label of one code point or more may be asked about where it is made of sources, so
--- none is refused as not valid, and its disposition is valid; and it is valid where it is made of sources and variants.
--- A table of version 1 or 2 asks nothing
+-- the table asks nothing of a label that is made of sources: no source has a condition or a type, there is no demand,
+-- each action asks for types alone, and it is of version 1 or 2, or each source is one code point
+pub record AdmitsSources (table : TableValue) : Type 0 where
+  pub conditions : HasNoConditions table
+  pub demands : table.definitions.demands ≡ []
+  pub types : AllByRecursion (λ e. e.type ≡ None) table.entries
+  pub actions : AllByRecursion AsksTypesAlone table.definitions.actions
+  pub cuts : (table.version ≢ Three) ⊎ IsOfPoints table
+
+-- under such a table a label of one code point or more may be asked about where it is made of sources, so none is
+-- refused as not valid, and its disposition is valid. A table that asks nothing is such a table, and there a label is
+-- valid where it is made of sources and variants. A table of version 1 or 2 asks nothing
 pub record NothingIsAsked : Type 0 where
-  pub admitted : (table : TableValue) (label : List ℕ) → IsWellFormed table.entries → AsksNothing table → label ≢ []
+  pub admitted : (table : TableValue) (label : List ℕ) → IsWellFormed table.entries → AdmitsSources table → label ≢ []
       → IsMadeOfSources table label → IsAdmitted table label × IsOwnDisposition table label Valid
-  pub never_invalid : (table : TableValue) (label : List ℕ) → IsWellFormed table.entries → AsksNothing table
+  pub never_invalid : (table : TableValue) (label : List ℕ) → IsWellFormed table.entries → AdmitsSources table
       → label ≢ [] → ¬ IsAdmission table label NotAdmitted
+  pub of_sources : (table : TableValue) → AsksNothing table → AdmitsSources table
   pub valid : (table : TableValue) (label : List ℕ) → AsksNothing table → IsMadeOfReplacements table label
       → IsValid table label
   pub older : (table : TableValue) → IsTable table → table.version ≢ Three → AsksNothing table

@@ -38,8 +38,8 @@ pub fn admitted_are_valid()
     ensures { AdmittedAreValid }
 {}
 
-/// Under a table without conditions and demands, as each of version 1 or 2 is, a label that is made of sources may be
-/// asked about, so none is refused as not valid, and what is made of sources and variants is valid.
+/// Under a table that asks nothing of what is made of sources, as each of version 1 or 2 does, each such label may be
+/// asked about, so none is refused as not valid. Where it asks nothing of variants, either, they are valid.
 pub fn nothing_is_asked()
     ensures { NothingIsAsked }
 {}

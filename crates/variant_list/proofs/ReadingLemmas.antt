@@ -276,11 +276,18 @@ module _ (table : TableValue) (label v : List ℕ) (has lacks : ℕ) (is : IsTab
         λ apart. same.1 (apart-clear (substitutions_of table label) v has lacks are apart),
       )
 
+  words-each : (k : ℕ) (reading : List Mapping) → k < 64 → IsClearVariant table label v → IsReadingOf table label v reading → (bit_at has k ≡ 1) ↔ Contains (kinds_of reading) (kind_at k)
+  words-each k reading l clear r = (
+    λ one. (let some = (words-has k l).0 one in clear some.0 reading some.1 r (kind_at k) some.2),
+    λ c. (words-has k l).1 (reading, r, c),
+  )
+
 pub words_tell_readings : WordsTellReadings
 words_tell_readings = record {
   has = λ table label v has lacks k is are l. words-has table label v has lacks is are k l;
   lacks = λ table label v has lacks k is are l. words-lacks table label v has lacks is are k l;
   clear = λ table label v has lacks is are. words-clear table label v has lacks is are;
+  each = λ table label v has lacks k reading is are l clear r. words-each table label v has lacks is are k reading l clear r;
 }
 
 -- ---- what a label spells is what it has a reading of

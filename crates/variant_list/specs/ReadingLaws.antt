@@ -34,7 +34,8 @@ pub record ReadingsAgree : Type 0 where
       IsClearVariant table label v ↔ IsClear (substitutions_of table label) v
 
 -- of the two words of a variant the first has the bit of a kind exactly if some reading records it, and the second
--- exactly if some reading doesn't; and the variant is clear exactly if no bit is in both
+-- exactly if some reading doesn't; the variant is clear exactly if no bit is in both, and then the first word is what
+-- each reading records
 pub record WordsTellReadings : Type 0 where
   pub has : (table : TableValue) (label v : List ℕ) (has lacks k : ℕ) → IsTable table →
       AreWordsOf (substitutions_of table label) v has lacks → k < 64 →
@@ -47,6 +48,9 @@ pub record WordsTellReadings : Type 0 where
   pub clear : (table : TableValue) (label v : List ℕ) (has lacks : ℕ) → IsTable table →
       AreWordsOf (substitutions_of table label) v has lacks →
       IsClearVariant table label v ↔ ((k : ℕ) → k < 64 → bit_at has k ≡ 1 → ¬ (bit_at lacks k ≡ 1))
+  pub each : (table : TableValue) (label v : List ℕ) (has lacks k : ℕ) (reading : List Mapping) → IsTable table →
+      AreWordsOf (substitutions_of table label) v has lacks → k < 64 → IsClearVariant table label v →
+      IsReadingOf table label v reading → (bit_at has k ≡ 1) ↔ Contains (kinds_of reading) (kind_at k)
 
 -- no entry has a variant twice
 abbrev pub HasNoVariantTwice : TableValue → Type 0

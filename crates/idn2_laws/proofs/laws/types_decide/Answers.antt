@@ -26,6 +26,7 @@ returns-clause-unclear c = record {
   blocked_in_version_two = refl;
   clear = refl;
   untyped = refl;
+  one_disposition = refl;
 }
 
 pub returns-clause-actions : goal.returns-clause-actions

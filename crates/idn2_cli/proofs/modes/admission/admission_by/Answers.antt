@@ -12,7 +12,7 @@ pub returns-then-is_made_of_sources-clause-admission : goal.returns-then-is_made
 returns-then-is_made_of_sources-clause-admission c =
     let table = c.args.table.now in
     let free = nothing-asked table c.requires.sound (sym (ap ruling_in c.in-None.is) ∙ c.requires.ruling) in
-    nothing-is-asked.admitted table c.args.label.now c.requires.sound.entries free (some-point c.args.label.now c.requires.some) (c.is_made_of_sources.ensures.0 c.if-is_made_of_sources.true)
+    nothing-is-asked.admitted table c.args.label.now c.requires.sound.entries (nothing-is-asked.of_sources table free) (some-point c.args.label.now c.requires.some) (c.is_made_of_sources.ensures.0 c.if-is_made_of_sources.true)
 
 pub admission-requires-clause-actions : goal.admission-requires-clause-actions
 admission-requires-clause-actions c =
