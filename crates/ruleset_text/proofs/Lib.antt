@@ -36,6 +36,7 @@ mod LineBackLemmas
 pub mod DefinitionsBackLemmas
 pub mod DefinedLemmas
 pub mod DefinitionOrderLemmas
+pub mod SameNameLemmas
 pub mod KnownPatternLemmas
 pub mod EntryLemmas
 pub mod EntryStateLemmas

@@ -1,5 +1,5 @@
 -- A place is told of a set or of a code point exactly if the line that was read has one that it may not have.
-use Rattle.std.proofs.Common.{◌≡◌, ℕ, ◌+◌, ◌==◌, nat_le, nat_lt, Bool, true, false, cond, not, ◌||◌, ◌&&◌, List, [], ◌∷◌, ◌++◌, length, Option, Some, None, Result, Ok, Err, refl, sym, ap, ◌∙◌, arith}
+use Rattle.std.proofs.Common.{◌≡◌, ◌≢◌, ℕ, ◌+◌, ◌==◌, nat_le, nat_lt, Bool, true, false, cond, not, ◌||◌, ◌&&◌, List, [], ◌∷◌, ◌++◌, length, Option, Some, None, Result, Ok, Err, refl, sym, ap, ◌∙◌, arith}
 use Rattle.std.specs.Prelude.{◌↔◌, bytes_eq, codes, is_some}
 use Rattle.std.specs.List.{AllByRecursion, list_any}
 use Rattle.std.specs.Option.{option_or}
@@ -60,17 +60,23 @@ found f [] place e = absurd cc
 found {X} f (w ∷ ws) place e = by (f w) refl (found f ws place) e
   where
     by : (o : Option FaultPlace) → f w ≡ o → (first_told f ws ≡ Some place → IsFirstTold f ws place) → option_or o (first_told f ws) ≡ Some place → IsFirstTold f (w ∷ ws) place
-    by (Some p) is later k = record { before = []; w = w; after = ws; cut = refl; earlier = tt; told = is ∙ k }
+    by (Some p) is later k = (w, record { before = []; after = ws; cut = refl; earlier = tt; has = λ none. absurd cc }, is ∙ k)
     by None is later k =
-        let r = later k in record { before = w ∷ r.before; w = r.w; after = r.after; cut = ap (λ l. w ∷ l) r.cut; earlier = (is, r.earlier); told = r.told }
+        let r = later k in
+        let first = r.1 in
+        (r.0, record { before = w ∷ first.before; after = first.after; cut = ap (λ l. w ∷ l) first.cut; earlier = (λ some. some is, first.earlier); has = first.has }, r.2)
 
-finds : {X : Type 0} (f : X → Option FaultPlace) (before : List X) (w : X) (after : List X) (place : FaultPlace) → AllByRecursion (λ v. f v ≡ None) before → f w ≡ Some place
+none_of : (o : Option FaultPlace) → (o ≢ None → ⊥) → o ≡ None
+none_of None h = refl
+none_of (Some p) h = absurd (h (λ e. cc))
+
+finds : {X : Type 0} (f : X → Option FaultPlace) (before : List X) (w : X) (after : List X) (place : FaultPlace) → AllByRecursion (λ v. f v ≢ None → ⊥) before → f w ≡ Some place
     → first_told f (before ++ w ∷ after) ≡ Some place
 finds f [] w after place are is = ap (λ o. option_or o (first_told f after)) is
-finds f (v ∷ before) w after place are is = ap (λ o. option_or o (first_told f (before ++ w ∷ after))) are.0 ∙ finds f before w after place are.1 is
+finds f (v ∷ before) w after place are is = ap (λ o. option_or o (first_told f (before ++ w ∷ after))) (none_of (f v) are.0) ∙ finds f before w after place are.1 is
 
 pub first_is_told : {X : Type 0} (f : X → Option FaultPlace) (ws : List X) (place : FaultPlace) → (first_told f ws ≡ Some place) ↔ IsFirstTold f ws place
-first_is_told f ws place = (found f ws place, λ t. ap (first_told f) t.cut ∙ finds f t.before t.w t.after place t.earlier t.told)
+first_is_told f ws place = (found f ws place, λ t. ap (first_told f) (t.1).cut ∙ finds f (t.1).before t.0 (t.1).after place (t.1).earlier t.2)
 
 pub either_some : {X : Type 0} (a b : Option X) → is_some (option_or a b) ≡ (is_some a || is_some b)
 either_some None b = refl

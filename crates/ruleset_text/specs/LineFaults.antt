@@ -1,5 +1,5 @@
 -- Faults of a line that its form alone doesn't show, and where it has them. Places are bytes of the line, counted from 0.
-use Rattle.std.specs.Prelude.{◌≡◌, ℕ, nat_le, Option, Some, None, List, [], ◌∷◌, ◌++◌, length, if◌then◌else◌}
+use Rattle.std.specs.Prelude.{◌≡◌, ◌≢◌, ℕ, nat_le, Option, Some, None, List, [], ◌∷◌, ◌++◌, length, if◌then◌else◌}
 use Rattle.std.specs.List.{AllByRecursion}
 use Rattle.std.specs.Option.{option_or}
 use Rattle.ruleset_text.specs.declared.fault.FaultPlace.{FaultPlace}
@@ -21,14 +21,17 @@ abbrev pub first_told : {X : Type 0} → (X → Option FaultPlace) → List X �
 first_told f [] = None
 first_told f (w ∷ ws) = option_or (f w) (first_told f ws)
 
--- one of which it is told, and of none before it anything
-pub record IsFirstTold {X : Type 0} (f : X → Option FaultPlace) (ws : List X) (place : FaultPlace) : Type 0 where
+-- one that has it, and none before it does
+pub record IsFirst {X : Type 0} (Has : X → Type 0) (xs : List X) (x : X) : Type 0 where
   pub before : List X
-  pub w : X
   pub after : List X
-  pub cut : ws ≡ before ++ w ∷ after
-  pub earlier : AllByRecursion (λ v. f v ≡ None) before
-  pub told : f w ≡ Some place
+  pub cut : xs ≡ before ++ x ∷ after
+  pub earlier : AllByRecursion (λ y. Has y → ⊥) before
+  pub has : Has x
+
+-- it is told of one, and of none before it anything
+abbrev pub IsFirstTold : {X : Type 0} → (X → Option FaultPlace) → List X → FaultPlace → Type 0
+IsFirstTold {X} f ws place = (w : X) × IsFirst (λ v. f v ≢ None) ws w × (f w ≡ Some place)
 
 -- a name that is none of these
 abbrev pub unknown_in : List (List ℕ) → List ℕ → Placed → Option FaultPlace

@@ -1,12 +1,11 @@
 -- The form of a line: skipped, a definition, the line of an entry or of a range, or none.
-use Rattle.std.specs.Prelude.{◌&&◌, ◌||◌, bytes_eq, codes}
+use Rattle.std.specs.Prelude.{◌&&◌, ◌||◌}
 use Rattle.std.proofs.Common.{◌≡◌, ◌⊎◌, inl, inr, ℕ, Bool, true, false, cond, eqb, List, [], ◌∷◌, ◌++◌, Option, Some, None, Result, Ok, Err, refl, sym, ap, subst, ◌∙◌}
 use Rattle.std.specs.List.{list_all, onto_first}
 use Rattle.std.proofs.lemmas.Bool.{eqb-true, and_parts}
 use Rattle.std.proofs.lemmas.List.{append-nil}
 use Rattle.idn_text.specs.Points.{is_hex_digit, point_of_hex}
 use Rattle.ruleset_text.specs.declared.keyword.Keyword.{Keyword}
-use Rattle.ruleset_text.specs.declared.keyword.Keyword.TheVariants.{VariantType, Set, Rule, Whole, Never, Always, Action}
 use Rattle.ruleset_text.specs.Definition.{keyword_of}
 use Rattle.ruleset_text.specs.Definitions.{Definitions}
 use Rattle.ruleset_text.specs.Entries.{Mapped, EntryForm}
@@ -20,6 +19,7 @@ use Rattle.ruleset_text.proofs.EntryStopLemmas.{the_entry, no_form}
 use Rattle.ruleset_text.specs.EntrySteps.{entry_read as what_is_read}
 use Rattle.ruleset_text.specs.declared.fault.FaultPlace.{FaultPlace}
 use Rattle.ruleset_text.proofs.HexLemmas.{hex_facts}
+use Rattle.ruleset_text.proofs.SameNameLemmas.{other-no_keyword}
 use Rattle.variant_table.specs.declared.version.Version.{Version}
 use Rattle.variant_table.specs.declared.version.Version.TheVariants.{One, Two, Three}
 use Rattle.variant_table.specs.Faults.{LineFault, Syntax}
@@ -139,8 +139,7 @@ form-not_skipped v line form h = skipped_by_words line ∙ other_entry 35 refl r
 
 no_keyword : (word : List ℕ) (words : List (List ℕ)) → begins 37 (word ∷ words) ≡ false → keyword_of word ≡ None
 no_keyword [] words h = refl
-no_keyword (c ∷ cs) words h =
-    ap (λ b. cond (b && bytes_eq cs (codes "type")) (Some VariantType) (cond (b && bytes_eq cs (codes "set")) (Some Set) (cond (b && bytes_eq cs (codes "rule")) (Some Rule) (cond (b && bytes_eq cs (codes "whole")) (Some Whole) (cond (b && bytes_eq cs (codes "never")) (Some Never) (cond (b && bytes_eq cs (codes "always")) (Some Always) (cond (b && bytes_eq cs (codes "action")) (Some Action) None))))))) h
+no_keyword (c ∷ cs) words h = other-no_keyword c cs h
 
 none_in : (v : Version) (words : List (List ℕ)) → begins 37 words ≡ false → keyword_in v words ≡ None
 none_in One words h = refl

@@ -74,5 +74,6 @@ mod PlaceExampleLemmas
 pub mod LinePlaceLemmas
 -- The line that is told is the first faulty one.
 pub mod FaultyLineLemmas
+pub mod AgainLemmas
 -- Types that no action names.
 pub mod IdleLemmas

@@ -31,7 +31,7 @@ use Rattle.variant_table.specs.inner.ReadingSteps.{told_in}
 
 -- ---- the keyword
 
-abbrev without_places : DefinitionLine → Keyword × List (List ℕ)
+abbrev pub without_places : DefinitionLine → Keyword × List (List ℕ)
 without_places line = (line.keyword, unplaced line.after)
 
 -- the keyword of a line, and the lexemes after it, with their places or without them

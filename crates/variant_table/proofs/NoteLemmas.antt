@@ -36,26 +36,26 @@ use Rattle.variant_table.proofs.RangeLemmas.{some_found}
 
 -- ---- code points without their places
 
-record Numbered : Type 0 where
-  point : ℕ
-  sequence : ℕ
-  index : ℕ
+pub record Numbered : Type 0 where
+  pub point : ℕ
+  pub sequence : ℕ
+  pub index : ℕ
 
-abbrev numbered : LinePoint → Numbered
+abbrev pub numbered : LinePoint → Numbered
 numbered p = record { point = p.point; sequence = p.sequence; index = p.index }
 
 -- those of a sequence of this number, from an index on
-abbrev sequence_points : ℕ → ℕ → List ℕ → List Numbered
+abbrev pub sequence_points : ℕ → ℕ → List ℕ → List Numbered
 sequence_points s i [] = []
 sequence_points s i (c ∷ cs) = record { point = c; sequence = s; index = i } ∷ sequence_points s (i + 1) cs
 
 -- those of sequences, from this number on
-abbrev mapped_points : ℕ → List Mapped → List Numbered
+abbrev pub mapped_points : ℕ → List Mapped → List Numbered
 mapped_points s [] = []
 mapped_points s (m ∷ ms) = sequence_points s 0 m.points ++ mapped_points (s + 1) ms
 
 -- those of a form: the last code point of a range comes after its first
-abbrev form_points : Option ℕ → List Mapped → List Numbered
+abbrev pub form_points : Option ℕ → List Mapped → List Numbered
 form_points None ms = mapped_points 0 ms
 form_points (Some last) [] = []
 form_points (Some last) (m ∷ ms) = sequence_points 0 0 m.points ++ record { point = last; sequence = 0; index = 1 } ∷ []
@@ -387,11 +387,11 @@ module _ (properties : Properties) where
 
 -- ---- a line
 
-line_spells : (line : List ℕ) (form : EntryForm) → entry_in (lexemes line) ≡ Some form → IsForm form.mapped form.last × AreWords (entry_words form.mapped form.last) (unplaced (placed_lexemes line))
+pub line_spells : (line : List ℕ) (form : EntryForm) → entry_in (lexemes line) ≡ Some form → IsForm form.mapped form.last × AreWords (entry_words form.mapped form.last) (unplaced (placed_lexemes line))
 line_spells line form e =
     let read = read_words form (lexemes line) e in (read.0, subst (AreWords (entry_words form.mapped form.last)) (sym (unplaced-from 0 line)) read.1)
 
-points_are : (line : List ℕ) (form : EntryForm) → entry_in (lexemes line) ≡ Some form → map numbered (line_points form line) ≡ form_points form.last form.mapped
+pub points_are : (line : List ℕ) (form : EntryForm) → entry_in (lexemes line) ≡ Some form → map numbered (line_points form line) ≡ form_points form.last form.mapped
 points_are line form e =
     let is = line_spells line form e in points_placed (entry_words form.mapped form.last) (placed_lexemes line) 0 0 is.1 ∙ form_are form.mapped form.last is.0
 
@@ -461,7 +461,7 @@ some_map : {X Y : Type 0} (f : X → Y) (o : Option X) → is_some (option_map f
 some_map f None = refl
 some_map f (Some x) = refl
 
-again_bound : (variants before : List Variant) (n : ℕ) → first_again before variants ≡ Some n → n < length before + length variants
+pub again_bound : (variants before : List Variant) (n : ℕ) → first_again before variants ≡ Some n → n < length before + length variants
 again_bound [] before n e = absurd cc
 again_bound (v ∷ variants) before n e = by (stands_in before v) e (λ h. again_bound variants (before ++ v ∷ []) n h)
   where
@@ -478,21 +478,21 @@ range_told : (begins : List ℕ) (o : Option ℕ) → 0 < length begins → is_s
 range_told begins None some = refl
 range_told begins (Some c) some = some_map (λ place. InRange place c) (slice_get begins 0) ∙ some_at begins 0 some
 
-one_alone : (d : Definitions) (m : Mapped) (cs : List ℕ) → list_any has_repeat (map (entry_of d) (map (λ c. with_point m c ∷ []) cs)) ≡ false
+pub one_alone : (d : Definitions) (m : Mapped) (cs : List ℕ) → list_any has_repeat (map (entry_of d) (map (λ c. with_point m c ∷ []) cs)) ≡ false
 one_alone d m [] = refl
 one_alone d m (c ∷ cs) = one_alone d m cs
 
-form_again : (d : Definitions) (ms : List Mapped) (last : Option ℕ) → IsForm ms last → is_some (given_again (entry_of d ms)) ≡ list_any has_repeat (map (entry_of d) (written_to last ms))
+pub form_again : (d : Definitions) (ms : List Mapped) (last : Option ℕ) → IsForm ms last → is_some (given_again (entry_of d ms)) ≡ list_any has_repeat (map (entry_of d) (written_to last ms))
 form_again d [] last is = absurd is
 form_again d (m ∷ ms) None is = sym (or_false (has_repeat (entry_of d (m ∷ ms))))
 form_again d (m ∷ []) (Some last) is = sym (one_alone d m (range_with_len (slice_index m.points 0) (range_size (slice_index m.points 0) last)))
 form_again d (m ∷ n ∷ ms) (Some last) is = absurd is
 
-variants_counted : (d : Definitions) (ms : List Mapped) → 0 < length ms → length (itself (entry_of d ms) ∷ (entry_of d ms).variants) ≡ length ms
+pub variants_counted : (d : Definitions) (ms : List Mapped) → 0 < length ms → length (itself (entry_of d ms) ∷ (entry_of d ms).variants) ≡ length ms
 variants_counted d [] l = absurd (omega (arith, l))
 variants_counted d (m ∷ ms) l = ap suc (length-map ms (variant_by variant_mark d))
 
-some_form : (ms : List Mapped) (last : Option ℕ) → IsForm ms last → 0 < length ms
+pub some_form : (ms : List Mapped) (last : Option ℕ) → IsForm ms last → 0 < length ms
 some_form [] last is = absurd is
 some_form (m ∷ ms) last is = omega arith
 

@@ -112,12 +112,12 @@ other_differ (Some c) (Some d) h = by_both (is_same_kind c.kind d.kind && eqb c.
 
 -- ---- two variants
 
-apart_from : (v w : Variant) → is_again v.sequence v.condition w ≡ false → AreApart v w
+pub apart_from : (v w : Variant) → is_again v.sequence v.condition w ≡ false → AreApart v w
 apart_from v w h = λ same.
     let equal : bytes_eq v.sequence w.sequence ≡ true = (bytes_eq-Decides v.sequence w.sequence).1 same in
     differ_other v.condition w.condition (not-false (differ v.condition w.condition) (ap (λ b. b && not (differ v.condition w.condition)) (sym equal) ∙ h))
 
-again_from : (v w : Variant) → AreApart v w → is_again v.sequence v.condition w ≡ false
+pub again_from : (v w : Variant) → AreApart v w → is_again v.sequence v.condition w ≡ false
 again_from v w h = by_sequence (bytes_eq v.sequence w.sequence) refl
   where
     by_sequence : (b : Bool) → bytes_eq v.sequence w.sequence ≡ b → (b && not (differ v.condition w.condition)) ≡ false

@@ -16,6 +16,7 @@ pub mod Reading
 pub mod Faults
 pub mod LinePlaces
 pub mod FaultyLines
+pub mod WordsAgain
 pub mod PlaceExamples
 pub mod Gaps
 pub mod Differences

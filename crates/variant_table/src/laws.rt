@@ -2,6 +2,7 @@
 ghost use Rattle.std.specs.Prelude.{◌≡◌, ◌+◌, ◌↔◌, ◌⊎◌, ◌≤◌, ℕ, true, false, List, [], ◌∷◌, ◌++◌, length, Ok, Err};
 ghost use Rattle.std.specs.Prelude.{None, Some, codes, is_some, not};
 ghost use Rattle.std.specs.List.{list_any};
+ghost use Rattle.std.specs.Str.Lines.{strip_carriage_return};
 ghost use Rattle.idn_text.specs.Lines.{raw_lines, with_last_feed};
 ghost use Rattle.variant_table.specs.Faults.{LineFault};
 ghost use Rattle.variant_table.specs.Canonical.{canonical_line, table_text};
@@ -20,8 +21,9 @@ ghost use Rattle.variant_table.specs.LinePlaces.{IsSyntaxPlace, body_place, form
 ghost use Rattle.variant_table.specs.PlaceExamples.{ExamplesOfPlaces};
 ghost use Rattle.variant_table.specs.declared.fault.TableFault.TheVariants as tables;
 ghost use Rattle.ruleset_text.specs.declared.fault.FaultPlace.{FaultPlace};
+ghost use Rattle.ruleset_text.specs.declared.fault.FaultPlace.TheVariants as places;
 ghost use Rattle.variant_table.specs.Reading.{form_in, table_of_text};
-ghost use Rattle.variant_table.specs.FaultyLines.{at_line, faulty_line};
+ghost use Rattle.variant_table.specs.FaultyLines.{at_line, fault_place, faulty_line};
 ghost use Rattle.variant_table.specs.Texts.{IsTextOf, IsFaultOf, IsFirstFaulty, LineSpells};
 ghost use Rattle.variant_table.specs.declared.version.Version.{Version};
 ghost use Rattle.variant_table.specs.Versions.{head_of, is_version_line, notation_of, size_of};
@@ -38,6 +40,7 @@ ghost use Rattle.variant_table.specs.Limits.{line_limit, text_limit};
 ghost use Rattle.variant_table.specs.Places.{entries_at};
 ghost use Rattle.variant_table.specs.Faults as faults;
 ghost use Rattle.variant_table.specs.WellFormed.{IsEntry, IsNamed, IsWellFormed, IsTable};
+ghost use Rattle.variant_table.specs.WordsAgain.{BeginsOldSource, BeginsOldVariant, TellsFirst, TellsFirstName};
 
 /// The form that is read from the lexemes of a line is the one that it has in the version, and where it has none, none
 /// is read.
@@ -55,9 +58,10 @@ pub fn places_of_syntax_are_told()
         ↔ IsSyntaxPlace definitions.set_names version line place }
 {}
 
-/// A place is told of an entry or of a range exactly where reading refuses it: past a limit, if it has too many variants
-/// or too long a sequence; for a name, if a type or a rule that it names isn't defined; for a class, if some code point
-/// of its entries may not be held; for a variant, if one is given again; and always for a source that is given twice.
+/// A place is told of an entry or of a range exactly where reading refuses it: past a limit, if it has too many
+/// variants or too long a sequence; for a name, if a type or a rule that it names isn't defined; for a class, if some
+/// code point of its entries may not be held; for a variant, if one is given again; and always for a source that is
+/// given twice.
 pub fn places_are_told_where_reading_refuses()
     ensures limit { (d : Definitions) (n : ℕ) (line : List ℕ) (form : EntryForm) →
         entry_in (lexemes line) ≡ Some form →
@@ -76,6 +80,23 @@ pub fn places_are_told_where_reading_refuses()
     ensures source { (d : Definitions) (n : ℕ) (line : List ℕ) (form : EntryForm) →
         entry_in (lexemes line) ≡ Some form →
         is_some (form_place d (tables.SameSource n) form (notes_of d form line)) ≡ true }
+{}
+
+/// What a line gives again is told of the first of its words that does: a source that an earlier entry has, a variant
+/// that is the source or one before it, and a name that is defined already, with the keyword for a word of the line.
+pub fn the_first_word_given_again_is_told()
+    ensures source { (properties : Properties) (notation : Notation) (text : List ℕ) (number : ℕ)
+        (f : IsFirstFaulty properties notation text number faults.SameSource) →
+        TellsFirst (BeginsOldSource f.table) places.Source f.table.version (strip_carriage_return f.line)
+        (fault_place properties notation text (tables.SameSource number)) }
+    ensures variant { (properties : Properties) (notation : Notation) (text : List ℕ) (number : ℕ)
+        (f : IsFirstFaulty properties notation text number faults.SameVariant) →
+        TellsFirst (BeginsOldVariant f.table.definitions) places.Variant f.table.version (strip_carriage_return f.line)
+        (fault_place properties notation text (tables.SameVariant number)) }
+    ensures name { (properties : Properties) (notation : Notation) (text : List ℕ) (number : ℕ)
+        (f : IsFirstFaulty properties notation text number faults.SameName) →
+        TellsFirstName f.table.definitions (strip_carriage_return f.line)
+        (fault_place properties notation text (tables.SameName number)) }
 {}
 
 /// Examples of places, which the definitions compute.
