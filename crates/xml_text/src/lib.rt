@@ -20,6 +20,7 @@ mod tag;
 mod token;
 
 pub use attribute::{Attribute, Tag, TagKind};
+pub use bytes::is_blank;
 pub use characters::first_wrong_character;
 pub use document::read_document;
 pub use fault::{DocumentError, Place, ReadError};

@@ -1,0 +1,4 @@
+-- Lemmas that several proofs cite, and those of one subject.
+pub mod EachLemmas
+pub mod NumberLemmas
+pub mod WordLemmas

@@ -1,0 +1,13 @@
+use Rattle.std.proofs.Common.{◌≡◌, ◌<◌, ◌^◌, take, true}
+use Rattle.std.specs.List.{list_all}
+use Rattle.std.specs.Str.Parse.{digits_value}
+use Rattle.lgr_text.specs.Values.{is_decimal_digit}
+use Rattle.lgr_text.proofs.values.number_of.Given as goal
+
+-- the digits so far are digits, and the value is what they write
+abbrev pub invariant-loop-digit : goal.invariant-loop-digit
+invariant-loop-digit l = record {
+  value : l.value ≡ digits_value 10 (take l.digit-index l.digits);
+  digits : list_all is_decimal_digit (take l.digit-index l.digits) ≡ true;
+  small : l.value < 10 ^ l.digit-index;
+}
