@@ -35,7 +35,7 @@ class Served:
     def __init__(self, place: Place, *words: str, changed: str = "", **more: Any) -> None:
         self.place = place
         # Without a buffer, in which lines after the first could be lost.
-        options = {"stdin": subprocess.DEVNULL, "stdout": subprocess.DEVNULL, "bufsize": 0, **more}
+        options: dict[str, Any] = {"stdin": subprocess.DEVNULL, "stdout": subprocess.DEVNULL, "bufsize": 0, **more}
         if changed:
             command = place.words("serve", *words)
             command[1:3] = ["-c", CHANGED.format(changed)]

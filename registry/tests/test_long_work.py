@@ -253,9 +253,9 @@ def test_shows_progress_on_a_terminal_alone(place: Place) -> None:
 def test_what_was_done_before_has_no_part_in_the_rate(monkeypatch: pytest.MonkeyPatch) -> None:
     shown = io.StringIO()
     monkeypatch.setattr(shown, "isatty", lambda: True)
-    monkeypatch.setattr(work.sys, "stderr", shown)
+    monkeypatch.setattr(sys, "stderr", shown)
     times = iter([100.0, 100.0, 102.0])
-    monkeypatch.setattr(work.time, "monotonic", lambda: next(times))
+    monkeypatch.setattr(time, "monotonic", lambda: next(times))
     work.Progress("load", 1000, 900).add(40)
     assert shown.getvalue().endswith("940 of 1000, 20/s, 3 s left "), shown.getvalue()
 

@@ -75,11 +75,11 @@ def test_head_is_a_get_without_a_body(place: Place) -> None:
 
 def test_registers_and_releases_with_the_token_alone(place: Place) -> None:
     configure(place)
+    shown = ("Bearer x", f"Basic {TOKEN}", "Bearer ", f"Bearer {TOKEN}x", TOKEN, "Bearer \xe9")
+    wrong: list[dict[str, str]] = [{}, *({"Authorization": each} for each in shown)]
     with Served(place) as served:
         for path in ("/v1/register", "/v1/release"):
-            for headers in ({}, {"Authorization": "Bearer x"}, {"Authorization": f"Basic {TOKEN}"},
-                            {"Authorization": "Bearer "},
-                            {"Authorization": f"Bearer {TOKEN}x"}, {"Authorization": TOKEN}, {"Authorization": "Bearer \xe9"}):
+            for headers in wrong:
                 told = served.ask("POST", path, {"label": "maus"}, **headers)
                 assert (told.status, told.headers["WWW-Authenticate"]) == (401, "Bearer"), (path, headers, told.bytes)
         assert served.ask("GET", "/v1/check?label=maus").object["status"] == "available"
@@ -229,9 +229,11 @@ def test_tells_faulty_requests(place: Place) -> None:
         expecting = {"Expect": "200-ok"}
         assert served.ask("GET", "/v1/check?label=a", **expecting).object == {"fault": "Expectation Failed"}
         assert served.ask("GET", "/none", **expecting).status == 417
-        for body, headers, status in ((b"[" * 100_000, {}, 400), (b'{"labels":["a"],"labels":["b"]}', {}, 400),
-                                      ('{"labels":["a"]}'.encode("utf-16"), {}, 400), (b'{"labels":["\xff"]}', {}, 400),
-                                      (gzip.compress(b'{"labels":["a"]}'), packed, 415), (b"{", packed, 415)):
+        bodies: list[tuple[bytes, dict[str, str], int]] = [
+            (b"[" * 100_000, {}, 400), (b'{"labels":["a"],"labels":["b"]}', {}, 400),
+            ('{"labels":["a"]}'.encode("utf-16"), {}, 400), (b'{"labels":["\xff"]}', {}, 400),
+            (gzip.compress(b'{"labels":["a"]}'), packed, 415), (b"{", packed, 415)]
+        for body, headers, status in bodies:
             told = served.ask("POST", "/v1/check", body, Content_Type="application/json", **headers)
             assert told.status == status and list(told.object) == ["fault"], (body, told.status, told.bytes)
         assert "label" in served.ask("GET", "/v1/check").object["fault"]
