@@ -10,7 +10,7 @@ NOTHING = ["none", "none"]
 class Jumps:
     """A program that is kept open for jumps; its words name it and a table."""
 
-    def __init__(self, words, folder=None):
+    def __init__(self, words, folder):
         streams = {"stdin": subprocess.PIPE, "stdout": subprocess.PIPE, "stderr": subprocess.DEVNULL}
         self.process = subprocess.Popen([*words, "--jump"], cwd=folder, **streams)
 
@@ -62,14 +62,15 @@ class Search:
             self.text += "\0"
 
 
-def by_turns(jumps, labels, registered):
+def by_turns(words, labels, registered, folder=None):
     """For each label the registered labels that collide with it, with what each is to it, and back. The program and the
     register take turns, with all labels at once. A label takes at most the first jump, one from each registered label
     on, and one more after each that is near."""
     register = Register(registered)
     searches = {label: Search(register) for label in labels}
-    while asked := [(label, search.text) for label, search in searches.items() if search.text is not None]:
-        for (label, _), answer in zip(asked, jumps.answers(asked)):
-            searches[label].go_on(answer)
+    with Jumps(words, folder) as jumps:
+        while asked := [(label, search.text) for label, search in searches.items() if search.text is not None]:
+            for (label, _), answer in zip(asked, jumps.answers(asked)):
+                searches[label].go_on(answer)
     assert all(each.jumps <= register.count + each.near + 1 for each in searches.values()), (labels, registered)
     return {label: search.found for label, search in searches.items()}
