@@ -5,6 +5,8 @@ import subprocess
 
 # What each of two labels that only may collide is to the other.
 NOTHING = ["none", "none"]
+# So many requests a pipe takes at once. Then all answers to them come before the next ones.
+AT_ONCE = 100
 
 
 class Jumps:
@@ -23,10 +25,12 @@ class Jumps:
 
     def answers(self, requests):
         """To each label and text the least label from there on that may collide, with what it is to the label, and the
-        label to it; or none. A pipe takes all requests at once, and all answers come before the next ones."""
-        self.process.stdin.write("".join(f"{label}\t{text}\n" for label, text in requests).encode())
-        self.process.stdin.flush()
-        answers = [self.process.stdout.readline().decode() for _ in requests]
+        label to it; or none."""
+        answers = []
+        for some in (requests[start:start + AT_ONCE] for start in range(0, len(requests), AT_ONCE)):
+            self.process.stdin.write("".join(f"{label}\t{text}\n" for label, text in some).encode())
+            self.process.stdin.flush()
+            answers += [self.process.stdout.readline().decode() for _ in some]
         assert all(answer.endswith("\n") for answer in answers), (requests, answers)
         return [None if answer == "#end\n" else answer[:-1].split("\t") for answer in answers]
 
