@@ -8,8 +8,7 @@ from typing import Any
 
 import pytest
 from conftest import PROGRAM, TABLES, Place
-from serving import Served, Told, configure, needs_aiohttp
-from test_service import query
+from serving import Served, Told, configure, needs_aiohttp, query
 
 from idn2_registry.answers import Answer, Refusal, Status
 from idn2_registry.decisions import Tables
