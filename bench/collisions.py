@@ -27,7 +27,6 @@ To be installed (Debian's names), each left out with a word where it is missing:
 work, valgrind for the instructions.
 """
 
-import bisect
 import random
 import subprocess
 import sys
@@ -37,6 +36,11 @@ import registered
 from bench import HERE
 from inputs import SEED, TABLE, write
 from runs import ENVIRONMENT, Failed, Run, found, in_turn, measured, version, words_of
+
+sys.path.append(str(HERE.parent / "conformance"))
+
+from blocks import blocks_in
+from jumps import Jumps, by_turns
 
 # How often the load may take what sort takes, and how many bytes it may hold of a label beside the file.
 LOAD_WANTED, BYTES_WANTED = 2, 8
@@ -99,53 +103,12 @@ def listed(ours, table, labels):
     """For each label the variants that the program lists."""
     given = "".join(label + "\n" for label in labels).encode()
     words = [ours, "--variants", table, "--tries", "1000000000"]
-    return blocks_of(subprocess.run(words, input=given, capture_output=True, env=ENVIRONMENT).stdout.decode())
+    return labels_in(subprocess.run(words, input=given, capture_output=True, env=ENVIRONMENT).stdout)
 
 
-def blocks_of(output):
+def labels_in(output):
     """For each label the labels of its block."""
-    blocks, labels = [], []
-    for line in output.splitlines():
-        if line.startswith("#"):
-            blocks.append(labels)
-            labels = []
-        else:
-            labels.append(line.split("\t")[0])
-    return blocks
-
-
-class CoProcess:
-    """The program, asked for one jump at a time."""
-
-    def __init__(self, ours, table):
-        words = [ours, "--variants", table, "--jump"]
-        self.process = subprocess.Popen(words, stdin=subprocess.PIPE, stdout=subprocess.PIPE, env=ENVIRONMENT)
-
-    def jump(self, label, text):
-        self.process.stdin.write(f"{label}\t{text}\n".encode())
-        self.process.stdin.flush()
-        return self.process.stdout.readline().decode().rstrip("\n").split("\t")
-
-    def end(self):
-        self.process.stdin.close()
-        self.process.stdout.close()
-        if self.process.wait() != 0:
-            raise Failed(f"--jump ended with status {self.process.returncode}")
-
-
-def collisions_by_jumps(jump, labels, label):
-    """The registered labels that collide with a label, where the labels are a list in order."""
-    place = 0
-    while place < len(labels):
-        near, *regards = jump(label, labels[place])
-        if near == "#end":
-            return
-        if near == labels[place]:
-            if regards != ["none", "none"]:
-                yield near
-            place += 1
-        else:
-            place = bisect.bisect_left(labels, near)
+    return [[label for label, *_ in block] for block, [] in blocks_in(output)]
 
 
 def compare_answers(kept):
@@ -154,10 +117,9 @@ def compare_answers(kept):
     asked = random.Random(SEED).sample(kept.labels, min(COMPARED, len(kept.labels)))
     known = set(kept.labels)
     wanted = [[each for each in variants if each in known] for variants in listed(kept.options.ours, kept.table, asked)]
-    blocks = blocks_of(kept.asking(asked).output())
-    process = CoProcess(kept.options.ours, kept.table)
-    jumps = [list(collisions_by_jumps(process.jump, kept.labels, label)) for label in asked]
-    process.end()
+    blocks = labels_in(kept.asking(asked).output().encode())
+    turns = by_turns([kept.options.ours, "--variants", kept.table], asked, kept.labels)
+    jumps = [[found for found, *_ in turns[label]] for label in asked]
     if not wanted == blocks == jumps or len(wanted) != len(asked):
         raise Failed(f"{kept.name}: the answers of listings, of --among and of --jump differ")
     return sum(map(len, wanted))
@@ -242,12 +204,11 @@ def show_jumps(options, files):
                                 for file in (kept.nothing, source)], options.rounds)
         cells(f"--jump, {kept.name}", f"{len(requests):,}", "", "",
               f"{1e6 * (jumps.processor - start.processor) / len(requests):.2f}", "-")
-        process = CoProcess(options.ours, kept.table)
-        begin = time.perf_counter()
-        for label, text in requests:
-            process.jump(label, text)
-        taken = time.perf_counter() - begin
-        process.end()
+        with Jumps([options.ours, "--variants", kept.table], kept.folder) as process:
+            begin = time.perf_counter()
+            for request in requests:
+                process.answers([request])
+            taken = time.perf_counter() - begin
         cells(f"--jump, {kept.name}, one by one", f"{len(requests):,}", "", "", f"{1e6 * taken / len(requests):.2f}", "-")
 
 

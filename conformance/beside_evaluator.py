@@ -6,7 +6,6 @@ N rulesets [default: 6000] are drawn from a seed (drawn_rulesets.py). Of each on
 both in the same way: refused, or with the same variants, each of them allocatable, blocked or unclear. A demand is
 an action for the evaluator; a label with too many variants or readings is left out. Status 1 where anything differs."""
 
-import argparse
 import collections
 import functools
 import itertools
@@ -17,7 +16,7 @@ import sys
 
 sys.path.append(str(pathlib.Path(__file__).resolve().parent.parent / "registry"))
 
-from drawn_rulesets import DrawnRuleset
+from drawn_rulesets import DrawnRuleset, words_of_drawing
 from evaluator_answers import answer_of_evaluator
 from idn2_registry.notation import patterns, reading
 from idn2_registry.notation.faults import TableFault
@@ -168,11 +167,7 @@ def compared(seed: int, number: int) -> collections.Counter[str]:
 
 
 def main(words: list[str]) -> int:
-    options = argparse.ArgumentParser(description="Compares the reference implementation with another.")
-    options.add_argument("--seed", type=int, default=7940)
-    options.add_argument("--jobs", type=int, default=1, help="processes side by side")
-    options.add_argument("count", metavar="N", type=int, nargs="?", default=6000)
-    given = options.parse_args(words)
+    given = words_of_drawing("Compares the reference implementation with another.", 7940).parse_args(words)
     counts = collections.Counter[str]()
     try:
         with multiprocessing.Pool(given.jobs) as pool:

@@ -17,12 +17,12 @@ import subprocess
 import sys
 import tempfile
 
+from blocks import blocks_in
 from compare import options_of
-
 from fuzz import ALPHABETS, Fuzz, listing_of
 from collisions import NONE, VARIANT
 from idn2_registry.notation.faults import TableFault
-from jumps import NOTHING, Jumps, by_turns
+from jumps import NOTHING, by_turns
 from ruleset_labels import Unknown
 
 ASKED, REGISTERED, MOST_PARTS, SHOWN = 30, 100, 4, 5
@@ -34,40 +34,25 @@ class Program:
     def __init__(self, path, folder, words):
         self.path, self.folder, self.words = path, folder, words
 
-    def blocks(self, words, lines):
-        """Of each line the fields of the lines of its block, or None if it is refused."""
+    def run(self, words, lines):
+        """A run that answers lines, or refuses some."""
         given = "".join(line + "\n" for line in lines).encode()
         done = subprocess.run([self.path, *self.words, *words], input=given, capture_output=True, cwd=self.folder)
         if done.returncode not in (0, 1):
             raise SystemExit(f"{self.words} {words}: {done.stderr.decode()}")
-        refused = {int(number) for number in re.findall(rb"line (\d+):", done.stderr)}
-        blocks, block = [], []
-        for line in done.stdout.decode().splitlines():
-            if not line.startswith("#"):
-                block.append(line.split("\t"))
-                continue
-            if line != f"#end {len(block)}":
-                raise SystemExit(f"{words}: {line}")
-            blocks.append(block)
-            block = []
-        rest = iter(blocks)
-        return [None if number in refused else next(rest) for number in range(1, len(lines) + 1)]
+        return done
 
+    def blocks(self, words, lines):
+        """Of each line the fields of the lines of its block, or None if it is refused."""
+        done = self.run(words, lines)
+        refused = {int(number) for number in re.findall(rb"line (\d+):", done.stderr)}
+        answered = [number for number in range(1, len(lines) + 1) if number not in refused]
+        blocks = dict(zip(answered, (block for block, [] in blocks_in(done.stdout)), strict=True))
+        return [blocks.get(number) for number in range(1, len(lines) + 1)]
 
     def others(self, labels):
         """The blocks of `--others`, by the labels that their ends name."""
-        given = "".join(label + "\n" for label in labels).encode()
-        words = [self.path, *self.words, "--among", "registered", "--others"]
-        done = subprocess.run(words, input=given, capture_output=True, cwd=self.folder)
-        blocks, block = {}, []
-        for line in done.stdout.decode().splitlines():
-            if line.startswith("#"):
-                label = line.removeprefix(f"#end {len(block)} ")
-                blocks[label] = block
-                block = []
-            else:
-                block.append(line.split("\t"))
-        return blocks
+        return {label: block for block, [label] in blocks_in(self.run(["--among", "registered", "--others"], labels).stdout)}
 
 
 def by_listings(program, labels, registered, under):
@@ -118,8 +103,7 @@ class Cases(Fuzz):
         labels = list(wanted)
         blocks = program.blocks(["--among", "registered"], labels)
         among = {label: [[fields[0], *fields[2:]] for fields in block] for label, block in zip(labels, blocks)}
-        with Jumps([program.path, *program.words], program.folder) as jumps:
-            turns = by_turns(jumps, labels, registered)
+        turns = by_turns([program.path, *program.words], labels, registered, program.folder)
         others = program.others(labels)
         differences = [f"{self.choice} {text.decode()!r}, {registered}: {label} --others {others.get(label)}"
                        for label, block in zip(labels, blocks)

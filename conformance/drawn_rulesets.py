@@ -1,6 +1,8 @@
 """Draws rulesets of version 3: with types, sets, rules of both kinds, demands, actions and conditions, most of them
 well-formed."""
 
+import argparse
+
 from idn2_registry.notation.points import spelled as spelled_points
 from idn2_registry.notation.ruleset import DISPOSITIONS
 
@@ -22,6 +24,15 @@ FAULTY_LINES = (
     "0061..0063 as nope", "0061 when r:0062", "%rule r _", "%whole w .", "%rule w _", "%type simp", "%type blocked",
     "%set simp 0061", "%set valid 0061",
 )
+
+
+def words_of_drawing(description: str, seed: int) -> argparse.ArgumentParser:
+    """The words of a script that draws: from which seed, how many, and by how many processes."""
+    words = argparse.ArgumentParser(description=description)
+    words.add_argument("--seed", type=int, default=seed)
+    words.add_argument("--jobs", type=int, default=1, help="processes side by side")
+    words.add_argument("count", metavar="N", type=int, nargs="?", default=6000)
+    return words
 
 
 def spelled(sequence):

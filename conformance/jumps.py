@@ -5,12 +5,14 @@ import subprocess
 
 # What each of two labels that only may collide is to the other.
 NOTHING = ["none", "none"]
+# So many requests a pipe takes at once. Then all answers to them come before the next ones.
+AT_ONCE = 100
 
 
 class Jumps:
     """A program that is kept open for jumps; its words name it and a table."""
 
-    def __init__(self, words, folder=None):
+    def __init__(self, words, folder):
         streams = {"stdin": subprocess.PIPE, "stdout": subprocess.PIPE, "stderr": subprocess.DEVNULL}
         self.process = subprocess.Popen([*words, "--jump"], cwd=folder, **streams)
 
@@ -23,10 +25,12 @@ class Jumps:
 
     def answers(self, requests):
         """To each label and text the least label from there on that may collide, with what it is to the label, and the
-        label to it; or none. A pipe takes all requests at once, and all answers come before the next ones."""
-        self.process.stdin.write("".join(f"{label}\t{text}\n" for label, text in requests).encode())
-        self.process.stdin.flush()
-        answers = [self.process.stdout.readline().decode() for _ in requests]
+        label to it; or none."""
+        answers = []
+        for some in (requests[start:start + AT_ONCE] for start in range(0, len(requests), AT_ONCE)):
+            self.process.stdin.write("".join(f"{label}\t{text}\n" for label, text in some).encode())
+            self.process.stdin.flush()
+            answers += [self.process.stdout.readline().decode() for _ in some]
         assert all(answer.endswith("\n") for answer in answers), (requests, answers)
         return [None if answer == "#end\n" else answer[:-1].split("\t") for answer in answers]
 
@@ -62,14 +66,15 @@ class Search:
             self.text += "\0"
 
 
-def by_turns(jumps, labels, registered):
+def by_turns(words, labels, registered, folder=None):
     """For each label the registered labels that collide with it, with what each is to it, and back. The program and the
     register take turns, with all labels at once. A label takes at most the first jump, one from each registered label
     on, and one more after each that is near."""
     register = Register(registered)
     searches = {label: Search(register) for label in labels}
-    while asked := [(label, search.text) for label, search in searches.items() if search.text is not None]:
-        for (label, _), answer in zip(asked, jumps.answers(asked)):
-            searches[label].go_on(answer)
+    with Jumps(words, folder) as jumps:
+        while asked := [(label, search.text) for label, search in searches.items() if search.text is not None]:
+            for (label, _), answer in zip(asked, jumps.answers(asked)):
+                searches[label].go_on(answer)
     assert all(each.jumps <= register.count + each.near + 1 for each in searches.values()), (labels, registered)
     return {label: search.found for label, search in searches.items()}

@@ -12,7 +12,6 @@ of tests/. What is published has to read back to the same table, or is refused b
 
 The counts are printed, and of the refusals those by each reason. Status 1 where anything else comes out."""
 
-import argparse
 import collections
 import dataclasses
 import functools
@@ -29,7 +28,7 @@ ROOT = pathlib.Path(__file__).resolve().parent.parent
 for folder in ("conformance", "registry", "tests"):
     sys.path.append(str(ROOT / folder))
 
-from drawn_rulesets import DrawnRuleset, spelled
+from drawn_rulesets import DrawnRuleset, spelled, words_of_drawing
 from rich_ruleset import RichRuleset
 
 from idn2_registry.faults import Unsayable, Unusable
@@ -208,11 +207,8 @@ def outcomes(program: Program, seed: int, count: int, jobs: int) -> Iterator[str
 
 
 def main(words: list[str]) -> int:
-    options = argparse.ArgumentParser(description="Publishes tables as XML and reads them back.")
+    options = words_of_drawing("Publishes tables as XML and reads them back.", 62)
     options.add_argument("--idn2", default=str(PROGRAM))
-    options.add_argument("--seed", type=int, default=62)
-    options.add_argument("--jobs", type=int, default=1, help="processes side by side")
-    options.add_argument("count", metavar="N", type=int, nargs="?", default=6000)
     given = options.parse_args(words)
     program = Program(given.idn2)
     try:

@@ -1,21 +1,14 @@
 #!/usr/bin/env python3
 """Runs the built program over registered labels: those that collide with a label (--among), and the least label from a
-text on that may collide (--jump), by which a database finds them.
+text on that may collide (--jump), by which a database finds them. The cases were worked out by hand from the rules. The last
+line is 'N passed, M failed', and the exit status is 0 where nothing failed."""
 
-The cases were worked out by hand from the rules, and the random ones are compared with a database's own index and with
-full listings. The last line is 'N passed, M failed', and the exit status is 0 where nothing failed."""
-
-import functools
 import os
 import random
 import subprocess
 import sys
 
-from program import LIMIT, PROGRAM, ROOT, TABLES, expect, is_registrable, run, run_tests, table_file
-
-sys.path.append(os.path.join(ROOT, "conformance"))
-
-from jumps import NOTHING, Jumps, by_turns
+from program import LIMIT, PROGRAM, TABLES, encoded, expect, lines_file, registered_file, run, run_tests, table_file
 
 GERMAN = os.path.join(TABLES, "german.txt")
 ALIKE = "%version 2\n0030\n006F|!0030\n0073\n0074\n0073-0073|00DF\n"
@@ -92,30 +85,22 @@ JUMPS = (
 TABLE_WORDS = ["--variants", GERMAN]
 
 
-def encoded(text):
-    return text if isinstance(text, bytes) else text.encode()
-
-
 def table_of(folder, table):
     """The file of a table, which is a path or a text."""
     return table if os.path.isabs(table) else table_file(folder, table.encode())
 
 
-def registered_file(folder, text):
-    return table_file(folder, encoded(text), "registered.txt")
-
-
-def lines_file(folder, labels):
-    return registered_file(folder, "".join(label + "\n" for label in sorted({*labels})))
-
-
-def refuses_a_file_by_its_first_wrong_line(folder):
+def expect_faults(folder, faults):
     """Nothing is answered, and no line of the input is read."""
-    for registered, line, fault in FAULTS:
+    for registered, line, fault in faults:
         words = [*TABLE_WORDS, "--among", registered_file(folder, registered)]
         message = f"idn2: registered line {line}: {fault}\n".encode()
         expect(words, b"haus\nHaus\n", b"", message, 2)
         expect([*words, "haus"], b"", b"", message, 2)
+
+
+def refuses_a_file_by_its_first_wrong_line(folder):
+    expect_faults(folder, FAULTS)
 
 
 def encoded_length(label):
@@ -272,176 +257,6 @@ def answers_the_least_label_from_a_text_on(folder):
     expect([*TABLE_WORDS, "--jump", "sss\tssz", "sss"], b"", both("sß", "sss").encode(), b"", 0)
 
 
-def blocks_of(words, labels):
-    """For each label the lines of its block, which is whole, each by its label and the fields after its A-label."""
-    done = run(words, "".join(label + "\n" for label in labels).encode())
-    assert (done.returncode, done.stderr) == (0, b""), (words, done.stderr)
-    blocks, block = [], []
-    for line in done.stdout.decode().splitlines():
-        if not line.startswith("#"):
-            label, _, *fields = line.split("\t")
-            block.append([label, *fields])
-            continue
-        assert line == f"#end {len(block)}", (words, line)
-        blocks.append(block)
-        block = []
-    assert len(blocks) == len(labels), (words, len(blocks))
-    return blocks
-
-
-def random_table(chance, alphabet):
-    """A table of random entries, mostly with gaps, as a map. Its sources make up each label of these letters."""
-    sequence = lambda: "".join(chance.choices(alphabet, k=chance.choice((1, 1, 2, 3))))
-    table = {letter: set() for letter in alphabet}
-    for _ in range(chance.randint(2, 6)):
-        table.setdefault(sequence(), set()).add(sequence())
-    return {source: sorted(variants - {source}) for source, variants in table.items()}
-
-
-def text_of(chance, table):
-    """The same as a text of one of the two versions, in which some variants are blocked."""
-    is_version_2 = chance.random() < 0.5
-    points = lambda text: "-".join(f"{ord(letter):04X}" for letter in text)
-    mark = lambda: "!" if is_version_2 and chance.random() < 0.5 else ""
-    lines = ["%version 2"] if is_version_2 else []
-    lines += [points(source) + ("|" if variants else "") + ":".join(mark() + points(each) for each in variants)
-              for source, variants in table.items()]
-    return "".join(line + "\n" for line in lines)
-
-
-def drawn_labels(chance, table):
-    """Labels that are cut into sources, and at most a hundred registered labels: some that are near these, and neighbors of
-    such. All are short, so that they have short listings."""
-    drawn = {"".join(chance.choices([*table], k=chance.randint(1, 4))) for _ in range(12)}
-    labels = [label for label in sorted(drawn) if is_registrable(label) and len(label) <= 5]
-    near = {label for each in labels for label in near_of(table, each)}
-    near |= {label + chance.choice([*table]) for label in near} | {label[:-1] for label in near}
-    short = sorted(label for label in near if is_registrable(label) and len(label) <= 6)
-    return labels, sorted(chance.sample(short, min(chance.choice((5, 20, 100)), len(short))))
-
-
-def partners_of(table):
-    """Each source or variant with all that goes together with it: by this, a label spells what is near it."""
-    pairs = {(source, each) for source, variants in table.items() for each in variants}
-    pairs |= {(each, source) for source, each in pairs} | {(source, source) for source in table}
-    return {one: sorted(other for of, other in pairs if of == one) for one, _ in pairs}
-
-
-def near_of(table, label):
-    """All labels that may collide with a label, in order. What is only a variant doesn't stand for itself."""
-    partners = partners_of(table)
-
-    @functools.cache
-    def joined(rest):
-        return {""} if not rest else {first + last for part, others in partners.items() if rest.startswith(part)
-                                      for first in others for last in joined(rest[len(part):])}
-    return sorted(joined(label))
-
-
-def finds_the_same_in_three_ways(folder):
-    """By the file, by a database with jumps, and by whole listings of both labels: under random tables with gaps, from
-    a fixed seed."""
-    chance = random.Random(5890)
-    asked, found = 0, 0
-    for _ in range(30):
-        table = random_table(chance, "abß")
-        labels, registered = drawn_labels(chance, table)
-        words = ["--variants", table_file(folder, text_of(chance, table).encode())]
-        among = blocks_of([*words, "--among", lines_file(folder, registered)], labels)
-        whole = [{label: (*fields, "variant")[0] for label, *fields in block}
-                 for block in blocks_of(words, labels + registered)]
-        back = dict(zip(registered, whole[len(labels):]))
-        with Jumps([PROGRAM, *words]) as jumps:
-            collisions = by_turns(jumps, labels, registered)
-        for label, block, listed in zip(labels, among, whole):
-            regards = [[each, listed.get(each, "none"), back[each].get(label, "none")] for each in registered]
-            expected = [each for each in regards if each[1:] != NOTHING]
-            case = (table, registered, label)
-            assert block == expected == collisions[label], (*case, expected, block, collisions[label])
-            asked, found = asked + 1, found + len(block)
-    assert asked > 200 and found > 300, (asked, found)
-
-
-def jumps_to_the_least_of_all_that_is_near(folder):
-    """From neighbours of labels that may collide, registrable or not."""
-    chance = random.Random(3492)
-    for _ in range(40):
-        table = random_table(chance, "a-ß")
-        path = table_file(folder, text_of(chance, table).encode())
-        labels, _ = drawn_labels(chance, table)
-        requests, answers = [], []
-        for label in labels:
-            near = near_of(table, label)
-            some = chance.sample(near, min(20, len(near)))
-            texts = {"", *some, *(each + "a" for each in some), *(each[:-1] + "b" for each in some)}
-            for text in sorted(texts):
-                requests.append(f"{label}\t{text}\n")
-                answers.append(next((each for each in near if each >= text), "#end"))
-        done = run(["--variants", path, "--jump"], "".join(requests).encode())
-        assert (done.stderr, done.returncode) == (b"", 0), done
-        assert [line.split("\t")[0] for line in done.stdout.decode().splitlines()] == answers, (table, labels)
-
-
-def finds_in_parts_what_the_whole_has(folder):
-    """The registered labels cut in two files: the block of the whole has the lines of the first, then of the second."""
-    chance = random.Random(7940)
-    for _ in range(40):
-        table = random_table(chance, "abß")
-        labels, registered = drawn_labels(chance, table)
-        words = ["--variants", table_file(folder, text_of(chance, table).encode()), "--among"]
-        cut = chance.randint(0, len(registered))
-        whole, first, second = (blocks_of([*words, lines_file(folder, part)], labels)
-                                for part in (registered, registered[:cut], registered[cut:]))
-        assert whole == [one + other for one, other in zip(first, second)], (table, registered, cut)
-
-
-def sees_a_collision_from_either_side(folder):
-    """What is there from one side is back from the other, also in a table with gaps."""
-    chance = random.Random(4290)
-    seen = 0
-    for _ in range(12):
-        table = random_table(chance, "abß")
-        labels, registered = drawn_labels(chance, table)
-        registered = chance.sample(registered, min(200, len(registered)))
-        words = ["--variants", table_file(folder, text_of(chance, table).encode()), "--among"]
-        forth = blocks_of([*words, lines_file(folder, registered)], labels)
-        back = dict(zip(registered, blocks_of([*words, lines_file(folder, labels)], registered)))
-        for label, found in zip(labels, forth):
-            reverse = [[other, *regards[::-1]] for other in sorted(registered)
-                       for each, *regards in back[other] if each == label]
-            assert found == reverse, (table, label, found, reverse)
-            seen += len(found)
-    assert seen > 100, seen
-
-
-def compares_a_register_with_itself(folder):
-    """With `--others` each block is that of `--among` without the label itself, under its name; an empty one isn't there."""
-    chance = random.Random(8228)
-    seen = 0
-    for _ in range(12):
-        table = random_table(chance, "abß")
-        labels, registered = drawn_labels(chance, table)
-        file = lines_file(folder, [*labels, *registered])
-        words = ["--variants", table_file(folder, text_of(chance, table).encode()), "--among", file]
-        with open(file, "rb") as lines:
-            given = lines.read()
-        all_of_it, others = run(words, given), run([*words, "--others"], given)
-        assert (all_of_it.stderr, all_of_it.returncode) == (others.stderr, others.returncode), (table, registered)
-        wanted, block = [], []
-        refused = {int(message.split()[2].rstrip(b":")) for message in all_of_it.stderr.splitlines()}
-        answered = (line for number, line in enumerate(given.decode().splitlines(), 1) if number not in refused)
-        for line in all_of_it.stdout.decode().splitlines():
-            if not line.startswith("#"):
-                block.append(line)
-                continue
-            label = next(answered)
-            block = [each for each in block if each.split("\t")[0] != label]
-            wanted += [*block, f"#end {len(block)} {label}"] if block else []
-            block, seen = [], seen + len(block)
-        assert others.stdout.decode().splitlines() == wanted, (table, registered)
-    assert seen > 100, seen
-
-
 TESTS = [
     refuses_a_file_by_its_first_wrong_line,
     measures_labels_as_another_program,
@@ -451,11 +266,6 @@ TESTS = [
     refuses_a_pipe_for_two,
     reads_a_stream_where_nobody_else_does,
     answers_the_least_label_from_a_text_on,
-    finds_the_same_in_three_ways,
-    jumps_to_the_least_of_all_that_is_near,
-    finds_in_parts_what_the_whole_has,
-    sees_a_collision_from_either_side,
-    compares_a_register_with_itself,
 ]
 
 

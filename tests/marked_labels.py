@@ -8,12 +8,12 @@ import os
 import random
 import sys
 
-from program import ROOT, TABLES, expect, run, run_tests, table_file
+from among import TABLE_WORDS, expect_faults
+from program import ROOT, expect, registered_file, run, run_tests
 
 sys.path.append(os.path.join(ROOT, "conformance"))
 import old_labels  # noqa: E402
 
-WORDS = ("--variants", os.path.join(TABLES, "german.txt"))
 TEXTS = {3: "empty", 10: "disallowed code point", 11: "unassigned code point", 12: "not in NFC", 13: "hyphen out of place",
          14: "leading combining mark", 17: "Bidi rule broken", 18: "label too long", 19: "not an A-label"}
 
@@ -47,14 +47,12 @@ READ = (
 
 
 def refuses_a_file_by_its_first_wrong_line(folder):
-    for registered, line, fault in FAULTS:
-        words = [*WORDS, "--among", registered_file(folder, registered)]
-        expect(words, b"haus\n", b"", f"idn2: registered line {line}: {fault}\n".encode(), 2)
+    expect_faults(folder, FAULTS)
 
 
 def reads_labels_with_the_mark(folder):
     for registered in READ:
-        expect([*WORDS, "--among", registered_file(folder, registered)], b"", b"", b"", 0)
+        expect([*TABLE_WORDS, "--among", registered_file(folder, registered)], b"", b"", b"", 0)
 
 
 def drawn_labels(chance):
@@ -77,12 +75,12 @@ def judges_old_labels_as_another_program(folder):
     old = [label for label in labels if faults[label] is None]
     assert len(old) > 300, len(old)
     text = "".join(f"{label}\told\n" for label in old)
-    expect([*WORDS, "--among", registered_file(folder, text)], b"", b"", b"", 0)
+    expect([*TABLE_WORDS, "--among", registered_file(folder, text)], b"", b"", b"", 0)
     refused = [label for label in labels if faults[label] is not None]
     assert {*faults.values()} == {None, 10, 13, 18}, {*faults.values()}
     for label in refused[::3]:
         message = f"idn2: registered line 1: {faults[label]} {TEXTS[faults[label]]}\n".encode()
-        expect([*WORDS, "--among", registered_file(folder, f"{label}\told\n")], b"", b"", message, 2)
+        expect([*TABLE_WORDS, "--among", registered_file(folder, f"{label}\told\n")], b"", b"", message, 2)
 
 
 def makes_lines_of_labels_of_a_zone_as_another_program(folder):
@@ -107,11 +105,7 @@ def reads_what_it_made_of_a_zone(folder):
     made = run(["--decode", "--old"], names).stdout
     registered = b"".join(sorted(made.splitlines(keepends=True)))
     found = b"strasse\tstrasse\tallocatable\tallocatable\n#end 1\n"
-    expect([*WORDS, "--among", registered_file(folder, registered)], "straße\n".encode(), found, b"", 0)
-
-
-def registered_file(folder, registered):
-    return table_file(folder, registered if isinstance(registered, bytes) else registered.encode(), "registered.txt")
+    expect([*TABLE_WORDS, "--among", registered_file(folder, registered)], "straße\n".encode(), found, b"", 0)
 
 
 TESTS = [

@@ -54,6 +54,19 @@ def table_file(folder, text, name="table.txt"):
     return path
 
 
+def encoded(text):
+    return text if isinstance(text, bytes) else text.encode()
+
+
+def registered_file(folder, text):
+    return table_file(folder, encoded(text), "registered.txt")
+
+
+def lines_file(folder, labels):
+    """The same of labels, in their order."""
+    return registered_file(folder, "".join(label + "\n" for label in sorted({*labels})))
+
+
 def answers_standard_input(folder):
     expect([], "Faß.de\n".encode(), b"xn--fa-hia.de\n", b"", 0)
     expect([], "Faß.de".encode(), b"xn--fa-hia.de\n", b"", 0)

@@ -63,7 +63,7 @@ def does_what_its_tests_say(folder):
 def has_types(folder):
     python = python_with("psycopg, aiohttp")
     if is_installed("mypy") and is_there("python3-aiohttp", python):
-        words = ["mypy", f"--python-executable={python}", f"--cache-dir={folder}", "idn2_registry"]
+        words = ["mypy", f"--python-executable={python}", f"--cache-dir={folder}", *SOURCES]
         done = subprocess.run(words, cwd=PACKAGE, capture_output=True, text=True, timeout=LIMIT)
         assert done.returncode == 0, done.stdout
 

@@ -7,7 +7,7 @@ from functools import cached_property
 from typing import Any, TypeVar
 
 from .answers import ExitStatus, Refusal, furthest_first
-from .collisions import Collisions, found_in_audit, refusals_in
+from .collisions import Collisions, pairs_in, refusals_in
 from .configuration import Configuration
 from .faults import Unknown
 from .holdings import Holdings
@@ -83,9 +83,8 @@ class AuditTask:
         """The labels that are refused, and the pairs that collide."""
         words, files = Collisions(self.zone).audit_words(self.held)
         output, refused = self.program.plain(words, part, files)
-        answered, pairs = found_in_audit(output, part, refused)
-        check_answered(answered + len(refused), part.count(b"\n"))
-        return json.dumps({"refused": [label.decode() for label in labels_at(part, refused)], "pairs": pairs}).encode()
+        labels = [label.decode() for label in labels_at(part, refused)]
+        return json.dumps({"refused": labels, "pairs": pairs_in(output)}).encode()
 
 
 def admission_words(table: Table) -> tuple[list[str], list[int]]:

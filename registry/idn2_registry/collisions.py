@@ -3,7 +3,6 @@ why a table refuses a label, which the same process tells."""
 
 import json
 import re
-from collections.abc import Sequence
 from typing import NamedTuple
 
 from .answers import NOT_MADE, NOT_VALID, Object, Refusal
@@ -16,9 +15,8 @@ from .tables import Table
 # What a label is to another one, as the program says it.
 NONE, ALLOCATABLE = "none", "allocatable"
 REGARDS = {NONE, "variant", "blocked", ALLOCATABLE}
-# The line that ends a block, and that of a label which collides with another than itself.
-END = b"#end "
-COLLIDING = re.compile(rb"#end (?!1\n)(\d+)\n")
+# The line that ends a block of an audit, with the number of its lines and its label.
+END = re.compile(r"#end (\d+) (.+)")
 
 
 class Near(NamedTuple):
@@ -93,34 +91,29 @@ class Collisions:
 
     def audit_words(self, registered: HeldFile) -> tuple[list[str], list[int]]:
         """The words and the files of a run that is asked all registered labels, each on a line."""
-        return self._table.listing("--among", registered.path), [self._table.held.descriptor, registered.descriptor]
+        words = self._table.listing("--among", registered.path, "--others")
+        return words, [self._table.held.descriptor, registered.descriptor]
 
 
-def found_in_audit(output: bytes, part: bytes, refused: Sequence[int]) -> tuple[int, list[tuple[str, str]]]:
-    """What a run with `audit_words` says of the lines of a part that it didn't refuse: how many it answered, and the
-    pairs that collide. Labels without another collision than with themselves, which are most, aren't looked at one by
-    one."""
+def pairs_in(output: bytes) -> list[tuple[str, str]]:
+    """The pairs that collide, as a run with `audit_words` tells them: a label stands at the end of those that it collides
+    with."""
     pairs: list[tuple[str, str]] = []
-    labels: list[bytes] = []
-    number, before = 0, 0
-    for end in COLLIDING.finditer(output):
-        labels = labels or accepted(part, refused)
-        # No label has a number sign or a blank.
-        number += output.count(END, before, end.start())
-        start = output.rfind(END, before, end.start())
-        first = before if start < 0 else output.index(b"\n", start) + 1
-        others = [line.partition(b"\t")[0] for line in output[first:end.start()].split(b"\n")[:-1]]
-        if len(others) != int(end[1]) or number >= len(labels):
-            raise Unknown("the program gave another answer than it should")
-        pairs += [(labels[number].decode(), other.decode()) for other in others if other != labels[number]]
-        number, before = number + 1, end.end()
-    return output.count(END), pairs
-
-
-def accepted(part: bytes, refused: Sequence[int]) -> list[bytes]:
-    """The lines of a part that weren't refused."""
-    lines, numbers = part.split(b"\n")[:-1], set(refused)
-    return [line for number, line in enumerate(lines, 1) if number not in numbers] if numbers else lines
+    others: list[str] = []
+    *lines, rest = output.decode().split("\n")
+    for line in lines:
+        # No label has a number sign.
+        if not line.startswith("#"):
+            others.append(line.partition("\t")[0])
+            continue
+        end = END.fullmatch(line)
+        if end is None or not 0 < len(others) == int(end[1]):
+            raise Unknown(f"the program gave another answer than it should: {line}")
+        pairs += [(end[2], other) for other in others]
+        others = []
+    if others or rest:
+        raise Unknown(f"the program gave another answer than it should: {[*others, rest]}")
+    return pairs
 
 
 def refusals_in(output: bytes) -> list[Object]:

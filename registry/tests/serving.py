@@ -9,6 +9,7 @@ import re
 import signal
 import socket
 import subprocess
+import urllib.parse
 from pathlib import Path
 from types import TracebackType
 from typing import Any
@@ -19,8 +20,14 @@ from conftest import LIMIT, Place
 # What the service stands on.
 needs_aiohttp = pytest.mark.skipif(importlib.util.find_spec("aiohttp") is None, reason="python3-aiohttp")
 TOKEN = "0123456789abcdef0123456789abcdef"
+BEARER = {"Authorization": f"Bearer {TOKEN}"}
 # Runs the command with something else in its place, as `module.NAME = value`.
 CHANGED = "import sys; {}; from idn2_registry.command import main; sys.exit(main())"
+
+
+def query(path: str, **fields: str) -> str:
+    """A path with fields."""
+    return f"{path}?{urllib.parse.urlencode(fields, errors='surrogateescape')}"
 
 
 def configure(place: Place, service: str = 'token = "token.txt"', more: str = "", **tables: Any) -> None:
@@ -35,7 +42,7 @@ class Served:
     def __init__(self, place: Place, *words: str, changed: str = "", **more: Any) -> None:
         self.place = place
         # Without a buffer, in which lines after the first could be lost.
-        options = {"stdin": subprocess.DEVNULL, "stdout": subprocess.DEVNULL, "bufsize": 0, **more}
+        options: dict[str, Any] = {"stdin": subprocess.DEVNULL, "stdout": subprocess.DEVNULL, "bufsize": 0, **more}
         if changed:
             command = place.words("serve", *words)
             command[1:3] = ["-c", CHANGED.format(changed)]

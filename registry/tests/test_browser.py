@@ -9,8 +9,7 @@ from typing import Any
 import pytest
 from browser import Browser, program
 from conftest import ROOT, TABLES, Place
-from serving import Served, needs_aiohttp
-from test_service import query
+from serving import Served, needs_aiohttp, query
 
 pytestmark = [needs_aiohttp, pytest.mark.skipif(program() is None, reason="chromium")]
 

@@ -114,7 +114,7 @@ def ruleset_of(table: Sets, chance: random.Random) -> str:
 def listings(place: Place, labels: list[str]) -> dict[str, set[str]]:
     """The whole listing of each label that the table of the zone doesn't refuse."""
     table = place.folder / "table.txt"
-    words = [PROGRAM, "--json", "--ruleset" if table.read_bytes().startswith(b"%version 3") else "--variants", table]
+    words = [str(PROGRAM), "--json", "--ruleset" if table.read_bytes().startswith(b"%version 3") else "--variants", str(table)]
     given = "".join(f"{label}\n" for label in labels).encode()
     done = subprocess.run(words, input=given, capture_output=True, timeout=LIMIT)
     told = [json.loads(line) for line in done.stdout.splitlines()]

@@ -71,12 +71,12 @@ def test_audit_tells_labels_that_may_not_be_registered(place: Place, monkeypatch
 
 
 def test_audit_takes_no_other_answer(place: Place, monkeypatch: pytest.MonkeyPatch) -> None:
-    """Of a program that answers too few or too many lines, or lists otherwise than it says, nothing is known."""
+    """Of a program that stops within what collides with a label, or lists otherwise than it says, nothing is known."""
     place.load("haus", "strasse", "straße")
     plain = Program.plain
-    for change in (lambda text: text[:-8], lambda text: text + b"#end 1\n",
-                   lambda text: text.replace(b"#end 2\n", b"#end 3\n", 1),
-                   lambda text: b"#end 0\n" * 4):
+    for change in (lambda text: text[:-1], lambda text: text[:text.rindex(b"#end")], lambda text: text + b"#end 1 haus\n",
+                   lambda text: text.replace(b"#end 1 ", b"#end 2 ", 1), lambda text: text.replace(b"#end 1 ", b"#end ", 1),
+                   lambda text: text + b"#end 0 haus\n"):
         monkeypatch.setattr(Program, "plain", lambda self, *words, change=change: (
             change(plain(self, *words)[0]), plain(self, *words)[1]))
         done = place.run("audit")
@@ -253,9 +253,9 @@ def test_shows_progress_on_a_terminal_alone(place: Place) -> None:
 def test_what_was_done_before_has_no_part_in_the_rate(monkeypatch: pytest.MonkeyPatch) -> None:
     shown = io.StringIO()
     monkeypatch.setattr(shown, "isatty", lambda: True)
-    monkeypatch.setattr(work.sys, "stderr", shown)
+    monkeypatch.setattr(sys, "stderr", shown)
     times = iter([100.0, 100.0, 102.0])
-    monkeypatch.setattr(work.time, "monotonic", lambda: next(times))
+    monkeypatch.setattr(time, "monotonic", lambda: next(times))
     work.Progress("load", 1000, 900).add(40)
     assert shown.getvalue().endswith("940 of 1000, 20/s, 3 s left "), shown.getvalue()
 

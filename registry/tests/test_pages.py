@@ -3,17 +3,19 @@
 import html
 import itertools
 import re
+from collections.abc import Mapping
+from typing import Any
 
 import pytest
 from conftest import PROGRAM, TABLES, Place
-from serving import Served, Told, configure, needs_aiohttp
-from test_service import query
+from serving import Served, Told, configure, needs_aiohttp, query
 
 from idn2_registry.answers import Answer, Refusal, Status
+from idn2_registry.decisions import Tables
 from idn2_registry.faults import Unknown
 from idn2_registry.pages import label_page
 from idn2_registry.pages.classes import Classes
-from idn2_registry.pages.examples import told_of
+from idn2_registry.pages.examples import Example, told_of
 from idn2_registry.pages.frame import Frame
 from idn2_registry.pages.html import element
 from idn2_registry.pages.table_page import Shown, View, table_page, whole_page
@@ -21,7 +23,6 @@ from idn2_registry.pages.variant_sets import variant_sets
 from idn2_registry.parsed_table import ParsedTable
 from idn2_registry.program import Program
 from idn2_registry.tables import Table, checked, read_table
-from idn2_registry.zone import Tables
 
 KINDS = """%version 3
 %type simp
@@ -100,12 +101,12 @@ def test_what_is_not_known_is_no_200_here_either(bare: Place) -> None:
 @needs_aiohttp
 def test_each_table_says_why_it_refuses_a_label(bare: Place) -> None:
     """What comes furthest is told first, with its rule in words."""
-    paths = {"de": TABLES / "german.txt", "devanagari": TABLES / "rulesets" / "devanagari.txt"}
+    paths: dict[str, Any] = {"de": TABLES / "german.txt", "devanagari": TABLES / "rulesets" / "devanagari.txt"}
     joined = bare.write("zone.txt", bare.run("join", *map(str, paths.values())).stdout)
     configure(bare, more='zone = "zone"\n', zone=joined, **paths)
     bare.load()
     nukta = "◌\u093c U+093C."
-    rows = (
+    rows: tuple[tuple[str, list[str], list[str]], ...] = (
         ("क्\u200dष", ["can’t be registered: no table admits it.",
                        "U+200D ZERO WIDTH JOINER at place 3 isn’t in the table devanagari.",
                        "3 ZWJ U+200D ZERO WIDTH JOINER The fault is here",
@@ -225,7 +226,7 @@ def test_examples_are_admitted_and_refused_by_the_program(place: Place) -> None:
         program = Program(PROGRAM)
         table = read_table(name, TABLES / "rulesets" / f"{name}.txt", program)
         examples = View.of(table, program).examples
-        found = [(examples.of(rule), {"rule": rule}) for rule in examples.rules]
+        found: list[tuple[Example, Mapping[str, object]]] = [(examples.of(rule), {"rule": rule}) for rule in examples.rules]
         found += [(examples.of_number(number), {"demand": number}) for number in range(1, len(examples.demands) + 1)]
         for example, cause in found:
             assert example.admitted and example.refused, (name, cause, example)

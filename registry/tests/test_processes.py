@@ -6,6 +6,7 @@ import os
 import signal
 import threading
 import time
+from collections.abc import Callable
 from concurrent.futures import ThreadPoolExecutor
 from pathlib import Path
 
@@ -242,8 +243,14 @@ def test_a_call_that_fails_keeps_no_other_from_being_made() -> None:
         loop.set_exception_handler(lambda *_: None)
         calls, found = Calls(loop), asyncio.Event()
         numbers: list[int] = []
-        await asyncio.to_thread(lambda: [calls.add(call) for call in (lambda: numbers.append(1), lambda: numbers.pop(9),
-                                                                      lambda: numbers.append(2), found.set)])
+        due: list[Callable[[], object]] = [lambda: numbers.append(1), lambda: numbers.pop(9), lambda: numbers.append(2),
+                                           found.set]
+
+        def add_all() -> None:
+            for call in due:
+                calls.add(call)
+
+        await asyncio.to_thread(add_all)
         async with asyncio.timeout(10):
             await found.wait()
         return numbers

@@ -15,7 +15,7 @@ import pytest
 from conftest import PROGRAM, Place
 from postgresql import restart
 
-from idn2_registry import Status, Unknown, Unusable
+from idn2_registry import Answer, Status, Unknown, Unusable
 from idn2_registry.register import Row, Transaction
 
 RACERS = 16
@@ -231,7 +231,8 @@ def test_a_server_that_hangs_makes_requests_unknown(server: Callable[[str], str]
 
     with bare.zone() as zone, psycopg.connect(bare.register, autocommit=True) as other:
         query = "select pid from pg_stat_activity where pid <> pg_backend_pid() and datname = current_database()"
-        for ask in (zone.check, zone.register):
+        asks: tuple[Callable[[str], Answer], ...] = (zone.check, zone.register)
+        for ask in asks:
             assert zone.check("haus").status is Status.TAKEN
             stopped = [pid for pid, in other.execute(query)]
             assert stopped
