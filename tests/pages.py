@@ -257,7 +257,7 @@ def lists_each_form_of_a_cause(folder):
             told |= found
     listed = {(number, shown) for number, shown, _ in forms}
     assert listed - {NEVER_TOLD} == told and len({number for number, _ in listed}) == 23, listed ^ told
-    rules = re.findall(r'^barring_rule .*', text_of("crates/idn2_refusals/specs/RuleTexts.antt"), re.MULTILINE)
+    rules = re.findall(r'^barring_rule .*(?:\n    .*)*', text_of("crates/idn2_refusals/specs/RuleTexts.antt"), re.MULTILINE)
     named = ["".join(re.findall(r'codes "([^"]*)"', rule)).removeprefix(": ") for rule in rules if "scalar" not in rule]
     page = text_of("docs", "idn2.1")
     assert len(named) == 8 and all(f"B {each}\n" in page or f'BR "{each}" ' in page for each in named), named

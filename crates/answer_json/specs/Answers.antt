@@ -1,5 +1,5 @@
--- Answers as JSON (RFC 8259): an object, whose members are in order, of numbers, texts, truth values and null. The last member may
--- be the object of a refusal.
+-- Answers as JSON (RFC 8259): an object, whose members are in order, of numbers, texts, truth values and null. The last
+-- member may be the object of a refusal.
 use Rattle.std.specs.Prelude.{ℕ, Bool, ◌<◌, ◌^◌, List, [], ◌∷◌, ◌++◌, codes, Option, Some, None, ⊤}
 use Rattle.std.specs.Fmt.{decimal}
 use Rattle.json.specs.Json.{Json, Members, null, boolean, number, string, object, no_members, member}

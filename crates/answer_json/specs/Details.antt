@@ -1,5 +1,6 @@
 -- What a refusal is told with: its number and its text, and then what its cause has.
-use Rattle.std.specs.Prelude.{ℕ, ◌≤◌, length, unwrap_or, Bool, true, false, None, List, [], ◌∷◌, ◌++◌, codes, Option, if◌then◌else◌}
+use Rattle.std.specs.Prelude.{ℕ, ◌≤◌, length, unwrap_or, Bool, true, false, None, List, [], ◌∷◌, ◌++◌, codes, Option}
+use Rattle.std.specs.Prelude.{if◌then◌else◌}
 use Rattle.std.specs.Option.{option_copied}
 use Rattle.idn_text.specs.declared.refusal.Refusal.{Refusal}
 use Rattle.idn_text.specs.Refusals.{refusal_number, refusal_text}
@@ -87,7 +88,8 @@ where_fields details =
 
 abbrev pub rule_fields : Details → List Field
 rule_fields details =
-    if_given (codes "condition") text details.condition ++ if_given (codes "rule") text details.rule ++ if_given (codes "bidi_class") text details.bidi_class
+    if_given (codes "condition") text details.condition ++ if_given (codes "rule") text details.rule
+    ++ if_given (codes "bidi_class") text details.bidi_class
     ++ if_given (codes "nfc") point details.nfc
 
 abbrev pub demand_fields : Details → List Field
@@ -106,12 +108,14 @@ length_fields details =
 
 abbrev pub details_fields : Details → List Field
 details_fields details =
-    where_fields details ++ rule_fields details ++ demand_fields details ++ action_fields details ++ length_fields details
+    where_fields details ++ rule_fields details ++ demand_fields details ++ action_fields details
+    ++ length_fields details
 
 -- {"number":10,"text":"disallowed code point","code_point":"U+0046","place":1,"rule":"RFC 5892 2.2"}
 abbrev pub refusal_fields : Refusal → Details → List Field
 refusal_fields refusal details =
-    (codes "number", count (refusal_number refusal)) ∷ (codes "text", text (refusal_text refusal)) ∷ details_fields details
+    (codes "number", count (refusal_number refusal)) ∷ (codes "text", text (refusal_text refusal))
+    ∷ details_fields details
 
 -- how long a text is that may be given
 abbrev pub given_len : Option (List ℕ) → ℕ

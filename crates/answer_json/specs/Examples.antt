@@ -1,11 +1,13 @@
 -- Texts of answers, computed from the definitions.
 use Rattle.std.specs.Prelude.{◌≡◌, ℕ, true, List, [], ◌∷◌, ◌++◌, codes, None, Some}
 use Rattle.idn_text.specs.Points.{utf8_of}
-use Rattle.idn_text.specs.declared.refusal.Refusal.TheVariants.{NotUtf8, LineTooLong, Disallowed, NotNfc, Bidi, BadALabel, LookupLength, NotValid, Syntax}
+use Rattle.idn_text.specs.declared.refusal.Refusal.TheVariants.{NotUtf8, LineTooLong, Disallowed, NotNfc, Bidi}
+use Rattle.idn_text.specs.declared.refusal.Refusal.TheVariants.{BadALabel, LookupLength, NotValid, Syntax}
 use Rattle.answer_json.specs.Answers.{Answer, json_of, text_of}
 use Rattle.answer_json.specs.Details.{Details, no_details}
 use Rattle.answer_json.specs.Inputs.{as_text, as_octets, not_kept}
-use Rattle.answer_json.specs.Objects.{looked_up, registered, decoded, refused, variant, trailer, pair, idle, checked, table_fault}
+use Rattle.answer_json.specs.Objects.{looked_up, registered, decoded, refused, variant, trailer, pair, idle, checked}
+use Rattle.answer_json.specs.Objects.{table_fault}
 use Rattle.answer_json.specs.Objects.{collision}
 use Rattle.answer_json.specs.declared.block.Disposition.TheVariants.{Allocatable, Unclear}
 use Rattle.answer_json.specs.declared.collision.Regard.TheVariants.{NoVariant}
@@ -71,7 +73,9 @@ answers =
     }
     ∷ record {
       answer = variant 1 (utf8_of (codes "straße")) (codes "xn--strae-oqa") (Some Allocatable);
-      text = utf8_of (codes "{\"line\":1,\"ulabel\":\"straße\",\"alabel\":\"xn--strae-oqa\",\"disposition\":\"allocatable\"}");
+      text =
+          utf8_of
+          (codes "{\"line\":1,\"ulabel\":\"straße\",\"alabel\":\"xn--strae-oqa\",\"disposition\":\"allocatable\"}");
     }
     ∷ record {
       answer = variant 1 (codes "cb") (codes "cb") (Some Unclear);
@@ -83,7 +87,8 @@ answers =
     }
     ∷ record {
       answer =
-          collision 1 (utf8_of (codes "ςα")) (codes "xn--mxa7a") (record { there = NoVariant; back = regard.Allocatable });
+          collision 1 (utf8_of (codes "ςα")) (codes "xn--mxa7a")
+          (record { there = NoVariant; back = regard.Allocatable });
       text =
           utf8_of (codes "{\"line\":1,\"ulabel\":\"ςα\",\"alabel\":\"xn--mxa7a\",")
           ++ codes "\"there\":\"none\",\"back\":\"allocatable\"}";
@@ -114,7 +119,8 @@ refusals =
           (record no_details { code_point = Some 0x61; place = Some 2; nfc = Some 0xE1 });
       text =
           codes "{\"line\":1,\"input\":\"" ++ utf8_of (0x78 ∷ 0x61 ∷ 0x301 ∷ [])
-          ++ codes "\",\"refusal\":{\"number\":12,\"text\":\"not in NFC\",\"code_point\":\"U+0061\",\"place\":2,\"nfc\":\"U+00E1\"}}";
+          ++ codes
+          "\",\"refusal\":{\"number\":12,\"text\":\"not in NFC\",\"code_point\":\"U+0061\",\"place\":2,\"nfc\":\"U+00E1\"}}";
     }
     ∷ record {
       answer =
@@ -127,23 +133,29 @@ refusals =
     }
     ∷ record {
       answer = refused 1 (as_text (codes "xn--a-")) BadALabel (record no_details { alabel = Some (codes "a") });
-      text = codes "{\"line\":1,\"input\":\"xn--a-\",\"refusal\":{\"number\":19,\"text\":\"not an A-label\",\"alabel\":\"a\"}}";
+      text =
+          codes
+          "{\"line\":1,\"input\":\"xn--a-\",\"refusal\":{\"number\":19,\"text\":\"not an A-label\",\"alabel\":\"a\"}}";
     }
     ∷ record {
       answer =
           refused 1 (as_text (codes "xn--4db.xn--ls8h")) Disallowed
           (record (barred 0x1F4A9 1 (codes "RFC 5892 2.1")) { label = Some 2; decoded = true });
       text =
-          codes "{\"line\":1,\"input\":\"xn--4db.xn--ls8h\",\"refusal\":{\"number\":10,\"text\":\"disallowed code point\","
+          codes
+          "{\"line\":1,\"input\":\"xn--4db.xn--ls8h\",\"refusal\":{\"number\":10,\"text\":\"disallowed code point\","
           ++ codes "\"label\":2,\"decoded\":true,\"code_point\":\"U+1F4A9\",\"place\":1,\"rule\":\"RFC 5892 2.1\"}}";
     }
     ∷ record {
       answer = refused 1 (as_text (codes "a..b")) LookupLength (record no_details { label = Some 2; octets = Some 0 });
-      text = codes "{\"line\":1,\"input\":\"a..b\",\"refusal\":{\"number\":21,\"text\":\"name or label length\",\"label\":2,\"octets\":0}}";
+      text =
+          codes
+          "{\"line\":1,\"input\":\"a..b\",\"refusal\":{\"number\":21,\"text\":\"name or label length\",\"label\":2,\"octets\":0}}";
     }
     ∷ record {
       answer = refused 1 (as_octets (0x61 ∷ 0x62 ∷ 0xFF ∷ 0x63 ∷ [])) NotUtf8 (record no_details { byte = Some 3 });
-      text = codes "{\"line\":1,\"input_hex\":\"6162FF63\",\"refusal\":{\"number\":1,\"text\":\"not UTF-8\",\"byte\":3}}";
+      text =
+          codes "{\"line\":1,\"input_hex\":\"6162FF63\",\"refusal\":{\"number\":1,\"text\":\"not UTF-8\",\"byte\":3}}";
     }
     ∷ record {
       answer = refused 1 not_kept LineTooLong no_details;
@@ -169,11 +181,13 @@ found point place = record no_details { code_point = Some point; place = Some pl
 
 abbrev pub by_rulesets : List Row
 by_rulesets =
-    not_valid (0x430 ∷ 0x62 ∷ []) (record (found 0x430 1) { default_action = Some 1; type_name = Some (codes "invalid") })
+    not_valid (0x430 ∷ 0x62 ∷ [])
+    (record (found 0x430 1) { default_action = Some 1; type_name = Some (codes "invalid") })
     (codes "\"code_point\":\"U+0430\",\"place\":1,\"default_action\":1,\"type\":\"invalid\"")
     ∷ not_valid (0x62 ∷ 0x430 ∷ []) (record (found 0x430 2) { action = Some 1; type_name = Some (codes "oor") })
     (codes "\"code_point\":\"U+0430\",\"place\":2,\"action\":1,\"type\":\"oor\"")
-    ∷ not_valid (0x31 ∷ 0x968 ∷ []) (record no_details { condition = Some (codes "when"); rule = Some (codes "mixed"); action = Some 1 })
+    ∷ not_valid (0x31 ∷ 0x968 ∷ [])
+    (record no_details { condition = Some (codes "when"); rule = Some (codes "mixed"); action = Some 1 })
     (codes "\"condition\":\"when\",\"rule\":\"mixed\",\"action\":1")
     ∷ not_valid (codes "a") (record no_details { action = Some 2 }) (codes "\"action\":2")
     ∷ not_valid (codes "ab") (record no_details { unclear = true }) (codes "\"unclear\":true")
@@ -183,8 +197,14 @@ by_rulesets =
 
 abbrev pub tables : List Row
 tables =
-    record { answer = pair Missing (codes "00DF") (codes "0073-0073"); text = codes "{\"source\":\"00DF\",\"missing\":\"0073-0073\"}" }
-    ∷ record { answer = pair Differs (codes "03C2") (codes "03C3"); text = codes "{\"source\":\"03C2\",\"differs\":\"03C3\"}" }
+    record {
+      answer = pair Missing (codes "00DF") (codes "0073-0073");
+      text = codes "{\"source\":\"00DF\",\"missing\":\"0073-0073\"}";
+    }
+    ∷ record {
+      answer = pair Differs (codes "03C2") (codes "03C3");
+      text = codes "{\"source\":\"03C2\",\"differs\":\"03C3\"}";
+    }
     ∷ record { answer = idle (codes "t"); text = codes "{\"idle\":\"t\"}" }
     ∷ record { answer = checked 2 1; text = codes "{\"entries\":2,\"gaps\":1}" }
     ∷ record {

@@ -17,4 +17,6 @@ leading_digit point unit = if nat_lt point unit then [] else hex_digit (point / 
 unfoldable pub point_text : ℕ → List ℕ
 point_text point =
     codes "U+"
-    ++ (leading_digit point 0x10000000 ++ (leading_digit point 0x1000000 ++ (leading_digit point 0x100000 ++ (leading_digit point 0x10000 ++ four_digits point))))
+    ++ (leading_digit point 0x10000000
+    ++ (leading_digit point 0x1000000
+    ++ (leading_digit point 0x100000 ++ (leading_digit point 0x10000 ++ four_digits point))))

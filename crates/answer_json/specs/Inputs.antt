@@ -12,8 +12,8 @@ pub data Told : Type 0 where
   as_octets : List ℕ → Told
   not_kept : Told
 
--- JSON texts are Unicode (RFC 8259, section 8.1), so a line that is no UTF-8 is told in hexadecimal digits; of a line that is too
--- long no byte is kept
+-- JSON texts are Unicode (RFC 8259, section 8.1), so a line that is no UTF-8 is told in hexadecimal digits; of a line
+-- that is too long no byte is kept
 abbrev pub told_of : Option (List ℕ) → Told
 told_of None = not_kept
 told_of (Some bytes) = if is_utf8 bytes then as_text bytes else as_octets bytes

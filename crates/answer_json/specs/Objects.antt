@@ -69,7 +69,8 @@ disposition_fields (Some disposition) =
 -- {"line":1,"ulabel":"straße","alabel":"xn--strae-oqa","disposition":"allocatable"}, or with "unclear":true after that
 abbrev pub variant : ℕ → List ℕ → List ℕ → Option Disposition → Answer
 variant line ulabel alabel disposition =
-    answered (line_field line ∷ (codes "ulabel", text ulabel) ∷ (codes "alabel", text alabel) ∷ disposition_fields disposition)
+    answered (line_field line ∷ (codes "ulabel", text ulabel) ∷ (codes "alabel", text alabel)
+    ∷ disposition_fields disposition)
 
 -- ---- the block of a label that is asked among registered ones: those that collide with it, and a trailer
 

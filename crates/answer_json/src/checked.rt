@@ -1,4 +1,5 @@
-//! The objects of the check of a table: one for each pair that is found and each type that is idle, and one that counts.
+//! The objects of the check of a table: one for each pair that is found and each type that is idle, and one that
+//! counts.
 ghost use Rattle.std.specs.Prelude.{◌≡◌, ◌≤◌, length, slice_index};
 ghost use Rattle.answer_json.specs.Answers.{line_of};
 ghost use Rattle.answer_json.specs.Objects.{checked, idle, pair, word_of};

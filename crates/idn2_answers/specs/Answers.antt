@@ -57,14 +57,17 @@ abbrev pub label_or : Answer → List ℕ → List ℕ
 label_or (Ok label) given = label
 label_or (Err refusal) given = given
 
--- what a label that is registered stands for: itself, or what it is decoded to if it begins with "xn--" (RFC 5890, section 2.3.2.1)
+-- what a label that is registered stands for: itself, or what it is decoded to if it begins with "xn--" (RFC 5890,
+-- section 2.3.2.1)
 abbrev pub u_label_of : Properties → List ℕ → List ℕ
 u_label_of properties label = if has_ace_prefix label then label_or (u_label_answer properties label) label else label
 
--- this for a label that the table admits. Any other is refused: it isn't made of sources of the table, or it is, and isn't valid
+-- this for a label that the table admits. Any other is refused: it isn't made of sources of the table, or it is, and
+-- isn't valid
 abbrev pub if_admitted : TableValue → List ℕ → List Said → LineAnswer
 if_admitted table label said =
-    if is_admitted table label then Ok said else (if is_made_of_sources table label then Err NotValid else Err NotInTable)
+    if is_admitted table label then Ok said
+    else (if is_made_of_sources table label then Err NotValid else Err NotInTable)
 
 -- the block of a label: of its variants; or, where there are registered labels, of those that collide with it
 abbrev pub block_among : Option (List (List ℕ)) → Settings → TableValue → List ℕ → List Said
@@ -98,7 +101,8 @@ jump_answer properties table line =
 -- the answer of a mode to the code points of a line. The check of a table reads no line
 abbrev pub mode_answer : Mode → Settings → TableValue → List ℕ → LineAnswer
 mode_answer Lookup o table name = one_answer LookedUp (lookup_answer name o.std3)
-mode_answer Register o table label = one_answer (Registered (u_label_of o.properties label)) (register_answer o.properties label)
+mode_answer Register o table label =
+    one_answer (Registered (u_label_of o.properties label)) (register_answer o.properties label)
 mode_answer Decode o table name = one_answer Decoded (in_utf8 (decode_answer o.properties name))
 mode_answer DecodeOld o table label = zone_line (zone_in_utf8 (zone_answer o.properties label))
 mode_answer Variants o table label = variants_answer o table label
@@ -133,8 +137,8 @@ abbrev pub IsListing : Settings → TableValue → List ℕ → LineAnswer → T
 IsListing o table label (Ok said) = IsAdmitted table label × IsBlockAmong o.registered o table label said
 IsListing o table label (Err refusal) = IsRefusedAs table label refusal
 
--- of the labels of at most 63 code points that are near the label it is the least that is no less than the text, with what it is
--- to the label and the label to it; or there is none
+-- of the labels of at most 63 code points that are near the label it is the least that is no less than the text, with
+-- what it is to the label and the label to it; or there is none
 abbrev pub IsJump : Settings → TableValue → List ℕ → List ℕ → Option (List ℕ × Regards) → Type 0
 IsJump o table label text None = HasNoneFrom (IsCandidate (AreNear table label)) text
 IsJump o table label text (Some found) =

@@ -1,5 +1,5 @@
--- Which labels collide, and what each of two is to the other (RFC 7940, sections 5.1 and 7.3). Where both are good today,
--- their whole listings decide. A label that isn't has no listing: there the relation of the table decides, with
+-- Which labels collide, and what each of two is to the other (RFC 7940, sections 5.1 and 7.3). Where both are good
+-- today, their whole listings decide. A label that isn't has no listing: there the relation of the table decides, with
 -- conditions of variants alone. And the block of a label that is asked among registered ones.
 use Rattle.std.specs.Prelude.{◌≡◌, ◌≢◌, ◌⊎◌, ◌&&◌, ◌||◌, ◌==◌, ℕ, Bool, true, false, not, if◌then◌else◌}
 use Rattle.std.specs.Prelude.{List, [], ◌∷◌, filter, bytes_eq, Contains, Option, Some, None}
@@ -125,7 +125,8 @@ is_found o table label v = not (is_itself_left_out o label v) && collide (is_reg
 
 -- the registered labels after the text of the settings that are found
 abbrev pub collisions_after : Settings → TableValue → List (List ℕ) → List ℕ → List (List ℕ)
-collisions_after o table registered label = filter (λ v. is_gt (label_cmp v o.after) && is_found o table label v) registered
+collisions_after o table registered label =
+    filter (λ v. is_gt (label_cmp v o.after) && is_found o table label v) registered
 
 -- one of them, with what each of the two is to the other
 abbrev pub collision_by : (List ℕ → Regards) → List ℕ → Said
@@ -146,19 +147,23 @@ named_if others label block = if others then flat_map (named_end label) block el
 abbrev pub collision_block : Settings → TableValue → List (List ℕ) → List ℕ → List Said
 collision_block o table registered label =
     named_if o.others label
-    (collisions_to (regards_of (is_registrable o.properties) table label) o.limit (collisions_after o table registered label))
+    (collisions_to (regards_of (is_registrable o.properties) table label) o.limit
+    (collisions_after o table registered label))
 
 -- ---- the same block, by what its lines have to be
 
--- one of these registered labels, greater than the text of the settings, that collides with the label, and isn't left out
+-- one of these registered labels, greater than the text of the settings, that collides with the label, and isn't left
+-- out
 pub record IsFound (o : Settings) (table : TableValue) (labels : List (List ℕ)) (label v : List ℕ) : Type 0 where
   pub registered : Contains labels v
   pub greater : IsBelow o.after v
   pub collides : Collides o table label v
   pub other : o.others ≡ true → v ≢ label
 
--- each label that is found is said, up to the limit-th, with what it is to the label and the label to it, and then the end
-pub record IsCollisionBlock (o : Settings) (table : TableValue) (labels : List (List ℕ)) (label : List ℕ) (said : List Said) : Type 0 where
+-- each label that is found is said, up to the limit-th, with what it is to the label and the label to it, and then the
+-- end
+pub record IsCollisionBlock (o : Settings) (table : TableValue) (labels : List (List ℕ)) (label : List ℕ)
+    (said : List Said) : Type 0 where
   pub found : List (List ℕ)
   pub exactly : IsListOf (IsFound o table labels label) found
   pub regards : List ℕ → Regards

@@ -18,6 +18,7 @@ use Rattle.valid_labels.specs.Actions.{actions_of, matches_rule}
 use Rattle.valid_labels.specs.Dispositions.{disposition_by}
 use Rattle.valid_labels.specs.Readings.{has_kind, readings_of, told_by}
 use Rattle.valid_labels.specs.Staying.{staying_of}
+use Rattle.valid_labels.specs.Tests.{is_invalid as is_invalid_outcome}
 use Rattle.variant_list.specs.Readings.{Mapping, IsReadingOf, kinds_of}
 use Rattle.variant_list.specs.Readings.Mapping.{Stays, Maps}
 use Rattle.variant_list.specs.Substitutions.{substitutions_of}
@@ -109,11 +110,7 @@ is_allocatable_in_some table label v =
 abbrev pub is_invalid : Option VariantDisposition → Bool
 is_invalid None = false
 is_invalid (Some Unclear) = false
-is_invalid (Some (Clear outcomes.Invalid)) = true
-is_invalid (Some (Clear outcomes.Blocked)) = false
-is_invalid (Some (Clear outcomes.Allocatable)) = false
-is_invalid (Some (Clear outcomes.Activated)) = false
-is_invalid (Some (Clear outcomes.Valid)) = false
+is_invalid (Some (Clear outcome)) = is_invalid_outcome outcome
 
 abbrev pub allocation : Bool → Disposition
 allocation allocatable = if allocatable then told_as.Allocatable else told_as.Blocked

@@ -1,4 +1,5 @@
--- The block of a label's variants: a line for each, with its disposition, and a trailer that says where the listing ends.
+-- The block of a label's variants: a line for each, with its disposition, and a trailer that says where the listing
+-- ends.
 use Rattle.std.specs.Prelude.{◌≡◌, ℕ, ◌≤◌, ◌-◌, ◌&&◌, ◌||◌, not, Bool, bytes_eq, if◌then◌else◌}
 use Rattle.std.specs.Prelude.{List, [], ◌∷◌, ◌++◌, length, map, filter, Contains, Option, Some, None}
 use Rattle.std.specs.List.{list_any, slice_get}
@@ -46,7 +47,8 @@ ruled_labels properties table =
 
 -- what is asked under a table, by whether it asks nothing of its labels: then each label that is spelled is valid
 abbrev pub filter_if : Properties → Bool → TableValue → Filter
-filter_if properties asks_nothing table = if asks_nothing then registrable_labels properties else ruled_labels properties table
+filter_if properties asks_nothing table =
+    if asks_nothing then registrable_labels properties else ruled_labels properties table
 
 -- and that they aren't left out of the listing of this label
 abbrev pub without_left_out : TableValue → List ℕ → Filter → Filter
@@ -90,8 +92,8 @@ tested_after filter o labels = tested_among filter.hopeless labels o.after
 abbrev pub visited_in : Filter → Settings → List (List ℕ) → List (List ℕ)
 visited_in filter o labels = visited filter.hopeless None (candidates_among labels o.after)
 
--- the stop of a listing: the limit-th variant, the tries-th tested label or the label of the last step, the least of those that
--- exist
+-- the stop of a listing: the limit-th variant, the tries-th tested label or the label of the last step, the least of
+-- those that exist
 abbrev pub stop_of : Filter → Settings → List (List ℕ) → Option (List ℕ)
 stop_of filter o labels =
     lesser_label (nth_if_given (variants_after filter o labels) o.limit)
@@ -147,8 +149,8 @@ pub record IsAhead (o : Settings) (table : TableValue) (label v : List ℕ) : Ty
   pub greater : IsBelow o.after v
   pub spelled : Spells table label v
 
--- the stop is the least of the limit-th label that is listed, the tries-th that is tried and the steps-th that is visited, as far as
--- they exist; up to it each label that is listed is said, with its disposition, and then the end
+-- the stop is the least of the limit-th label that is listed, the tries-th that is tried and the steps-th that is
+-- visited, as far as they exist; up to it each label that is listed is said, with its disposition, and then the end
 pub record IsBlock (o : Settings) (table : TableValue) (label : List ℕ) (said : List Said) : Type 0 where
   pub listed : List (List ℕ)
   pub exactly : IsListOf (IsListed o table label) listed

@@ -19,11 +19,11 @@ use Rattle.idn2_options.specs.declared.command_line.form.Form.TheVariants.{Plain
 
 -- ---- of a line
 
--- what a name is in a query; what a label stands for and its A-label; what a name is decoded to; an old label for which a name of
--- a zone stands; a variant of a label, after its disposition, if the table has any; a registered label that collides with a label,
--- after what each is to the other; the end of a block: how many labels it has, and where it stops if there may be more; the same
--- after the label that was asked about; the least near label from a text on, with what it and the label asked about are to each
--- other, or that there is none
+-- what a name is in a query; what a label stands for and its A-label; what a name is decoded to; an old label for which
+-- a name of a zone stands; a variant of a label, after its disposition, if the table has any; a registered label that
+-- collides with a label, after what each is to the other; the end of a block: how many labels it has, and where it
+-- stops if there may be more; the same after the label that was asked about; the least near label from a text on, with
+-- what it and the label asked about are to each other, or that there is none
 pub data Said : Type 0 where
   LookedUp : (ascii : List ℕ) → Said
   Registered : (u_label a_label : List ℕ) → Said

@@ -24,6 +24,7 @@ use Rattle.idn_cause.specs.declared.query.LengthCause.{LengthCause}
 use Rattle.idn_cause.specs.declared.query.LengthCause.TheVariants.{LabelOctets, NameOctets}
 use Rattle.label_patterns.specs.declared.condition.ConditionKind.{ConditionKind}
 use Rattle.label_patterns.specs.declared.condition.ConditionKind.TheVariants.{When, Unless}
+use Rattle.ruleset_text.specs.Actions.{kind_word}
 use Rattle.ruleset_text.specs.declared.definition.DemandKind.{DemandKind}
 use Rattle.ruleset_text.specs.declared.definition.DemandKind.TheVariants.{Never, Always}
 use Rattle.ruleset_text.specs.declared.fault.FaultPlace.{FaultPlace}
@@ -35,7 +36,7 @@ use Rattle.answer_json.specs.Inputs.{told_of}
 use Rattle.answer_json.specs.Objects.{refused, registered_fault, table_fault}
 use Rattle.answer_json.specs.Unicode.{AreUnicode}
 use Rattle.idn2_refusals.specs.CauseParts.{a_label_parts, at_byte, by_action, changed_parts, fault_place_parts, label_parts, length_parts, parts_of, placed, point_at_byte, point_parts, told_details}
-use Rattle.idn2_refusals.specs.RuleTexts.{appendix_rule, asked_text, barring_rule, bidi_rule, bidi_text, demand_text}
+use Rattle.idn2_refusals.specs.RuleTexts.{appendix_rule, barring_rule, bidi_rule, bidi_text, demand_text}
 use Rattle.idn2_laws.specs.ReadBack.{IsReadBack, byte_of}
 use Rattle.idn2_refusals.specs.declared.cause.LineCause.{LineCause}
 use Rattle.idn2_refusals.specs.declared.cause.LineCause.TheVariants.{Byte, LongLine, OfLabel, OfALabel, OfName, OfQuery, Misplaced, NoEntry, Broken as BrokenDemand, Unclear, ActionAsking, ActionOfType, Action, DefaultAction, Ends, OfTable, ByteOrderMark, ALabelOf, NoALabel}
@@ -396,7 +397,7 @@ good_fault_place (places.Byte place) quoted h = good_byte place h
 good_fault_place (places.NinthPoint place c) quoted h = good_point_byte place c h
 good_fault_place (places.SeventeenthVariant place c) quoted h = good_point_byte place c h
 
-condition_utf8 : (kind : ConditionKind) → IsUtf8 (asked_text kind)
+condition_utf8 : (kind : ConditionKind) → IsUtf8 (kind_word kind)
 condition_utf8 When = ascii_utf8 (codes "when") refl
 condition_utf8 Unless = ascii_utf8 (codes "unless") refl
 

@@ -153,7 +153,17 @@ module _ (table : TableValue) (single : IsSingle table) where
   nothing = older-asks_nothing table single.of_table earlier
 
   nothing_in : (v : Version) → AsksNothing (table_of v table.definitions table.entries)
-  nothing_in v = record { conditions = nothing.conditions; demands = nothing.demands; types = nothing.types; actions = nothing.actions; cuts = inr (single-sources table.entries (recursion_from_All (λ (e : Entry). All (λ s. length s ≡ 1) (replacements e)) table.entries single.points), variants-version table.definitions table.entries table.version v table.entries single.sources) }
+  nothing_in v =
+      let alone = nothing.cuts_alone in
+      record {
+        cuts_alone = record {
+          conditions = alone.conditions;
+          demands = alone.demands;
+          types = alone.types;
+          actions = alone.actions;
+        };
+        cuts = inr (single-sources table.entries (recursion_from_All (λ (e : Entry). All (λ s. length s ≡ 1) (replacements e)) table.entries single.points), variants-version table.definitions table.entries table.version v table.entries single.sources);
+      }
 
   sound_in : (v : Version) → IsSound (table_of v table.definitions table.entries)
   sound_in v = record { entries = single.of_table.well_formed; named = single.of_table.named; definitions = single.of_table.without_fault }

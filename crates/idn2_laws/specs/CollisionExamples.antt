@@ -1,16 +1,15 @@
 -- Worked examples of labels that collide, by computation.
 use Rattle.std.specs.Prelude.{◌≡◌, ℕ, Bool, true, not, bytes_eq, List, [], ◌∷◌, ◌++◌, codes}
 use Rattle.label_patterns.specs.Patterns.{Pattern, Any, Anchor, Either, End, Point, Start, Then}
-use Rattle.variant_table.specs.declared.version.Version.TheVariants.{Two}
-use Rattle.variant_table.specs.Entries.{Entry, TableValue, empty_table, entry_from}
+use Rattle.variant_table.specs.Entries.{TableValue, entry_from}
 use Rattle.variant_table.specs.ExampleTables.{table_with, unless_first, when_first}
 use Rattle.valid_labels.specs.Examples.{letters, source}
 use Rattle.variant_list.specs.Examples.{any_label, entry, final_sigma, of_type, untyped, version_one}
+use Rattle.registered_labels.specs.Examples.{strasse, strasze, version_two}
 use Rattle.answer_json.specs.declared.collision.Regard.{Regard}
 use Rattle.answer_json.specs.declared.collision.Regard.TheVariants.{NoVariant, Variant, Blocked, Allocatable}
 use Rattle.answer_json.specs.declared.collision.Regards.{Regards}
 use Rattle.idn2_answers.specs.Collisions.{regards_of}
-use Rattle.idn_class.specs.declared.properties.Properties.TheVariants.{Profile}
 use Rattle.idn2_laws.specs.ListingExamples.{digits_of_two_kinds}
 use Rattle.idn2_laws.specs.TypeExamples.{chinese}
 
@@ -37,10 +36,6 @@ abbrev pub chain : TableValue
 chain = version_one
     (entry (codes "a") (untyped (codes "b") ∷ []) ∷ entry (codes "b") []
     ∷ entry (codes "c") (untyped (codes "d") ∷ []) ∷ entry (codes "d") [] ∷ [])
-
--- a table of version 2
-abbrev pub version_two : List Entry → TableValue
-version_two entries = record (empty_table Profile Two) { entries = entries }
 
 -- the lines 0061|!0062, 0062 and 0063 of version 2
 abbrev pub oneway : TableValue
@@ -81,21 +76,14 @@ out_of_repertoire = table_with [] [] []
 
 -- ---- labels
 
--- strasse and straße
-abbrev pub strasse : List ℕ
-strasse = codes "strasse"
-
-abbrev pub strasze : List ℕ
-strasze = codes "stra" ++ 223 ∷ codes "e"
-
 -- each label but ab--a may be registered
 abbrev pub but_one : List ℕ → Bool
 but_one v = not (bytes_eq v (codes "ab--a"))
 
 -- ---- of good labels the listings decide
 
--- a label may have another one as a variant that doesn't have it: by a condition, by a gap, or by a longer source that is
--- in the way of one alone
+-- a label may have another one as a variant that doesn't have it: by a condition, by a gap, or by a longer source that
+-- is in the way of one alone
 pub record ListingsDecide : Type 0 where
   pub sigma : regards final_sigma (963 ∷ 945 ∷ []) (962 ∷ 945 ∷ []) ≡ told NoVariant Allocatable
   pub final_sigma_asked : regards final_sigma (962 ∷ 945 ∷ []) (963 ∷ 945 ∷ []) ≡ told Allocatable NoVariant
@@ -114,8 +102,8 @@ pub record ListingsDecide : Type 0 where
   pub shorter_source : regards over (codes "cba") (codes "aba") ≡ told NoVariant Allocatable
   pub only_back : regards hidden (codes "bb") (codes "ab") ≡ told NoVariant Allocatable
 
--- whether the holder of a registered label may have the one asked about is what the latter is to the former: a pure form
--- is allocatable to the holder of a mixture, and a mixture is blocked to that of a pure form
+-- whether the holder of a registered label may have the one asked about is what the latter is to the former: a pure
+-- form is allocatable to the holder of a mixture, and a mixture is blocked to that of a pure form
 pub record HoldersMayHave : Type 0 where
   pub mixture_asked : regards chinese (0x56FD ∷ 0x5B78 ∷ []) (0x56FD ∷ 0x5B66 ∷ []) ≡ told Allocatable Blocked
   pub traditional_of_mixture : regards chinese (0x56FD ∷ 0x5B78 ∷ []) (0x570B ∷ 0x5B78 ∷ []) ≡ told Allocatable Blocked

@@ -11,7 +11,8 @@ use Rattle.variant_list.specs.Readings.{Mapping, IsReadingOf, kinds_of}
 use Rattle.variant_list.specs.Spelling.{Spells}
 use Rattle.answer_json.specs.declared.block.Disposition.{Disposition}
 use Rattle.answer_json.specs.declared.block.Disposition.TheVariants.{Allocatable}
-use Rattle.idn2_answers.specs.Dispositions.{HasOutcome, IsAllocatable, IsClear, IsDisposition, IsReadingFor, disposition}
+use Rattle.idn2_answers.specs.Dispositions.{HasOutcome, IsAllocatable, IsClear, IsDisposition, IsReadingFor}
+use Rattle.idn2_answers.specs.Dispositions.{disposition}
 
 -- what is told of a variant is its disposition, and it has no other one; version 1 has none. In version 2 it is
 -- allocatable exactly where some reading lacks blocked, and so is the label itself

@@ -2,7 +2,8 @@
 use Rattle.std.specs.Prelude.{◌≡◌, ℕ, List, [], ◌∷◌, ◌++◌, Some, None, Option, Ok, Err, codes, map}
 use Rattle.idn_text.specs.Points.{utf8_of}
 use Rattle.idn_text.specs.Lines.{lines_of}
-use Rattle.idn_text.specs.declared.refusal.Refusal.TheVariants.{Disallowed, Empty, LineTooLong, NotInTable, NotUtf8, NotValid, Syntax, WriteFault}
+use Rattle.idn_text.specs.declared.refusal.Refusal.TheVariants.{Disallowed, Empty, LineTooLong, NotInTable, NotUtf8}
+use Rattle.idn_text.specs.declared.refusal.Refusal.TheVariants.{NotValid, Syntax, WriteFault}
 use Rattle.variant_table.specs.declared.version.Version.TheVariants.{Two}
 use Rattle.variant_table.specs.Entries.{TableValue, empty_table}
 use Rattle.variant_table.specs.Ranges.{range_entries}
@@ -64,21 +65,26 @@ one_or_both = record (empty_table Profile Two) {
       ∷ entry (codes "aa") (untyped (codes "bb") ∷ []) ∷ [];
 }
 
--- aa spells aa, aaa and aaaa; of the labels that aaa spells, the four that have a hyphen first are not tested, and one step
--- goes over them; ay is blocked; and
--- bb, which is blocked as two letters, is allocatable as one pair
+-- aa spells aa, aaa and aaaa; of the labels that aaa spells, the four that have a hyphen first are not tested, and one
+-- step goes over them; ay is blocked; and bb, which is blocked as two letters, is allocatable as one pair
 pub record ExamplesOfBlocks : Type 0 where
-  pub doubled : map said_line (block (listing None 1000000) a_or_two (codes "aa")) ≡ codes "aa\taa" ∷ codes "aaa\taaa" ∷ codes "aaaa\taaaa" ∷ codes "#end 3" ∷ []
-  pub limited : map said_line (block (listing (Some 2) 1000000) a_or_two (codes "aa")) ≡ codes "aa\taa" ∷ codes "aaa\taaa" ∷ codes "#stop 2 aaa" ∷ []
-  pub spent : map said_line (block (listing None 4) letter_or_hyphen (codes "aaa")) ≡ codes "a-a\ta-a" ∷ codes "aaa\taaa" ∷ codes "#stop 2 aaa" ∷ []
-  pub stepped : map said_line (block (record (listing None 1000000) { steps = Some 3 }) letter_or_hyphen (codes "aaa")) ≡ codes "a-a\ta-a" ∷ codes "#stop 1 a-a" ∷ []
-  pub y_blocked : map said_line (block (listing None 1000000) y_or_z (codes "ax")) ≡ codes "ax\tax\tallocatable" ∷ codes "ay\tay\tblocked" ∷ codes "az\taz\tallocatable" ∷ codes "#end 3" ∷ []
+  pub doubled : map said_line (block (listing None 1000000) a_or_two (codes "aa"))
+      ≡ codes "aa\taa" ∷ codes "aaa\taaa" ∷ codes "aaaa\taaaa" ∷ codes "#end 3" ∷ []
+  pub limited : map said_line (block (listing (Some 2) 1000000) a_or_two (codes "aa"))
+      ≡ codes "aa\taa" ∷ codes "aaa\taaa" ∷ codes "#stop 2 aaa" ∷ []
+  pub spent : map said_line (block (listing None 4) letter_or_hyphen (codes "aaa"))
+      ≡ codes "a-a\ta-a" ∷ codes "aaa\taaa" ∷ codes "#stop 2 aaa" ∷ []
+  pub stepped : map said_line (block (record (listing None 1000000) { steps = Some 3 }) letter_or_hyphen (codes "aaa"))
+      ≡ codes "a-a\ta-a" ∷ codes "#stop 1 a-a" ∷ []
+  pub y_blocked : map said_line (block (listing None 1000000) y_or_z (codes "ax"))
+      ≡ codes "ax\tax\tallocatable" ∷ codes "ay\tay\tblocked" ∷ codes "az\taz\tallocatable" ∷ codes "#end 3" ∷ []
   pub allocatable_by_one_cutting : map said_line (block (listing None 1000000) one_or_both (codes "aa"))
-      ≡ codes "aa\taa\tallocatable" ∷ codes "ab\tab\tblocked" ∷ codes "ba\tba\tblocked" ∷ codes "bb\tbb\tallocatable" ∷ codes "#end 4" ∷ []
+      ≡ codes "aa\taa\tallocatable" ∷ codes "ab\tab\tblocked" ∷ codes "ba\tba\tblocked" ∷ codes "bb\tbb\tallocatable"
+      ∷ codes "#end 4" ∷ []
 
--- labels under rulesets, and whether they are answered, and if not, why: a vowel sign after another one, and a code point that is no
--- source; a vowel that stands after its consonant; a hyphen in the third place; digits of two kinds; no a where each label has one;
--- half a letter where it may not stand; a source of the type invalid
+-- labels under rulesets, and whether they are answered, and if not, why: a vowel sign after another one, and a code
+-- point that is no source; a vowel that stands after its consonant; a hyphen in the third place; digits of two kinds;
+-- no a where each label has one; half a letter where it may not stand; a source of the type invalid
 pub record ExamplesOfRefusals : Type 0 where
   pub sign : if_admitted signs (2325 ∷ 2366 ∷ []) [] ≡ Ok []
   pub sign_after_sign : if_admitted signs (2325 ∷ 2366 ∷ 2366 ∷ []) [] ≡ Err NotValid
@@ -98,5 +104,6 @@ three_lines = codes "abc\na-\nb\n"
 
 -- a refused line changes nothing of the others
 pub record ExamplesOfTranscripts : Type 0 where
-  pub between : transcript (plain_run Register []) (Ok no_table) (lines_of three_lines) ≡ Output (codes "abc\n") ∷ Message (codes "idn2: line 2: 13 hyphen out of place\n") ∷ Output (codes "b\n") ∷ []
+  pub between : transcript (plain_run Register []) (Ok no_table) (lines_of three_lines)
+      ≡ Output (codes "abc\n") ∷ Message (codes "idn2: line 2: 13 hyphen out of place\n") ∷ Output (codes "b\n") ∷ []
   pub status : status_of (plain_run Register []) (Ok no_table) (lines_of three_lines) ≡ Refused

@@ -24,14 +24,17 @@ use Rattle.idn2_refusals.specs.Messages.{line_message, refused_message}
 use Rattle.idn2_output.specs.OutputLines.{messages_of}
 use Rattle.idn2_refusals.specs.declared.cause.LineCause.TheVariants.{Byte, OfLabel}
 
--- what messages go on with. Without the option nothing, so that they are as ever; of bytes that are no UTF-8 the first that no UTF-8
--- goes on with (RFC 3629, section 3) is told, and of a label that can't be cut into sources the code point after the furthest place
--- that they reach (RFC 7940, section 8.1)
+-- what messages go on with. Without the option nothing, so that they are as ever; of bytes that are no UTF-8 the first
+-- that no UTF-8 goes on with (RFC 3629, section 3) is told, and of a label that can't be cut into sources the code
+-- point after the furthest place that they reach (RFC 7940, section 8.1)
 pub record CausesAreTold : Type 0 where
-  pub unexplained : (body : Option (List ℕ)) (refusal : Refusal) → tail_text refusal (body_cause Unexplained body refusal) ≡ []
+  pub unexplained : (body : Option (List ℕ)) (refusal : Refusal)
+      → tail_text refusal (body_cause Unexplained body refusal) ≡ []
   pub plain : (number : ℕ) (refusal : Refusal) → refused_message number refusal [] ≡ line_message number refusal
-  pub byte : (bytes : List ℕ) (place : ℕ) → IsValidUpTo bytes place → bad_byte bytes ≡ Byte place (slice_index bytes place)
-  pub outside : (properties : Properties) (table : TableValue) (label : List ℕ) (place : ℕ) → IsWellFormed table.entries → length label ≤ 63 → IsFurthest table label place →
+  pub byte : (bytes : List ℕ) (place : ℕ) → IsValidUpTo bytes place
+      → bad_byte bytes ≡ Byte place (slice_index bytes place)
+  pub outside : (properties : Properties) (table : TableValue) (label : List ℕ) (place : ℕ) → IsWellFormed table.entries
+      → length label ≤ 63 → IsFurthest table label place →
       table_cause properties table label NotInTable ≡ Some (OfLabel (Point place (slice_index label place)))
 
 -- the check of a table of which no variant has a condition finds its gaps and its idle types, and nothing that differs
@@ -45,9 +48,12 @@ ConditionsAloneDiffer =
 -- both forms: with objects, what it says with `--explain`. So is its status, and with objects nothing goes to the
 -- messages
 pub record FormsSayTheSame : Type 0 where
-  pub written : (o : Settings) (given : TableGiven) (lines : List Numbered) → transcript o given lines ≡ map (output_line_in o.form) (statements o given lines)
+  pub written : (o : Settings) (given : TableGiven) (lines : List Numbered)
+      → transcript o given lines ≡ map (output_line_in o.form) (statements o given lines)
   pub same : (o : Settings) (given : TableGiven) (lines : List Numbered)
-      → statements (record o { form = Json }) given lines ≡ statements (record o { form = Plain; explain = true }) given lines
+      → statements (record o { form = Json }) given lines
+      ≡ statements (record o { form = Plain; explain = true }) given lines
   pub status : (o : Settings) (given : TableGiven) (lines : List Numbered)
       → status_of (record o { form = Json }) given lines ≡ status_of (record o { form = Plain }) given lines
-  pub silent : (o : Settings) (given : TableGiven) (lines : List Numbered) → o.form ≡ Json → messages_of (transcript o given lines) ≡ []
+  pub silent : (o : Settings) (given : TableGiven) (lines : List Numbered) → o.form ≡ Json
+      → messages_of (transcript o given lines) ≡ []

@@ -1,5 +1,6 @@
 -- What the cause of a refused line is, by what it has to be. Places and labels are counted from 0.
-use Rattle.std.specs.Prelude.{◌≡◌, ◌≢◌, ◌⊎◌, ◌↔◌, ℕ, ◌<◌, true, false, List, [], ◌∷◌, length, chars, Option, Some, None, Err, slice_index}
+use Rattle.std.specs.Prelude.{◌≡◌, ◌≢◌, ◌⊎◌, ◌↔◌, ℕ, ◌<◌, true, false, List, [], ◌∷◌, length, chars, Option, Some, None}
+use Rattle.std.specs.Prelude.{Err, slice_index}
 use Rattle.std.specs.Str.{is_utf8, IsValidUpTo}
 use Rattle.idn_class.specs.declared.properties.Properties.{Properties}
 use Rattle.idna.specs.Validity.{has_ace_prefix}
@@ -22,10 +23,12 @@ use Rattle.idn2_options.specs.declared.command_line.mode.Mode.{Mode}
 use Rattle.idn2_options.specs.declared.command_line.mode.Mode.TheVariants.{CheckTable}
 use Rattle.idn2_answers.specs.Answers.{line_answer, mode_answer}
 use Rattle.idn2_refusals.specs.Requests.{requested_label}
-use Rattle.idn2_refusals.specs.Explained.{Explained, Unexplained, ByLabel, ByName, ByQuery, ByTable, ByRequest, ByRegisteredLine, body_cause, validity_cause}
+use Rattle.idn2_refusals.specs.Explained.{Explained, Unexplained, ByLabel, ByName, ByQuery, ByTable, ByRequest}
+use Rattle.idn2_refusals.specs.Explained.{ByRegisteredLine, body_cause, validity_cause}
 use Rattle.idn2_answers.specs.Transcript.{explained_in, Refuses, line_output, output_line_in}
 use Rattle.idn2_refusals.specs.declared.cause.LineCause.{LineCause}
-use Rattle.idn2_refusals.specs.declared.cause.LineCause.TheVariants.{Byte, LongLine, OfLabel, OfALabel, OfName, OfQuery, ALabelOf, NoALabel}
+use Rattle.idn2_refusals.specs.declared.cause.LineCause.TheVariants.{Byte, LongLine, OfLabel, OfALabel, OfName, OfQuery}
+use Rattle.idn2_refusals.specs.declared.cause.LineCause.TheVariants.{ALabelOf, NoALabel}
 
 -- it is the cause of a label, a name or what else has one
 abbrev pub IsOf : {X : Type 0} → (X → LineCause) → (X → Type 0) → LineCause → Type 0
@@ -50,13 +53,14 @@ IsULabelCause properties label Hyphen cause =
     ⊎ ((has_ace_prefix label ≡ false) × IsOf OfLabel (IsCause properties label Hyphen) cause)
 IsULabelCause properties label refusal cause = IsOf OfLabel (IsCause properties label refusal) cause
 
--- of a label that isn't made of sources of a table: the code point after the furthest place that they reach (RFC 7940, section 8.1)
+-- of a label that isn't made of sources of a table: the code point after the furthest place that they reach (RFC 7940,
+-- section 8.1)
 abbrev pub IsNotInTableCause : TableValue → List ℕ → Cause → Type 0
 IsNotInTableCause table label cause =
-    (place : ℕ) × IsFurthest table label place × (place < length label) × (cause ≡ Point place (slice_index label place))
+    (place : ℕ) × IsFurthest table label place × (place < length label)
+    × (cause ≡ Point place (slice_index label place))
 
--- of a label that is made of sources of a ruleset and isn't valid: where it isn't eligible, or a demand (RFC
--- 7940, sections 5.2 and 7)
+-- of a label that is made of sources of a ruleset and may not be asked about (RFC 7940, sections 7 and 8)
 abbrev pub IsInvalidCause : TableValue → List ℕ → LineCause → Type 0
 IsInvalidCause table label cause = IsOf (validity_cause table label) (validity_causes.IsCause table label) cause
 
@@ -73,7 +77,8 @@ IsPointsCause (ByLabel properties) points refusal cause = IsRegistrationCause pr
 IsPointsCause (ByName properties) points refusal cause = IsOf OfName (IsNameCause properties points refusal) cause
 IsPointsCause (ByQuery std3) points refusal cause = IsOf OfQuery (IsQueryCause (utf8_of points) std3 refusal) cause
 IsPointsCause (ByTable properties table) points refusal cause = IsTableCause properties table points refusal cause
-IsPointsCause (ByRequest properties table) points refusal cause = IsTableCause properties table (requested_label points) refusal cause
+IsPointsCause (ByRequest properties table) points refusal cause =
+    IsTableCause properties table (requested_label points) refusal cause
 IsPointsCause (ByRegisteredLine properties) points refusal cause = IsULabelCause properties points refusal cause
 
 -- the first byte that no UTF-8 goes on with (RFC 3629, section 3)
@@ -84,19 +89,26 @@ IsBadByte bytes cause = (place : ℕ) × IsValidUpTo bytes place × (cause ≡ B
 abbrev pub IsLineCause : Explained → Option (List ℕ) → Refusal → LineCause → Type 0
 IsLineCause how None refusal cause = cause ≡ LongLine
 IsLineCause how (Some bytes) refusal cause =
-    ((is_utf8 bytes ≡ false) × IsBadByte bytes cause) ⊎ ((is_utf8 bytes ≡ true) × IsPointsCause how (chars bytes) refusal cause)
+    ((is_utf8 bytes ≡ false) × IsBadByte bytes cause)
+    ⊎ ((is_utf8 bytes ≡ true) × IsPointsCause how (chars bytes) refusal cause)
 
--- a refused line is told with this cause, where causes are wanted, and with no other. Each has one but an empty line, and a name of
--- which ToASCII tells no more than that it is none (UTS 46, section 4.2)
-pub record IsExplained (mode : Mode) (o : Settings) (table : TableValue) (line : Numbered) (refusal : Refusal) : Type 0 where
+-- a refused line is told with this cause, where causes are wanted, and with no other. Each has one but an empty line,
+-- and a name of which ToASCII tells no more than that it is none (UTS 46, section 4.2)
+pub record IsExplained (mode : Mode) (o : Settings) (table : TableValue) (line : Numbered)
+    (refusal : Refusal) : Type 0 where
   pub exactly : (cause : LineCause) →
-      (body_cause (explained_in mode o table) line.body refusal ≡ Some cause) ↔ IsLineCause (explained_in mode o table) line.body refusal cause
-  pub always : refusal ≢ Empty → refusal ≢ LookupInvalid → body_cause (explained_in mode o table) line.body refusal ≢ None
+      (body_cause (explained_in mode o table) line.body refusal ≡ Some cause)
+      ↔ IsLineCause (explained_in mode o table) line.body refusal cause
+  pub always : refusal ≢ Empty → refusal ≢ LookupInvalid
+      → body_cause (explained_in mode o table) line.body refusal ≢ None
   pub told : (cause : LineCause) → IsLineCause (explained_in mode o table) line.body refusal cause →
-      line_output o.form (explained_in mode o table) (mode_answer mode o table) line ≡ output_line_in o.form (Refuses line refusal (Some cause)) ∷ []
+      line_output o.form (explained_in mode o table) (mode_answer mode o table) line
+      ≡ output_line_in o.form (Refuses line refusal (Some cause)) ∷ []
 
 -- so is each line that a mode refuses. The check of a table reads none
 abbrev pub RefusalsAreExplained : Type 0
 RefusalsAreExplained =
-    (mode : Mode) (o : Settings) (table : TableValue) (line : Numbered) (refusal : Refusal) → mode ≢ CheckTable → tells_causes o ≡ true →
-    IsSound table → line_answer (mode_answer mode o table) line.body ≡ Err refusal → IsExplained mode o table line refusal
+    (mode : Mode) (o : Settings) (table : TableValue) (line : Numbered) (refusal : Refusal) → mode ≢ CheckTable
+    → tells_causes o ≡ true →
+    IsSound table → line_answer (mode_answer mode o table) line.body ≡ Err refusal
+    → IsExplained mode o table line refusal

@@ -2,7 +2,8 @@
 use Rattle.std.specs.Prelude.{◌≡◌, ◌&&◌, not, Some, List, [], ◌∷◌, ◌++◌, ℕ, codes}
 use Rattle.label_patterns.specs.Patterns.{Any, Either, End, Many, Point, Set, Then, Anchor}
 use Rattle.variant_table.specs.Entries.{TableValue}
-use Rattle.valid_labels.specs.Examples.{after_a, c_for_a, letters, invalid_within, never, source, two_for_one, vowel_for_consonant}
+use Rattle.valid_labels.specs.Examples.{after_a, c_for_a, letters, invalid_within, never, source, two_for_one}
+use Rattle.valid_labels.specs.Examples.{vowel_for_consonant}
 use Rattle.variant_table.specs.ExampleTables.{table_with, when_first}
 use Rattle.valid_labels.specs.Tests.{is_dead_under, is_valid}
 use Rattle.variant_list.specs.Tested.{tested}
@@ -12,7 +13,8 @@ use Rattle.idn2_answers.specs.Dispositions.{is_left_out}
 
 -- two kinds of digits, never together
 abbrev pub digits_of_two_kinds : TableValue
-digits_of_two_kinds = table_with ((record { first = 48; last = 57 } ∷ []) ∷ (record { first = 2406; last = 2415 } ∷ []) ∷ []) []
+digits_of_two_kinds =
+    table_with ((record { first = 48; last = 57 } ∷ []) ∷ (record { first = 2406; last = 2415 } ∷ []) ∷ []) []
     (never (Either (Then (Set 0) (Then (Many Any) (Set 1))) (Then (Set 1) (Then (Many Any) (Set 0)))) ∷ [])
     (entry (48 ∷ []) (of_type 1 (2406 ∷ []) ∷ []) ∷ entry (2406 ∷ []) (of_type 1 (48 ∷ []) ∷ [])
     ∷ entry (49 ∷ []) (of_type 1 (2407 ∷ []) ∷ []) ∷ entry (2407 ∷ []) (of_type 1 (49 ∷ []) ∷ []) ∷ [])
@@ -37,8 +39,10 @@ listed table label = variants (λ v. is_valid table v && not (is_left_out table 
 -- its digits are of one kind, it doesn't end as none may, a source of the type invalid stands where it may, a source
 -- has its condition within a variant, and what is not made of sources is not valid
 pub record ListingsOfExamples : Type 0 where
-  pub one_kind_tested : tested (is_dead_under digits_of_two_kinds) digits_of_two_kinds (codes "01") [] ≡ codes "01" ∷ (2406 ∷ 2407 ∷ []) ∷ []
-  pub end_tested : tested (is_dead_under b_within) b_within (codes "aa") [] ≡ codes "aa" ∷ codes "ab" ∷ codes "ba" ∷ codes "bb" ∷ []
+  pub one_kind_tested : tested (is_dead_under digits_of_two_kinds) digits_of_two_kinds (codes "01") []
+      ≡ codes "01" ∷ (2406 ∷ 2407 ∷ []) ∷ []
+  pub end_tested : tested (is_dead_under b_within) b_within (codes "aa") []
+      ≡ codes "aa" ∷ codes "ab" ∷ codes "ba" ∷ codes "bb" ∷ []
   pub barred_not_tested : tested (is_dead_under c_for_a) c_for_a (codes "aba") [] ≡ codes "aba" ∷ codes "abc" ∷ []
   pub sign_on_the_consonant : listed vowel_for_consonant (2325 ∷ 2366 ∷ []) ≡ (2325 ∷ 2366 ∷ []) ∷ []
   pub vowel_in_its_place : listed vowel_for_consonant (2325 ∷ 2326 ∷ []) ≡ (2309 ∷ 2326 ∷ []) ∷ (2325 ∷ 2326 ∷ []) ∷ []

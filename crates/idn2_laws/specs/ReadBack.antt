@@ -1,5 +1,6 @@
 -- Objects that are read back as they are meant.
-use Rattle.std.specs.Prelude.{◌≡◌, ◌≢◌, ℕ, ◌<◌, ◌≤◌, ◌^◌, Bool, true, All, IsUtf8, List, length, Option, Some, None, Ok, Err}
+use Rattle.std.specs.Prelude.{◌≡◌, ◌≢◌, ℕ, ◌<◌, ◌≤◌, ◌^◌, Bool, true, All, IsUtf8, List, length, Option, Some, None, Ok}
+use Rattle.std.specs.Prelude.{Err}
 use Rattle.idn_class.specs.declared.properties.Properties.{Properties}
 use Rattle.json.specs.Json.{document}
 use Rattle.idn_text.specs.Lines.{Numbered}
@@ -36,7 +37,8 @@ use Rattle.idn2_refusals.specs.WrongLines.{told_of_wrong_line}
 use Rattle.idn2_refusals.specs.declared.cause.LineCause.{LineCause}
 use Rattle.idn2_refusals.specs.declared.cause.LineCause.TheVariants.{OfLabel, OfALabel, OfName, OfQuery}
 
--- the grammar of JSON (RFC 8259) reads the text of the object as the object that is meant; the text is one line, and UTF-8
+-- the grammar of JSON (RFC 8259) reads the text of the object as the object that is meant; the text is one line, and
+-- UTF-8
 pub record IsReadBack (answer : Answer) : Type 0 where
   pub read_back : document (text_of (json_of answer)) ≡ Some (json_of answer)
   pub one_line : is_clear (text_of (json_of answer)) ≡ true
@@ -50,7 +52,8 @@ IsKeptToFew properties (Some labels) = AreRegistered properties labels × (lengt
 -- each object that a mode says in answer to a line is read back, whatever the line holds, if its number is below 2 ^ 64
 abbrev pub SaidIsReadBack : Type 0
 SaidIsReadBack =
-    (mode : Mode) (o : Settings) (table : TableValue) (line : Numbered) (said : List Said) → IsSound table → IsCount o.tries → IsKeptToFew o.properties o.registered
+    (mode : Mode) (o : Settings) (table : TableValue) (line : Numbered) (said : List Said) → IsSound table
+    → IsCount o.tries → IsKeptToFew o.properties o.registered
     → line.number < 2 ^ 64 → line_answer (mode_answer mode o table) line.body ≡ Ok said
     → All (λ s. IsReadBack (said_object line.number (told_of line.body) s)) said
 
@@ -89,10 +92,14 @@ TellsFewOctetsIfAny (Some cause) = TellsFewOctets cause
 -- the object of each line that a mode refuses is read back, whatever the line holds, with the cause that is told
 abbrev pub RefusalsAreReadBack : Type 0
 RefusalsAreReadBack =
-    (mode : Mode) (o : Settings) (table : TableValue) (line : Numbered) (refusal : Refusal) → mode ≢ CheckTable → tells_causes o ≡ true
-    → IsSound table → line.number < 2 ^ 64 → IsShortBody line.body → line_answer (mode_answer mode o table) line.body ≡ Err refusal
+    (mode : Mode) (o : Settings) (table : TableValue) (line : Numbered) (refusal : Refusal) → mode ≢ CheckTable
+    → tells_causes o ≡ true
+    → IsSound table → line.number < 2 ^ 64 → IsShortBody line.body
+    → line_answer (mode_answer mode o table) line.body ≡ Err refusal
     → TellsFewOctetsIfAny (body_cause (explained_in mode o table) line.body refusal)
-    → IsReadBack (refused line.number (told_of line.body) refusal (told_details refusal (body_cause (explained_in mode o table) line.body refusal)))
+    → IsReadBack
+    (refused line.number (told_of line.body) refusal
+    (told_details refusal (body_cause (explained_in mode o table) line.body refusal)))
 
 -- ---- tables, and registered labels
 
@@ -117,13 +124,16 @@ byte_of (places.SeventeenthVariant place c) = place
 -- so is that of the fault of a table, with its cause, where the line of the fault and the place in it are small numbers
 abbrev pub TableFaultsAreReadBack : Type 0
 TableFaultsAreReadBack =
-    (properties : Properties) (wanted : Bool) (notation : Notation) (text : List ℕ) (fault : TableFault) (line : ℕ) (refusal : Refusal) → line < 2 ^ 64
+    (properties : Properties) (wanted : Bool) (notation : Notation) (text : List ℕ) (fault : TableFault) (line : ℕ)
+    (refusal : Refusal) → line < 2 ^ 64
     → ((place : FaultPlace) → fault_place properties notation text fault ≡ Some place → byte_of place < 2 ^ 63)
-    → IsReadBack (table_fault line refusal (told_details refusal (told_if wanted (fault_cause properties notation text fault))))
+    → IsReadBack
+    (table_fault line refusal (told_details refusal (told_if wanted (fault_cause properties notation text fault))))
 
 -- and that of a wrong line of the registered labels, with its cause
 abbrev pub RegisteredFaultsAreReadBack : Type 0
 RegisteredFaultsAreReadBack =
     (properties : Properties) (wanted : Bool) (text : List ℕ) (number : ℕ) (refusal : Refusal) → number < 2 ^ 64
     → TellsFewOctetsIfAny (told_of_wrong_line properties wanted text number refusal)
-    → IsReadBack (registered_fault number refusal (told_details refusal (told_of_wrong_line properties wanted text number refusal)))
+    → IsReadBack
+    (registered_fault number refusal (told_details refusal (told_of_wrong_line properties wanted text number refusal)))

@@ -3,7 +3,11 @@
 use Rattle.std.specs.Prelude.{ℕ, ◌^◌, ◌-◌, Some, codes, true}
 use Rattle.clap.specs.Words.{App, Rule, Text, new_app, new_rule, with_rule}
 use Rattle.clap.specs.declared.builder.ArgAction.TheVariants.{SetTrue, Set, Append}
-use Rattle.idn2_options.specs.Names.{after_name, among_name, check_ruleset_name, check_table_name, decode_letter, decode_name, explain_name, json_name, jump_name, limit_name, lookup_letter, lookup_name, old_name, others_name, quiet_name, register_letter, register_name, ruleset_name, standard_name, std3_name, steps_name, strings_name, tr46nt_letter, tr46nt_name, tries_name, variants_name}
+use Rattle.idn2_options.specs.Names.{after_name, among_name, check_ruleset_name, check_table_name, decode_letter}
+use Rattle.idn2_options.specs.Names.{decode_name, explain_name, json_name, jump_name, limit_name, lookup_letter}
+use Rattle.idn2_options.specs.Names.{lookup_name, old_name, others_name, quiet_name, register_letter, register_name}
+use Rattle.idn2_options.specs.Names.{ruleset_name, standard_name, std3_name, steps_name, strings_name, tr46nt_letter}
+use Rattle.idn2_options.specs.Names.{tr46nt_name, tries_name, variants_name}
 
 -- a flag, `--name`
 abbrev pub flag_rule : Text → Rule
@@ -71,5 +75,6 @@ versioned_app name = record (new_app name) { top = record (new_app name).top { h
 
 -- `idn2`; building it adds `-h`, `--help`, `-V` and `--version`
 unfoldable pub app : App
-app = with_rule (with_bounds (with_switches (with_collisions (with_tables (with_modes (versioned_app (codes "idn2")))))))
+app =
+    with_rule (with_bounds (with_switches (with_collisions (with_tables (with_modes (versioned_app (codes "idn2")))))))
     (strings_rule strings_name)

@@ -10,12 +10,32 @@ use Rattle.idn2_options.specs.declared.command_line.form.Form.TheVariants.{Plain
 use Rattle.idn2_options.specs.declared.command_line.misuse.Misuse.TheVariants.{Unknown, WithoutValue, Repeated}
 use Rattle.idn2_options.specs.declared.command_line.misuse.Misuse.TheVariants.{WithValue}
 use Rattle.idn2_options.specs.declared.command_line.mode.Mode.{Mode}
-use Rattle.idn2_options.specs.declared.command_line.mode.Mode.TheVariants.{Lookup, Register, DecodeOld, Variants, CheckTable}
+use Rattle.idn2_options.specs.declared.command_line.mode.Mode.TheVariants.{Lookup, Register, DecodeOld, Variants}
+use Rattle.idn2_options.specs.declared.command_line.mode.Mode.TheVariants.{CheckTable}
 
 -- a run of the mode, with no other option
 abbrev pub plain_run : Mode → List (List ℕ) → Settings
 plain_run mode strings =
-    record { mode = mode; std3 = false; properties = Profile; explain = false; form = Plain; file = []; notation = Table; strings = strings; after = []; limit = None; tries = 1000000; steps = None; among = None; others = false; registered = None }
+    record {
+      mode = mode;
+      std3 = false;
+      properties = Profile;
+      explain = false;
+      form = Plain;
+      file = [];
+      notation =
+          Table;
+      strings =
+          strings;
+      after =
+          [];
+      limit = None;
+      tries = 1000000;
+      steps = None;
+      among = None;
+      others = false;
+      registered = None;
+    }
 
 -- what the words after the program's name request
 abbrev pub asked : List (List ℕ) → Answer
@@ -28,18 +48,24 @@ cause_in words = cause_of (codes "idn2" ∷ words)
 pub record ExamplesOfWords : Type 0 where
   pub two_modes : asked (codes "-r" ∷ codes "-d" ∷ codes "x" ∷ []) ≡ bad
   pub switches : asked (codes "-N" ∷ codes "--quiet" ∷ codes "x" ∷ []) ≡ chosen (plain_run Lookup (codes "x" ∷ []))
-  pub explained : asked (codes "--explain" ∷ codes "x" ∷ []) ≡ chosen (record (plain_run Lookup (codes "x" ∷ [])) { explain = true })
+  pub explained : asked (codes "--explain" ∷ codes "x" ∷ [])
+      ≡ chosen (record (plain_run Lookup (codes "x" ∷ [])) { explain = true })
   pub explained_twice : asked (codes "--explain" ∷ codes "--explain" ∷ codes "x" ∷ []) ≡ bad
-  pub by_standard : asked (codes "-r" ∷ codes "--standard" ∷ codes "x" ∷ []) ≡ chosen (record (plain_run Register (codes "x" ∷ [])) { properties = Unicode })
-  pub in_json : asked (codes "--json" ∷ codes "--explain" ∷ codes "x" ∷ []) ≡ chosen (record (plain_run Lookup (codes "x" ∷ [])) { explain = true; form = Json })
+  pub by_standard : asked (codes "-r" ∷ codes "--standard" ∷ codes "x" ∷ [])
+      ≡ chosen (record (plain_run Register (codes "x" ∷ [])) { properties = Unicode })
+  pub in_json : asked (codes "--json" ∷ codes "--explain" ∷ codes "x" ∷ [])
+      ≡ chosen (record (plain_run Lookup (codes "x" ∷ [])) { explain = true; form = Json })
   pub in_json_twice : asked (codes "--json" ∷ codes "--json" ∷ codes "x" ∷ []) ≡ bad
-  pub by_ruleset : asked (codes "--ruleset" ∷ codes "f" ∷ codes "x" ∷ []) ≡ chosen (record (plain_run Variants (codes "x" ∷ [])) { file = codes "f"; notation = Ruleset })
-  pub checked_ruleset : asked (codes "--check-ruleset" ∷ codes "f" ∷ []) ≡ chosen (record (plain_run CheckTable []) { file = codes "f"; notation = Ruleset })
+  pub by_ruleset : asked (codes "--ruleset" ∷ codes "f" ∷ codes "x" ∷ [])
+      ≡ chosen (record (plain_run Variants (codes "x" ∷ [])) { file = codes "f"; notation = Ruleset })
+  pub checked_ruleset : asked (codes "--check-ruleset" ∷ codes "f" ∷ [])
+      ≡ chosen (record (plain_run CheckTable []) { file = codes "f"; notation = Ruleset })
   pub table_and_ruleset : asked (codes "--variants" ∷ codes "f" ∷ codes "--ruleset" ∷ codes "g" ∷ codes "x" ∷ []) ≡ bad
   pub old_labels : asked (codes "-d" ∷ codes "--old" ∷ codes "x" ∷ []) ≡ chosen (plain_run DecodeOld (codes "x" ∷ []))
   pub old_alone : asked (codes "--old" ∷ codes "x" ∷ []) ≡ bad
   pub others : asked (codes "--variants" ∷ codes "f" ∷ codes "--among" ∷ codes "g" ∷ codes "--others" ∷ codes "x" ∷ [])
-      ≡ chosen (record (plain_run Variants (codes "x" ∷ [])) { file = codes "f"; among = Some (codes "g"); others = true })
+      ≡ chosen (record
+      (plain_run Variants (codes "x" ∷ [])) { file = codes "f"; among = Some (codes "g"); others = true })
   pub others_alone : asked (codes "--variants" ∷ codes "f" ∷ codes "--others" ∷ codes "x" ∷ []) ≡ bad
   pub after_alone : asked (codes "--after" ∷ [] ∷ codes "x" ∷ []) ≡ bad
   pub unknown_name : cause_in (codes "--json" ∷ codes "--foo=x" ∷ codes "--bar" ∷ [])

@@ -33,7 +33,8 @@ is_named CheckTable rows = checks rows
 pub record ModeIsTheOneNamed : Type 0 where
   pub named : (rows : List Row) (mode : Mode) → is_allowed rows ≡ true → is_named mode rows ≡ true → mode_of rows ≡ mode
   pub none_named : (rows : List Row) → ((mode : Mode) → is_named mode rows ≡ false) → mode_of rows ≡ Lookup
-  pub two_named : (rows : List Row) (mode other : Mode) → mode ≢ other → is_named mode rows ≡ true → is_named other rows ≡ true → is_allowed rows ≡ false
+  pub two_named : (rows : List Row) (mode other : Mode) → mode ≢ other → is_named mode rows ≡ true
+      → is_named other rows ≡ true → is_allowed rows ≡ false
 
 -- words that use an option in a wrong way never request a run; where `clap` refuses words, they use an option so; and
 -- words are refused exactly where there is a cause; the last two if there are not more words than `clap` counts

@@ -1,5 +1,5 @@
--- The names of the options, in the order of the manual page: each stands after two dashes, and the letter of some of them after
--- one. `STRINGS` is what `clap` calls the words that belong to none.
+-- The names of the options, in the order of the manual page: each stands after two dashes, and the letter of some of
+-- them after one. `STRINGS` is what `clap` calls the words that belong to none.
 use Rattle.std.specs.Prelude.{ℕ, codes}
 use Rattle.clap.specs.Words.{Text}
 

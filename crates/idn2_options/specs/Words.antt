@@ -1,6 +1,7 @@
 -- What the words of the command line request: what `clap`'s definition of the command gives for
 -- them, and then the rules that the program has of its own.
-use Rattle.std.specs.Prelude.{ℕ, ◌≡◌, ◌≢◌, ◌&&◌, ◌||◌, Bool, true, false, not, List, [], ◌∷◌, length, Option, Some, None}
+use Rattle.std.specs.Prelude.{ℕ, ◌≡◌, ◌≢◌, ◌&&◌, ◌||◌, Bool, true, false, not, List, [], ◌∷◌, length, Option, Some}
+use Rattle.std.specs.Prelude.{None}
 use Rattle.std.specs.Prelude.{codes, count_by, if◌then◌else◌, is_some, nat_eq, nat_le, option_and_then, unwrap_or}
 use Rattle.std.specs.Prelude.{Result, Ok, Err}
 use Rattle.std.specs.Option.{option_map_or, option_or}
@@ -21,10 +22,14 @@ use Rattle.idn2_options.specs.Settings.{Settings}
 use Rattle.idn2_options.specs.declared.command_line.form.Form.{Form}
 use Rattle.idn2_options.specs.declared.command_line.form.Form.TheVariants.{Plain, Json}
 use Rattle.idn2_options.specs.declared.command_line.mode.Mode.{Mode}
-use Rattle.idn2_options.specs.declared.command_line.mode.Mode.TheVariants.{Lookup, Register, Decode, DecodeOld, Variants, Jump, CheckTable}
+use Rattle.idn2_options.specs.declared.command_line.mode.Mode.TheVariants.{Lookup, Register, Decode, DecodeOld}
+use Rattle.idn2_options.specs.declared.command_line.mode.Mode.TheVariants.{Variants, Jump, CheckTable}
 use Rattle.idn2_options.specs.declared.command_line.usage.Usage.{Usage}
 use Rattle.idn2_options.specs.declared.command_line.usage.Usage.TheVariants.{Bad, Show, Memory}
-use Rattle.idn2_options.specs.Names.{after_name, among_name, check_ruleset_name, check_table_name, decode_name, explain_name, json_name, jump_name, limit_name, lookup_name, old_name, others_name, register_name, ruleset_name, standard_name, std3_name, steps_name, strings_name, tries_name, variants_name}
+use Rattle.idn2_options.specs.Names.{after_name, among_name, check_ruleset_name, check_table_name, decode_name}
+use Rattle.idn2_options.specs.Names.{explain_name, json_name, jump_name, limit_name, lookup_name, old_name, others_name}
+use Rattle.idn2_options.specs.Names.{register_name, ruleset_name, standard_name, std3_name, steps_name, strings_name}
+use Rattle.idn2_options.specs.Names.{tries_name, variants_name}
 
 -- ---- what `clap` found
 
@@ -60,7 +65,8 @@ is_within least greatest number = nat_le least number && nat_le number greatest
 -- the number in a range that a text writes by so many digits at most
 abbrev pub number_of : ℕ → ℕ → ℕ → Text → Option ℕ
 number_of digits least greatest text =
-    if is_numeral digits text && is_within least greatest (digits_value 10 text) then Some (digits_value 10 text) else None
+    if is_numeral digits text
+    && is_within least greatest (digits_value 10 text) then Some (digits_value 10 text) else None
 
 -- a count: 1 to 1,000,000,000
 abbrev pub count_of : Text → Option ℕ
@@ -120,7 +126,8 @@ names_one_mode rows = nat_le (count_by (λ named. named)
 -- `--after`, `--limit`, `--tries`, `--steps` or `--among` is given, which say what a listing has
 abbrev pub has_listing_option : List Row → Bool
 has_listing_option rows =
-    has_value after_name rows || has_value limit_name rows || has_value tries_name rows || has_value steps_name rows || has_value among_name rows
+    has_value after_name rows || has_value limit_name rows || has_value tries_name rows || has_value steps_name rows
+    || has_value among_name rows
 
 -- these come with `--variants` or `--ruleset` alone, and not with `--jump`, which lists nothing
 abbrev pub listing_options_fit : List Row → Bool
@@ -138,12 +145,13 @@ decodes_old rows = has_flag decode_name rows || not (has_flag old_name rows)
 abbrev pub has_among : List Row → Bool
 has_among rows = has_value among_name rows || not (has_flag others_name rows)
 
--- with `--among` nothing is tried, and no label is passed over, so `--tries` and `--steps` do not come with it; and its file is
--- not that of the table
+-- with `--among` nothing is tried, and no label is passed over, so `--tries` and `--steps` do not come with it; and its
+-- file is not that of the table
 abbrev pub suits_among : List Row → Bool
 suits_among rows =
     not (has_value among_name rows)
-    || (not (has_value tries_name rows) && not (has_value steps_name rows) && not (bytes_eq (file_of rows) (among_of rows)))
+    || (not (has_value tries_name rows) && not (has_value steps_name rows)
+    && not (bytes_eq (file_of rows) (among_of rows)))
 
 -- `--limit` and `--tries` have a count, and `--steps` a number of steps
 abbrev pub has_counts : List Row → Bool
@@ -164,7 +172,8 @@ checks_alone rows = not (checks rows) || not (has_strings rows)
 -- all of these rules hold
 abbrev pub is_allowed : List Row → Bool
 is_allowed rows =
-    names_one_mode rows && listing_options_fit rows && jumps_by_table rows && decodes_old rows && has_among rows && suits_among rows
+    names_one_mode rows && listing_options_fit rows && jumps_by_table rows && decodes_old rows && has_among rows
+    && suits_among rows
     && has_counts rows && has_short_start rows && checks_alone rows
 
 -- ---- the options

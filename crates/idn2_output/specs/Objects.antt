@@ -30,7 +30,8 @@ object_told (object.RegisteredFault line refusal members) = registered_fault lin
 -- there is space for its texts
 abbrev pub HasSpace : Object → Type 0
 HasSpace (object.LookedUp line input ascii) = (told_len input ≤ 1024) × (length ascii.now ≤ 254)
-HasSpace (object.Registered line input u_label a_label) = (told_len input ≤ 1024) × (length u_label.now ≤ 252) × (length a_label.now ≤ 63)
+HasSpace (object.Registered line input u_label a_label) =
+    (told_len input ≤ 1024) × (length u_label.now ≤ 252) × (length a_label.now ≤ 63)
 HasSpace (object.Decoded line input unicode) = (told_len input ≤ 1024) × (length unicode.now ≤ 4096)
 HasSpace (object.OldLabel line input unicode) = (told_len input ≤ 1024) × (length unicode.now ≤ 252)
 HasSpace (object.Least line input label regards) = (told_len input ≤ 1024) × (length label.now ≤ 252)

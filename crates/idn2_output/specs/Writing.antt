@@ -75,11 +75,13 @@ pub record WritesUntil (why : Stop) (old new : Held) (output_lines : List Output
 
 -- some of the output lines are written, as far as the stop lets them
 abbrev pub StopsWithin : Stop → Held → Held → List OutputLine → Type 0
-StopsWithin why old new output_lines = (written : List OutputLine) × WritesUntil why old new written × IsCutBy why output_lines written
+StopsWithin why old new output_lines =
+    (written : List OutputLine) × WritesUntil why old new written × IsCutBy why output_lines written
 
 -- all of the output lines are written, or some to a stop
 abbrev pub Emits : {A : Type 0} → Held → Held → List OutputLine → Result A Stop → Type 0
-Emits old new output_lines result = MatchResult result (λ _. Writes old new output_lines) (λ why. StopsWithin why old new output_lines)
+Emits old new output_lines result =
+    MatchResult result (λ _. Writes old new output_lines) (λ why. StopsWithin why old new output_lines)
 
 -- memory stops a call before it writes anything, or where it can't be said that going on takes none
 abbrev pub StopsForMemory : {A : Type 0} → Type 0 → Held → Held → Result A Stop → Type 0

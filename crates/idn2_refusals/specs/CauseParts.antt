@@ -1,21 +1,28 @@
 -- A cause as it is told: once, for its object and its message alike. Places, labels and bytes are counted from 1 here.
-use Rattle.std.specs.Prelude.{ℕ, ◌+◌, ◌/◌, ◌%◌, ◌==◌, ◌≤◌, List, [], ◌∷◌, ◌++◌, codes, length, Option, Some, None, true, if◌then◌else◌}
+use Rattle.std.specs.Prelude.{ℕ, ◌+◌, ◌/◌, ◌%◌, ◌==◌, ◌≤◌, List, [], ◌∷◌, ◌++◌, codes, length, Option, Some, None, true}
+use Rattle.std.specs.Prelude.{if◌then◌else◌}
 use Rattle.idn_text.specs.Points.{hex_digit}
 use Rattle.idn_text.specs.declared.refusal.Refusal.{Refusal}
 use Rattle.idn_text.specs.declared.refusal.Refusal.TheVariants.{ContextJ, ContextO}
 use Rattle.idn_cause.specs.declared.cause.Cause.{Cause}
 use Rattle.idn_cause.specs.declared.cause.Cause.TheVariants.{Barred, Changed, Hyphen, Point, Condition, Points, Octets}
 use Rattle.idn_cause.specs.declared.a_label.ALabelCause.{ALabelCause}
-use Rattle.idn_cause.specs.declared.a_label.ALabelCause.TheVariants.{NoCode, NotAscii, NoPunycode, Other, Decoded, Copied}
+use Rattle.idn_cause.specs.declared.a_label.ALabelCause.TheVariants.{NoCode, NotAscii, NoPunycode, Other, Decoded}
+use Rattle.idn_cause.specs.declared.a_label.ALabelCause.TheVariants.{Copied}
 use Rattle.idn_cause.specs.declared.query.LengthCause.{LengthCause}
 use Rattle.idn_cause.specs.declared.query.LengthCause.TheVariants.{LabelOctets, NameOctets}
+use Rattle.ruleset_text.specs.Actions.{kind_word}
 use Rattle.ruleset_text.specs.Canonical.{point_text}
 use Rattle.ruleset_text.specs.declared.fault.FaultPlace.{FaultPlace}
 use Rattle.ruleset_text.specs.declared.fault.FaultPlace.TheVariants as places
 use Rattle.answer_json.specs.Details.{Details, HasShortTexts, no_details}
-use Rattle.idn2_refusals.specs.RuleTexts.{RuleText, a_label_rule, appendix_rule, asked_text, barring_rule, bidi_rule, bidi_text, bidi_words, demand_text, named, punycode_rule, words_alone}
+use Rattle.idn2_refusals.specs.RuleTexts.{RuleText, a_label_rule, appendix_rule, barring_rule, bidi_rule}
+use Rattle.idn2_refusals.specs.RuleTexts.{bidi_text, bidi_words, demand_text, named, punycode_rule, words_alone}
 use Rattle.idn2_refusals.specs.declared.cause.LineCause.{LineCause}
-use Rattle.idn2_refusals.specs.declared.cause.LineCause.TheVariants.{Byte, LongLine, OfLabel, OfALabel, OfName, OfQuery, Misplaced, NoEntry, Broken, Unclear, ActionAsking, ActionOfType, Action, DefaultAction, Ends, OfTable, ByteOrderMark, ALabelOf, NoALabel}
+use Rattle.idn2_refusals.specs.declared.cause.LineCause.TheVariants.{Byte, LongLine, OfLabel, OfALabel, OfName, OfQuery}
+use Rattle.idn2_refusals.specs.declared.cause.LineCause.TheVariants.{Misplaced, NoEntry, Broken, Unclear, ActionAsking}
+use Rattle.idn2_refusals.specs.declared.cause.LineCause.TheVariants.{ActionOfType, Action, DefaultAction, Ends, OfTable}
+use Rattle.idn2_refusals.specs.declared.cause.LineCause.TheVariants.{ByteOrderMark, ALabelOf, NoALabel}
 
 -- the members that an object has; and for a message what it has in place of a code point, and words round a rule
 pub record CauseParts : Type 0 where
@@ -60,7 +67,8 @@ placed place c = record no_details { code_point = Some c; place = Some (place + 
 -- which hyphen it is, of a label that is so long: the first that fits
 abbrev pub hyphen_text : ℕ → ℕ → List ℕ
 hyphen_text place length =
-    if place == 0 then codes ", the first" else (if place + 1 == length then codes ", the last" else codes ", with place 4")
+    if place == 0 then codes ", the first"
+    else (if place + 1 == length then codes ", the last" else codes ", with place 4")
 
 -- a code point that differs from its Normalization Form C, which may end before it
 abbrev pub changed_parts : Details → Option ℕ → CauseParts
@@ -80,7 +88,8 @@ label_parts refusal (Changed place c form) = changed_parts (placed place c) form
 label_parts refusal (Hyphen place length) = noted (hyphen_text place length) (led [] (placed place 0x2D))
 label_parts refusal (Point place c) = point_parts refusal place c
 label_parts refusal (Condition broken c class) = record {
-  details = record (placed broken.place c) { rule = Some (bidi_rule broken.condition); bidi_class = Some (bidi_text class) };
+  details =
+      record (placed broken.place c) { rule = Some (bidi_rule broken.condition); bidi_class = Some (bidi_text class) };
   lead = None;
   rule = bidi_words broken.condition;
 }
@@ -128,12 +137,14 @@ abbrev pub fault_place_parts : FaultPlace → List ℕ → CauseParts
 fault_place_parts (places.Lexeme place len) quoted = led (lexeme_text quoted) (at_byte place)
 fault_place_parts (places.End place) quoted = led (codes "the line ends") (at_byte place)
 fault_place_parts (places.Point place c) quoted = plain (point_at_byte place c)
-fault_place_parts (places.InRange place c) quoted = led (code_point_text c ++ codes " in the range") (point_at_byte place c)
+fault_place_parts (places.InRange place c) quoted =
+    led (code_point_text c ++ codes " in the range") (point_at_byte place c)
 fault_place_parts (places.Variant place) quoted = led (codes "variant") (at_byte place)
 fault_place_parts (places.Source place) quoted = led (codes "source") (at_byte place)
 fault_place_parts (places.Byte place) quoted = led (codes "the line goes on") (at_byte place)
 fault_place_parts (places.NinthPoint place c) quoted = noted (codes ": code point 9") (plain (point_at_byte place c))
-fault_place_parts (places.SeventeenthVariant place c) quoted = noted (codes ": variant 17") (plain (point_at_byte place c))
+fault_place_parts (places.SeventeenthVariant place c) quoted =
+    noted (codes ": variant 17") (plain (point_at_byte place c))
 
 -- of the cause of a line's refusal; in a name the number of the label is told
 abbrev pub parts_of : Refusal → LineCause → CauseParts
@@ -144,12 +155,13 @@ parts_of refusal (OfALabel cause) = a_label_parts refusal cause
 parts_of refusal (OfName cause) = labelled (cause.label + 1) (a_label_parts refusal cause.cause)
 parts_of refusal (OfQuery cause) = length_parts cause
 parts_of refusal (Misplaced place c kind rule) =
-    ruled (named rule.items) (record (placed place c) { condition = Some (asked_text kind) })
+    ruled (named rule.items) (record (placed place c) { condition = Some (kind_word kind) })
 parts_of refusal (NoEntry place c) = noted (codes ": no entry") (plain (placed place c))
-parts_of refusal (Broken number kind) = plain (record no_details { demand = Some (number + 1); kind = Some (demand_text kind) })
+parts_of refusal (Broken number kind) =
+    plain (record no_details { demand = Some (number + 1); kind = Some (demand_text kind) })
 parts_of refusal Unclear = plain (record no_details { unclear = true })
 parts_of refusal (ActionAsking number kind rule) =
-    ruled (named rule.items) (record (by_action number) { condition = Some (asked_text kind) })
+    ruled (named rule.items) (record (by_action number) { condition = Some (kind_word kind) })
 parts_of refusal (ActionOfType number place c name) =
     plain (record (placed place c) { action = Some (number + 1); type_name = Some name.items })
 parts_of refusal (Action number) = plain (by_action number)
@@ -158,7 +170,8 @@ parts_of refusal (DefaultAction place c) =
 parts_of refusal (Ends place) = led (codes "ends") (record no_details { place = Some (place + 1) })
 parts_of refusal (OfTable place quoted) = fault_place_parts place quoted.items
 parts_of refusal ByteOrderMark = led (codes "a byte order mark") (point_at_byte 0 0xFEFF)
-parts_of refusal (ALabelOf utf8) = noted (codes ", with place 4") (led [] (record (placed 2 0x2D) { ulabel = Some utf8.items }))
+parts_of refusal (ALabelOf utf8) =
+    noted (codes ", with place 4") (led [] (record (placed 2 0x2D) { ulabel = Some utf8.items }))
 parts_of refusal NoALabel = record (ruled a_label_rule (placed 2 0x2D)) { lead = Some [] }
 
 -- what an object says of the cause, if there is one

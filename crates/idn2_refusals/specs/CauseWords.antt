@@ -22,7 +22,8 @@ text_between before (Some text) after = before ++ (text ++ after)
 -- the number of the label in its name, and whether what is refused is what it stands for
 unfoldable pub label_words : Details → List ℕ
 label_words d =
-    number_between (codes "label ") d.label (if d.decoded then codes ", " else codes ": ") ++ (if d.decoded then codes "decoded: " else [])
+    number_between (codes "label ") d.label (if d.decoded then codes ", " else codes ": ")
+    ++ (if d.decoded then codes "decoded: " else [])
 
 -- what stands between the number of an action and a code point, if one is told
 abbrev pub before_point : Option ℕ → List ℕ
@@ -47,7 +48,8 @@ before_place lead = codes " at place "
 
 unfoldable pub place_words : CauseParts → List ℕ
 place_words parts =
-    number_between (before_place parts.lead) parts.details.place [] ++ number_between (codes " at byte ") parts.details.byte []
+    number_between (before_place parts.lead) parts.details.place []
+    ++ number_between (codes " at byte ") parts.details.byte []
 
 -- the Bidi_Class or the type, and the rule that is broken
 unfoldable pub rule_words : CauseParts → List ℕ

@@ -1,5 +1,7 @@
--- The cause that is told of a refused line, where causes are wanted: with `--explain` or `--json`. Places and labels are counted from 0.
-use Rattle.std.specs.Prelude.{◌≡◌, ◌≢◌, ℕ, nat_le, Bool, true, false, List, length, chars, Option, Some, None, slice_index, if◌then◌else◌}
+-- The cause that is told of a refused line, where causes are wanted: with `--explain` or `--json`. Places and labels
+-- are counted from 0.
+use Rattle.std.specs.Prelude.{◌≡◌, ◌≢◌, ℕ, nat_le, Bool, true, false, List, length, chars, Option, Some, None}
+use Rattle.std.specs.Prelude.{slice_index, if◌then◌else◌}
 use Rattle.std.specs.Option.{option_map}
 use Rattle.std.specs.Str.{is_utf8}
 use Rattle.std.specs.Str.Lossy.{utf8_valid_len}
@@ -24,10 +26,13 @@ use Rattle.valid_labels.specs.Causes as validity_causes
 use Rattle.valid_labels.specs.Furthest.{furthest}
 use Rattle.idn2_refusals.specs.Requests.{requested_label}
 use Rattle.idn2_refusals.specs.declared.cause.LineCause.{LineCause}
-use Rattle.idn2_refusals.specs.declared.cause.LineCause.TheVariants.{Byte, LongLine, OfLabel, OfALabel, OfName, OfQuery, Misplaced, NoEntry, Broken, Unclear, ActionAsking, ActionOfType, Action, DefaultAction, ALabelOf, NoALabel}
+use Rattle.idn2_refusals.specs.declared.cause.LineCause.TheVariants.{Byte, LongLine, OfLabel, OfALabel, OfName, OfQuery}
+use Rattle.idn2_refusals.specs.declared.cause.LineCause.TheVariants.{Misplaced, NoEntry, Broken, Unclear, ActionAsking}
+use Rattle.idn2_refusals.specs.declared.cause.LineCause.TheVariants.{ActionOfType, Action, DefaultAction, ALabelOf}
+use Rattle.idn2_refusals.specs.declared.cause.LineCause.TheVariants.{NoALabel}
 
--- of what the cause is told: of nothing, of a label, of a name that is decoded, of one that is looked up, of a label by the sources
--- of a table, of the label of a request by them, or of a label that is tested as it stands
+-- of what the cause is told: of nothing, of a label, of a name that is decoded, of one that is looked up, of a label by
+-- the sources of a table, of the label of a request by them, or of a label that is tested as it stands
 pub data Explained : Type 0 where
   Unexplained : Explained
   ByLabel : (properties : Properties) → Explained
@@ -46,23 +51,29 @@ if_wanted explain explained = if explain then explained else Unexplained
 -- of a label, or of what it stands for if it begins with "xn--"
 abbrev pub registration_cause : Properties → List ℕ → Refusal → Option LineCause
 registration_cause properties label refusal =
-    if has_ace_prefix label then option_map OfALabel (a_label_cause properties label refusal) else option_map OfLabel (cause_of properties label refusal)
+    if has_ace_prefix label then option_map OfALabel (a_label_cause properties label refusal)
+    else option_map OfLabel (cause_of properties label refusal)
 
--- of what begins with "xn--" where a U-label is wanted: the U-label of an A-label (RFC 5890, section 2.3.2.1), or that it is none
+-- of what begins with "xn--" where a U-label is wanted: the U-label of an A-label (RFC 5890, section 2.3.2.1), or that
+-- it is none
 abbrev pub coded_cause : Option (List ℕ) → LineCause
 coded_cause (Some utf8) = ALabelOf (record { items = utf8 })
 coded_cause None = NoALabel
 
--- of a label where a U-label is wanted: "xn--" puts two hyphens into the third and the fourth place (RFC 5891, section 4.2.3.1)
+-- of a label where a U-label is wanted: "xn--" puts two hyphens into the third and the fourth place (RFC 5891, section
+-- 4.2.3.1)
 unfoldable pub u_label_cause : Properties → List ℕ → Refusal → Option LineCause
 u_label_cause properties label Hyphen =
-    if has_ace_prefix label then Some (coded_cause (coded_label properties label)) else option_map OfLabel (cause_of properties label Hyphen)
+    if has_ace_prefix label then Some (coded_cause (coded_label properties label))
+    else option_map OfLabel (cause_of properties label Hyphen)
 u_label_cause properties label refusal = option_map OfLabel (cause_of properties label refusal)
 
--- the code point after those that sources of the table reach, of a label that is short enough to be registered (RFC 7940, section 8.1)
+-- the code point after those that sources of the table reach, of a label that is short enough to be registered (RFC
+-- 7940, section 8.1)
 abbrev pub not_in_table_cause : TableValue → List ℕ → Option Cause
 not_in_table_cause table label =
-    if nat_le (length label) 63 then Some (Point (furthest table label) (slice_index label (furthest table label))) else None
+    if nat_le (length label) 63 then Some (Point (furthest table label) (slice_index label (furthest table label)))
+    else None
 
 -- an action by its number, with what is asked of its rule; or by the first source of a type that it names; or by its
 -- number alone
@@ -73,12 +84,13 @@ action_cause table label number (triggered.Source place type_number) =
     ActionOfType number place (slice_index label place) (record { items = type_name table.definitions type_number })
 action_cause table label number triggered.Other = Action number
 
--- why a label that is made of sources may not be asked about: what is asked of the rule of the longest source at the place where it
--- isn't eligible, or that no source is there; a demand by its number; that it is unclear; or an action
+-- why a label that is made of sources may not be asked about: what is asked of the rule of the longest source at the
+-- place where it isn't eligible, or that no source is there; a demand by its number; that it is unclear; or an action
 abbrev pub validity_cause : TableValue → List ℕ → ValidityCause → LineCause
 validity_cause table label (validity.NotEligible place None) = NoEntry place (slice_index label place)
 validity_cause table label (validity.NotEligible place (Some condition)) =
-    Misplaced place (slice_index label place) condition.kind (record { items = rule_name table.definitions condition.rule })
+    Misplaced place (slice_index label place) condition.kind
+    (record { items = rule_name table.definitions condition.rule })
 validity_cause table label (validity.Broken number kind) = Broken number kind
 validity_cause table label validity.Unclear = Unclear
 validity_cause table label (validity.Action number cause) = action_cause table label number cause
@@ -88,7 +100,8 @@ validity_cause table label (validity.DefaultAction place) = DefaultAction place 
 -- 7 and 8.1)
 abbrev pub invalid_cause : TableValue → List ℕ → Option LineCause
 invalid_cause table label =
-    if nat_le (length label) 63 then option_map (validity_cause table label) (validity_causes.cause_of table label) else None
+    if nat_le (length label) 63 then option_map (validity_cause table label) (validity_causes.cause_of table label)
+    else None
 
 -- of a label by the sources of a table, and by what the table asks of its labels
 abbrev pub table_cause : Properties → TableValue → List ℕ → Refusal → Option LineCause
@@ -118,7 +131,8 @@ unless_unexplained _ cause = Some cause
 -- of the bytes of a line, which may be no UTF-8
 abbrev pub text_cause : Explained → List ℕ → Refusal → Option LineCause
 text_cause explained bytes refusal =
-    if is_utf8 bytes then points_cause explained (chars bytes) refusal else unless_unexplained explained (bad_byte bytes)
+    if is_utf8 bytes then points_cause explained (chars bytes) refusal
+    else unless_unexplained explained (bad_byte bytes)
 
 -- of the body of a line, which may be too long
 abbrev pub body_cause : Explained → Option (List ℕ) → Refusal → Option LineCause

@@ -1,5 +1,6 @@
 -- How a mode explains, as the definitions have it.
-use Rattle.idn2_refusals.specs.Explained.{Explained, Unexplained, ByLabel, ByName, ByQuery, ByTable, ByRequest, ByRegisteredLine}
+use Rattle.idn2_refusals.specs.Explained.{Explained, Unexplained, ByLabel, ByName, ByQuery, ByTable, ByRequest}
+use Rattle.idn2_refusals.specs.Explained.{ByRegisteredLine}
 use Rattle.idn2_refusals.specs.declared.cause.Explaining.{Explaining}
 use Rattle.idn2_refusals.specs.declared.cause.Explaining.TheVariants as by
 

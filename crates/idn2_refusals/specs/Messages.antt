@@ -27,7 +27,10 @@ line_message number refusal = codes "idn2: line " ++ (decimal number ++ (codes "
 -- the message of a line, after the words that say whose line it is, with what it goes on with before the line feed
 abbrev pub message_with : List ℕ → ℕ → Refusal → List ℕ → List ℕ
 message_with before number refusal tail =
-    before ++ (decimal number ++ (codes ": " ++ (decimal (refusal_number refusal) ++ (codes " " ++ (refusal_text refusal ++ (tail ++ codes "\n"))))))
+    before
+    ++ (decimal number
+    ++ (codes ": "
+    ++ (decimal (refusal_number refusal) ++ (codes " " ++ (refusal_text refusal ++ (tail ++ codes "\n"))))))
 
 -- of a refused line
 abbrev pub refused_message : ℕ → Refusal → List ℕ → List ℕ
@@ -45,7 +48,8 @@ registered_message number refusal tail = message_with (codes "idn2: registered l
 
 -- the object of a refused line, with its line feed
 abbrev pub refused_object : Numbered → Refusal → Option LineCause → List ℕ
-refused_object line refusal cause = line_of (refused line.number (told_of line.body) refusal (told_details refusal cause))
+refused_object line refusal cause =
+    line_of (refused line.number (told_of line.body) refusal (told_details refusal cause))
 
 -- the object of a table that has a fault
 abbrev pub table_object : ℕ → Refusal → Option LineCause → List ℕ

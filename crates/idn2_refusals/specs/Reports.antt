@@ -1,4 +1,5 @@
--- What is written where a refusal ends the program: its message and status; and where a file isn't read as registered labels, why.
+-- What is written where a refusal ends the program: its message and status; and where a file isn't read as registered
+-- labels, why.
 use Rattle.std.specs.Prelude.{◌≡◌, ◌⊎◌, ◌++◌, ℕ, List, codes, true, Bool, Option}
 use Rattle.idn_class.specs.declared.properties.Properties.{Properties}
 use Rattle.idn_text.specs.Writers.{Writer, TakesWhole, TakesPart}
@@ -41,27 +42,33 @@ LosesText text old new = (taken : ℕ) × TakesPart old new text taken
 abbrev pub TakesText : List ℕ → Writer → Writer → Type 0
 TakesText text old new = TakesWhole old new text ⊎ LosesText text old new
 
--- what a wrong line of the registered labels leads to: its message and the status, which is 2, or 3 where the writer failed
+-- what a wrong line of the registered labels leads to: its message and the status, which is 2, or 3 where the writer
+-- failed
 abbrev pub TellsWrong : List ℕ → Writer → Writer → Status → Type 0
-TellsWrong text old new status = (TakesWhole old new text × (status ≡ Unusable)) ⊎ (LosesText text old new × (status ≡ Faulty))
+TellsWrong text old new status =
+    (TakesWhole old new text × (status ≡ Unusable)) ⊎ (LosesText text old new × (status ≡ Faulty))
 
--- a wrong line of the registered labels is told as one of a table is, by a message or an object of the output, with its cause, if
--- one is told; where the output fails, as in a run, the last message says so
+-- a wrong line of the registered labels is told as one of a table is, by a message or an object of the output, with its
+-- cause, if one is told; where the output fails, as in a run, the last message says so
 abbrev pub TellsWrongLine : Form → ℕ → Refusal → Option LineCause → (old new : Held) → Status → Type 0
 TellsWrongLine Plain line refusal cause old new status =
-    (new ≡ record old { messages = new.messages }) × TellsWrong (registered_message line refusal (tail_text refusal cause)) old.messages new.messages status
+    (new ≡ record old { messages = new.messages })
+    × TellsWrong (registered_message line refusal (tail_text refusal cause)) old.messages new.messages status
 TellsWrongLine Json line refusal cause old new status =
-    ((new ≡ record old { output = new.output }) × TakesWhole old.output new.output (registered_object line refusal cause) × (status ≡ Unusable))
-    ⊎ (LosesText (registered_object line refusal cause) old.output new.output × TakesText (closing_message WriteFault) old.messages new.messages
+    ((new ≡ record old { output = new.output })
+    × TakesWhole old.output new.output (registered_object line refusal cause) × (status ≡ Unusable))
+    ⊎ (LosesText (registered_object line refusal cause) old.output new.output
+    × TakesText (closing_message WriteFault) old.messages new.messages
     × (status ≡ Faulty))
 
 -- that memory ran out is told as ever
 abbrev pub TellsMemory : (old new : Held) → Status → Type 0
 TellsMemory old new status =
-    (new ≡ record old { messages = new.messages }) × TakesText (closing_message Memory) old.messages new.messages × (status ≡ closing_status Memory)
+    (new ≡ record old { messages = new.messages }) × TakesText (closing_message Memory) old.messages new.messages
+    × (status ≡ closing_status Memory)
 
--- what a wrong line leads to of a file that is not read as registered labels: it is told, where causes are wanted with its cause,
--- unless memory runs out for a cause that may take some
+-- what a wrong line leads to of a file that is not read as registered labels: it is told, where causes are wanted with
+-- its cause, unless memory runs out for a cause that may take some
 abbrev pub TellsUnreadLine : Form → Bool → Properties → List ℕ → ℕ → Refusal → (old new : Held) → Status → Type 0
 TellsUnreadLine form wanted properties text line refusal old new status =
     TellsWrongLine form line refusal (told_of_wrong_line properties wanted text line refusal) old new status

@@ -6,8 +6,6 @@ use Rattle.idn_class.specs.declared.bidi_class.BidiClass.{BidiClass}
 use Rattle.idn_class.specs.declared.bidi_class.BidiClass.TheVariants as bidi
 use Rattle.idn_class.specs.declared.broken.BidiCondition.{BidiCondition}
 use Rattle.idn_class.specs.declared.broken.BidiCondition.TheVariants as conditions
-use Rattle.label_patterns.specs.declared.condition.ConditionKind.{ConditionKind}
-use Rattle.label_patterns.specs.declared.condition.ConditionKind.TheVariants.{When, Unless}
 use Rattle.ruleset_text.specs.declared.definition.DemandKind.{DemandKind}
 use Rattle.ruleset_text.specs.declared.definition.DemandKind.TheVariants.{Never, Always}
 
@@ -35,9 +33,11 @@ barring_rule lines.Unstable = record (named (codes "RFC 5892 2.2")) { after = co
 barring_rule lines.IgnorableProperties = record (named (codes "RFC 5892 2.3")) { after = codes " IgnorableProperties" }
 barring_rule lines.IgnorableBlocks = record (named (codes "RFC 5892 2.4")) { after = codes " IgnorableBlocks" }
 barring_rule lines.OldHangulJamo = record (named (codes "RFC 5892 2.9")) { after = codes " OldHangulJamo" }
-barring_rule lines.NoLetterDigit = record { before = codes ": not "; rule = codes "RFC 5892 2.1"; after = codes " LetterDigits" }
+barring_rule lines.NoLetterDigit =
+    record { before = codes ": not "; rule = codes "RFC 5892 2.1"; after = codes " LetterDigits" }
 
--- the rule of RFC 5892, appendix A, for a code point of CONTEXTJ or CONTEXTO; the digits of A.8 and A.9 are all that is left
+-- the rule of RFC 5892, appendix A, for a code point of CONTEXTJ or CONTEXTO; the digits of A.8 and A.9 are all that is
+-- left
 abbrev pub appendix_rule : ℕ → List ℕ
 appendix_rule c =
     if c == 0x200C then codes "RFC 5892 A.1"
@@ -71,7 +71,8 @@ punycode_rule = record { before = codes "not "; rule = codes "RFC 3492 6.2"; aft
 
 -- what begins with "xn--" is no A-label, for which it has two hyphens in the third and the fourth place
 abbrev pub a_label_rule : RuleText
-a_label_rule = record { before = codes ", with place 4: not "; rule = codes "RFC 5890 2.3.2.1"; after = codes " A-label" }
+a_label_rule =
+    record { before = codes ", with place 4: not "; rule = codes "RFC 5890 2.3.2.1"; after = codes " A-label" }
 
 -- the name of a Bidi_Class
 abbrev pub bidi_text : BidiClass → List ℕ
@@ -88,12 +89,7 @@ bidi_text bidi.BN = codes "BN"
 bidi_text bidi.NSM = codes "NSM"
 bidi_text bidi.Other = codes "-"
 
--- what a ruleset asks of a rule
-abbrev pub asked_text : ConditionKind → List ℕ
-asked_text When = codes "when"
-asked_text Unless = codes "unless"
-
--- what it asks by a demand
+-- what a ruleset asks by a demand
 abbrev pub demand_text : DemandKind → List ℕ
 demand_text Never = codes "never"
 demand_text Always = codes "always"

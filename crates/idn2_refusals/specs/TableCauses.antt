@@ -1,5 +1,7 @@
--- The cause that is told of the fault of a table, where causes are wanted: where its line has it. Places are bytes, counted from 0.
-use Rattle.std.specs.Prelude.{ℕ, nat_le, Bool, false, ◌==◌, ◌&&◌, List, [], ◌∷◌, take, drop, length, bytes_eq, Option, Some, None, if◌then◌else◌}
+-- The cause that is told of the fault of a table, where causes are wanted: where its line has it. Places are bytes,
+-- counted from 0.
+use Rattle.std.specs.Prelude.{ℕ, nat_le, Bool, false, ◌==◌, ◌&&◌, List, [], ◌∷◌, take, drop, length, bytes_eq, Option}
+use Rattle.std.specs.Prelude.{Some, None, if◌then◌else◌}
 use Rattle.std.specs.List.{list_all}
 use Rattle.std.specs.Option.{option_map}
 use Rattle.idn_class.specs.declared.properties.Properties.{Properties}
@@ -48,11 +50,14 @@ line_cause place (Some line) = option_map (cause_at line) place
 
 -- the cause of the fault of a text, whose first faulty line this is: a byte order mark, or the place
 abbrev pub refusal_cause : List ℕ → TableFault → Option FaultPlace → Option (List ℕ) → Option LineCause
-refusal_cause text fault place line = if begins_with_mark text && is_syntax_of_first fault then Some ByteOrderMark else line_cause place line
+refusal_cause text fault place line =
+    if begins_with_mark text && is_syntax_of_first fault then Some ByteOrderMark else line_cause place line
 
 -- that of a text
 abbrev pub fault_cause : Properties → Notation → List ℕ → TableFault → Option LineCause
-fault_cause properties notation text fault = refusal_cause text fault (fault_place properties notation text fault) (line_of (faulty_line properties notation text))
+fault_cause properties notation text fault =
+    refusal_cause text fault (fault_place properties notation text fault)
+    (line_of (faulty_line properties notation text))
 
 -- a cause, if causes are wanted
 abbrev pub told_if : Bool → Option LineCause → Option LineCause

@@ -1,5 +1,6 @@
 -- The cause that is told of a wrong line of the registered labels, where causes are wanted. Places are counted from 0.
-use Rattle.std.specs.Prelude.{◌≢◌, ℕ, ◌-◌, Bool, List, [], chars, Option, Some, None, option_map, slice_get, if◌then◌else◌}
+use Rattle.std.specs.Prelude.{◌≢◌, ℕ, ◌-◌, Bool, List, [], chars, Option, Some, None, option_map, slice_get}
+use Rattle.std.specs.Prelude.{if◌then◌else◌}
 use Rattle.std.specs.Str.{is_utf8}
 use Rattle.idn_class.specs.declared.properties.Properties.{Properties}
 use Rattle.idn_text.specs.Lines.{raw_lines, body_of}
@@ -42,10 +43,11 @@ differs_at place (Some c) = OfLabel (Point place c)
 abbrev pub order_cause : List ℕ → List ℕ → LineCause
 order_cause before label = differs_at (shared label before) (slice_get label (shared label before))
 
--- a line is a label that is tested, and has the cause of its fault; of the order the cause is where it differs from the line before;
--- and of a file that is too long there is none
+-- a line is a label that is tested, and has the cause of its fault; of the order the cause is where it differs from the
+-- line before; and of a file that is too long there is none
 abbrev pub wrong_line_cause : Properties → List ℕ → ℕ → Refusal → Option LineCause
-wrong_line_cause properties text number OutOfOrder = Some (order_cause (points_at text (number - 1)) (points_at text number))
+wrong_line_cause properties text number OutOfOrder =
+    Some (order_cause (points_at text (number - 1)) (points_at text number))
 wrong_line_cause properties text number FileTooLong = None
 wrong_line_cause properties text number refusal = body_cause (ByRegisteredLine properties) (body_at text number) refusal
 
@@ -57,4 +59,5 @@ MayTakeMemory text number refusal = body_at text number ≢ None
 
 -- the cause of a wrong line, if causes are wanted
 abbrev pub told_of_wrong_line : Properties → Bool → List ℕ → ℕ → Refusal → Option LineCause
-told_of_wrong_line properties wanted text number refusal = if wanted then wrong_line_cause properties text number refusal else None
+told_of_wrong_line properties wanted text number refusal =
+    if wanted then wrong_line_cause properties text number refusal else None

@@ -85,8 +85,8 @@ pub enum LineCause {
     Unclear,
     /// A label triggers the action of this number, by what is asked of the rule of this name.
     ActionAsking(usize, ConditionKind, DefinedName),
-    /// A label triggers the action of this number, by the type of this name: that of the source at this place, with this
-    /// code point.
+    /// A label triggers the action of this number, by the type of this name: that of the source at this place, with
+    /// this code point.
     ActionOfType(usize, usize, u32, DefinedName),
     /// A label triggers the action of this number.
     Action(usize),

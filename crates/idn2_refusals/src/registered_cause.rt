@@ -96,8 +96,8 @@ fn read_label(text: &[u8], number: u64, points: &mut ArrayVec<u32, MAX_LINE_LEN>
     }
 }
 
-/// What is tested of the line of this number: neither its end, nor the mark of an old label. There is none past the last
-/// line, and of one that is too long.
+/// What is tested of the line of this number: neither its end, nor the mark of an old label. There is none past the
+/// last line, and of one that is too long.
 fn body_at(text: &[u8], number: u64) -> Option<&[u8]>
     ensures body { option_copied result ≡ body_at text.now number }
     ensures short { given_len (option_copied result) ≤ MAX_LINE_LEN }

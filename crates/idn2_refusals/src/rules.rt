@@ -1,8 +1,9 @@
 //! The rules that refused labels break, as objects and messages name them: by document and section.
 ghost use Rattle.std.specs.Prelude.{◌≡◌, ◌≤◌, ◌++◌, codes, length};
-ghost use Rattle.idn2_refusals.specs.RuleTexts.{a_label_rule, appendix_rule, asked_text, barring_rule, bidi_rule};
+ghost use Rattle.idn2_refusals.specs.RuleTexts.{a_label_rule, appendix_rule, barring_rule, bidi_rule};
 ghost use Rattle.idn2_refusals.specs.RuleTexts.{bidi_text, bidi_words, demand_text, named, punycode_rule, words_alone};
 ghost use Rattle.idn2_refusals.specs.ToldCauses.{rule_of};
+ghost use Rattle.ruleset_text.specs.Actions.{kind_word};
 
 use idn_class::{BarringLine, BidiClass, BidiCondition};
 use label_patterns::ConditionKind;
@@ -155,7 +156,7 @@ pub(crate) fn name_of_class(class: BidiClass) -> &'static [u8]
 
 /// The word for what is asked of a rule.
 pub(crate) fn word_of_condition(kind: ConditionKind) -> &'static [u8]
-    ensures text { result.now ≡ asked_text kind }
+    ensures text { result.now ≡ kind_word kind }
     ensures short { length result.now ≤ 6 }
 {
     match kind {

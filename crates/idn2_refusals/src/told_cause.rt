@@ -8,8 +8,9 @@ ghost use Rattle.idn2_refusals.specs.CauseParts.{changed_parts, code_point_text,
 ghost use Rattle.idn2_refusals.specs.CauseParts.{hyphen_text, label_parts, labelled, led, length_parts, lexeme_text};
 ghost use Rattle.idn2_refusals.specs.CauseParts.{noted, parts_of, placed as placed_of, plain};
 ghost use Rattle.idn2_refusals.specs.CauseParts.{point_at_byte as point_at_byte_of, point_parts, ruled, told_details};
-ghost use Rattle.idn2_refusals.specs.RuleTexts.{asked_text, named};
+ghost use Rattle.idn2_refusals.specs.RuleTexts.{named};
 ghost use Rattle.idn2_refusals.specs.ToldCauses.{rule_of, told_parts};
+ghost use Rattle.ruleset_text.specs.Actions.{kind_word};
 
 use crate::cause::{DefinedName, LineCause, Quoted};
 use crate::digits::{push_code_point, push_digit};
@@ -197,7 +198,7 @@ fn of_misplaced<'a>(
     rule: &'a DefinedName,
 ) -> ToldCause<'a>
     ensures parts { told_parts result ≡ ruled (named rule.now.items)
-        (record (placed_of place point) { condition = Some (asked_text kind) }) }
+        (record (placed_of place point) { condition = Some (kind_word kind) }) }
     ensures short { IsShort (told_parts result) }
 {
     let members = RefusalMembers {
@@ -210,7 +211,7 @@ fn of_misplaced<'a>(
 /// An action that is triggered by what is asked of a rule.
 fn of_asking_action<'a>(number: usize, kind: ConditionKind, rule: &'a DefinedName) -> ToldCause<'a>
     ensures parts { told_parts result ≡ ruled (named rule.now.items)
-        (record (by_action_of number) { condition = Some (asked_text kind) }) }
+        (record (by_action_of number) { condition = Some (kind_word kind) }) }
     ensures short { IsShort (told_parts result) }
 {
     let members = RefusalMembers {

@@ -5,7 +5,7 @@ use Rattle.std.proofs.Math.ListN.{get_or-eq_default}
 use Rattle.std.proofs.lemmas.List.{length-drop, get_or-drop, drop-drop}
 use Rattle.std.proofs.lemmas.List.Elements.{All-contains}
 use Rattle.reading_kinds.specs.Readings.{Substitution, substitutions_at, IsCut, IsSubstitution, AreSubstitutions}
-use Rattle.reading_kinds.specs.inner.Cuts.{IsCutFrom, Fits, AllFit}
+use Rattle.reading_kinds.specs.inner.Cuts.{IsCutFrom, AllFit}
 use Rattle.reading_kinds.proofs.ListMembers.{Contains-none}
 
 -- substitutions end within the label at each place

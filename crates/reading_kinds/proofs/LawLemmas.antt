@@ -1,6 +1,6 @@
 -- A law of the readings of a label.
-use Rattle.std.proofs.Common.{◌≡◌, ◌≢◌, ℕ, ◌+◌, ◌≤◌, ◌↔◌, inl, inr, Bool, true, false, List, [], ◌∷◌, length, drop, map, sym, ap, ◌∙◌, subst, refl}
-use Rattle.std.specs.Prelude.{Contains, filter, not, ◌==◌}
+use Rattle.std.proofs.Common.{◌≡◌, ◌≢◌, ℕ, ◌+◌, ◌≤◌, ◌↔◌, inl, inr, Bool, true, false, List, [], ◌∷◌, length, drop, sym, ap, ◌∙◌, subst, refl}
+use Rattle.std.specs.Prelude.{filter, not, ◌==◌}
 use Rattle.std.specs.Int.{bit_at}
 use Rattle.std.proofs.lemmas.List.{length-map, drop-map}
 use Rattle.std.proofs.lemmas.Bool.Decides.{Decides-eqb}

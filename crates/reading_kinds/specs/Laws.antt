@@ -1,7 +1,7 @@
 -- A law of the readings of a label.
 use Rattle.std.specs.Prelude.{ℕ, ◌↔◌, ◌==◌, not, List, map, filter}
 use Rattle.std.specs.Int.{bit_at}
-use Rattle.reading_kinds.specs.Readings.{Substitution, AreSubstitutions, SubstitutionsSpell, SomeLacks}
+use Rattle.reading_kinds.specs.Readings.{Substitution, SubstitutionsSpell, SomeLacks}
 
 -- of the substitutions at each place those that lack the kind
 abbrev pub lacking : ℕ → List (List Substitution) → List (List Substitution)

@@ -1,5 +1,5 @@
--- The readings of a label: the ways to cut it into substitutions. The substitutions of a label are a list for each of
--- its places, in order, with those that begin there.
+-- The readings of a label: the ways to cut it into substitutions (RFC 7940, section 8.2). The substitutions of a label
+-- are a list for each of its places, in order, with those that begin there.
 use Rattle.std.specs.Int.{bit_at}
 use Rattle.std.specs.Prelude.{◌≡◌, ℕ, ◌+◌, ◌≤◌, ◌⊎◌, List, [], ◌∷◌, length, drop, slice_index_or, Contains, All}
 use Rattle.std.specs.List.{flat_map}

@@ -1,5 +1,4 @@
-//! A law of the definitions that the contracts of this crate substitution. The function is empty, and its contract is
-//! the law.
+//! A law of the definitions that contracts cite. The function is empty, and its contract is the law.
 ghost use Rattle.reading_kinds.specs.Laws.{LackingSpell};
 
 /// Some reading lacks a kind exactly if the substitutions that lack it spell the label.

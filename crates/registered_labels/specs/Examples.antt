@@ -29,7 +29,8 @@ sharp = 223 ∷ []
 abbrev pub german : TableValue
 german =
     version_two
-    (plain (codes "a") ∷ plain (codes "e") ∷ plain (codes "h") ∷ plain (codes "m") ∷ plain (codes "r") ∷ plain (codes "s") ∷ plain (codes "t") ∷ plain (codes "u")
+    (plain (codes "a") ∷ plain (codes "e") ∷ plain (codes "h") ∷ plain (codes "m") ∷ plain (codes "r")
+    ∷ plain (codes "s") ∷ plain (codes "t") ∷ plain (codes "u")
     ∷ pair (codes "ss") sharp ∷ pair sharp (codes "ss") ∷ [])
 
 -- o with 0 as a blocked variant, and ss with ß
@@ -61,8 +62,9 @@ strasze = codes "stra" ++ (223 ∷ codes "e")
 abbrev pub three : List (List ℕ)
 three = codes "sss" ∷ (115 ∷ sharp) ∷ (223 ∷ codes "s") ∷ []
 
--- a label finds its variants and itself, as far as they are registered, in order; sß and ßs are variants of sss and not of each
--- other; a text cuts off what is not greater; blocked variants count; and through a gap a label is spelled from one side alone
+-- a label finds its variants and itself, as far as they are registered, in order; sß and ßs are variants of sss and not
+-- of each other; a text cuts off what is not greater; blocked variants count; and through a gap a label is spelled from
+-- one side alone
 pub record ExamplesOfCollisions : Type 0 where
   pub variant : found german strasze (codes "haus" ∷ strasse ∷ []) [] ≡ strasse ∷ []
   pub both : found german strasse (strasse ∷ strasze ∷ []) [] ≡ strasse ∷ strasze ∷ []
@@ -72,14 +74,16 @@ pub record ExamplesOfCollisions : Type 0 where
   pub all : found german (codes "sss") three [] ≡ three
   pub after_one : found german (codes "sss") three (115 ∷ sharp) ≡ (223 ∷ codes "s") ∷ []
   pub after_a_stranger : found german (codes "sss") three (codes "sz") ≡ (115 ∷ sharp) ∷ (223 ∷ codes "s") ∷ []
-  pub blocked : found alike (codes "toss") (codes "t0ss" ∷ (codes "to" ++ sharp) ∷ []) [] ≡ codes "t0ss" ∷ (codes "to" ++ sharp) ∷ []
-  pub forms : found han (0x4E2D ∷ 0x570B ∷ []) ((0x4E2D ∷ 0x56FD ∷ []) ∷ (0x4E2D ∷ 0x570B ∷ []) ∷ []) [] ≡ (0x4E2D ∷ 0x56FD ∷ []) ∷ (0x4E2D ∷ 0x570B ∷ []) ∷ []
+  pub blocked : found alike (codes "toss") (codes "t0ss" ∷ (codes "to" ++ sharp) ∷ []) []
+      ≡ codes "t0ss" ∷ (codes "to" ++ sharp) ∷ []
+  pub forms : found han (0x4E2D ∷ 0x570B ∷ []) ((0x4E2D ∷ 0x56FD ∷ []) ∷ (0x4E2D ∷ 0x570B ∷ []) ∷ []) []
+      ≡ (0x4E2D ∷ 0x56FD ∷ []) ∷ (0x4E2D ∷ 0x570B ∷ []) ∷ []
   pub nothing_registered : found german (codes "haus") [] [] ≡ []
   pub over_a_gap : found gap (codes "a") (codes "b" ∷ []) [] ≡ codes "b" ∷ []
   pub back_over_a_gap : found gap (codes "b") (codes "a" ∷ []) [] ≡ []
 
--- what is wrong with a line by itself: it is too long, no UTF-8, or empty; and with the mark: nothing, a capital, a name that
--- stands for another label, or no label before it
+-- what is wrong with a line by itself: it is too long, no UTF-8, or empty; and with the mark: nothing, a capital, a
+-- name that stands for another label, or no label before it
 pub record ExamplesOfLines : Type 0 where
   pub too_long : line_refusal Profile None ≡ Some LineTooLong
   pub not_utf8 : line_refusal Profile (Some (0xFF ∷ [])) ≡ Some NotUtf8

@@ -13,13 +13,17 @@ use Rattle.idn_class.specs.declared.properties.Properties.{Properties}
 abbrev pub Utf8KeepsOrder : Type 0
 Utf8KeepsOrder = (v w : List ℕ) → label_cmp (utf8_of v) (utf8_of w) ≡ label_cmp v w
 
--- the collisions that compute are the one rising list of the registered labels, greater than the text, that are spelled; and those
--- that may be registered are exactly those variants after the text, which are spelled labels that may be, that are registered
+-- the collisions that compute are the one rising list of the registered labels, greater than the text, that are
+-- spelled; and those that may be registered are exactly those variants after the text, which are spelled labels that
+-- may be, that are registered
 pub record CollisionsAreListed : Type 0 where
-  pub exactly : (properties : Properties) (spelled labels : List (List ℕ)) (after : List ℕ) → AreRegistered properties labels →
+  pub exactly : (properties : Properties) (spelled labels : List (List ℕ)) (after : List ℕ)
+      → AreRegistered properties labels →
       IsListOf (IsCollision spelled labels after) (collisions spelled labels after)
-  pub variants_registered : (properties : Properties) (spelled labels : List (List ℕ)) (after v : List ℕ) → AreRegistered properties labels → IsRegistrable properties v →
-      Contains (collisions spelled labels after) v ↔ (Contains (variants_among (λ w. is_none (first_fault properties w)) spelled after) v × Contains labels v)
+  pub variants_registered : (properties : Properties) (spelled labels : List (List ℕ)) (after v : List ℕ)
+      → AreRegistered properties labels → IsRegistrable properties v →
+      Contains (collisions spelled labels after) v
+      ↔ (Contains (variants_among (λ w. is_none (first_fault properties w)) spelled after) v × Contains labels v)
 
 -- registered labels that are kept in two parts have the collisions of the first part, then those of the second
 abbrev pub CollisionsOfParts : Type 0

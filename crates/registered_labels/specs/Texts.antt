@@ -16,11 +16,12 @@ use Rattle.idn_class.specs.declared.properties.Properties.{Properties}
 
 -- ---- a line
 
--- the line is this label: it may be registered; or it is an old one, with the mark after it. One carriage return at the end of the
--- line doesn't count
+-- the line is this label: it may be registered; or it is an old one, with the mark after it. One carriage return at the
+-- end of the line doesn't count
 abbrev pub IsLineOf : Properties → List ℕ → List ℕ → Type 0
 IsLineOf properties line v =
-    ((body_of line ≡ Some (utf8_of v)) × IsRegistrable properties v) ⊎ ((body_of line ≡ Some (utf8_of v ++ mark)) × IsOld v)
+    ((body_of line ≡ Some (utf8_of v)) × IsRegistrable properties v)
+    ⊎ ((body_of line ≡ Some (utf8_of v ++ mark)) × IsOld v)
 
 -- these lines are these labels, in their order
 abbrev pub AreLinesOf : Properties → List (List ℕ) → List (List ℕ) → Type 0
@@ -50,9 +51,10 @@ pub record IsTextOf (properties : Properties) (text : List ℕ) (labels : List (
   pub registered : AreRegistered properties labels
   pub in_time : EndInTime (raw_lines text)
 
--- all lines before the line of this number, from 1, are labels in label order and end in time, and the line, after so many bytes
--- of the text, is wrong after them
-pub record IsFirstWrong (properties : Properties) (text : List ℕ) (number : ℕ) (IsWrong : ℕ → List (List ℕ) → List ℕ → Type 0) : Type 0 where
+-- all lines before the line of this number, from 1, are labels in label order and end in time, and the line, after so
+-- many bytes of the text, is wrong after them
+pub record IsFirstWrong (properties : Properties) (text : List ℕ) (number : ℕ)
+    (IsWrong : ℕ → List (List ℕ) → List ℕ → Type 0) : Type 0 where
   pub before : List (List ℕ)
   pub line : List ℕ
   pub rest : List (List ℕ)
@@ -73,13 +75,14 @@ pub record IsOutOfOrder (properties : Properties) (labels : List (List ℕ)) (li
   pub ending : labels ≡ front ++ last ∷ []
   pub not_greater : ¬ IsBelow last label
 
--- a line after so many bytes of the text, and after these labels, is wrong by itself; or it is not greater than the last of
--- them; or it is neither, but it ends after byte 2^32 - 1 of the text, where the first is byte 1
+-- a line after so many bytes of the text, and after these labels, is wrong by itself; or it is not greater than the
+-- last of them; or it is neither, but it ends after byte 2^32 - 1 of the text, where the first is byte 1
 abbrev pub IsWrongBy : Properties → Refusal → ℕ → List (List ℕ) → List ℕ → Type 0
 IsWrongBy properties refusal at labels line =
     (line_refusal properties (body_of line) ≡ Some refusal)
     ⊎ ((refusal ≡ OutOfOrder) × IsOutOfOrder properties labels line)
-    ⊎ ((refusal ≡ FileTooLong) × (line_refusal properties (body_of line) ≡ None) × (¬ IsOutOfOrder properties labels line)
+    ⊎ ((refusal ≡ FileTooLong) × (line_refusal properties (body_of line) ≡ None)
+    × (¬ IsOutOfOrder properties labels line)
     × (2 ^ 32 ≤ at + length line))
 
 -- the first fault of a text; lack of memory is none of a text

@@ -268,7 +268,8 @@ fn feed_from(text: &[u8], at: usize) -> usize
 }
 
 /// Tests a line as a label that may be registered, or as an old one if it ends in the mark, and returns how many of its
-/// bytes are the label: one carriage return at its end doesn't count. Of some lines it is known that they are lower-case letters, digits and hyphens of ASCII.
+/// bytes are the label: one carriage return at its end doesn't count. Of some lines it is known that they are
+/// lower-case letters, digits and hyphens of ASCII.
 /// `room` is room for the work.
 fn read_label(
     alloc: Global,
@@ -298,8 +299,8 @@ fn read_label(
     }
 }
 
-/// What stands before the mark of an old label, if a body ends in it. Of some bodies it is known that they are lower-case
-/// letters, digits and hyphens of ASCII, so that they don't.
+/// What stands before the mark of an old label, if a body ends in it. Of some bodies it is known that they are
+/// lower-case letters, digits and hyphens of ASCII, so that they don't.
 #[inline]
 fn marked_label(body: &[u8], is_ldh: bool) -> Option<&[u8]>
     requires { is_ldh ≡ true → list_all is_ldh_point body.now ≡ true }

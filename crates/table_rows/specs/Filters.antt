@@ -14,7 +14,8 @@ begins_otherwise point [] = false
 begins_otherwise point (c ∷ label) = not (c == point)
 
 -- what begins with such a list does not begin with the code point
-pub otherwise-refused : (point : ℕ) (w z : List ℕ) → begins_otherwise point w ≡ true → begins_with point (w ++ z) ≡ false
+pub otherwise-refused : (point : ℕ) (w z : List ℕ) → begins_otherwise point w ≡ true
+    → begins_with point (w ++ z) ≡ false
 otherwise-refused point [] z other = absurd (false≢true other)
 otherwise-refused point (c ∷ w) z other = refused (c == point) other
   where

@@ -28,7 +28,7 @@ use Rattle.valid_labels.specs.Actions.{actions_of}
 use Rattle.valid_labels.specs.Dispositions.{IsClearItself, IsOwnDisposition, told_itself}
 use Rattle.valid_labels.specs.Eligible.{Stands, IsCutEnd, IsEligible, CutLeadsTo}
 use Rattle.valid_labels.specs.Demands.{IsMet}
-use Rattle.valid_labels.specs.Validity.{IsAdmitted, IsSound}
+use Rattle.valid_labels.specs.Validity.{AllowsAnyCut, IsAdmitted, IsSound}
 use Rattle.valid_labels.specs.Tests.{holds_in, is_invalid, is_wanted, cut_end}
 use Rattle.valid_labels.specs.Causes.{IsActionCause, IsAt, IsDisposed, IsFirstTriggered, IsStoppedBy, IsFirstBroken, IsCause, action_cause, broken_from, cause_of, cause_told, invalid_by, last_condition, longest_cut, or_else, stopped_by}
 use Rattle.valid_labels.specs.CauseLaws.{CauseIsExact}
@@ -340,8 +340,27 @@ module _ (table : TableValue) (label : List ℕ) (sound_table : IsSound table) w
       by_value None e = absurd (refused (none-told e))
       by_value (Some c) e = ap is_some e
 
+  -- a label that may be asked about has none
+  refuses : (AllowsAnyCut table → ⊥) → (cause : ValidityCause) → IsCause table label cause → IsAdmitted table label → ⊥
+  refuses ruled (NotEligible place condition) is admitted = elim admitted.cut [
+    | inl any ↦ ruled any.0
+    | inr eligible ↦
+        let whole = (end-told table label formed (length label)).0 (whole-end table label formed eligible) in
+        let here = (end-told table label formed place).0 is.0 in
+        let l = is.1 in
+        omega (arith, l, whole, here)
+  ]
+  refuses ruled (Broken n kind) is admitted =
+      is.1.1.broken (met-at (seen_under table label) table.definitions.demands n is.1.0 admitted.met is.1.1.at)
+  refuses ruled Unclear is admitted = is.1 admitted.clear
+  refuses ruled (ByAction n cause) is admitted =
+      admitted.not_invalid (action-invalid table label formed is.0.eligible is.1 n is.2.0 is.2.1 is.2.2)
+  refuses ruled (DefaultAction place) is admitted =
+      admitted.not_invalid (default-makes_invalid table label formed is.0.eligible is.1 place is.2 is.3)
+
 pub cause-is-exact : CauseIsExact
 cause-is-exact = record {
   exactly = λ table label cause sound_table. (sound table label sound_table cause, complete table label sound_table cause);
   told = λ table label sound_table. is-told table label sound_table;
+  alone = λ table label cause sound_table ruled. refuses table label sound_table ruled cause;
 }

@@ -44,7 +44,7 @@ no-demands table label none = subst (AllByRecursion (IsMet (seen_under table lab
 
 pub cut-segmentation : (table : TableValue) (label : List ℕ) → (AllowsAnyCut table × IsMadeOfSources table label) ⊎ IsEligible table label → HasSegmentation table label
 cut-segmentation table label cut = elim cut [
-  | inl any ↦ segmentation-free table label any.0.conditions any.1
+  | inl any ↦ segmentation-free table label any.0.cuts_alone.conditions any.1
   | inr eligible ↦ eligible-segmentation table label eligible
 ]
 
@@ -64,8 +64,9 @@ admitted-valid = record {
 -- ---- a table that asks nothing
 
 pub any-cut-asks_nothing : (table : TableValue) → AllowsAnyCut table → AsksNothing table
-any-cut-asks_nothing table any = record { conditions = any.conditions; demands = any.demands; types = any.types; actions = any.actions; cuts = inl any.earlier }
+any-cut-asks_nothing table any = record { cuts_alone = any.cuts_alone; cuts = inl any.earlier }
 
+<<<<<<< HEAD
 of-sources : (table : TableValue) → AsksNothing table → AdmitsSources table
 of-sources table nothing = record {
   conditions = nothing.conditions;
@@ -77,6 +78,10 @@ of-sources table nothing = record {
 
 abbrev any-cut : (table : TableValue) → AdmitsSources table → table.version ≢ Three → AllowsAnyCut table
 any-cut table nothing earlier = record { earlier = earlier; conditions = nothing.conditions; demands = nothing.demands; types = nothing.types; actions = nothing.actions }
+=======
+abbrev any-cut : (table : TableValue) → AsksNothing table → table.version ≢ Three → AllowsAnyCut table
+any-cut table nothing earlier = record { earlier = earlier; cuts_alone = nothing.cuts_alone }
+>>>>>>> h-proofs
 
 -- each source is one code point, and each variant is made of sources
 module _ (table : TableValue) (label : List ℕ) (conditions : HasNoConditions table) (points : IsOfPoints table) (made : HasVariantsOfSources table) where
@@ -138,10 +143,15 @@ module _ (table : TableValue) (label : List ℕ) (conditions : HasNoConditions t
 replacements-valid : (table : TableValue) (label : List ℕ) → AsksNothing table → IsMadeOfReplacements table label → IsValid table label
 replacements-valid table label nothing made = record {
   cut = elim nothing.cuts [
+<<<<<<< HEAD
     | inl earlier ↦ inl (any-cut table (of-sources table nothing) earlier)
     | inr single ↦ inr (replacements-eligible table label nothing.conditions single.0 single.1 made)
+=======
+    | inl earlier ↦ inl (any-cut table nothing earlier)
+    | inr single ↦ inr (replacements-eligible table label nothing.cuts_alone.conditions single.0 single.1 made)
+>>>>>>> h-proofs
   ];
-  met = no-demands table label nothing.demands;
+  met = no-demands table label nothing.cuts_alone.demands;
 }
 
 -- ---- tables of versions 1 and 2
@@ -165,10 +175,12 @@ older-asks_nothing table is older =
     let plain = plain-in table.version table.entries older (recursion_from_All (IsOfVersion table.version) table.entries is.of_version) in
     let nothing = nothing-defined table.version table.definitions older is.defined in
     record {
-      conditions = all-map (λ (e : Entry). IsPlain (source_of e)) (λ (e : Entry). e.condition ≡ None) table.entries (λ e h. h.1) plain;
-      demands = ap (λ (x : Definitions). x.demands) nothing;
-      types = all-map (λ (e : Entry). IsPlain (source_of e)) (λ (e : Entry). e.type ≡ None) table.entries (λ e h. h.0) plain;
-      actions = subst (AllByRecursion AsksTypesAlone) (sym (ap (λ (x : Definitions). x.actions) nothing)) tt;
+      cuts_alone = record {
+        conditions = all-map (λ (e : Entry). IsPlain (source_of e)) (λ (e : Entry). e.condition ≡ None) table.entries (λ e h. h.1) plain;
+        demands = ap (λ (x : Definitions). x.demands) nothing;
+        types = all-map (λ (e : Entry). IsPlain (source_of e)) (λ (e : Entry). e.type ≡ None) table.entries (λ e h. h.0) plain;
+        actions = subst (AllByRecursion AsksTypesAlone) (sym (ap (λ (x : Definitions). x.actions) nothing)) tt;
+      };
       cuts = inl older;
     }
 
@@ -178,7 +190,11 @@ module _ (table : TableValue) (label : List ℕ) (formed : IsWellFormed table.en
   cut-of : IsMadeOfSources table label → (AllowsAnyCut table × IsMadeOfSources table label) ⊎ IsEligible table label
   cut-of made = elim nothing.cuts [
     | inl earlier ↦ inl (any-cut table nothing earlier, made)
+<<<<<<< HEAD
     | inr points ↦ inr (points-eligible table label points (segmentation-free table label nothing.conditions made))
+=======
+    | inr single ↦ inr (points-eligible table label single.0 (segmentation-free table label nothing.cuts_alone.conditions made))
+>>>>>>> h-proofs
   ]
 
   -- no action is triggered
@@ -215,22 +231,22 @@ module _ (table : TableValue) (label : List ℕ) (formed : IsWellFormed table.en
   unmapped-valid : (kinds : List Kind) → ((kind : Kind) → Contains kinds kind → Unmapped ≡ kind) → Contains kinds Unmapped → disposition_by table label kinds ≡ Valid
   unmapped-valid kinds unmapped there =
       ap (λ (found : Option Action). unwrap_or (option_map (λ (a : Action). a.disposition) found) (unwrap_or (default_disposition (matches_rule table label) kinds) Valid))
-      (first-none kinds unmapped there (matches_rule table label) table.definitions.actions nothing.actions)
+      (first-none kinds unmapped there (matches_rule table label) table.definitions.actions nothing.cuts_alone.actions)
       ∙ KindsAreASet-holds (matches_rule table label) [] kinds (Unmapped ∷ []) (λ kind. (
         λ c. subst (Contains (Unmapped ∷ [])) (unmapped kind c) (Contains-head Unmapped []),
         λ c. subst (Contains kinds) (Contains-one Unmapped kind c) there,
       ))
 
   segmentation-valid : (es : List Entry) → IsSegmentation table es label → disposition_by table label (kinds_of es) ≡ Valid
-  segmentation-valid es is = unmapped-valid (kinds_of es) (kinds-unmapped table label formed nothing.types es is.of_table) (some-unmapped table label formed nothing.types es is some)
+  segmentation-valid es is = unmapped-valid (kinds_of es) (kinds-unmapped table label formed nothing.cuts_alone.types es is.of_table) (some-unmapped table label formed nothing.cuts_alone.types es is some)
 
   pub admitted-if_made : IsMadeOfSources table label → IsAdmitted table label × IsOwnDisposition table label Valid
   admitted-if_made made =
       let s = cut-segmentation table label (cut-of made) in (
         record {
           cut = cut-of made;
-          met = no-demands table label nothing.demands;
-          clear = typeless-clear table label formed nothing.types;
+          met = no-demands table label nothing.cuts_alone.demands;
+          clear = typeless-clear table label formed nothing.cuts_alone.types;
           not_invalid = λ h. absurd (let clash : Valid ≡ Invalid = sym (segmentation-valid h.0 h.1) ∙ h.2 in cc);
         },
         (s.0, s.1, segmentation-valid s.0 s.1),

@@ -29,8 +29,9 @@ use Rattle.valid_labels.specs.Segments.{IsSegment, SegmentIs, MayReach}
 use Rattle.valid_labels.specs.Demands.{IsMet, IsWanted, MeetsDemands}
 use Rattle.valid_labels.specs.Dispositions.{IsClearItself, IsOwnDisposition, told_itself}
 use Rattle.valid_labels.specs.Eligible.{IsEligible}
-use Rattle.valid_labels.specs.Validity.{AllowsAnyCut, AsksNothing, AsksTypesAlone, IsAdmitted, IsSound, IsValid, IsRefused, LeadsNowhere, IsDeadUnder}
-use Rattle.valid_labels.specs.Tests.{Segment, cut_places, not_asked, sources_of, segments_of, holds_in, may_hold_in, is_made_of_sources, is_eligible, may_reach, is_wanted, are_met, meets_demands, is_unconditional, is_three, allows_any_cut, is_admitted, is_invalid, is_let_in, is_valid, asks_a_rule, is_never, is_refused, leads_past, one_up_to, leads_on, is_dead_under, is_open, asks_nothing}
+use Rattle.valid_labels.specs.Validity.{AllowsAnyCut, AsksCutsAlone, AsksNothing, AsksTypesAlone, IsAdmitted, IsSound, IsValid, IsRefused, LeadsNowhere, IsDeadUnder}
+use Rattle.ruleset_text.specs.DefinitionCodes.{is_never}
+use Rattle.valid_labels.specs.Tests.{Segment, cut_places, not_asked, sources_of, segments_of, holds_in, may_hold_in, is_made_of_sources, is_eligible, may_reach, is_wanted, are_met, meets_demands, asks_cuts_alone, is_three, allows_any_cut, is_admitted, is_invalid, is_let_in, is_valid, asks_a_rule, is_refused, leads_past, one_up_to, leads_on, is_dead_under, is_open, asks_nothing}
 use Rattle.valid_labels.specs.Laws.{TestsAgree}
 use Rattle.valid_labels.proofs.CutLemmas.{EntryStands, rounds-map, sequence-filled, cut-steps, steps-cut}
 use Rattle.valid_labels.proofs.EligibleLemmas.{eligible-agrees}
@@ -261,14 +262,8 @@ types-alone (a ∷ actions) = by_parts a.condition a.trigger refl refl (types-al
 
 -- ---- what is asked besides cuts
 
-pub record AsksCutsAlone (table : TableValue) : Type 0 where
-  pub conditions : HasNoConditions table
-  pub demands : table.definitions.demands ≡ []
-  pub types : AllByRecursion (λ (e : Entry). e.type ≡ None) table.entries
-  pub actions : AllByRecursion AsksTypesAlone table.definitions.actions
-
-unconditional-agrees : (table : TableValue) → IsTrue (is_unconditional table) ↔ AsksCutsAlone table
-unconditional-agrees table =
+cuts_alone-agrees : (table : TableValue) → IsTrue (asks_cuts_alone table) ↔ AsksCutsAlone table
+cuts_alone-agrees table =
     let first = not (list_any (λ (e : Entry). is_some e.condition) table.entries) in
     let second = eqb (length table.definitions.demands) 0 in
     let third = not (list_any (λ (e : Entry). is_some e.type) table.entries) in
@@ -295,11 +290,11 @@ earlier-agrees Three = (λ h. not-true h, λ h. absurd (h refl))
 
 any-cut-agrees : (table : TableValue) → IsTrue (allows_any_cut table) ↔ AllowsAnyCut table
 any-cut-agrees table =
-    let two = and-both (not (is_three table.version)) (is_unconditional table) in
+    let two = and-both (not (is_three table.version)) (asks_cuts_alone table) in
     let v = earlier-agrees table.version in
-    let u = unconditional-agrees table in (
-      λ h. (let b = two.0 h in let n = u.0 b.1 in record { earlier = v.0 b.0; conditions = n.conditions; demands = n.demands; types = n.types; actions = n.actions }),
-      λ h. two.1 (v.1 h.earlier, u.1 (record { conditions = h.conditions; demands = h.demands; types = h.types; actions = h.actions })),
+    let u = cuts_alone-agrees table in (
+      λ h. (let b = two.0 h in record { earlier = v.0 b.0; cuts_alone = u.0 b.1 }),
+      λ h. two.1 (v.1 h.earlier, u.1 h.cuts_alone),
     )
 
 pub dead-agrees : (table : TableValue) (label : List ℕ) → IsWellFormed table.entries → IsTrue (is_dead_under table label) ↔ IsDeadUnder table label
@@ -418,19 +413,15 @@ none-open table (e ∷ es) formed =
 
 pub nothing-agrees : (table : TableValue) → IsWellFormed table.entries → IsTrue (asks_nothing table) ↔ AsksNothing table
 nothing-agrees table formed =
-    let two = and-both (is_unconditional table) (not (is_three table.version) || not (list_any (is_open table) table.entries)) in
+    let two = and-both (asks_cuts_alone table) (not (is_three table.version) || not (list_any (is_open table) table.entries)) in
     let either = or-one (not (is_three table.version)) (not (list_any (is_open table) table.entries)) in
-    let u = unconditional-agrees table in
+    let u = cuts_alone-agrees table in
     let v = earlier-agrees table.version in
     let s = none-open table table.entries formed in (
       λ h.
           let b = two.0 h in
-          let n = u.0 b.0 in
-          record { conditions = n.conditions; demands = n.demands; types = n.types; actions = n.actions; cuts = elim (either.0 b.1) [ inl x ↦ inl (v.0 x) | inr y ↦ inr (s.0 y) ] },
-      λ h. two.1 (
-        u.1 (record { conditions = h.conditions; demands = h.demands; types = h.types; actions = h.actions }),
-        either.1 (elim h.cuts [ inl x ↦ inl (v.1 x) | inr y ↦ inr (s.1 y) ]),
-      ),
+          record { cuts_alone = u.0 b.0; cuts = elim (either.0 b.1) [ inl x ↦ inl (v.0 x) | inr y ↦ inr (s.0 y) ] },
+      λ h. two.1 (u.1 h.cuts_alone, either.1 (elim h.cuts [ inl x ↦ inl (v.1 x) | inr y ↦ inr (s.1 y) ])),
     )
 
 pub tests-agree : TestsAgree

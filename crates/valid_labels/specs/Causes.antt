@@ -1,4 +1,4 @@
--- Why a label that is made of sources may not be asked about.
+-- Why a label that is made of sources may not be asked about (RFC 7940, sections 7 and 8).
 use Rattle.std.specs.Prelude.{◌≡◌, ℕ, suc, zero, ◌+◌, ◌<◌, ◌≤◌, nat_eq, Bool, true, false, Option, Some, None, List, []}
 use Rattle.std.specs.Prelude.{◌∷◌, length, map, slice_get, find, if◌then◌else◌, Contains}
 use Rattle.std.specs.Option.{option_map}

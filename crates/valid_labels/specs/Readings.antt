@@ -1,4 +1,4 @@
--- What is told of a label by its readings, as lists that compute.
+-- What is told of a label by its readings (RFC 7940, sections 8.2 to 8.4), as lists that compute.
 use Rattle.std.specs.Prelude.{ℕ, ◌-◌, ◌&&◌, nat_eq, bytes_eq, Bool, List, [], ◌∷◌, Option, Some, None, filter, map}
 use Rattle.std.specs.Prelude.{slice_index_or, if◌then◌else◌}
 use Rattle.std.specs.List.{flat_map, list_all, list_any}

@@ -1,4 +1,4 @@
--- The sources of a table as segments of a label, in any cut.
+-- The sources of a table as segments of a label, in any cut (RFC 7940, section 5.2).
 use Rattle.std.specs.Prelude.{◌≡◌, ℕ, ◌≤◌, List, length, Option, Contains}
 use Rattle.std.specs.List.{slice_range}
 use Rattle.label_patterns.specs.declared.condition.Condition.{Condition}

@@ -9,6 +9,7 @@ use Rattle.label_patterns.specs.Matches.{Seen}
 use Rattle.label_patterns.specs.Tests.{has_place, condition_holds, condition_barred, ignores_end, occurs_in}
 use Rattle.ruleset_text.specs.declared.definition.DemandKind.{DemandKind}
 use Rattle.ruleset_text.specs.declared.definition.DemandKind.TheVariants.{Never, Always}
+use Rattle.ruleset_text.specs.DefinitionCodes.{is_never}
 use Rattle.ruleset_text.specs.Definitions.{Demand}
 use Rattle.ruleset_text.specs.Actions.{NamedAction}
 use Rattle.variant_dispositions.specs.declared.disposition.Disposition.{Disposition}
@@ -140,8 +141,8 @@ abbrev pub asks_a_rule : NamedAction → Bool
 asks_a_rule a = is_some a.condition || not (is_some a.trigger)
 
 -- no source has a condition or a type, there is no demand, and each action asks for types alone
-abbrev pub is_unconditional : TableValue → Bool
-is_unconditional table =
+abbrev pub asks_cuts_alone : TableValue → Bool
+asks_cuts_alone table =
     not (list_any (λ e. is_some e.condition) table.entries) && (nat_eq (length table.definitions.demands) 0
     && (not (list_any (λ e. is_some e.type) table.entries) && not (list_any asks_a_rule table.definitions.actions)))
 
@@ -151,7 +152,7 @@ is_three earlier = false
 
 -- a label may be cut in any way
 abbrev pub allows_any_cut : TableValue → Bool
-allows_any_cut table = not (is_three table.version) && is_unconditional table
+allows_any_cut table = not (is_three table.version) && asks_cuts_alone table
 
 -- ---- what is told of the label itself
 
@@ -179,10 +180,6 @@ abbrev pub is_valid : TableValue → List ℕ → Bool
 is_valid table label = (allows_any_cut table || is_eligible table label) && meets_demands table label
 
 -- ---- what is dead
-
-abbrev pub is_never : DemandKind → Bool
-is_never Never = true
-is_never Always = false
 
 abbrev pub is_refused : TableValue → List ℕ → Bool
 is_refused table label =
@@ -217,4 +214,4 @@ is_open table e =
 -- the table asks nothing of its labels
 abbrev pub asks_nothing : TableValue → Bool
 asks_nothing table =
-    is_unconditional table && (not (is_three table.version) || not (list_any (is_open table) table.entries))
+    asks_cuts_alone table && (not (is_three table.version) || not (list_any (is_open table) table.entries))

@@ -28,14 +28,18 @@ pub record IsSound (table : TableValue) : Type 0 where
 abbrev pub AsksTypesAlone : NamedAction → Type 0
 AsksTypesAlone a = (a.condition ≡ None) × (a.trigger ≢ None)
 
--- a table of version 1 or 2, which has neither conditions nor types of sources, neither demands nor actions that ask
--- for rules: a label may be cut in any way
-pub record AllowsAnyCut (table : TableValue) : Type 0 where
-  pub earlier : table.version ≢ Three
+-- no source has a condition or a type, there is no demand, and each action asks for types alone: nothing is asked of a
+-- label but how it is cut
+pub record AsksCutsAlone (table : TableValue) : Type 0 where
   pub conditions : HasNoConditions table
   pub demands : table.definitions.demands ≡ []
   pub types : AllByRecursion (λ e. e.type ≡ None) table.entries
   pub actions : AllByRecursion AsksTypesAlone table.definitions.actions
+
+-- a table of version 1 or 2, which asks nothing else: a label may be cut in any way
+pub record AllowsAnyCut (table : TableValue) : Type 0 where
+  pub earlier : table.version ≢ Three
+  pub cuts_alone : AsksCutsAlone table
 
 -- a label that may be asked about: it is eligible, meets the demands, is clear, and isn't invalid. Under a table of
 -- version 1 or 2 it is only to be made of sources
@@ -60,13 +64,10 @@ abbrev pub HasVariantsOfSources : TableValue → Type 0
 HasVariantsOfSources table =
     AllByRecursion (λ e. AllByRecursion (IsMadeOfSources table) (sequences_in e.variants)) table.entries
 
--- the table asks nothing of its labels: no source has a condition or a type, there is no demand, each action asks for
--- types alone, and it is of version 1 or 2, or each source is one code point and each variant is made of sources
+-- the table asks nothing of its labels, not even how they are cut: it is of version 1 or 2, or each source is one code
+-- point and each variant is made of sources
 pub record AsksNothing (table : TableValue) : Type 0 where
-  pub conditions : HasNoConditions table
-  pub demands : table.definitions.demands ≡ []
-  pub types : AllByRecursion (λ e. e.type ≡ None) table.entries
-  pub actions : AllByRecursion AsksTypesAlone table.definitions.actions
+  pub cuts_alone : AsksCutsAlone table
   pub cuts : (table.version ≢ Three) ⊎ (IsOfPoints table × HasVariantsOfSources table)
 
 -- a part of the label matches a pattern that no label may match, and that doesn't ask for the end of the label

@@ -143,15 +143,15 @@ module _ (table : TableValue) (label : List ℕ) where
   Arises-unasked v = (
     λ a. (
       map unasked_entry a.0,
-      record { of_table = of_unasked a.0 a.1.0; joined = sources_same a.0 ∙ a.1.1; held = held 0 a.0 },
+      record { of_table = of_unasked a.0 a.1.of_table; joined = sources_same a.0 ∙ a.1.joined; held = held 0 a.0 },
       joined 0 a.0 v a.2,
     ),
-    λ s. (let c = cut_for s.0 0 v s.1.of_table s.2 in (c.cut, (c.of_table, c.sources ∙ s.1.joined), c.joins)),
+    λ s. (let c = cut_for s.0 0 v s.1.of_table s.2 in (c.cut, record { of_table = c.of_table; joined = c.sources ∙ s.1.joined }, c.joins)),
   )
 
 -- a segmentation is a cut
 pub Arises-spelled : (table : TableValue) (label v : List ℕ) → Spells table label v → Arises table label v
-Arises-spelled table label v s = (s.0, (s.1.of_table, s.1.joined), s.2)
+Arises-spelled table label v s = (s.0, record { of_table = s.1.of_table; joined = s.1.joined }, s.2)
 
 pub unasked-Arises : (table : TableValue) (label v : List ℕ) → IsWellFormed table.entries → Contains (spelled (unasked table) label) v ↔ Arises table label v
 unasked-Arises table label v formed =

@@ -23,7 +23,7 @@ joins_near table label (e ∷ segmentation) place v of joins =
     )
 
 pub AreNear-arising : (table : TableValue) (label v : List ℕ) → Arises table label v → AreNear table label v
-AreNear-arising table label v a = let g = joins_near table label a.0 0 v a.1.0 a.2 in (g.0, g.1, g.2, g.3 ∙ a.1.1, g.4)
+AreNear-arising table label v a = let g = joins_near table label a.0 0 v a.1.of_table a.2 in (g.0, g.1, g.2, g.3 ∙ a.1.joined, g.4)
 
 pairs_turned : (table : TableValue) (parts others : List (List ℕ)) → PairUp table parts others → PairUp table others parts
 pairs_turned table [] [] pairs = tt

@@ -1,19 +1,15 @@
 -- What arises from a label where nothing is asked of its sources, as from one that a table refuses today.
-use Rattle.std.specs.Prelude.{◌≡◌, ℕ, None, List, map, Contains}
-use Rattle.std.specs.List.{flat_map, AllByRecursion}
+use Rattle.std.specs.Prelude.{ℕ, None, List, map}
 use Rattle.variant_table.specs.Entries.{Entry, TableValue}
+use Rattle.variant_table.specs.Segmentations.{AreJoined}
 use Rattle.variant_list.specs.declared.substitutions.Cuts.{Cuts}
 use Rattle.variant_list.specs.declared.substitutions.Cuts.TheVariants.{Segmentations, Anyhow}
 use Rattle.variant_list.specs.Spelling.{JoinsReplacements, Spells}
 
--- entries of the table whose sources, joined, are the label, whether their conditions hold or not
-abbrev pub IsCutAnyhow : TableValue → List Entry → List ℕ → Type 0
-IsCutAnyhow table cut label = AllByRecursion (Contains table.entries) cut × (flat_map (λ e. e.source) cut ≡ label)
-
--- v arises from the label: each of its sources is replaced by itself, or by a variant whose condition holds in the
--- label where the source stands
+-- v arises from the label: it is cut into sources, whether their conditions hold or not, and each is replaced by
+-- itself, or by a variant whose condition holds in the label where the source stands (RFC 7940, section 5.3)
 abbrev pub Arises : TableValue → List ℕ → List ℕ → Type 0
-Arises table label v = (cut : List Entry) × IsCutAnyhow table cut label × JoinsReplacements table label 0 cut v
+Arises table label v = (cut : List Entry) × AreJoined table cut label × JoinsReplacements table label 0 cut v
 
 -- the label gives v by cuts of this kind: it spells v by its segmentations, and v arises from it by any
 abbrev pub Gives : Cuts → TableValue → List ℕ → List ℕ → Type 0

@@ -1,5 +1,5 @@
--- The substitutions of a label under a table: what may stand in the place of which of its code points. The variant
--- graph of a label is laid out from them.
+-- The substitutions of a label under a table: what may stand in the place of which of its code points (RFC 7940,
+-- sections 5.2 and 5.3). The variant graph of a label is laid out from them.
 use Rattle.std.specs.Prelude.{ℕ, zero, suc, ◌+◌, ◌-◌, ◌^◌, Bool, Option, List, [], ◌∷◌, ◌++◌, length, map, filter}
 use Rattle.std.specs.Prelude.{sum_by, slice_index_or}
 use Rattle.std.specs.List.{flat_map}

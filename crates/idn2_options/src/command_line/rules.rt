@@ -3,7 +3,8 @@ ghost use Rattle.std.specs.Prelude.{◌≡◌, count_by, option_map};
 ghost use Rattle.clap.specs.Words.{found_of, rows_of};
 ghost use Rattle.idn2_options.specs.Causes.{broken_rule, listing_option, misfit_of, misfit_of_among, wrong_number};
 ghost use Rattle.idn2_options.specs.Words.{among_of, has_listing_option, listing_options_fit, checked_file, checks};
-ghost use Rattle.idn2_options.specs.Words.{checks_alone, decodes_old, file_of, has_among, has_counts, has_short_start, is_allowed};
+ghost use Rattle.idn2_options.specs.Words.{checks_alone, decodes_old, file_of, has_among, has_counts, has_short_start};
+ghost use Rattle.idn2_options.specs.Words.{is_allowed};
 ghost use Rattle.idn2_options.specs.Words.{is_bound_if_given, is_count_if_given, jumps_by_table, listing_file, lists};
 ghost use Rattle.idn2_options.specs.Words.{names_one_mode, notation_of, start_of, suits_among};
 
