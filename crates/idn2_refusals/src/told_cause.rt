@@ -1,5 +1,5 @@
 //! A cause as it is told: once, for its object and its message alike. Places, labels and bytes are counted from 1 here.
-ghost use Rattle.std.specs.Prelude.{◌≡◌, ◌≤◌, ◌+◌, ◌++◌, Some, codes, length};
+ghost use Rattle.std.specs.Prelude.{◌≡◌, ◌≤◌, ◌+◌, ◌++◌, [], Some, codes, length};
 ghost use Rattle.std.specs.Option.{option_copied};
 ghost use Rattle.answer_json.specs.Details.{HasShortTexts, details_of, no_details};
 ghost use Rattle.idn2_refusals.specs.CauseParts.{IsShort, a_label_parts, at_byte as at_byte_of};
@@ -8,7 +8,7 @@ ghost use Rattle.idn2_refusals.specs.CauseParts.{changed_parts, code_point_text,
 ghost use Rattle.idn2_refusals.specs.CauseParts.{hyphen_text, label_parts, labelled, led, length_parts, lexeme_text};
 ghost use Rattle.idn2_refusals.specs.CauseParts.{noted, parts_of, placed as placed_of, plain};
 ghost use Rattle.idn2_refusals.specs.CauseParts.{point_at_byte as point_at_byte_of, point_parts, ruled, told_details};
-ghost use Rattle.idn2_refusals.specs.RuleTexts.{named};
+ghost use Rattle.idn2_refusals.specs.RuleTexts.{demand_text, named};
 ghost use Rattle.idn2_refusals.specs.ToldCauses.{rule_of, told_parts};
 ghost use Rattle.ruleset_text.specs.Actions.{kind_word};
 
@@ -20,11 +20,11 @@ use crate::rules::{
 };
 use answer_json::RefusalMembers;
 use arrayvec::ArrayVec;
-use idn_cause::{ALabelCause, Cause, LengthCause};
+use idn_cause::{ALabelCause, Cause, LabelUtf8, LengthCause};
 use idn_text::Refusal;
 use idn2_output::append;
 use label_patterns::ConditionKind;
-use ruleset_text::FaultPlace;
+use ruleset_text::{DemandKind, FaultPlace};
 
 /// The code point of the hyphen.
 const HYPHEN: u32 = 0x2D;
@@ -150,39 +150,25 @@ pub(crate) fn told_cause<'a>(refusal: &Refusal, cause: &'a LineCause) -> ToldCau
         LineCause::NoEntry(place, point) => {
             ToldCause::plain(placed(*place, *point)).noted(b": no entry")
         }
-        LineCause::Broken(number, kind) => ToldCause::plain(RefusalMembers {
-            demand: Some(counted(*number)),
-            kind: Some(word_of_demand(*kind)),
-            ..RefusalMembers::NONE
-        }),
+        LineCause::Broken(number, kind) => ToldCause::plain(by_demand(*number, *kind)),
         LineCause::Unclear => ToldCause::plain(RefusalMembers {
             unclear: true,
             ..RefusalMembers::NONE
         }),
         LineCause::ActionAsking(number, kind, rule) => of_asking_action(*number, *kind, rule),
-        LineCause::ActionOfType(number, place, point, name) => ToldCause::plain(RefusalMembers {
-            action: Some(counted(*number)),
-            type_name: Some(name.as_slice()),
-            ..placed(*place, *point)
-        }),
+        LineCause::ActionOfType(number, place, point, name) => {
+            of_action_of_type(*number, *place, *point, name)
+        }
         LineCause::Action(number) => ToldCause::plain(by_action(*number)),
-        LineCause::DefaultAction(place, point) => ToldCause::plain(RefusalMembers {
-            default_action: Some(1),
-            type_name: Some(b"invalid"),
-            ..placed(*place, *point)
-        }),
+        LineCause::DefaultAction(place, point) => {
+            ToldCause::plain(by_default_action(*place, *point))
+        }
         LineCause::Ends(place) => of_end(*place),
         LineCause::OfTable(place, quoted) => of_fault_place(place, quoted),
         LineCause::ByteOrderMark => {
             ToldCause::led(b"a byte order mark", point_at_byte(0, BYTE_ORDER_MARK))
         }
-        LineCause::ALabelOf(label) => {
-            let members = RefusalMembers {
-                ulabel: Some(label.as_slice()),
-                ..placed(2, HYPHEN)
-            };
-            ToldCause::led(b"", members).noted(b", with place 4")
-        }
+        LineCause::ALabelOf(label) => of_a_label_that_stands_for(label),
         LineCause::NoALabel => ToldCause {
             lead: Some(Lead::new()),
             ..ToldCause::ruled(rule_of_a_label(), placed(2, HYPHEN))
@@ -219,6 +205,37 @@ fn of_asking_action<'a>(number: usize, kind: ConditionKind, rule: &'a DefinedNam
         ..by_action(number)
     };
     ToldCause::ruled(Rule::named(rule.as_slice()), members)
+}
+
+/// An action that is triggered by the type of the source at this place.
+fn of_action_of_type<'a>(
+    action: usize,
+    place: usize,
+    point: u32,
+    name: &'a DefinedName,
+) -> ToldCause<'a>
+    ensures parts { told_parts result ≡ plain
+        (record (placed_of place point) { action = Some (action + 1); type_name = Some name.now.items }) }
+    ensures short { IsShort (told_parts result) }
+{
+    ToldCause::plain(RefusalMembers {
+        action: Some(counted(action)),
+        type_name: Some(name.as_slice()),
+        ..placed(place, point)
+    })
+}
+
+/// An A-label where a U-label is wanted, and the U-label that it stands for.
+fn of_a_label_that_stands_for<'a>(label: &'a LabelUtf8) -> ToldCause<'a>
+    ensures parts { told_parts result ≡ noted (codes ", with place 4")
+        (led [] (record (placed_of 2 0x2D) { ulabel = Some label.now.items })) }
+    ensures short { IsShort (told_parts result) }
+{
+    let members = RefusalMembers {
+        ulabel: Some(label.as_slice()),
+        ..placed(2, HYPHEN)
+    };
+    ToldCause::led(b"", members).noted(b", with place 4")
 }
 
 /// The place at which a label ends.
@@ -419,6 +436,29 @@ fn by_action<'a>(number: usize) -> RefusalMembers<'a>
 {
     RefusalMembers {
         action: Some(counted(number)),
+        ..RefusalMembers::NONE
+    }
+}
+
+/// The first default action, by the source at this place: the type is `invalid` (RFC 7940 section 7.6).
+fn by_default_action<'a>(place: usize, point: u32) -> RefusalMembers<'a>
+    ensures { details_of result
+        ≡ record (placed_of place point) { default_action = Some 1; type_name = Some (codes "invalid") } }
+{
+    RefusalMembers {
+        default_action: Some(1),
+        type_name: Some(b"invalid"),
+        ..placed(place, point)
+    }
+}
+
+/// A demand of a ruleset.
+fn by_demand<'a>(number: usize, kind: DemandKind) -> RefusalMembers<'a>
+    ensures { details_of result ≡ record no_details { demand = Some (number + 1); kind = Some (demand_text kind) } }
+{
+    RefusalMembers {
+        demand: Some(counted(number)),
+        kind: Some(word_of_demand(kind)),
         ..RefusalMembers::NONE
     }
 }

@@ -66,9 +66,10 @@ fn are_apart(has: u64, lacks: u64) -> bool
 /// Whether the holder may have a label by some of its readings, by the default actions, where no type but blocked is
 /// recorded. So tables of version 2 are read, in which a label is never unclear.
 pub fn is_allocatable_in_some(words: Words) -> bool
-    ensures { (matched : ℕ → Bool) (substitutions : List (List Substitution)) (v : List ℕ) →
+    ensures told { (matched : ℕ → Bool) (substitutions : List (List Substitution)) (v : List ℕ) →
         AreWordsOf substitutions v words.has words.lacks → HasNoTypeButBlocked substitutions v →
         IsTrue result ↔ IsAllocatableInSome matched [] substitutions v }
+    ensures lacks { IsTrue result ↔ (bit_at words.lacks 3 ≡ 1) }
 {
     words.lacks(BLOCKED_BIT)
 }
