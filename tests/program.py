@@ -177,7 +177,7 @@ Examples:
 
 Status:
   0  every line was answered
-  1  a line was refused, or the table has a gap
+  1  a line was refused, or a check found something
   2  the options or a file can't be used
   3  reading or writing failed
   4  memory ran out

@@ -7,7 +7,7 @@ ghost use Rattle.idn2_output.specs.Statuses.{code_of};
 pub enum Status {
     /// Nothing was refused, and no gap was found.
     Clean,
-    /// A line was refused, or the table has a gap.
+    /// A line was refused, or the check of a table found something.
     Refused,
     /// The words, the table or the registered labels can't be used.
     Unusable,
