@@ -66,22 +66,14 @@ admitted-valid = record {
 pub any-cut-asks_nothing : (table : TableValue) → AllowsAnyCut table → AsksNothing table
 any-cut-asks_nothing table any = record { cuts_alone = any.cuts_alone; cuts = inl any.earlier }
 
-<<<<<<< HEAD
 of-sources : (table : TableValue) → AsksNothing table → AdmitsSources table
 of-sources table nothing = record {
-  conditions = nothing.conditions;
-  demands = nothing.demands;
-  types = nothing.types;
-  actions = nothing.actions;
+  cuts_alone = nothing.cuts_alone;
   cuts = elim nothing.cuts [ inl earlier ↦ inl earlier | inr single ↦ inr single.0 ];
 }
 
 abbrev any-cut : (table : TableValue) → AdmitsSources table → table.version ≢ Three → AllowsAnyCut table
-any-cut table nothing earlier = record { earlier = earlier; conditions = nothing.conditions; demands = nothing.demands; types = nothing.types; actions = nothing.actions }
-=======
-abbrev any-cut : (table : TableValue) → AsksNothing table → table.version ≢ Three → AllowsAnyCut table
 any-cut table nothing earlier = record { earlier = earlier; cuts_alone = nothing.cuts_alone }
->>>>>>> h-proofs
 
 -- each source is one code point, and each variant is made of sources
 module _ (table : TableValue) (label : List ℕ) (conditions : HasNoConditions table) (points : IsOfPoints table) (made : HasVariantsOfSources table) where
@@ -143,13 +135,8 @@ module _ (table : TableValue) (label : List ℕ) (conditions : HasNoConditions t
 replacements-valid : (table : TableValue) (label : List ℕ) → AsksNothing table → IsMadeOfReplacements table label → IsValid table label
 replacements-valid table label nothing made = record {
   cut = elim nothing.cuts [
-<<<<<<< HEAD
     | inl earlier ↦ inl (any-cut table (of-sources table nothing) earlier)
-    | inr single ↦ inr (replacements-eligible table label nothing.conditions single.0 single.1 made)
-=======
-    | inl earlier ↦ inl (any-cut table nothing earlier)
     | inr single ↦ inr (replacements-eligible table label nothing.cuts_alone.conditions single.0 single.1 made)
->>>>>>> h-proofs
   ];
   met = no-demands table label nothing.cuts_alone.demands;
 }
@@ -190,11 +177,7 @@ module _ (table : TableValue) (label : List ℕ) (formed : IsWellFormed table.en
   cut-of : IsMadeOfSources table label → (AllowsAnyCut table × IsMadeOfSources table label) ⊎ IsEligible table label
   cut-of made = elim nothing.cuts [
     | inl earlier ↦ inl (any-cut table nothing earlier, made)
-<<<<<<< HEAD
-    | inr points ↦ inr (points-eligible table label points (segmentation-free table label nothing.conditions made))
-=======
-    | inr single ↦ inr (points-eligible table label single.0 (segmentation-free table label nothing.cuts_alone.conditions made))
->>>>>>> h-proofs
+    | inr points ↦ inr (points-eligible table label points (segmentation-free table label nothing.cuts_alone.conditions made))
   ]
 
   -- no action is triggered

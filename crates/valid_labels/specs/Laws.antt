@@ -17,7 +17,7 @@ use Rattle.variant_table.specs.Segmentations.{IsMadeOfSources, HasSegmentation, 
 use Rattle.valid_labels.specs.Dispositions.{IsClearItself, IsOwnDisposition, told_itself}
 use Rattle.valid_labels.specs.Readings.{told_by}
 use Rattle.valid_labels.specs.Testing.{IsAdmission}
-use Rattle.valid_labels.specs.Validity.{IsSound, IsOfPoints, AsksNothing, AsksTypesAlone, IsAdmitted, IsValid, IsDeadUnder}
+use Rattle.valid_labels.specs.Validity.{IsSound, IsOfPoints, AsksCutsAlone, AsksNothing, IsAdmitted, IsValid, IsDeadUnder}
 use Rattle.valid_labels.specs.Tests as tests
 
 -- longest first accepts no more labels than any cut; and the same where each source is one code point
@@ -79,13 +79,10 @@ TypelessAreClear =
     (table : TableValue) (label : List ℕ) → IsWellFormed table.entries
     → AllByRecursion (λ e. e.type ≡ None) table.entries → IsClearItself table label
 
--- the table asks nothing of a label that is made of sources: no source has a condition or a type, there is no demand,
--- each action asks for types alone, and it is of version 1 or 2, or each source is one code point
+-- the table asks nothing of a label that is made of sources: nothing but how it is cut, and it is of version 1 or 2, or
+-- each source is one code point
 pub record AdmitsSources (table : TableValue) : Type 0 where
-  pub conditions : HasNoConditions table
-  pub demands : table.definitions.demands ≡ []
-  pub types : AllByRecursion (λ e. e.type ≡ None) table.entries
-  pub actions : AllByRecursion AsksTypesAlone table.definitions.actions
+  pub cuts_alone : AsksCutsAlone table
   pub cuts : (table.version ≢ Three) ⊎ IsOfPoints table
 
 -- under such a table a label of one code point or more may be asked about where it is made of sources, so none is

@@ -38,13 +38,8 @@ pub fn admitted_are_valid()
     ensures { AdmittedAreValid }
 {}
 
-<<<<<<< HEAD
 /// Under a table that asks nothing of what is made of sources, as each of version 1 or 2 does, each such label may be
 /// asked about, so none is refused as not valid. Where it asks nothing of variants, either, they are valid.
-=======
-/// Under a table that asks nothing, as each of version 1 or 2 does, a label that is made of sources may be asked about,
-/// so none is refused as not valid, and what is made of sources and variants is valid.
->>>>>>> h-proofs
 pub fn nothing_is_asked()
     ensures { NothingIsAsked }
 {}
