@@ -10,6 +10,7 @@ from inputs import SEED, TABLE, choices_of_table, write
 sys.path.append(str(TABLE.parent.parent / "registry"))
 
 from idn2_registry.notation import reading
+from idn2_registry.notation.ruleset import INVALID
 
 GERMAN = TABLE.parent / "german.txt"
 SYLLABLES = ("an ber ei der ge ha in ka lo me nu os pa ra ss ste tra un vo wa zu ß ü ö ä ue oe ae sch ch").split()
@@ -49,7 +50,7 @@ def accepted(ours, words, labels):
 def ruleset_labels(ours, path, count):
     """Labels of the letters of a ruleset, which the ruleset may refuse."""
     chance, sources = random.Random(f"{SEED} {path.stem}"), reading.read(path.read_bytes(), lambda point: True).entries
-    single = [chr(source[0]) for source, entry in sources.items() if len(source) == 1 and not entry.is_outside]
+    single = [chr(source[0]) for source, entry in sources.items() if len(source) == 1 and entry.source.type != INVALID]
     labels = set()
     while len(labels) < count:
         drawn = ["".join(chance.choices(single, k=chance.randint(2, 12))) for _ in range(count)]

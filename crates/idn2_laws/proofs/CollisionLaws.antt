@@ -1,18 +1,29 @@
 -- Laws of the labels that collide.
-use Rattle.std.proofs.Common.{◌≡◌, ◌⊎◌, inl, inr, ◌&&◌, cond, ℕ, Bool, true, false, List, [], ◌∷◌, ◌++◌, refl, ap}
-use Rattle.std.specs.List.{filter}
+use Rattle.std.proofs.Common.{◌≡◌, ◌⊎◌, ◌↔◌, inl, inr, ◌&&◌, cond, ℕ, Bool, true, false, List, [], ◌∷◌, ◌++◌, refl, ap}
+use Rattle.std.specs.Prelude.{Contains}
+use Rattle.std.specs.List.{filter, slice_get}
 use Rattle.std.specs.Ordering.{is_gt}
 use Rattle.std.proofs.lemmas.Bool.{false≢true}
 use Rattle.variant_table.specs.Entries.{TableValue}
 use Rattle.idn2_options.specs.Settings.{Settings}
 use Rattle.variant_list.specs.Arising.{Arises}
-use Rattle.variant_list.specs.Labels.{label_cmp}
+use Rattle.variant_list.specs.Labels.{IsListOf, label_cmp}
 use Rattle.variant_list.proofs.ArisingLemmas.{Arises-spelled}
-use Rattle.idn2_answers.specs.Collisions.{Collides, IsBarred, IsGood, IsVariantOf, is_found, whole}
+use Rattle.variant_list.proofs.MutualLemmas.{Spells-same}
+use Rattle.variant_list.proofs.NetLemmas.{Spells-itself}
+use Rattle.valid_labels.proofs.NothingLemmas.{admitted-valid}
+use Rattle.answer_json.specs.declared.collision.Regard.TheVariants.{NoVariant}
+use Rattle.idn2_answers.specs.Listings.{IsListed}
+use Rattle.idn2_answers.specs.Collisions.{Collides, IsBarred, IsGood, IsRegard, IsVariantOf, is_found, whole}
 use Rattle.idn2_answers.proofs.FoundLabels.{found-members}
 use Rattle.idn2_answers.proofs.CollisionTests.{near-of}
-use Rattle.idn2_laws.specs.CollisionLaws.{CollisionsAreFound, CollisionsGoBothWays}
-use Rattle.idn2_laws.proofs.ListingLaws.{listed-itself}
+use Rattle.idn2_laws.specs.CollisionLaws.{AreOfMutualTable, CollisionsAreFound, CollisionsGoBothWays, KeysDecide}
+use Rattle.idn2_laws.specs.ListingLaws.{IsAsked}
+use Rattle.idn2_laws.proofs.ListingLaws.{listed-itself, listed-mutual, taken, taken-asked}
+
+-- a good label may be asked about, and then its listing is whole
+asked-good : (o : Settings) (table : TableValue) (v : List ℕ) → IsGood o table v → IsAsked (whole o) table v
+asked-good o table v good = record { registrable = good.registrable; admitted = good.admitted; whole = refl }
 
 turned : (o : Settings) (table : TableValue) (v w : List ℕ) → Collides o table v w → Collides o table w v
 turned o table v w (inl there) = inr there
@@ -21,10 +32,7 @@ turned o table v w (inr back) = inl back
 pub both-ways : CollisionsGoBothWays
 both-ways = record {
   symmetric = λ o table v w. (turned o table v w, turned o table w v);
-  itself = λ o table v good. inl (inl (record {
-    good = good;
-    listed = listed-itself (whole o) table v (record { registrable = good.registrable; admitted = good.admitted; whole = refl });
-  }));
+  itself = λ o table v good. inl (inl (record { good = good; listed = listed-itself (whole o) table v (asked-good o table v good) }));
   near = near-of;
 }
 
@@ -93,4 +101,56 @@ are-found = record {
         λ both. (let f = all.0 both.0 in alone.1 (record { registered = f.registered; greater = f.greater; collides = same-collide o table false true label v f.collides; other = λ is. both.1 })),
       );
   of_parts = λ o table first second label. filter-parts (λ v. is_gt (label_cmp v o.after) && is_found o table label v) first second;
+}
+
+-- ---- tables of which keys decide
+
+module _ (o : Settings) (table : TableValue) (v w : List ℕ) (of : AreOfMutualTable o table v w) where
+  both-good : IsBarred o table v w → ⊥
+  both-good barred = barred.refused (of.good, of.other_good)
+
+  -- what v has as a variant has v
+  variant-turned : IsVariantOf o table v w → IsVariantOf o table w v
+  variant-turned is =
+      let asked = asked-good o table v of.good in
+      let asked_too = asked-good o table w of.other_good in
+      let spells = ((taken (whole o) table of.of_table of.without_gaps of.refuses v w asked).0 is.listed).1 in
+      let same = (Spells-same table of.without_gaps.well_formed of.without_gaps.gaps of.without_gaps.points of.without_gaps.free v w (admitted-valid.segmented table w of.other_good.admitted)).0 spells in
+      let back = (same v).0 (Spells-itself table v (admitted-valid.segmented table v of.good.admitted)) in
+      record {
+        good = of.other_good;
+        listed = (taken (whole o) table of.of_table of.without_gaps of.refuses w v asked_too).1 (taken-asked (whole o) table of.of_table of.without_gaps of.refuses v asked, back);
+      }
+
+of-turned : (o : Settings) (table : TableValue) (v w : List ℕ) → AreOfMutualTable o table v w → AreOfMutualTable o table w v
+of-turned o table v w of = record { of_table = of.of_table; without_gaps = of.without_gaps; refuses = of.refuses; good = of.other_good; other_good = of.good }
+
+nothing-turned : (o : Settings) (table : TableValue) (v w : List ℕ) → AreOfMutualTable o table v w → IsRegard o table v w NoVariant → IsRegard o table w v NoVariant
+nothing-turned o table v w of none =
+    let other = of-turned o table v w of in
+    (λ is. none.0 (variant-turned o table w v other is), both-good o table w v other)
+
+-- they collide where one is a variant of the other
+collide-listed : (o : Settings) (table : TableValue) (v w : List ℕ) → AreOfMutualTable o table v w → Collides o table v w ↔ IsListed (whole o) table v w
+collide-listed o table v w of = (
+  λ c. elim c [
+    | inl there ↦ (good-collide o table v w of.good of.other_good there).listed
+    | inr back ↦ (variant-turned o table w v (of-turned o table v w of) (good-collide o table w v of.other_good of.good back)).listed
+  ],
+  λ listed. inl (inl (record { good = of.good; listed = listed })),
+)
+
+same-keys : (o : Settings) (table : TableValue) (v w : List ℕ) (vs ws : List (List ℕ)) → AreOfMutualTable o table v w → IsListOf (IsListed (whole o) table v) vs → IsListOf (IsListed (whole o) table w) ws
+    → Collides o table v w ↔ (slice_get vs 0 ≡ slice_get ws 0)
+same-keys o table v w vs ws of of_v of_w =
+    let listed = collide-listed o table v w of in
+    let keys = (listed-mutual (whole o) table v w vs ws of.of_table of.without_gaps of.refuses (asked-good o table v of.good) (asked-good o table w of.other_good) of_v of_w).1 in (
+      λ c. keys.0 ((of_v.members w).1 (listed.0 c)),
+      λ same. listed.1 ((of_v.members w).0 (keys.1 same)),
+    )
+
+pub keys-decide : KeysDecide
+keys-decide = record {
+  alike = λ o table v w of. (nothing-turned o table v w of, nothing-turned o table w v (of-turned o table v w of));
+  keys = same-keys;
 }

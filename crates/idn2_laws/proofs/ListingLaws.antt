@@ -76,17 +76,17 @@ admitted-listed = record { listed = listed-itself; disposed = own-disposed; allo
 -- ---- labels that are variants of each other
 
 -- what is asked of a label that is listed, whatever label it is a variant of
-record IsTaken (o : Settings) (table : TableValue) (refuses : RefusesBySources table) (v : List ℕ) : Type 0 where
-  registrable : IsRegistrable o.properties v
-  valid : IsValid table v
-  greater : IsBelow o.after v
-  kept : ¬ IsRefusedByRule table refuses v
+pub record IsTaken (o : Settings) (table : TableValue) (refuses : RefusesBySources table) (v : List ℕ) : Type 0 where
+  pub registrable : IsRegistrable o.properties v
+  pub valid : IsValid table v
+  pub greater : IsBelow o.after v
+  pub kept : ¬ IsRefusedByRule table refuses v
 
 module _ (o : Settings) (table : TableValue) (of_table : IsTable table) (mutual_in : IsMutual table) (refuses : RefusesBySources table) where
-  abbrev IsTakenOf : List ℕ → List ℕ → Type 0
+  abbrev pub IsTakenOf : List ℕ → List ℕ → Type 0
   IsTakenOf label v = IsTaken o table refuses v × Spells table label v
 
-  taken : (label v : List ℕ) → IsAsked o table label → IsListed o table label v ↔ IsTakenOf label v
+  pub taken : (label v : List ℕ) → IsAsked o table label → IsListed o table label v ↔ IsTakenOf label v
   taken label v asked =
       let left = λ (spells : Spells table label v). left-by_rule table of_table mutual_in refuses label asked.admitted v spells in (
         λ h. (record { registrable = h.registrable; valid = h.valid; greater = h.greater; kept = λ out. h.kept ((left h.spelled).1 out) }, h.spelled),
@@ -96,7 +96,7 @@ module _ (o : Settings) (table : TableValue) (of_table : IsTable table) (mutual_
   taken-list : (label : List ℕ) (vs : List (List ℕ)) → IsAsked o table label → IsListOf (IsListed o table label) vs → IsListOf (IsTakenOf label) vs
   taken-list label vs asked = IsListOf-same (IsListed o table label) (IsTakenOf label) vs (λ v. taken label v asked)
 
-  taken-asked : (label : List ℕ) → IsAsked o table label → IsTaken o table refuses label
+  pub taken-asked : (label : List ℕ) → IsAsked o table label → IsTaken o table refuses label
   taken-asked label asked = ((taken label label asked).0 (listed-itself o table label asked)).0
 
 pub listed-mutual : ListedAreMutual

@@ -1,14 +1,19 @@
 -- Laws of the labels that collide.
 use Rattle.std.specs.Prelude.{◌≡◌, ◌≢◌, ◌↔◌, ◌⊎◌, ◌++◌, ℕ, true, false, IsTrue, List, Contains}
+use Rattle.std.specs.List.{slice_get}
 use Rattle.variant_table.specs.Entries.{TableValue}
+use Rattle.variant_table.specs.WellFormed.{IsTable}
 use Rattle.valid_labels.specs.Validity.{IsSound}
 use Rattle.variant_list.specs.Arising.{Arises}
 use Rattle.variant_list.specs.Closure.{AreNear}
-use Rattle.variant_list.specs.Labels.{IsBelow}
+use Rattle.variant_list.specs.Labels.{IsBelow, IsListOf}
+use Rattle.variant_list.specs.MutualLaws.{IsMutual}
 use Rattle.answer_json.specs.declared.collision.Regard.{Regard}
+use Rattle.answer_json.specs.declared.collision.Regard.TheVariants.{NoVariant}
 use Rattle.idn2_options.specs.Settings.{Settings}
-use Rattle.idn2_answers.specs.Listings.{is_registrable}
-use Rattle.idn2_answers.specs.Collisions.{Collides, IsGood, IsRegard, IsVariantOf, collide, collisions_after, regard_of, regards_of}
+use Rattle.idn2_answers.specs.Listings.{IsListed, is_registrable}
+use Rattle.idn2_answers.specs.Collisions.{Collides, IsGood, IsRegard, IsVariantOf, collide, collisions_after, regard_of, regards_of, whole}
+use Rattle.idn2_laws.specs.ListingLaws.{RefusesBySources}
 
 -- two labels collide whichever is asked about; a good label collides with itself; and what collides is near, so that a
 -- label with a code point that no entry has collides with nothing
@@ -50,3 +55,21 @@ pub record CollisionsAreFound : Type 0 where
   pub of_parts : (o : Settings) (table : TableValue) (first second : List (List ℕ)) (label : List ℕ) →
       collisions_after o table (first ++ second) label
       ≡ collisions_after o table first label ++ collisions_after o table second label
+
+-- two good labels under a table without gaps, of which each source and variant is one code point, no variant has a condition and
+-- sources alone refuse
+pub record AreOfMutualTable (o : Settings) (table : TableValue) (v w : List ℕ) : Type 0 where
+  pub of_table : IsTable table
+  pub without_gaps : IsMutual table
+  pub refuses : RefusesBySources table
+  pub good : IsGood o table v
+  pub other_good : IsGood o table w
+
+-- of such labels each is something to the other, or neither is anything; and they collide exactly where the least label of both whole
+-- listings is the same, so that a database finds its collisions by that label as a key: vs are listed for v, and ws for w
+pub record KeysDecide : Type 0 where
+  pub alike : (o : Settings) (table : TableValue) (v w : List ℕ) → AreOfMutualTable o table v w →
+      IsRegard o table v w NoVariant ↔ IsRegard o table w v NoVariant
+  pub keys : (o : Settings) (table : TableValue) (v w : List ℕ) (vs ws : List (List ℕ)) → AreOfMutualTable o table v w →
+      IsListOf (IsListed (whole o) table v) vs → IsListOf (IsListed (whole o) table w) ws →
+      Collides o table v w ↔ (slice_get vs 0 ≡ slice_get ws 0)

@@ -12,7 +12,7 @@ ghost use Rattle.idn2_laws.specs.LineCauses.{RefusalsAreExplained};
 ghost use Rattle.idn2_laws.specs.ReadBack.{FindingsAreReadBack, RefusalsAreReadBack, RegisteredFaultsAreReadBack};
 ghost use Rattle.idn2_laws.specs.ReadBack.{SaidIsReadBack, TableFaultsAreReadBack};
 ghost use Rattle.idn2_laws.specs.ListingExamples.{ListingsOfExamples};
-ghost use Rattle.idn2_laws.specs.CollisionLaws.{CollisionsAreFound, CollisionsGoBothWays, RegardsAreTold};
+ghost use Rattle.idn2_laws.specs.CollisionLaws.{CollisionsAreFound, CollisionsGoBothWays, KeysDecide, RegardsAreTold};
 ghost use Rattle.idn2_laws.specs.TurnLaws.{JumpsFindTheSame, TurnsFindWhatIsNear};
 ghost use Rattle.idn2_laws.specs.CollisionExamples.{HoldersMayHave, ListingsDecide, RelationDecides};
 ghost use Rattle.idn2_laws.specs.CauseExamples.{ExamplesOfCauses};
@@ -76,6 +76,12 @@ pub fn collisions_are_found()
 /// What a label is to another one is told.
 pub fn regards_are_told()
     ensures { RegardsAreTold }
+{}
+
+/// In a table without gaps, of single code points and without conditions at variants, where sources alone refuse, two good
+/// labels collide whichever is a variant of the other, and exactly where the least label of their listings is the same.
+pub fn keys_decide()
+    ensures { KeysDecide }
 {}
 
 /// Worked examples of collisions hold of the definitions themselves.

@@ -42,4 +42,4 @@ pub record Jumps (old : Position) (text : List ℕ) (is_found : Bool) (new : Pos
   pub found : OnTrue is_found (IsLeastFrom (IsCandidate (Contains old.net.spelled)) text new.last)
   pub none : OnFalse is_found (HasNoneFrom (IsCandidate (Contains old.net.spelled)) text)
   pub stays : OnFalse is_found (new.last ≡ take 63 text)
-  pub edge_tests : new.edge_tests ≤ 256 * old.net.edges
+  pub edge_tests : new.edge_tests ≤ 189 * old.net.edges
