@@ -138,9 +138,9 @@ bench: all
 	python3 bench/registry.py
 	python3 bench/service.py
 
-# Compares the program with libidn2, with a reference implementation of the rules and of the table notation, and with Unicode's
-# IDNA test file where IDNA_TEST_FILE names it; the reference implementation with an evaluator of RFC 7940; and publishes six
-# thousand tables and reads them back.
+# Compares the program with libidn2, with a reference implementation of the rules and of the table notation, with Unicode's
+# IDNA test file where IDNA_TEST_FILE names it, and, as the reference implementation, with an evaluator of RFC 7940; and
+# publishes six thousand tables and reads them back.
 conformance: all
 	python3 conformance/compare.py
 	python3 conformance/worked_rows.py

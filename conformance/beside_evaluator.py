@@ -1,10 +1,11 @@
 #!/usr/bin/env python3
-"""Compares the reference implementation of rulesets with the evaluator of RFC 7940, which share only the reader of the
-notation: python3 conformance/beside_evaluator.py [--seed SEED] [--jobs JOBS] [N]
+"""Compares the built program and the reference implementation of rulesets with the evaluator of RFC 7940, which shares only
+the reader of the notation with the latter: python3 conformance/beside_evaluator.py [--seed SEED] [--jobs JOBS] [N]
 
-N rulesets [default: 6000] are drawn from a seed (drawn_rulesets.py). Of each one, some labels have to be answered by
-both in the same way: refused, or with the same variants, each of them allocatable, blocked or unclear. A demand is
-an action for the evaluator; a label with too many variants or readings is left out. Status 1 where anything differs."""
+N rulesets [default: 6000] are drawn from a seed (drawn_rulesets.py). Of each one, some labels have to be answered by all
+three in the same way: refused, or with the same variants, each of them allocatable, blocked or unclear; and the program
+refuses by the number by which the reference implementation does. A demand is an action for the evaluator; a label with too
+many variants or readings is left out. Status 1 where anything differs."""
 
 import collections
 import functools
@@ -17,7 +18,7 @@ import sys
 sys.path.append(str(pathlib.Path(__file__).resolve().parent.parent / "registry"))
 
 from drawn_rulesets import DrawnRuleset, words_of_drawing
-from evaluator_answers import answer_of_evaluator
+from evaluator_answers import answer_of_evaluator, asked_of_program
 from idn2_registry.notation import patterns, reading
 from idn2_registry.notation.faults import TableFault
 from idn2_registry.notation.ruleset import ContextRule, Demand, Mapped, Ruleset, WholeLabelRule
@@ -149,6 +150,7 @@ def compared(seed: int, number: int) -> collections.Counter[str]:
     """What was compared of a drawn ruleset; AssertionError where anything differs, or a label is refused with 41 and no
     cause."""
     drawn, counts = Drawn(seed, number), collections.Counter[str]()
+    listed, refused = asked_of_program(drawn.text.encode(), drawn.labels)
     labels, standards = RulesetLabels(drawn.ruleset), InTermsOfTheStandard(drawn.ruleset).made()
     counts["rulesets"] += 1
     for label in drawn.labels:
@@ -160,6 +162,8 @@ def compared(seed: int, number: int) -> collections.Counter[str]:
         wanted = answer_of_evaluator(standard.Asked(standards, label))
         assert answer == wanted, f"number {number}, label {label}: {answer}, and by RFC 7940 {wanted}\n{drawn.text}"
         refusal = labels.refusal(label)
+        said = listed.get(label), refused.get(label)
+        assert said == (wanted, refusal), f"number {number}, label {label}: the program says {said}, and by RFC 7940 {wanted}\n{drawn.text}"
         assert refusal != NOT_VALID or labels.cause(label), f"number {number}, label {label}: no cause\n{drawn.text}"
         counts[f"labels refused with {refusal}" if refusal else "labels accepted"] += 1
         counts.update(f"variants: {told}" for told in (answer or {}).values())

@@ -83,17 +83,24 @@ def answers_of_reference(text, labels):
 
 def answers_of_program(text, labels):
     """The same of labels that may be registered; nothing of any, where the run doesn't end as it should."""
+    answers, refused = asked_of_program(text, labels)
+    return {**answers, **dict.fromkeys(refused)}
+
+
+def asked_of_program(text, labels):
+    """The variants of those labels that the program lists, and the numbers by which it refuses others."""
     with tempfile.NamedTemporaryFile(suffix=".txt") as file:
         file.write(text)
         file.flush()
-        output, refused, status = run(["--ruleset", file.name], labels)
+        output, told, status = run(["--explain", "--ruleset", file.name], labels)
+    refused = {label: int(told[str(number)]) for number, label in enumerate(labels, 1) if str(number) in told}
     blocks = [block.splitlines() for block in re.split(r"^#end \d+\n", output, flags=re.MULTILINE)]
-    listed = [label for number, label in enumerate(labels, 1) if str(number) not in refused]
+    listed = [label for label in labels if label not in refused]
     if len(blocks) != len(listed) + 1 or blocks[-1] or status not in (0, 1):
-        return {}
+        return {}, {}
     fields = [[line.split("\t") for line in block] for block in blocks]
-    variants = {label: {variant: kind for variant, _, kind in lines} for label, lines in zip(listed, fields)}
-    return {label: variants.get(label) for label in labels}
+    # the last field says that a variant is unclear, if it is
+    return {label: {line[0]: line[-1] for line in lines} for label, lines in zip(listed, fields)}, refused
 
 
 def differences(wanted, found):
