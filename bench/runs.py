@@ -1,6 +1,7 @@
 """Runs of programs: what they write, how long they take, and what memory they hold at most."""
 
 import argparse
+import contextlib
 import dataclasses
 import os
 import pathlib
@@ -95,6 +96,31 @@ def in_turn(runs, rounds):
         Taken(min(one.wall for one in taken), min(one.processor for one in taken))
         for taken in rounds_of_each
     ]
+
+
+@contextlib.contextmanager
+def before_others():
+    """Goes before what else the machine does, where that is allowed, and so does all that is started meanwhile."""
+    with contextlib.suppress(PermissionError):
+        os.setpriority(os.PRIO_PROCESS, 0, -20)
+    yield
+    os.setpriority(os.PRIO_PROCESS, 0, 0)
+
+
+def children(process):
+    """The processes that a process has started."""
+    found = []
+    for task in os.listdir(f"/proc/{process}/task"):
+        found += map(int, pathlib.Path(f"/proc/{process}/task/{task}/children").read_text("ascii").split())
+    return found
+
+
+def lost(processes):
+    """For how many milliseconds processes, each of one thread, were ready and had no processor; and for how many the processors of
+    a virtual machine were its host's."""
+    waited = sum(int(pathlib.Path(f"/proc/{process}/schedstat").read_text("ascii").split()[1]) for process in processes)
+    stolen = pathlib.Path("/proc/stat").read_text("ascii").split(None, 9)[8]
+    return waited / 1e6 + int(stolen) * 1000 / os.sysconf("SC_CLK_TCK")
 
 
 def found(program):

@@ -23,7 +23,7 @@ import urllib.request
 
 import registered
 from bench import HERE
-from runs import Failed, measured, words_of
+from runs import Failed, before_others, children, measured, words_of
 
 sys.path.append(str(HERE.parent / "tests"))
 
@@ -63,15 +63,6 @@ def service(options, folder, python, uri):
     if not found:
         raise Failed("the service doesn't start")
     return started, found[0]
-
-
-def children(process):
-    """The processes of the program."""
-    found = []
-    for task in os.listdir(f"/proc/{process}/task"):
-        with open(f"/proc/{process}/task/{task}/children", encoding="ascii") as file:
-            found += map(int, file.read().split())
-    return found
 
 
 def place(process, together):
@@ -140,10 +131,11 @@ def measure(options, folder):
         if not is_there:
             raise Failed(f"{name} is not installed")
     (folder / "wrk.lua").write_text(SCRIPT, "ascii")
-    measure_service(options, folder, python, "sqlite:register.db")
-    with server() as (environment, _):
-        if environment:
-            measure_service(options, folder, python_with("aiohttp, psycopg"), uri_of(environment), environment["PGHOST"])
+    with before_others():
+        measure_service(options, folder, python, "sqlite:register.db")
+        with server() as (environment, _):
+            if environment:
+                measure_service(options, folder, python_with("aiohttp, psycopg"), uri_of(environment), environment["PGHOST"])
 
 
 if __name__ == "__main__":
