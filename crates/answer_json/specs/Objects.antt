@@ -41,7 +41,8 @@ abbrev pub old_label : ℕ → Told → List ℕ → Answer
 old_label line input unicode =
     answered (line_field line ∷ input_field input ∷ (codes "unicode", text unicode) ∷ (codes "old", flag true) ∷ [])
 
--- {"line":1,"input":"Faß","refusal":{"number":10,"text":"disallowed code point","code_point":"U+0046","place":1,"rule":"RFC 5892 2.2"}}
+-- {"line":1,"input":"Faß","refusal":{"number":10,"text":"disallowed code
+-- point","code_point":"U+0046","place":1,"rule":"RFC 5892 2.2"}}
 abbrev pub refused : ℕ → Told → Refusal → Details → Answer
 refused line input refusal details =
     record { fields = line_field line ∷ input_field input ∷ []; refusal = Some (refusal_fields refusal details) }

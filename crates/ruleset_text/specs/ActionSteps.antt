@@ -10,7 +10,8 @@ use Rattle.ruleset_text.specs.Actions.{NamedAction, NamedTrigger}
 use Rattle.ruleset_text.specs.Names.{is_name, is_one_of}
 use Rattle.ruleset_text.specs.Stops.{run}
 use Rattle.variant_dispositions.specs.declared.disposition.Disposition.{Disposition}
-use Rattle.variant_dispositions.specs.declared.disposition.Disposition.TheVariants.{Invalid, Blocked, Allocatable, Activated, Valid}
+use Rattle.variant_dispositions.specs.declared.disposition.Disposition.TheVariants.{Invalid, Blocked, Allocatable}
+use Rattle.variant_dispositions.specs.declared.disposition.Disposition.TheVariants.{Activated, Valid}
 
 -- what was read
 pub data Stage : Type 0 where
@@ -63,7 +64,8 @@ step Begin w = option_map (λ d. Given d None) (disposition_of w)
 step (Given d None) w = by_kind d w (kind_of w)
 step (Given d (Some c)) w = by_trigger d (Some c) (trigger_of w)
 step (Asked d kind) w = if is_name w then Some (Given d (Some (record { kind = kind; rule = w }))) else None
-step (Listing d c t) w = if is_name w && not (is_one_of t.types w) then Some (Listed d c (trigger t.kind (t.types ++ w ∷ []))) else None
+step (Listing d c t) w =
+    if is_name w && not (is_one_of t.types w) then Some (Listed d c (trigger t.kind (t.types ++ w ∷ []))) else None
 step (Listed d c t) w = if bytes_eq w (codes ",") then Some (Listing d c t) else None
 
 abbrev pub action : Disposition → Option NamedCondition → Option NamedTrigger → NamedAction

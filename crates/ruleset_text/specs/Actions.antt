@@ -1,5 +1,6 @@
 -- Actions as their lines write them (RFC 7940, section 7): rules and types go by their names.
-use Rattle.std.specs.Prelude.{ℕ, ◌<◌, ◌&&◌, not, Bool, true, false, Option, Some, None, List, [], ◌∷◌, ◌++◌, length, codes}
+use Rattle.std.specs.Prelude.{ℕ, ◌<◌, ◌&&◌, not, Bool, true, false, Option, Some, None, List, [], ◌∷◌, ◌++◌, length}
+use Rattle.std.specs.Prelude.{codes}
 use Rattle.std.specs.List.{list_all}
 use Rattle.label_patterns.specs.declared.condition.ConditionKind.{ConditionKind}
 use Rattle.label_patterns.specs.declared.condition.ConditionKind.TheVariants.{When, Unless}
@@ -9,14 +10,16 @@ use Rattle.ruleset_text.specs.declared.named_condition.NamedCondition.{NamedCond
 use Rattle.ruleset_text.specs.NamedConditions.{HasRule, condition_text}
 use Rattle.ruleset_text.specs.Names.{AreNames, is_one_of}
 use Rattle.variant_dispositions.specs.declared.disposition.Disposition.{Disposition}
-use Rattle.variant_dispositions.specs.declared.disposition.Disposition.TheVariants.{Invalid, Blocked, Allocatable, Activated, Valid}
+use Rattle.variant_dispositions.specs.declared.disposition.Disposition.TheVariants.{Invalid, Blocked, Allocatable}
+use Rattle.variant_dispositions.specs.declared.disposition.Disposition.TheVariants.{Activated, Valid}
 
 -- the types that an action asks for, in the order of its line
 pub record NamedTrigger : Type 0 where
   pub kind : TriggerKind
   pub types : List (List ℕ)
 
--- the disposition of a label that triggers the action; the whole-label rule that the label has to match, or must not; the types
+-- the disposition of a label that triggers the action; the whole-label rule that the label has to match, or must not;
+-- the types
 pub record NamedAction : Type 0 where
   pub disposition : Disposition
   pub condition : Option NamedCondition

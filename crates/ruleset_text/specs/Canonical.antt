@@ -1,9 +1,11 @@
 -- The canonical text of a pattern, of the spans of a set, and of a definition.
-use Rattle.std.specs.Prelude.{◌≡◌, ℕ, ◌<◌, ◌/◌, ◌%◌, nat_lt, ◌==◌, Bool, true, false, List, [], ◌∷◌, ◌++◌, length, slice_index_or, codes, IsTrue, if◌then◌else◌}
+use Rattle.std.specs.Prelude.{◌≡◌, ℕ, ◌<◌, ◌/◌, ◌%◌, nat_lt, ◌==◌, Bool, true, false, List, [], ◌∷◌, ◌++◌, length}
+use Rattle.std.specs.Prelude.{slice_index_or, codes, IsTrue, if◌then◌else◌}
 use Rattle.std.specs.List.{AllByRecursion}
 use Rattle.idn_text.specs.Points.{four_digits, hex_digit, is_scalar_value}
 use Rattle.label_patterns.specs.declared.span.Span.{Span}
-use Rattle.label_patterns.specs.Patterns.{Pattern, Point, Set, Any, Start, End, Anchor, Group, Optional, Many, Then, Either}
+use Rattle.label_patterns.specs.Patterns.{Pattern, Point, Set, Any, Start, End, Anchor, Group, Optional, Many, Then}
+use Rattle.label_patterns.specs.Patterns.{Either}
 use Rattle.label_patterns.specs.Rules.{is_context_rule}
 use Rattle.ruleset_text.specs.declared.token.Token.{Token}
 use Rattle.ruleset_text.specs.Actions.{action_text}
@@ -61,7 +63,8 @@ definition_text names (definition.Action a) = codes "%action " ++ action_text a
 
 -- the word is one word, and its token is this one
 abbrev pub IsWordOf : List (List ℕ) → Token → List ℕ → Type 0
-IsWordOf names t word = (0 < length word) × AllByRecursion (λ c. IsTrue (is_word_byte c)) word × (token_of names word ≡ t)
+IsWordOf names t word =
+    (0 < length word) × AllByRecursion (λ c. IsTrue (is_word_byte c)) word × (token_of names word ≡ t)
 
 -- each point of the pattern is a scalar value
 abbrev pub HasPoints : Pattern → Type 0

@@ -57,7 +57,8 @@ contexts_of names line = contexts_in names (lexemes line)
 
 -- ---- a definition
 
--- a variant type by its name; a set, with its spans; a rule, with its contexts or with the pattern of a whole-label rule; a demand; an action
+-- a variant type by its name; a set, with its spans; a rule, with its contexts or with the pattern of a whole-label
+-- rule; a demand; an action
 pub data Definition : Type 0 where
   VariantType : List ℕ → Definition
   Set : List ℕ → List Span → Definition
@@ -65,8 +66,8 @@ pub data Definition : Type 0 where
   Demand : DemandKind → Pattern → Definition
   Action : NamedAction → Definition
 
--- what the lexemes after a keyword define, if they have the form: a name alone; a name, then spans; a name, then contexts; a name, then a
--- pattern
+-- what the lexemes after a keyword define, if they have the form: a name alone; a name, then spans; a name, then
+-- contexts; a name, then a pattern
 abbrev pub type_in : List (List ℕ) → Option Definition
 type_in [] = None
 type_in (name ∷ []) = if is_name name then Some (VariantType name) else None

@@ -5,7 +5,8 @@ use Rattle.std.proofs.Common.{sym, ap, ◌∙◌, append_assoc, append-nil}
 use Rattle.label_patterns.specs.declared.condition.ConditionKind.{ConditionKind}
 use Rattle.label_patterns.specs.declared.condition.ConditionKind.TheVariants.{When, Unless}
 use Rattle.label_patterns.specs.declared.span.Span.{Span}
-use Rattle.label_patterns.specs.Patterns.{Pattern, Point, Set, Any, Start, End, Anchor, Group, Optional, Many, Then, Either}
+use Rattle.label_patterns.specs.Patterns.{Pattern, Point, Set, Any, Start, End, Anchor, Group, Optional, Many, Then}
+use Rattle.label_patterns.specs.Patterns.{Either}
 use Rattle.ruleset_text.specs.declared.definition.DemandKind.{DemandKind}
 use Rattle.ruleset_text.specs.declared.definition.DemandKind.TheVariants.{Never, Always}
 use Rattle.ruleset_text.specs.declared.action.TriggerKind.{TriggerKind}
@@ -14,7 +15,8 @@ use Rattle.ruleset_text.specs.declared.named_condition.NamedCondition.{NamedCond
 use Rattle.ruleset_text.specs.Actions.{NamedAction, NamedTrigger}
 use Rattle.ruleset_text.specs.Definitions.{Demand, Definitions}
 use Rattle.variant_dispositions.specs.declared.disposition.Disposition.{Disposition}
-use Rattle.variant_dispositions.specs.declared.disposition.Disposition.TheVariants.{Invalid, Blocked, Allocatable, Activated, Valid}
+use Rattle.variant_dispositions.specs.declared.disposition.Disposition.TheVariants.{Invalid, Blocked, Allocatable}
+use Rattle.variant_dispositions.specs.declared.disposition.Disposition.TheVariants.{Activated, Valid}
 use Rattle.idn_class.specs.declared.properties.Properties.{Properties}
 use Rattle.idn_class.specs.declared.properties.Properties.TheVariants.{Profile, Unicode}
 
@@ -63,16 +65,20 @@ abbrev pub last_part : List Pattern → Pattern
 last_part [] = Any
 last_part (p ∷ parts) = p
 
-pub parts_back : (p : Pattern) (rest : List (ℕ × ℕ)) (parts : List Pattern) → with_numbers (numbers p ++ rest) parts ≡ with_numbers rest (p ∷ parts)
+pub parts_back : (p : Pattern) (rest : List (ℕ × ℕ)) (parts : List Pattern) →
+    with_numbers (numbers p ++ rest) parts ≡ with_numbers rest (p ∷ parts)
 parts_back (Point c) rest parts = refl
 parts_back (Set n) rest parts = refl
 parts_back Any rest parts = refl
 parts_back Start rest parts = refl
 parts_back End rest parts = refl
 parts_back Anchor rest parts = refl
-parts_back (Group p) rest parts = ap (λ l. with_numbers l parts) (append_assoc (numbers p) ((6, 0) ∷ []) rest) ∙ parts_back p ((6, 0) ∷ rest) parts
-parts_back (Optional p) rest parts = ap (λ l. with_numbers l parts) (append_assoc (numbers p) ((7, 0) ∷ []) rest) ∙ parts_back p ((7, 0) ∷ rest) parts
-parts_back (Many p) rest parts = ap (λ l. with_numbers l parts) (append_assoc (numbers p) ((8, 0) ∷ []) rest) ∙ parts_back p ((8, 0) ∷ rest) parts
+parts_back (Group p) rest parts =
+    ap (λ l. with_numbers l parts) (append_assoc (numbers p) ((6, 0) ∷ []) rest) ∙ parts_back p ((6, 0) ∷ rest) parts
+parts_back (Optional p) rest parts =
+    ap (λ l. with_numbers l parts) (append_assoc (numbers p) ((7, 0) ∷ []) rest) ∙ parts_back p ((7, 0) ∷ rest) parts
+parts_back (Many p) rest parts =
+    ap (λ l. with_numbers l parts) (append_assoc (numbers p) ((8, 0) ∷ []) rest) ∙ parts_back p ((8, 0) ∷ rest) parts
 parts_back (Then p q) rest parts =
     ap (λ l. with_numbers l parts) (append_assoc (numbers p) (numbers q ++ (9, 0) ∷ []) rest)
     ∙ parts_back p ((numbers q ++ (9, 0) ∷ []) ++ rest) parts
@@ -85,15 +91,20 @@ parts_back (Either p q) rest parts =
     ∙ parts_back q ((10, 0) ∷ rest) (p ∷ parts)
 
 pub pattern_back : (p : Pattern) → last_part (with_numbers (numbers p) []) ≡ p
-pattern_back p = ap (λ l. last_part (with_numbers l [])) (sym (append-nil (numbers p))) ∙ ap last_part (parts_back p [] [])
+pattern_back p =
+    ap (λ l. last_part (with_numbers l [])) (sym (append-nil (numbers p))) ∙ ap last_part (parts_back p [] [])
 
 abbrev pub pattern_code : Coded Pattern
-pattern_code = code_by (List (ℕ × ℕ)) (coded_list (coded× coded_ℕ coded_ℕ)) numbers (λ l. last_part (with_numbers l [])) pattern_back
+pattern_code =
+    code_by (List (ℕ × ℕ)) (coded_list (coded× coded_ℕ coded_ℕ)) numbers (λ l. last_part (with_numbers l []))
+    pattern_back
 
 -- ---- spans and demands
 
 abbrev pub span_code : Coded Span
-span_code = code_by (ℕ × ℕ) (coded× coded_ℕ coded_ℕ) (λ s. (s.first, s.last)) (λ p. record { first = p.0; last = p.1 }) (λ _. refl)
+span_code =
+    code_by (ℕ × ℕ) (coded× coded_ℕ coded_ℕ) (λ s. (s.first, s.last)) (λ p. record { first = p.0; last = p.1 })
+    (λ _. refl)
 
 abbrev pub is_never : DemandKind → Bool
 is_never Never = true
@@ -111,7 +122,9 @@ abbrev pub kind_code : Coded DemandKind
 kind_code = code_by Bool coded_bool is_never kind_from kind_back
 
 abbrev pub demand_code : Coded Demand
-demand_code = code_by (DemandKind × Pattern) (coded× kind_code pattern_code) (λ d. (d.kind, d.pattern)) (λ p. record { kind = p.0; pattern = p.1 }) (λ _. refl)
+demand_code =
+    code_by (DemandKind × Pattern) (coded× kind_code pattern_code) (λ d. (d.kind, d.pattern))
+    (λ p. record { kind = p.0; pattern = p.1 }) (λ _. refl)
 
 -- ---- properties
 
@@ -145,7 +158,9 @@ condition_kind_back When = refl
 condition_kind_back Unless = refl
 
 abbrev pub condition_code : Coded NamedCondition
-condition_code = code_by (Bool × List ℕ) (coded× coded_bool (coded_list coded_ℕ)) (λ c. (is_when c.kind, c.rule)) (λ p. record { kind = condition_kind_from p.0; rule = p.1 })
+condition_code =
+    code_by (Bool × List ℕ) (coded× coded_bool (coded_list coded_ℕ)) (λ c. (is_when c.kind, c.rule))
+    (λ p. record { kind = condition_kind_from p.0; rule = p.1 })
     (λ c. ap (λ k. record { kind = k; rule = c.rule }) (condition_kind_back c.kind))
 
 abbrev pub trigger_number : TriggerKind → ℕ
@@ -162,7 +177,9 @@ trigger_back trigger.All = refl
 trigger_back trigger.Only = refl
 
 abbrev pub trigger_code : Coded NamedTrigger
-trigger_code = code_by (ℕ × List (List ℕ)) (coded× coded_ℕ (coded_list (coded_list coded_ℕ))) (λ t. (trigger_number t.kind, t.types)) (λ p. record { kind = trigger_from p.0; types = p.1 })
+trigger_code =
+    code_by (ℕ × List (List ℕ)) (coded× coded_ℕ (coded_list (coded_list coded_ℕ)))
+    (λ t. (trigger_number t.kind, t.types)) (λ p. record { kind = trigger_from p.0; types = p.1 })
     (λ t. ap (λ k. record { kind = k; types = t.types }) (trigger_back t.kind))
 
 abbrev pub disposition_number : Disposition → ℕ
@@ -173,7 +190,9 @@ disposition_number Activated = 3
 disposition_number Valid = 4
 
 abbrev pub disposition_from : ℕ → Disposition
-disposition_from n = if n == 0 then Invalid else if n == 1 then Blocked else if n == 2 then Allocatable else if n == 3 then Activated else Valid
+disposition_from n =
+    if n == 0 then Invalid else if n == 1 then Blocked else if n == 2 then Allocatable else if n == 3 then Activated
+    else Valid
 
 pub disposition_back : (d : Disposition) → disposition_from (disposition_number d) ≡ d
 disposition_back Invalid = refl
@@ -183,9 +202,13 @@ disposition_back Activated = refl
 disposition_back Valid = refl
 
 abbrev pub action_code : Coded NamedAction
-action_code = code_by (ℕ × (Option NamedCondition × Option NamedTrigger)) (coded× coded_ℕ (coded× (coded_option condition_code) (coded_option trigger_code)))
-    (λ a. (disposition_number a.disposition, (a.condition, a.trigger))) (λ p. record { disposition = disposition_from p.0; condition = p.1.0; trigger = p.1.1 })
-    (λ a. ap (λ d. record { disposition = d; condition = a.condition; trigger = a.trigger }) (disposition_back a.disposition))
+action_code =
+    code_by (ℕ × (Option NamedCondition × Option NamedTrigger))
+    (coded× coded_ℕ (coded× (coded_option condition_code) (coded_option trigger_code)))
+    (λ a. (disposition_number a.disposition, (a.condition, a.trigger)))
+    (λ p. record { disposition = disposition_from p.0; condition = p.1.0; trigger = p.1.1 })
+    (λ a. ap (λ d. record { disposition = d; condition = a.condition; trigger = a.trigger })
+    (disposition_back a.disposition))
 
 -- ---- all definitions
 
@@ -194,8 +217,17 @@ names_code = coded_list (coded_list coded_ℕ)
 
 abbrev pub definitions_code : Coded Definitions
 definitions_code =
-    code_by (Properties × (List (List ℕ) × (List (List ℕ) × (List (List Span) × (List (List ℕ) × (List Pattern × (List Demand × List NamedAction)))))))
-    (coded× properties_code (coded× names_code (coded× names_code (coded× (coded_list (coded_list span_code)) (coded× names_code (coded× (coded_list pattern_code) (coded× (coded_list demand_code) (coded_list action_code))))))))
+    code_by (Properties
+    × (List (List ℕ)
+    × (List (List ℕ) × (List (List Span) × (List (List ℕ) × (List Pattern × (List Demand × List NamedAction)))))))
+    (coded× properties_code
+    (coded× names_code
+    (coded× names_code
+    (coded× (coded_list (coded_list span_code))
+    (coded× names_code
+    (coded× (coded_list pattern_code) (coded× (coded_list demand_code) (coded_list action_code))))))))
     (λ d. (d.properties, (d.types, (d.set_names, (d.sets, (d.rule_names, (d.rules, (d.demands, d.actions))))))))
-    (λ t. record { properties = t.0; types = t.1.0; set_names = t.1.1.0; sets = t.1.1.1.0; rule_names = t.1.1.1.1.0; rules = t.1.1.1.1.1.0; demands = t.1.1.1.1.1.1.0; actions = t.1.1.1.1.1.1.1 })
+    (λ t. record
+    { properties = t.0; types = t.1.0; set_names = t.1.1.0; sets = t.1.1.1.0; rule_names = t.1.1.1.1.0;
+    rules = t.1.1.1.1.1.0; demands = t.1.1.1.1.1.1.0; actions = t.1.1.1.1.1.1.1 })
     (λ _. refl)

@@ -12,7 +12,8 @@ use Rattle.ruleset_text.specs.Signs as sign
 use Rattle.ruleset_text.specs.Canonical.{definition_text}
 use Rattle.ruleset_text.specs.Definition as definition
 use Rattle.ruleset_text.specs.Definition.{Definition, keyword_of}
-use Rattle.ruleset_text.specs.Definitions.{Definitions, is_line_over_limit, is_one_too_many, has_known_names, has_bad_class, has_same_name}
+use Rattle.ruleset_text.specs.Definitions.{Definitions, is_line_over_limit, is_one_too_many, has_known_names}
+use Rattle.ruleset_text.specs.Definitions.{has_bad_class, has_same_name}
 use Rattle.ruleset_text.specs.Grammar.{SpellsPattern}
 use Rattle.ruleset_text.specs.Names.{is_name}
 use Rattle.ruleset_text.specs.Rules.{has, is_rule}
@@ -31,14 +32,17 @@ IsOfKeyword keyword.Rule p = IsTrue (is_rule p)
 IsOfKeyword keyword.Whole p = has sign.Anchor p ≡ false
 IsOfKeyword k p = ⊥
 
--- the keyword and the lexemes after it spell the definition: a type by its name alone; a set by its name, then its spans; a rule
--- by its name, then its pattern; a demand by a pattern without '_'; an action. The sets that patterns name have these names
+-- the keyword and the lexemes after it spell the definition: a type by its name alone; a set by its name, then its
+-- spans; a rule by its name, then its pattern; a demand by a pattern without '_'; an action. The sets that patterns
+-- name have these names
 abbrev pub SpellsDefinition : List (List ℕ) → Keyword → List (List ℕ) → Definition → Type 0
-SpellsDefinition names k words (definition.VariantType name) = (k ≡ keyword.VariantType) × IsTrue (is_name name) × (words ≡ name ∷ [])
+SpellsDefinition names k words (definition.VariantType name) =
+    (k ≡ keyword.VariantType) × IsTrue (is_name name) × (words ≡ name ∷ [])
 SpellsDefinition names k words (definition.Set name spans) =
     (k ≡ keyword.Set) × IsTrue (is_name name) × (after : List (List ℕ)) × (words ≡ name ∷ after) × SpellSet after spans
 SpellsDefinition names k words (definition.Rule name p) =
-    IsOfKeyword k p × IsTrue (is_name name) × (after : List (List ℕ)) × (words ≡ name ∷ after) × SpellsPattern (tokens_in names after) p
+    IsOfKeyword k p × IsTrue (is_name name) × (after : List (List ℕ)) × (words ≡ name ∷ after)
+    × SpellsPattern (tokens_in names after) p
 SpellsDefinition names k words (definition.Demand kind p) =
     (k ≡ demand_keyword kind) × SpellsPattern (tokens_in names words) p × (has sign.Anchor p ≡ false)
 SpellsDefinition names k words (definition.Action a) = (k ≡ keyword.Action) × IsAction a × (words ≡ action_lexemes a)
@@ -81,8 +85,8 @@ fault_of long_line = Limit
 fault_of bad_class = BadClass
 fault_of same_name = SameName
 
--- a test of the definition that the line spells: of its kind and its pattern, of the names that it asks for, of its canonical line, of its code
--- points, of its name. The canonical text may have so many bytes
+-- a test of the definition that the line spells: of its kind and its pattern, of the names that it asks for, of its
+-- canonical line, of its code points, of its name. The canonical text may have so many bytes
 abbrev pub test_of : ℕ → Definitions → DefinitionCondition → Definition → Bool
 test_of limit d no_form x = false
 test_of limit d one_too_many x = is_one_too_many d x

@@ -1,6 +1,7 @@
--- What the lexemes of a line define, read from the first one to the last, or where the line stops defining something. Places are
--- bytes of the line, counted from 0.
-use Rattle.std.specs.Prelude.{ℕ, Bool, true, false, Option, Some, None, Result, Ok, Err, List, [], ◌∷◌, length, if◌then◌else◌}
+-- What the lexemes of a line define, read from the first one to the last, or where the line stops defining something.
+-- Places are bytes of the line, counted from 0.
+use Rattle.std.specs.Prelude.{ℕ, Bool, true, false, Option, Some, None, Result, Ok, Err, List, [], ◌∷◌, length}
+use Rattle.std.specs.Prelude.{if◌then◌else◌}
 use Rattle.label_patterns.specs.declared.span.Span.{Span}
 use Rattle.label_patterns.specs.Patterns.{Pattern}
 use Rattle.ruleset_text.specs.declared.definition.DemandKind.TheVariants as demand
@@ -21,7 +22,8 @@ use Rattle.ruleset_text.specs.Spans as spans
 use Rattle.ruleset_text.specs.Spans.{part_of}
 use Rattle.ruleset_text.specs.Tokens.{token_of}
 
--- the contexts of a context rule, or the pattern of a whole-label rule or of a demand; its sets go by their numbers among these names
+-- the contexts of a context rule, or the pattern of a whole-label rule or of a demand; its sets go by their numbers
+-- among these names
 abbrev pub pattern_step : Bool → List (List ℕ) → State → List ℕ → Option State
 pattern_step is_rule names s w = step_in is_rule s (token_of names w)
 
@@ -43,12 +45,14 @@ abbrev pub name_read : ℕ → List Placed → Result (List ℕ × List Placed) 
 name_read end [] = Err (End end)
 name_read end (w ∷ ws) = if is_name w.lexeme then Ok (w.lexeme, ws) else Err (Lexeme w.place (length w.lexeme))
 
-abbrev pub after_name : (List ℕ → List Placed → Result Definition FaultPlace) → Result (List ℕ × List Placed) FaultPlace → Result Definition FaultPlace
+abbrev pub after_name : (List ℕ → List Placed → Result Definition FaultPlace) →
+    Result (List ℕ × List Placed) FaultPlace → Result Definition FaultPlace
 after_name f (Ok r) = f r.0 r.1
 after_name f (Err place) = Err place
 
 -- what f reads after a name
-abbrev pub named : (List ℕ → List Placed → Result Definition FaultPlace) → ℕ → List Placed → Result Definition FaultPlace
+abbrev pub named : (List ℕ → List Placed → Result Definition FaultPlace) → ℕ → List Placed →
+    Result Definition FaultPlace
 named f end ws = after_name f (name_read end ws)
 
 -- a type has nothing more, a set its spans, a rule its pattern
@@ -89,7 +93,8 @@ line_read names end (w ∷ ws) = after_keyword names end w ws (keyword_of w.lexe
 
 abbrev pub begun_at : ℕ → Placed → List Placed → Option Keyword → Result DefinitionLine FaultPlace
 begun_at end w ws None = Err (Lexeme w.place (length w.lexeme))
-begun_at end w ws (Some k) = Ok (record { keyword = k; place = Lexeme w.place (length w.lexeme); after = ws; end = end })
+begun_at end w ws (Some k) =
+    Ok (record { keyword = k; place = Lexeme w.place (length w.lexeme); after = ws; end = end })
 
 abbrev pub begun_by : ℕ → List Placed → Result DefinitionLine FaultPlace
 begun_by end [] = Err (End end)

@@ -1,5 +1,6 @@
 -- What the lines of a ruleset define so far, and what a further line makes of it.
-use Rattle.std.specs.Prelude.{ℕ, ◌+◌, nat_le, nat_lt, Bool, true, false, ◌||◌, not, Option, Some, None, Result, Ok, Err, List, [], ◌∷◌, ◌++◌, length, map, slice_index_or, if◌then◌else◌}
+use Rattle.std.specs.Prelude.{ℕ, ◌+◌, nat_le, nat_lt, Bool, true, false, ◌||◌, not, Option, Some, None, Result, Ok, Err}
+use Rattle.std.specs.Prelude.{List, [], ◌∷◌, ◌++◌, length, map, slice_index_or, if◌then◌else◌}
 use Rattle.std.specs.List.{flat_map}
 use Rattle.label_patterns.specs.declared.span.Span.{Span}
 use Rattle.label_patterns.specs.Patterns.{Pattern}
@@ -23,8 +24,9 @@ pub record Demand : Type 0 where
   pub kind : DemandKind
   pub pattern : Pattern
 
--- whose classes are asked; the names of the variant types that are not predefined; the sets and their names, by number; the rules of both
--- kinds and their names, by number; the demands; the actions. Each in the order of the lines that define them
+-- whose classes are asked; the names of the variant types that are not predefined; the sets and their names, by number;
+-- the rules of both kinds and their names, by number; the demands; the actions. Each in the order of the lines that
+-- define them
 pub record Definitions : Type 0 where
   pub properties : Properties
   pub types : List (List ℕ)
@@ -36,7 +38,9 @@ pub record Definitions : Type 0 where
   pub actions : List NamedAction
 
 abbrev pub nothing_defined : Properties → Definitions
-nothing_defined properties = record { properties = properties; types = []; set_names = []; sets = []; rule_names = []; rules = []; demands = []; actions = [] }
+nothing_defined properties =
+    record { properties = properties; types = []; set_names = []; sets = []; rule_names = []; rules = []; demands = [];
+    actions = [] }
 
 -- ---- all of them, in the order of canonical text
 
@@ -49,7 +53,8 @@ named f (name ∷ names) (x ∷ xs) = f name x ∷ named f names xs
 -- types, sets, rules, demands, actions
 abbrev pub all_definitions : Definitions → List Definition
 all_definitions d =
-    map definition.VariantType d.types ++ (named definition.Set d.set_names d.sets ++ (named definition.Rule d.rule_names d.rules
+    map definition.VariantType d.types
+    ++ (named definition.Set d.set_names d.sets ++ (named definition.Rule d.rule_names d.rules
     ++ (map (λ e. definition.Demand e.kind e.pattern) d.demands ++ map definition.Action d.actions)))
 
 -- a line for each, without its line feed
@@ -92,7 +97,8 @@ type_number d name = number_of (type_names d) name
 abbrev pub whole_names : List (List ℕ) → List Pattern → List (List ℕ)
 whole_names [] rules = []
 whole_names (name ∷ names) [] = []
-whole_names (name ∷ names) (p ∷ rules) = if is_context_rule p then whole_names names rules else name ∷ whole_names names rules
+whole_names (name ∷ names) (p ∷ rules) =
+    if is_context_rule p then whole_names names rules else name ∷ whole_names names rules
 
 abbrev pub whole_rules : Definitions → List (List ℕ)
 whole_rules d = whole_names d.rule_names d.rules
@@ -122,12 +128,14 @@ all_atoms d = atoms_in (all_definitions d)
 abbrev pub rule_lines : Definitions → ℕ
 rule_lines d = length d.rules + (length d.demands + length d.actions)
 
--- a pattern more goes past a limit: 256 rules, demands and actions together, 8 groups within each other, 2 '*' within each other, 4,096
--- atoms in all patterns together
+-- a pattern more goes past a limit: 256 rules, demands and actions together, 8 groups within each other, 2 '*' within
+-- each other, 4,096 atoms in all patterns together
 abbrev pub is_pattern_over_limit : Definitions → Pattern → Bool
-is_pattern_over_limit d p = nat_le 256 (rule_lines d) || nat_lt 8 (groups p) || nat_lt 2 (stars p) || nat_lt 4096 (all_atoms d + atoms p)
+is_pattern_over_limit d p =
+    nat_le 256 (rule_lines d) || nat_lt 8 (groups p) || nat_lt 2 (stars p) || nat_lt 4096 (all_atoms d + atoms p)
 
--- as many as may be are defined of its kind: 57 types beside the five that are predefined, 256 sets, 256 rules, demands and actions together
+-- as many as may be are defined of its kind: 57 types beside the five that are predefined, 256 sets, 256 rules, demands
+-- and actions together
 abbrev pub has_most : Definitions → Definition → Bool
 has_most d (definition.VariantType name) = nat_le 57 (length d.types)
 has_most d (definition.Set name spans) = nat_le 256 (length d.sets)
@@ -141,8 +149,8 @@ is_one_too_many d (definition.Rule name contexts) = is_pattern_over_limit d cont
 is_one_too_many d (definition.Demand kind p) = is_pattern_over_limit d p
 is_one_too_many d (definition.Action a) = nat_le 256 (rule_lines d)
 
--- a canonical line of so many bytes is too long: of more than 8,192; or it goes, with its line feed, past what the canonical
--- text of the definitions may have
+-- a canonical line of so many bytes is too long: of more than 8,192; or it goes, with its line feed, past what the
+-- canonical text of the definitions may have
 abbrev pub is_line_over_limit : ℕ → Definitions → ℕ → Bool
 is_line_over_limit limit d size = nat_lt 8192 size || nat_lt limit (canonical_size d + (size + 1))
 
@@ -175,7 +183,8 @@ has_same_name d (definition.Action a) = false
 abbrev pub added : Definitions → Definition → Definitions
 added d (definition.VariantType name) = record d { types = d.types ++ name ∷ [] }
 added d (definition.Set name spans) = record d { set_names = d.set_names ++ name ∷ []; sets = d.sets ++ spans ∷ [] }
-added d (definition.Rule name contexts) = record d { rule_names = d.rule_names ++ name ∷ []; rules = d.rules ++ contexts ∷ [] }
+added d (definition.Rule name contexts) =
+    record d { rule_names = d.rule_names ++ name ∷ []; rules = d.rules ++ contexts ∷ [] }
 added d (definition.Demand kind p) = record d { demands = d.demands ++ record { kind = kind; pattern = p } ∷ [] }
 added d (definition.Action a) = record d { actions = d.actions ++ a ∷ [] }
 
@@ -206,7 +215,8 @@ with_words limit d [] = Err Syntax
 with_words limit d (word ∷ words) = with_keyword limit d (keyword_of word) words
 
 -- what f makes of an answer, or the fault
-abbrev pub and_then : Result Definitions DefinitionFault → (Definitions → Result Definitions DefinitionFault) → Result Definitions DefinitionFault
+abbrev pub and_then : Result Definitions DefinitionFault → (Definitions → Result Definitions DefinitionFault) →
+    Result Definitions DefinitionFault
 and_then (Ok d) f = f d
 and_then (Err fault) f = Err fault
 

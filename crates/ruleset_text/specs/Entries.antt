@@ -2,7 +2,8 @@
 use Rattle.std.specs.Prelude.{ℕ, Bool, Option, List}
 use Rattle.ruleset_text.specs.declared.named_condition.NamedCondition.{NamedCondition}
 
--- a source or a variant: whether '!' stands before it, its code points, its type by name, and its condition, if it has these
+-- a source or a variant: whether '!' stands before it, its code points, its type by name, and its condition, if it has
+-- these
 pub record Mapped : Type 0 where
   pub marked : Bool
   pub points : List ℕ

@@ -1,10 +1,11 @@
--- Faults of an entry or of a range that its form alone doesn't show, and where its line has them. Places are bytes of the line, counted
--- from 0.
+-- Faults of an entry or of a range that its form alone doesn't show, and where its line has them. Places are bytes of
+-- the line, counted from 0.
 use Rattle.std.specs.Prelude.{ℕ, ◌+◌, ◌==◌, Option, Some, None, List, [], ◌∷◌, map, filter, slice_get, if◌then◌else◌}
 use Rattle.std.specs.Option.{option_map}
 use Rattle.ruleset_text.specs.declared.entry_notes.LinePoint.{LinePoint}
 use Rattle.ruleset_text.specs.declared.fault.FaultPlace.{FaultPlace}
-use Rattle.ruleset_text.specs.declared.fault.FaultPlace.TheVariants.{InRange, NinthPoint, SeventeenthVariant, Source, Variant}
+use Rattle.ruleset_text.specs.declared.fault.FaultPlace.TheVariants.{InRange, NinthPoint, SeventeenthVariant, Source}
+use Rattle.ruleset_text.specs.declared.fault.FaultPlace.TheVariants.{Variant}
 use Rattle.ruleset_text.specs.declared.fault.LineFaults.{LineFaults}
 use Rattle.ruleset_text.specs.Definitions.{Definitions, type_names}
 use Rattle.ruleset_text.specs.Entries.{EntryForm}
@@ -88,4 +89,6 @@ range_place begins (Some c) = option_map (λ place. InRange place c) (slice_get 
 
 -- of an entry or of a range that a line spells, after these definitions
 abbrev pub notes_of : Definitions → EntryForm → List ℕ → Notes
-notes_of d form line = record { begins = begin_places (line_points form line); faults = faults_of d (line_words form line) (line_points form line) }
+notes_of d form line =
+    record { begins = begin_places (line_points form line);
+    faults = faults_of d (line_words form line) (line_points form line) }

@@ -12,7 +12,8 @@ is_within named may_be_marked m =
 -- a source and its variants
 abbrev pub are_within : EntryParts → List Mapped → Bool
 are_within parts [] = true
-are_within parts (source ∷ variants) = is_within parts.named parts.invalid source && list_all (is_within parts.named parts.blocked) variants
+are_within parts (source ∷ variants) =
+    is_within parts.named parts.invalid source && list_all (is_within parts.named parts.blocked) variants
 
 -- the entry or the range has no other parts
 abbrev pub has_parts : EntryParts → EntryForm → Bool

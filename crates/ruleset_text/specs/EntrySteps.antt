@@ -1,5 +1,6 @@
 -- Reading the form of an entry or of a range, from the first lexeme to the last.
-use Rattle.std.specs.Prelude.{ℕ, nat_le, ◌==◌, ◌&&◌, not, Bool, true, false, Option, Some, None, is_some, List, [], ◌∷◌, ◌++◌, length, slice_index, bytes_eq, codes, map, if◌then◌else◌, Result}
+use Rattle.std.specs.Prelude.{ℕ, nat_le, ◌==◌, ◌&&◌, not, Bool, true, false, Option, Some, None, is_some, List, [], ◌∷◌}
+use Rattle.std.specs.Prelude.{◌++◌, length, slice_index, bytes_eq, codes, map, if◌then◌else◌, Result}
 use Rattle.label_patterns.specs.declared.condition.ConditionKind.{ConditionKind}
 use Rattle.label_patterns.specs.declared.condition.ConditionKind.TheVariants as condition
 use Rattle.ruleset_text.specs.declared.entry_parts.EntryParts.{EntryParts}
@@ -56,7 +57,8 @@ marked s = record s { current = record s.current { marked = true }; phase = phas
 -- a code point more
 abbrev pub at_point : State → Option ℕ → Option State
 at_point s None = None
-at_point s (Some c) = Some (record s { current = record s.current { points = s.current.points ++ c ∷ [] }; phase = phase.Point })
+at_point s (Some c) =
+    Some (record s { current = record s.current { points = s.current.points ++ c ∷ [] }; phase = phase.Point })
 
 abbrev pub begin_by : State → EntryWord → List ℕ → Option State
 begin_by s word.Mark w = Some (marked s)
@@ -76,7 +78,8 @@ may_be_range s = is_first s.done && length s.current.points == 1
 -- the last code point of a range, which is not below the first
 abbrev pub at_last : State → Option ℕ → Option State
 at_last s None = None
-at_last s (Some c) = if nat_le (slice_index s.current.points 0) c then Some (record s { last = Some c; phase = phase.Last }) else None
+at_last s (Some c) =
+    if nat_le (slice_index s.current.points 0) c then Some (record s { last = Some c; phase = phase.Last }) else None
 
 -- ---- types, conditions, separators
 
@@ -110,11 +113,18 @@ after_point s e = after_points s e
 
 -- the name of a type
 abbrev pub at_type : State → List ℕ → Option State
-at_type s w = if is_name w then Some (record s { current = record s.current { type_name = Some w }; phase = phase.VariantType }) else None
+at_type s w =
+    if is_name w then Some (record s { current = record s.current { type_name = Some w }; phase = phase.VariantType })
+    else None
 
 -- the rule of a condition
 abbrev pub at_rule : State → ConditionKind → List ℕ → Option State
-at_rule s kind w = if is_name w then Some (record s { current = record s.current { condition = Some (record { kind = kind; rule = w }) }; phase = phase.Rule }) else None
+at_rule s kind w =
+    if is_name w
+    then Some
+    (record s
+    { current = record s.current { condition = Some (record { kind = kind; rule = w }) }; phase = phase.Rule })
+    else None
 
 -- ---- all lexemes
 
@@ -143,8 +153,8 @@ is_begin e = false
 abbrev pub is_new : State → Bool
 is_new s = is_first s.done && is_begin s.phase
 
--- the word is of none of the parts: '!' before the source, with which a line begins, or before a variant; '..'; a word of types or
--- conditions
+-- the word is of none of the parts: '!' before the source, with which a line begins, or before a variant; '..'; a word
+-- of types or conditions
 abbrev pub is_lacking : EntryParts → Bool → EntryWord → Bool
 is_lacking parts true word.Mark = not parts.invalid
 is_lacking parts false word.Mark = not parts.blocked

@@ -15,7 +15,9 @@ IsEntryOf parts line form = IsEntryLine form line × IsTrue (has_parts parts for
 
 -- the lexemes spell one
 abbrev pub AreEntry : EntryParts → List (List ℕ) → Type 0
-AreEntry parts ws = (form : EntryForm) × IsForm form.mapped form.last × IsTrue (has_parts parts form) × AreWords (entry_words form.mapped form.last) ws
+AreEntry parts ws =
+    (form : EntryForm) × IsForm form.mapped form.last × IsTrue (has_parts parts form)
+    × AreWords (entry_words form.mapped form.last) ws
 
 -- the line stops being one there
 abbrev pub IsEntryStop : EntryParts → List ℕ → FaultPlace → Type 0

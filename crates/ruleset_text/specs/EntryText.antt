@@ -30,7 +30,9 @@ type_text (Some name) = codes " as " ++ name
 
 -- a source or a variant; one with a last code point is that of a range
 abbrev pub mapped_text : Mapped → Option ℕ → List ℕ
-mapped_text m last = mark_text m.marked ++ (sequence_text m.points ++ (last_text last ++ (type_text m.type_name ++ condition_text m.condition)))
+mapped_text m last =
+    mark_text m.marked
+    ++ (sequence_text m.points ++ (last_text last ++ (type_text m.type_name ++ condition_text m.condition)))
 
 -- ':' between variants
 abbrev pub variants_text : List Mapped → List ℕ
@@ -65,5 +67,6 @@ pub record IsMapped (m : Mapped) : Type 0 where
 abbrev pub IsForm : List Mapped → Option ℕ → Type 0
 IsForm [] last = ⊥
 IsForm (m ∷ mapped) None = AllByRecursion IsMapped (m ∷ mapped)
-IsForm (m ∷ []) (Some c) = IsMapped m × IsTrue (is_scalar_value c) × ((first : ℕ) × (m.points ≡ first ∷ []) × (first ≤ c))
+IsForm (m ∷ []) (Some c) =
+    IsMapped m × IsTrue (is_scalar_value c) × ((first : ℕ) × (m.points ≡ first ∷ []) × (first ≤ c))
 IsForm (m ∷ n ∷ mapped) (Some c) = ⊥

@@ -85,7 +85,9 @@ condition_words (Some c) = kind_word c.kind ∷ Rule c.rule ∷ []
 
 -- a source or a variant; one with a last code point is that of a range
 abbrev pub mapped_words : Mapped → Option ℕ → List Word
-mapped_words m last = mark_words m.marked ++ (sequence_words m.points ++ (last_words last ++ (type_words m.type_name ++ condition_words m.condition)))
+mapped_words m last =
+    mark_words m.marked
+    ++ (sequence_words m.points ++ (last_words last ++ (type_words m.type_name ++ condition_words m.condition)))
 
 -- ':' between variants
 abbrev pub variants_words : List Mapped → List Word

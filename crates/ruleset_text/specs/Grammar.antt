@@ -1,6 +1,7 @@
 -- The grammar of patterns: the tokens that spell them.
 use Rattle.std.specs.Prelude.{◌≡◌, List, [], ◌∷◌, ◌++◌}
-use Rattle.label_patterns.specs.Patterns.{Pattern, Point, Set, Any, Start, End, Anchor, Group, Optional, Many, Then, Either}
+use Rattle.label_patterns.specs.Patterns.{Pattern, Point, Set, Any, Start, End, Anchor, Group, Optional, Many, Then}
+use Rattle.label_patterns.specs.Patterns.{Either}
 use Rattle.ruleset_text.specs.declared.token.Token.{Token}
 use Rattle.ruleset_text.specs.declared.token.Token.TheVariants as token
 
@@ -11,7 +12,8 @@ pub data Sort : Type 0 where
   Branch : Sort
   Whole : Sort
 
--- the grammar: an item is an atom, an atom with '?' or '*', '^', '$' or '_'; a branch is items; a whole pattern is branches
+-- the grammar: an item is an atom, an atom with '?' or '*', '^', '$' or '_'; a branch is items; a whole pattern is
+-- branches
 abbrev pub Is : Sort → Pattern → Type 0
 Is s (Point c) = Unit {0}
 Is s (Set n) = Unit {0}

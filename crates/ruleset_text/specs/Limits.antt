@@ -1,6 +1,7 @@
 -- What is limited in a pattern, and whether its sets are known.
 use Rattle.std.specs.Prelude.{ℕ, ◌+◌, ◌≤◌, max, nat_lt, Bool, true, ◌&&◌}
-use Rattle.label_patterns.specs.Patterns.{Pattern, Point, Set, Any, Start, End, Anchor, Group, Optional, Many, Then, Either}
+use Rattle.label_patterns.specs.Patterns.{Pattern, Point, Set, Any, Start, End, Anchor, Group, Optional, Many, Then}
+use Rattle.label_patterns.specs.Patterns.{Either}
 
 -- how many groups stand within each other
 abbrev pub groups : Pattern → ℕ

@@ -1,4 +1,5 @@
--- Faults of a line that its form alone doesn't show, and where it has them. Places are bytes of the line, counted from 0.
+-- Faults of a line that its form alone doesn't show, and where it has them. Places are bytes of the line, counted from
+-- 0.
 use Rattle.std.specs.Prelude.{◌≡◌, ◌≢◌, ℕ, nat_le, Option, Some, None, List, [], ◌∷◌, ◌++◌, length, if◌then◌else◌}
 use Rattle.std.specs.List.{AllByRecursion}
 use Rattle.std.specs.Option.{option_or}

@@ -1,4 +1,5 @@
--- Reading a line lexeme by lexeme, and where it stops being what it is to be. Places are bytes of the line, counted from 0.
+-- Reading a line lexeme by lexeme, and where it stops being what it is to be. Places are bytes of the line, counted
+-- from 0.
 use Rattle.std.specs.Prelude.{◌≡◌, ℕ, Option, Some, None, Result, Ok, Err, List, [], ◌∷◌, ◌++◌, length}
 use Rattle.ruleset_text.specs.declared.fault.DefinitionFault.TheVariants as fault
 use Rattle.ruleset_text.specs.declared.fault.DefinitionRefusal.{DefinitionRefusal}
@@ -16,8 +17,8 @@ abbrev pub place_of : ℕ → List Placed → FaultPlace
 place_of end [] = End end
 place_of end (w ∷ ws) = Lexeme w.place (length w.lexeme)
 
--- something that is so begins with the lexemes before the place, and nothing goes on with the one that stands there; or the line ends
--- there, at so many bytes, before it is complete
+-- something that is so begins with the lexemes before the place, and nothing goes on with the one that stands there; or
+-- the line ends there, at so many bytes, before it is complete
 pub record IsLineStop (Is : List (List ℕ) → Type 0) (ws : List Placed) (end : ℕ) (place : FaultPlace) : Type 0 where
   pub before : List Placed
   pub after : List Placed
@@ -37,7 +38,8 @@ at_lexeme w go None = Err (Lexeme w.place (length w.lexeme))
 at_lexeme w go (Some s) = go s
 
 -- what is read from a state on, to the end of a line of so many bytes; or where reading stops
-abbrev pub read_from : {S A : Type 0} → (S → List ℕ → Option S) → (S → Option A) → ℕ → S → List Placed → Result A FaultPlace
+abbrev pub read_from : {S A : Type 0} → (S → List ℕ → Option S) → (S → Option A) → ℕ → S → List Placed →
+    Result A FaultPlace
 read_from step ended end s [] = or_end end (ended s)
 read_from step ended end s (w ∷ ws) = at_lexeme w (λ t. read_from step ended end t ws) (step s w.lexeme)
 

@@ -1,5 +1,6 @@
 -- Names of variant types, sets and rules.
-use Rattle.std.specs.Prelude.{◌≡◌, ℕ, nat_le, ◌==◌, ◌||◌, ◌&&◌, Bool, false, List, [], ◌∷◌, length, bytes_eq, codes, IsTrue}
+use Rattle.std.specs.Prelude.{◌≡◌, ℕ, nat_le, ◌==◌, ◌||◌, ◌&&◌, Bool, false, List, [], ◌∷◌, length, bytes_eq, codes}
+use Rattle.std.specs.Prelude.{IsTrue}
 use Rattle.std.specs.List.{AllByRecursion, list_all, list_any, position_or_len}
 
 -- A to Z, or a to z

@@ -1,13 +1,15 @@
 -- With which token a pattern goes past a limit.
-use Rattle.std.specs.Prelude.{ℕ, ◌+◌, ◌-◌, ◌==◌, nat_le, nat_lt, Bool, false, ◌||◌, Option, Some, None, List, [], ◌∷◌, ◌++◌, if◌then◌else◌}
-use Rattle.label_patterns.specs.Patterns.{Pattern, Point, Set, Any, Start, End, Anchor, Group, Optional, Many, Then, Either}
+use Rattle.std.specs.Prelude.{ℕ, ◌+◌, ◌-◌, ◌==◌, nat_le, nat_lt, Bool, false, ◌||◌, Option, Some, None, List, [], ◌∷◌}
+use Rattle.std.specs.Prelude.{◌++◌, if◌then◌else◌}
+use Rattle.label_patterns.specs.Patterns.{Pattern, Point, Set, Any, Start, End, Anchor, Group, Optional, Many, Then}
+use Rattle.label_patterns.specs.Patterns.{Either}
 use Rattle.ruleset_text.specs.declared.fault.FaultPlace.{FaultPlace}
 use Rattle.ruleset_text.specs.Limits.{groups, stars, atoms}
 use Rattle.ruleset_text.specs.LineFaults.{lexeme_place}
 use Rattle.ruleset_text.specs.PlacedLexemes.{Placed}
 
--- for each token of a pattern that stands within so many groups, and may have so many atoms: whether it is a '(' within eight groups,
--- a '*' after an atom in which two stand within each other, or an atom too many
+-- for each token of a pattern that stands within so many groups, and may have so many atoms: whether it is a '(' within
+-- eight groups, a '*' after an atom in which two stand within each other, or an atom too many
 abbrev pub marks : ℕ → ℕ → Pattern → List Bool
 marks depth left (Point c) = (left == 0) ∷ []
 marks depth left (Set n) = (left == 0) ∷ []

@@ -1,12 +1,14 @@
 -- The pattern of a rule or of a demand: where '_', '^' and '$' may stand.
-use Rattle.std.specs.Prelude.{ℕ, ◌+◌, ◌-◌, ◌==◌, Bool, true, false, not, ◌||◌, ◌&&◌, Option, None, List, [], if◌then◌else◌}
+use Rattle.std.specs.Prelude.{ℕ, ◌+◌, ◌-◌, ◌==◌, Bool, true, false, not, ◌||◌, ◌&&◌, Option, None, List, []}
+use Rattle.std.specs.Prelude.{if◌then◌else◌}
 use Rattle.std.specs.Option.{option_map}
 use Rattle.ruleset_text.specs.declared.token.Token.{Token}
 use Rattle.ruleset_text.specs.declared.token.Token.TheVariants as token
 use Rattle.label_patterns.specs.Patterns.{Pattern}
 use Rattle.ruleset_text.specs.Reading.{Piece, step, ended}
 
--- in a rule '_' stands once in each context, in no group, '^' before it alone and '$' after it; in a demand '_' doesn't stand
+-- in a rule '_' stands once in each context, in no group, '^' before it alone and '$' after it; in a demand '_' doesn't
+-- stand
 abbrev pub may_stand : Bool → ℕ → Bool → Token → Bool
 may_stand is_rule groups passed token.Start = not is_rule || not passed
 may_stand is_rule groups passed token.End = not is_rule || passed
@@ -35,10 +37,12 @@ abbrev pub start : State
 start = record { pieces = []; groups = 0; passed = false }
 
 abbrev pub with_pieces : State → Token → List Piece → State
-with_pieces s t pieces = record { pieces = pieces; groups = groups_after s.groups t; passed = passed_after s.groups s.passed t }
+with_pieces s t pieces =
+    record { pieces = pieces; groups = groups_after s.groups t; passed = passed_after s.groups s.passed t }
 
 abbrev pub step_in : Bool → State → Token → Option State
-step_in is_rule s t = if may_stand is_rule s.groups s.passed t then option_map (with_pieces s t) (step s.pieces t) else None
+step_in is_rule s t =
+    if may_stand is_rule s.groups s.passed t then option_map (with_pieces s t) (step s.pieces t) else None
 
 abbrev pub ended_in : Bool → State → Option Pattern
 ended_in is_rule s = if s.passed || not is_rule then ended s.pieces else None

@@ -2,7 +2,8 @@
 use Rattle.std.specs.Prelude.{Bool, true, false, ◌||◌, ◌&&◌, not, if◌then◌else◌}
 use Rattle.ruleset_text.specs.Signs.{Sign}
 use Rattle.ruleset_text.specs.Signs as sign
-use Rattle.label_patterns.specs.Patterns.{Pattern, Point, Set, Any, Start, End, Anchor, Group, Optional, Many, Then, Either}
+use Rattle.label_patterns.specs.Patterns.{Pattern, Point, Set, Any, Start, End, Anchor, Group, Optional, Many, Then}
+use Rattle.label_patterns.specs.Patterns.{Either}
 
 abbrev pub is_end : Sign → Bool
 is_end sign.End = true

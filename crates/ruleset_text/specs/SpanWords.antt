@@ -6,12 +6,15 @@ use Rattle.ruleset_text.specs.EntryWords.{Point, Range, AreWords}
 
 -- a code point; or the first and the last of a range, with '..' between them
 abbrev pub SpellsSpan : List (List ℕ) → Span → Type 0
-SpellsSpan lexemes s = ((s.first ≡ s.last) × AreWords (Point s.first ∷ []) lexemes) ⊎ AreWords (Point s.first ∷ Range ∷ Point s.last ∷ []) lexemes
+SpellsSpan lexemes s =
+    ((s.first ≡ s.last) × AreWords (Point s.first ∷ []) lexemes)
+    ⊎ AreWords (Point s.first ∷ Range ∷ Point s.last ∷ []) lexemes
 
 -- one span after the other
 abbrev pub SpellSpans : List (List ℕ) → List Span → Type 0
 SpellSpans lexemes [] = lexemes ≡ []
-SpellSpans lexemes (s ∷ spans) = (first rest : List (List ℕ)) × (lexemes ≡ first ++ rest) × SpellsSpan first s × SpellSpans rest spans
+SpellSpans lexemes (s ∷ spans) =
+    (first rest : List (List ℕ)) × (lexemes ≡ first ++ rest) × SpellsSpan first s × SpellSpans rest spans
 
 -- the spans of a set: there is one, and they rise
 abbrev pub SpellSet : List (List ℕ) → List Span → Type 0

@@ -1,5 +1,6 @@
 -- The spans of a set, read from the first lexeme to the last.
-use Rattle.std.specs.Prelude.{ℕ, ◌+◌, nat_le, nat_lt, Option, Some, None, List, [], ◌∷◌, ◌++◌, map, bytes_eq, codes, if◌then◌else◌}
+use Rattle.std.specs.Prelude.{ℕ, ◌+◌, nat_le, nat_lt, Option, Some, None, List, [], ◌∷◌, ◌++◌, map, bytes_eq, codes}
+use Rattle.std.specs.Prelude.{if◌then◌else◌}
 use Rattle.idn_text.specs.Points.{point_of_hex}
 use Rattle.label_patterns.specs.declared.span.Span.{Span}
 use Rattle.ruleset_text.specs.declared.spans.SpanPart.{SpanPart}
@@ -20,8 +21,8 @@ part_of lexeme = if bytes_eq lexeme (codes "..") then part.Range else point_part
 abbrev pub span : ℕ → ℕ → Span
 span a b = record { first = a; last = b }
 
--- the spans that are complete, and what is held after them: the least that the next span may begin with; a point that may
--- begin a range; or the first point of a range
+-- the spans that are complete, and what is held after them: the least that the next span may begin with; a point that
+-- may begin a range; or the first point of a range
 pub record State : Type 0 where
   pub spans : List Span
   pub held : Held
@@ -32,9 +33,11 @@ state spans h = record { spans = spans; held = h }
 -- the state with one part more, if a part may stand there
 abbrev pub step : List Span → Held → SpanPart → Option State
 step spans (held.Above low) (part.Point c) = if nat_le low c then Some (state spans (held.First c)) else None
-step spans (held.First c) (part.Point d) = if nat_lt c d then Some (state (spans ++ span c c ∷ []) (held.First d)) else None
+step spans (held.First c) (part.Point d) =
+    if nat_lt c d then Some (state (spans ++ span c c ∷ []) (held.First d)) else None
 step spans (held.First c) part.Range = Some (state spans (held.Range c))
-step spans (held.Range c) (part.Point d) = if nat_le c d then Some (state (spans ++ span c d ∷ []) (held.Above (d + 1))) else None
+step spans (held.Range c) (part.Point d) =
+    if nat_le c d then Some (state (spans ++ span c d ∷ []) (held.Above (d + 1))) else None
 step spans h p = None
 
 abbrev pub stepped : Option State → SpanPart → Option State

@@ -9,11 +9,13 @@ use Rattle.ruleset_text.specs.Names.{is_name, number_of}
 -- the token of one byte
 abbrev pub mark_token : ℕ → Token
 mark_token c =
-    if c == 40 then token.Open else if c == 41 then token.Close else if c == 63 then token.Optional else if c == 42 then token.Many else
-    if c == 47 then token.Or else if c == 94 then token.Start else if c == 36 then token.End else if c == 46 then token.Any else if c == 95 then token.Anchor else token.Other
+    if c == 40 then token.Open else if c == 41 then token.Close else if c == 63 then token.Optional
+    else if c == 42 then token.Many else
+    if c == 47 then token.Or else if c == 94 then token.Start else if c == 36 then token.End
+    else if c == 46 then token.Any else if c == 95 then token.Anchor else token.Other
 
--- the token of '@' and what follows it: a set by its number among those of these names, and the number after them where none
--- has the name
+-- the token of '@' and what follows it: a set by its number among those of these names, and the number after them where
+-- none has the name
 abbrev pub set_token : List (List ℕ) → List ℕ → Token
 set_token names name = if is_name name then token.Set (number_of names name) else token.Other
 

@@ -11,7 +11,8 @@ use Rattle.ruleset_text.specs.Canonical.{definition_text}
 use Rattle.ruleset_text.specs.Classes.{has_bad_point, has_bad_end}
 use Rattle.ruleset_text.specs.Definition as definition
 use Rattle.ruleset_text.specs.Definition.{Definition}
-use Rattle.ruleset_text.specs.Definitions.{Definitions, all_definitions, all_names, all_atoms, rule_lines, type_names, whole_rules}
+use Rattle.ruleset_text.specs.Definitions.{Definitions, all_definitions, all_names, all_atoms, rule_lines, type_names}
+use Rattle.ruleset_text.specs.Definitions.{whole_rules}
 use Rattle.ruleset_text.specs.Grammar.{Is, Whole}
 use Rattle.ruleset_text.specs.Limits.{IsWithin}
 use Rattle.ruleset_text.specs.Names.{AreNames}
@@ -24,8 +25,8 @@ pub record IsSet (properties : Properties) (spans : List Span) : Type 0 where
   pub rise : Rise spans
   pub classes : has_bad_end properties spans ≡ false
 
--- a pattern of the grammar with at most 8 groups and 2 '*' within each other, points of the three classes, and sets that are
--- among the first so many
+-- a pattern of the grammar with at most 8 groups and 2 '*' within each other, points of the three classes, and sets
+-- that are among the first so many
 pub record IsPattern (properties : Properties) (sets : ℕ) (p : Pattern) : Type 0 where
   pub whole : Is Whole p
   pub within : IsWithin 8 2 p
@@ -36,7 +37,8 @@ pub record IsPattern (properties : Properties) (sets : ℕ) (p : Pattern) : Type
 abbrev pub HasParts : Properties → ℕ → Definition → Type 0
 HasParts properties sets (definition.VariantType name) = Unit {0}
 HasParts properties sets (definition.Set name spans) = IsSet properties spans
-HasParts properties sets (definition.Rule name contexts) = IsPattern properties sets contexts × (is_rule_or_whole contexts ≡ true)
+HasParts properties sets (definition.Rule name contexts) =
+    IsPattern properties sets contexts × (is_rule_or_whole contexts ≡ true)
 HasParts properties sets (definition.Demand kind p) = IsPattern properties sets p × (has sign.Anchor p ≡ false)
 HasParts properties sets (definition.Action a) = IsAction a
 
@@ -45,8 +47,8 @@ pub record IsDefinition (properties : Properties) (names : List (List ℕ)) (x :
   pub parts : HasParts properties (length names) x
   pub short : length (definition_text names x) ≤ 8192
 
--- at most 57 types beside those that are predefined, 256 sets, 256 rules, demands and actions, 4,096 atoms; no name is given twice;
--- actions name types and whole-label rules
+-- at most 57 types beside those that are predefined, 256 sets, 256 rules, demands and actions, 4,096 atoms; no name is
+-- given twice; actions name types and whole-label rules
 pub record AreDefinitions (d : Definitions) : Type 0 where
   pub few_types : length d.types ≤ 57
   pub few_sets : length d.sets ≤ 256

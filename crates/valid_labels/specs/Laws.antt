@@ -17,7 +17,8 @@ use Rattle.variant_table.specs.Segmentations.{IsMadeOfSources, HasSegmentation, 
 use Rattle.valid_labels.specs.Dispositions.{IsClearItself, IsOwnDisposition, told_itself}
 use Rattle.valid_labels.specs.Readings.{told_by}
 use Rattle.valid_labels.specs.Testing.{IsAdmission}
-use Rattle.valid_labels.specs.Validity.{IsSound, IsOfPoints, AsksCutsAlone, AsksNothing, IsAdmitted, IsValid, IsDeadUnder}
+use Rattle.valid_labels.specs.Validity.{IsSound, IsOfPoints, AsksCutsAlone, AsksNothing, IsAdmitted, IsValid}
+use Rattle.valid_labels.specs.Validity.{IsDeadUnder}
 use Rattle.valid_labels.specs.Tests as tests
 
 -- longest first accepts no more labels than any cut; and the same where each source is one code point

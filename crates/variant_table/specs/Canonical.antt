@@ -1,4 +1,5 @@
--- The canonical text of a table: after the version line that version 2 and 3 have, one definition on each line, then one entry on each line.
+-- The canonical text of a table: after the version line that version 2 and 3 have, one definition on each line, then
+-- one entry on each line.
 use Rattle.std.specs.Prelude.{ℕ, ◌==◌, None, List, [], ◌∷◌, ◌++◌, codes, if◌then◌else◌}
 use Rattle.std.specs.List.{flat_map}
 use Rattle.ruleset_text.specs.Definitions.{Definitions, definitions_text}
@@ -40,4 +41,5 @@ head_text Three = version_line Ruleset ++ 10 ∷ []
 
 -- the canonical text of a table of this version, with these definitions
 abbrev pub table_text : Version → Definitions → List Entry → List ℕ
-table_text version definitions table = head_text version ++ (definitions_text definitions ++ canonical_text definitions table)
+table_text version definitions table =
+    head_text version ++ (definitions_text definitions ++ canonical_text definitions table)

@@ -1,5 +1,6 @@
 -- What may be wrong with a line and its entries.
-use Rattle.std.specs.Prelude.{ℕ, ◌+◌, ◌++◌, ◌==◌, Bool, true, false, ◌||◌, ◌&&◌, not, nat_lt, is_some, Option, Some, None, List, [], ◌∷◌, length, bytes_eq, if◌then◌else◌}
+use Rattle.std.specs.Prelude.{ℕ, ◌+◌, ◌++◌, ◌==◌, Bool, true, false, ◌||◌, ◌&&◌, not, nat_lt, is_some, Option, Some}
+use Rattle.std.specs.Prelude.{None, List, [], ◌∷◌, length, bytes_eq, if◌then◌else◌}
 use Rattle.std.specs.List.{list_any}
 use Rattle.label_patterns.specs.declared.condition.Condition.{Condition}
 use Rattle.label_patterns.specs.declared.condition.ConditionKind.{ConditionKind}
@@ -14,9 +15,11 @@ use Rattle.variant_table.specs.Canonical.{table_text, written_text}
 use Rattle.variant_table.specs.Limits.{line_limit, text_limit, entry_limit}
 use Rattle.idn_class.specs.declared.properties.Properties.{Properties}
 
--- a line that is too long, or one that ends, with its line feed, past the limit of the text, where it comes after so many bytes
+-- a line that is too long, or one that ends, with its line feed, past the limit of the text, where it comes after so
+-- many bytes
 abbrev pub is_too_long : Version → ℕ → List ℕ → Bool
-is_too_long version bytes line = nat_lt (line_limit version) (length line) || nat_lt (text_limit version) (bytes + length line + 1)
+is_too_long version bytes line =
+    nat_lt (line_limit version) (length line) || nat_lt (text_limit version) (bytes + length line + 1)
 
 -- a source with more than 16 variants, or a sequence of more than 8 code points
 abbrev pub is_too_large : List Mapped → Bool
@@ -28,7 +31,8 @@ is_text_too_long One text = false
 is_text_too_long Two text = nat_lt (text_limit Two) (length text)
 is_text_too_long Three text = nat_lt (text_limit Three) (length text)
 
--- an entry that is too large; or, with those of the table, too many entries or too long a canonical text. Names are not looked up for it
+-- an entry that is too large; or, with those of the table, too many entries or too long a canonical text. Names are not
+-- looked up for it
 abbrev pub is_over_limit : Version → Definitions → List Entry → List (List Mapped) → Bool
 is_over_limit version definitions table entries =
     nat_lt (entry_limit version) (length table + length entries) || list_any is_too_large entries
@@ -64,9 +68,11 @@ stands_in before v = list_any (λ u. is_again u.sequence u.condition v) before
 -- the number of the first that is one of those before it; these stand before the list
 abbrev pub first_again : List Variant → List Variant → Option ℕ
 first_again before [] = None
-first_again before (v ∷ variants) = if stands_in before v then Some (length before) else first_again (before ++ v ∷ []) variants
+first_again before (v ∷ variants) =
+    if stands_in before v then Some (length before) else first_again (before ++ v ∷ []) variants
 
--- the first variant that is given again: it is equal to one before it, unless their conditions differ; or to the source, whose number is 0
+-- the first variant that is given again: it is equal to one before it, unless their conditions differ; or to the
+-- source, whose number is 0
 abbrev pub given_again : Entry → Option ℕ
 given_again e = first_again [] (itself e ∷ e.variants)
 

@@ -47,5 +47,6 @@ line_fault definitions.Memory = Syntax
 -- the line is to define something, and this is told of it: the first thing that is wrong with its definition
 abbrev pub DefinesWrong : TableValue → List ℕ → LineFault → Type 0
 DefinesWrong t line fault =
-    (keyword : Keyword) × (after : List (List ℕ)) × (wrong : DefinitionFault) × (keyword_in t.version (lexemes line) ≡ Some (keyword, after))
+    (keyword : Keyword) × (after : List (List ℕ)) × (wrong : DefinitionFault)
+    × (keyword_in t.version (lexemes line) ≡ Some (keyword, after))
     × IsDefinitionFault (room_for_definitions t) t.definitions keyword after wrong × (fault ≡ line_fault wrong)

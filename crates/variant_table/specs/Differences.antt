@@ -1,5 +1,6 @@
 -- The pairs of variants whose conditions one way aren't those of the other way (RFC 7940, section 5.3.5).
-use Rattle.std.specs.Prelude.{◌≡◌, ◌↔◌, ℕ, Bool, true, false, not, ◌&&◌, ◌||◌, ◌==◌, List, [], ◌∷◌, Option, Some, None, Contains, bytes_eq, if◌then◌else◌}
+use Rattle.std.specs.Prelude.{◌≡◌, ◌↔◌, ℕ, Bool, true, false, not, ◌&&◌, ◌||◌, ◌==◌, List, [], ◌∷◌, Option, Some, None}
+use Rattle.std.specs.Prelude.{Contains, bytes_eq, if◌then◌else◌}
 use Rattle.std.specs.Ordering.{nat_cmp, is_lt}
 use Rattle.std.specs.declared.cmp.Ordering.TheVariants.{Less}
 use Rattle.std.specs.Cmp.Lexicographic.{slice_cmp}
@@ -16,7 +17,8 @@ use Rattle.variant_table.specs.Places.{entry_with}
 -- v is a variant of the entry with source s under this condition, or under none
 abbrev pub IsPairUnder : List Entry → List ℕ → List ℕ → Option Condition → Type 0
 IsPairUnder table s v condition =
-    (e : Entry) × Contains table e × (e.source ≡ s) × (x : Variant) × Contains e.variants x × (x.sequence ≡ v) × (x.condition ≡ condition)
+    (e : Entry) × Contains table e × (e.source ≡ s) × (x : Variant) × Contains e.variants x × (x.sequence ≡ v)
+    × (x.condition ≡ condition)
 
 -- two sequences, the lesser first, that are variants of each other, and not under the same conditions
 pub record IsDifference (table : List Entry) (a b : List ℕ) : Type 0 where
@@ -49,7 +51,9 @@ has_beyond e v f w = list_any (λ x. bytes_eq v x.sequence && not (has_under w x
 -- e and f, which is the entry of its variant v, if there is one, have each other's source under other conditions
 abbrev pub differ_by : Entry → List ℕ → Option Entry → Bool
 differ_by e v None = false
-differ_by e v (Some f) = is_lt (slice_cmp nat_cmp e.source v) && has_variant f e.source && (has_beyond e v f e.source || has_beyond f e.source e v)
+differ_by e v (Some f) =
+    is_lt (slice_cmp nat_cmp e.source v) && has_variant f e.source
+    && (has_beyond e v f e.source || has_beyond f e.source e v)
 
 -- the pair of e and its variant v, if it is a difference
 abbrev pub difference_at : List Entry → Entry → List ℕ → List (List ℕ × List ℕ)

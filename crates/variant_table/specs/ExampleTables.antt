@@ -11,7 +11,8 @@ use Rattle.variant_table.specs.Entries.{Entry, TableValue, table_of}
 
 -- a ruleset of these sets, rules and demands
 abbrev pub table_with : List (List Span) → List Pattern → List Demand → List Entry → TableValue
-table_with sets rules demands entries = table_of Three (record (nothing_defined Profile) { sets = sets; rules = rules; demands = demands }) entries
+table_with sets rules demands entries =
+    table_of Three (record (nothing_defined Profile) { sets = sets; rules = rules; demands = demands }) entries
 
 -- the condition on the first rule
 abbrev pub when_first : Option Condition

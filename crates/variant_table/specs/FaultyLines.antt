@@ -16,7 +16,8 @@ use Rattle.variant_table.specs.Reading.{with_raw_line}
 use Rattle.variant_table.specs.Versions.{version_of, head_of, body_of, size_of}
 use Rattle.idn_class.specs.declared.properties.Properties.{Properties}
 
--- the version of the text, how many bytes and which definitions come before the line, and the line as it stands in the text
+-- the version of the text, how many bytes and which definitions come before the line, and the line as it stands in the
+-- text
 pub record FaultyLine : Type 0 where
   pub version : Version
   pub bytes : ℕ
@@ -34,7 +35,8 @@ or_after here f (Err fault) = Some here
 -- the first faulty one among lines that come after so many bytes, which spell the table t
 unfoldable pub first_faulty : ℕ → TableValue → List (List ℕ) → Option FaultyLine
 first_faulty bytes t [] = None
-first_faulty bytes t (line ∷ lines) = or_after (at_line bytes t line) (λ u. first_faulty (bytes + length line + 1) u lines) (with_raw_line bytes t line)
+first_faulty bytes t (line ∷ lines) =
+    or_after (at_line bytes t line) (λ u. first_faulty (bytes + length line + 1) u lines) (with_raw_line bytes t line)
 
 -- that of a text; none where it spells a table, and where it lacks its version
 abbrev pub faulty_after : Properties → Option Version → List (List ℕ) → List (List ℕ) → Option FaultyLine
@@ -43,7 +45,8 @@ faulty_after properties (Some version) head body = first_faulty (size_of head) (
 
 unfoldable pub faulty_line : Properties → Notation → List ℕ → Option FaultyLine
 faulty_line properties notation text =
-    faulty_after properties (version_of notation (raw_lines text)) (head_of notation (raw_lines text)) (body_of notation (raw_lines text))
+    faulty_after properties (version_of notation (raw_lines text)) (head_of notation (raw_lines text))
+    (body_of notation (raw_lines text))
 
 abbrev pub place_in : TableFault → Option FaultyLine → Option FaultPlace
 place_in fault None = None
@@ -66,4 +69,5 @@ line_in refusal = option_map (λ line. line.now) refusal.line
 abbrev pub IsRefusalOf : Properties → Notation → List ℕ → TableRefusal → Type 0
 IsRefusalOf properties notation text refusal =
     (refusal.fault ≡ Memory)
-    ⊎ ((line_in refusal ≡ line_of (faulty_line properties notation text)) × (refusal.place ≡ fault_place properties notation text refusal.fault))
+    ⊎ ((line_in refusal ≡ line_of (faulty_line properties notation text))
+    × (refusal.place ≡ fault_place properties notation text refusal.fault))

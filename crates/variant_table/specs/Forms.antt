@@ -1,4 +1,5 @@
--- What the line of an entry or of a range says: which versions have its form, and its entries. Names become numbers here.
+-- What the line of an entry or of a range says: which versions have its form, and its entries. Names become numbers
+-- here.
 use Rattle.std.specs.Prelude.{ℕ, Bool, true, false, ◌&&◌, ◌==◌, Option, Some, None, List, [], ◌∷◌, map, slice_index}
 use Rattle.std.specs.Prelude.{slice_index_or, bytes_eq, IsTrue, ◌≡◌, if◌then◌else◌}
 use Rattle.std.specs.List.{list_all, range_with_len}
@@ -42,7 +43,8 @@ with_point m c = record m { points = c ∷ [] }
 abbrev pub written_to : Option ℕ → List Mapped → List (List Mapped)
 written_to None mapped = mapped ∷ []
 written_to (Some last) [] = []
-written_to (Some last) (m ∷ mapped) = map (λ c. with_point m c ∷ []) (range_with_len (slice_index m.points 0) (range_size (slice_index m.points 0) last))
+written_to (Some last) (m ∷ mapped) =
+    map (λ c. with_point m c ∷ []) (range_with_len (slice_index m.points 0) (range_size (slice_index m.points 0) last))
 
 abbrev pub written_out : EntryForm → List (List Mapped)
 written_out form = written_to form.last form.mapped
@@ -115,7 +117,8 @@ entries_of definitions form = map (entry_of definitions) (written_out form)
 -- the line spells these entries, by a form that the version has, in which each name is defined
 abbrev pub SpellsEntries : Version → Definitions → List ℕ → List Entry → Type 0
 SpellsEntries version definitions line entries =
-    (form : EntryForm) × HasForm version line form × IsTrue (knows_all definitions form.mapped) × (entries ≡ entries_of definitions form)
+    (form : EntryForm) × HasForm version line form × IsTrue (knows_all definitions form.mapped)
+    × (entries ≡ entries_of definitions form)
 
 -- ---- an entry as a form
 

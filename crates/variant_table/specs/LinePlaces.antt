@@ -1,5 +1,6 @@
 -- Where a line of a text has its fault. Places are bytes of the line, counted from 0.
-use Rattle.std.specs.Prelude.{◌≡◌, ◌⊎◌, ℕ, ◌+◌, nat_lt, Option, Some, None, Result, Ok, Err, List, [], ◌∷◌, find, is_some, not, length, slice_index, if◌then◌else◌}
+use Rattle.std.specs.Prelude.{◌≡◌, ◌⊎◌, ℕ, ◌+◌, nat_lt, Option, Some, None, Result, Ok, Err, List, [], ◌∷◌, find}
+use Rattle.std.specs.Prelude.{is_some, not, length, slice_index, if◌then◌else◌}
 use Rattle.std.specs.List.{list_any, range_with_len}
 use Rattle.std.specs.Result.{result_ok}
 use Rattle.std.specs.Str.Lines.{strip_carriage_return}
@@ -47,7 +48,8 @@ definition_place d fault line = None
 -- the first code point of a range that no table may hold
 abbrev pub bad_in : Properties → List Mapped → ℕ → Option ℕ
 bad_in properties [] last = None
-bad_in properties (m ∷ mapped) last = find (is_bad_point properties) (range_with_len (slice_index m.points 0) (range_size (slice_index m.points 0) last))
+bad_in properties (m ∷ mapped) last =
+    find (is_bad_point properties) (range_with_len (slice_index m.points 0) (range_size (slice_index m.points 0) last))
 
 abbrev pub class_by : Definitions → List Mapped → Option ℕ → Notes → Option FaultPlace
 class_by d mapped None notes = notes.faults.class
@@ -57,9 +59,9 @@ class_by d mapped (Some last) notes = range_place notes.begins (bad_in d.propert
 abbrev pub class_place : Definitions → EntryForm → Notes → Option FaultPlace
 class_place d form notes = class_by d form.mapped form.last notes
 
--- of an entry or a range, by what is noted of its line: what goes past a limit, if it isn't the number of all entries or
--- the canonical text; a type or a rule that isn't defined; a code point that no table may hold; where the first variant
--- begins that is given again; and where the source does
+-- of an entry or a range, by what is noted of its line: what goes past a limit, if it isn't the number of all entries
+-- or the canonical text; a type or a rule that isn't defined; a code point that no table may hold; where the first
+-- variant begins that is given again; and where the source does
 abbrev pub form_place : Definitions → TableFault → EntryForm → Notes → Option FaultPlace
 form_place d (tables.Limit number) form notes = notes.faults.limit
 form_place d (tables.NoSuchName number) form notes = notes.faults.name
@@ -68,7 +70,8 @@ form_place d (tables.SameVariant number) form notes = variant_place notes.begins
 form_place d (tables.SameSource number) form notes = source_place notes.begins
 form_place d fault form notes = None
 
--- the faults that are noted are those that an entry or a range has; the class of the code points of a range is asked for by itself
+-- the faults that are noted are those that an entry or a range has; the class of the code points of a range is asked
+-- for by itself
 pub record AreFaultsOf (d : Definitions) (form : EntryForm) (faults : LineFaults) : Type 0 where
   pub limit : is_some faults.limit ≡ list_any is_too_large (written_out form)
   pub name : is_some faults.name ≡ not (knows_all d form.mapped)
@@ -91,8 +94,8 @@ place_by d fault version line (Some defining) = definition_place d fault definin
 abbrev pub body_place : Definitions → TableFault → Version → List ℕ → Option FaultPlace
 body_place d fault version line = place_by d fault version line (definition_line version line)
 
--- of a line as it stands in the text, after so many bytes: the first byte past its limit; none, if only the text is past its own; or
--- else what is told of it less one carriage return at its end
+-- of a line as it stands in the text, after so many bytes: the first byte past its limit; none, if only the text is
+-- past its own; or else what is told of it less one carriage return at its end
 abbrev pub read_place : Definitions → TableFault → Version → ℕ → List ℕ → Option FaultPlace
 read_place d fault version bytes line =
     if nat_lt (line_limit version) (length line) then Some (Byte (line_limit version)) else
@@ -101,9 +104,10 @@ read_place d fault version bytes line =
 
 -- ---- what it is
 
--- no definition goes on with the lexeme, or no entry and no range of the version does; or some goes on, and the line ends. Sets have these
--- names
+-- no definition goes on with the lexeme, or no entry and no range of the version does; or some goes on, and the line
+-- ends. Sets have these names
 abbrev pub IsSyntaxPlace : List (List ℕ) → Version → List ℕ → FaultPlace → Type 0
 IsSyntaxPlace names version line place =
-    ((defining : DefinitionLine) × (definition_line version line ≡ Some defining) × IsLineStop (IsDefinitionLine names) (placed_lexemes line) (length line) place)
+    ((defining : DefinitionLine) × (definition_line version line ≡ Some defining)
+    × IsLineStop (IsDefinitionLine names) (placed_lexemes line) (length line) place)
     ⊎ ((definition_line version line ≡ None) × IsEntryStop (parts_of version) line place)

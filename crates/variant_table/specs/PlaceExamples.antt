@@ -6,7 +6,8 @@ use Rattle.ruleset_text.specs.Spans.{span}
 use Rattle.variant_table.specs.declared.fault.TableFault.{TableFault}
 use Rattle.variant_table.specs.declared.fault.TableFault.TheVariants as tables
 use Rattle.ruleset_text.specs.declared.fault.FaultPlace.{FaultPlace}
-use Rattle.ruleset_text.specs.declared.fault.FaultPlace.TheVariants.{Lexeme, End, Point, InRange, Variant, Source, Byte, NinthPoint, SeventeenthVariant}
+use Rattle.ruleset_text.specs.declared.fault.FaultPlace.TheVariants.{Lexeme, End, Point, InRange, Variant, Source, Byte}
+use Rattle.ruleset_text.specs.declared.fault.FaultPlace.TheVariants.{NinthPoint, SeventeenthVariant}
 use Rattle.variant_table.specs.declared.version.Notation.TheVariants.{Ruleset}
 use Rattle.variant_table.specs.declared.version.Version.{Version}
 use Rattle.variant_table.specs.declared.version.Version.TheVariants.{One, Two, Three}
@@ -47,9 +48,13 @@ pub record ExamplesOfPlaces : Type 0 where
   pub no_version : fault_place Profile Ruleset (codes "0061") (tables.Syntax 1) ≡ None
   pub variant : told One (tables.SameVariant 1) (codes "0061|0062:0063:0062") ≡ Some (Variant 15)
   pub again : told One (tables.SameSource 1) (codes " 0061") ≡ Some (Source 1)
-  pub ninth : told One (tables.Limit 1) (codes "0061-0061-0061-0061-0061-0061-0061-0061-0062") ≡ Some (NinthPoint 40 0x62)
-  pub seventeenth : told One (tables.Limit 1) (codes "0061|0062:0063:0064:0065:0066:0067:0068:0069:006A:006B:006C:006D:006E:006F:0070:0071:0072") ≡ Some (SeventeenthVariant 85 0x72)
-  pub sixteen : told One (tables.Limit 1) (codes "0061|0062:0063:0064:0065:0066:0067:0068:0069:006A:006B:006C:006D:006E:006F:0070:0071") ≡ None
+  pub ninth : told One (tables.Limit 1) (codes "0061-0061-0061-0061-0061-0061-0061-0061-0062")
+      ≡ Some (NinthPoint 40 0x62)
+  pub seventeenth : told One (tables.Limit 1)
+      (codes "0061|0062:0063:0064:0065:0066:0067:0068:0069:006A:006B:006C:006D:006E:006F:0070:0071:0072")
+      ≡ Some (SeventeenthVariant 85 0x72)
+  pub sixteen : told One (tables.Limit 1)
+      (codes "0061|0062:0063:0064:0065:0066:0067:0068:0069:006A:006B:006C:006D:006E:006F:0070:0071") ≡ None
   pub long_line : told One (tables.Limit 1) (replicate 1025 35) ≡ Some (Byte 1024)
   pub in_range : told Two (tables.BadClass 1) (codes "007A..007C") ≡ Some (InRange 0 0x7B)
   pub point : told One (tables.BadClass 1) (codes "0061|007B:0041") ≡ Some (Point 5 0x7B)

@@ -1,5 +1,6 @@
 -- The entries whose source begins a label at a place.
-use Rattle.std.specs.Prelude.{◌≡◌, ◌↔◌, ℕ, ◌+◌, ◌<◌, ◌≤◌, List, [], ◌∷◌, ◌++◌, length, take, drop, find, bytes_eq, Option, AllPairs, Contains}
+use Rattle.std.specs.Prelude.{◌≡◌, ◌↔◌, ℕ, ◌+◌, ◌<◌, ◌≤◌, List, [], ◌∷◌, ◌++◌, length, take, drop, find, bytes_eq}
+use Rattle.std.specs.Prelude.{Option, AllPairs, Contains}
 use Rattle.std.specs.List.{slice_range}
 use Rattle.std.specs.Option.{option_to_list}
 use Rattle.variant_table.specs.Entries.{Entry}
@@ -15,7 +16,8 @@ entry_with table source = find (λ e. bytes_eq e.source source) table
 -- the entries whose source is a beginning followed by some of the rest, by rising length
 abbrev pub entries_from : List Entry → List ℕ → List ℕ → List Entry
 entries_from table beginning [] = []
-entries_from table beginning (c ∷ rest) = option_to_list (entry_with table (beginning ++ c ∷ [])) ++ entries_from table (beginning ++ c ∷ []) rest
+entries_from table beginning (c ∷ rest) =
+    option_to_list (entry_with table (beginning ++ c ∷ [])) ++ entries_from table (beginning ++ c ∷ []) rest
 
 -- the entries whose source begins the label at the place, by rising length
 abbrev pub entries_at : List Entry → List ℕ → ℕ → List Entry
@@ -23,7 +25,8 @@ entries_at table label place = entries_from table [] (take 8 (drop place label))
 
 -- the same for the sources that are longer than this
 abbrev pub entries_longer : List Entry → List ℕ → ℕ → ℕ → List Entry
-entries_longer table label place len = entries_from table (slice_range label place (place + len)) (drop len (take 8 (drop place label)))
+entries_longer table label place len =
+    entries_from table (slice_range label place (place + len)) (drop len (take 8 (drop place label)))
 
 -- the source begins the label at the place
 abbrev pub BeginsAt : List ℕ → ℕ → Entry → Type 0

@@ -1,5 +1,6 @@
 -- Reading as a function, line by line over the table so far.
-use Rattle.std.specs.Prelude.{ℕ, ◌+◌, Bool, true, ◌==◌, Option, Some, None, List, [], ◌∷◌, ◌++◌, length, Result, Ok, Err, if◌then◌else◌}
+use Rattle.std.specs.Prelude.{ℕ, ◌+◌, Bool, true, ◌==◌, Option, Some, None, List, [], ◌∷◌, ◌++◌, length, Result, Ok}
+use Rattle.std.specs.Prelude.{Err, if◌then◌else◌}
 use Rattle.std.specs.List.{list_any}
 use Rattle.std.specs.Str.Lines.{strip_carriage_return}
 use Rattle.idn_text.specs.Lines.{raw_lines}
@@ -45,7 +46,8 @@ form_in version words = form_by version (entry_in words)
 
 -- the entries of a form, if its names are defined
 abbrev pub named_entries : Definitions → EntryForm → Result (List Entry) LineFault
-named_entries definitions form = if knows_all definitions form.mapped then Ok (entries_of definitions form) else Err NoSuchName
+named_entries definitions form =
+    if knows_all definitions form.mapped then Ok (entries_of definitions form) else Err NoSuchName
 
 -- ---- the table so far
 
@@ -90,7 +92,8 @@ with_line t line = if is_skipped line then Ok t else with_words t (keyword_in t.
 
 -- the same for a line as it stands in the text, after so many bytes
 unfoldable pub with_raw_line : ℕ → TableValue → List ℕ → Result TableValue LineFault
-with_raw_line bytes t line = if is_too_long t.version bytes line then Err Limit else with_line t (strip_carriage_return line)
+with_raw_line bytes t line =
+    if is_too_long t.version bytes line then Err Limit else with_line t (strip_carriage_return line)
 
 -- a fault with the number of its line
 abbrev pub in_line : {A : Type 0} → ℕ → Result A LineFault → Result A (ℕ × LineFault)
@@ -106,11 +109,13 @@ with_lines number bytes table (line ∷ lines) =
 -- the table that lines spell after their version line, if they have a version
 abbrev pub table_in : Properties → Option Version → List (List ℕ) → List (List ℕ) → Result TableValue (ℕ × LineFault)
 table_in properties None head body = Err (1, Syntax)
-table_in properties (Some version) head body = with_lines (length head + 1) (size_of head) (empty_table properties version) body
+table_in properties (Some version) head body =
+    with_lines (length head + 1) (size_of head) (empty_table properties version) body
 
 -- the table that lines spell, the first of which may be a version line
 unfoldable pub table_of_lines : Properties → Notation → List (List ℕ) → Result TableValue (ℕ × LineFault)
-table_of_lines properties notation lines = table_in properties (version_of notation lines) (head_of notation lines) (body_of notation lines)
+table_of_lines properties notation lines =
+    table_in properties (version_of notation lines) (head_of notation lines) (body_of notation lines)
 
 -- the table that a text spells, or the line and the kind of its first fault
 abbrev pub table_of_text : Properties → Notation → List ℕ → Result TableValue (ℕ × LineFault)

@@ -23,7 +23,8 @@ seen_under table label = record { sets = table.definitions.sets; label = label }
 abbrev pub AllHold : List Pattern → Seen → ℕ → List Entry → Type 0
 AllHold rules seen place [] = Unit {0}
 AllHold rules seen place (e ∷ segmentation) =
-    ConditionHolds rules seen e.condition place (place + length e.source) × AllHold rules seen (place + length e.source) segmentation
+    ConditionHolds rules seen e.condition place (place + length e.source)
+    × AllHold rules seen (place + length e.source) segmentation
 
 -- a segmentation of the label: entries of the table whose sources, joined, are the label, and each of which may stand
 -- where it does
@@ -43,4 +44,5 @@ HasNoConditions table = AllByRecursion (λ e. e.condition ≡ None) table.entrie
 -- the label is a joining of sources and variants of the table
 abbrev pub IsMadeOfReplacements : TableValue → List ℕ → Type 0
 IsMadeOfReplacements table label =
-    (parts : List (List ℕ)) × AllByRecursion (Contains (flat_map replacements table.entries)) parts × (flat_map (λ s. s) parts ≡ label)
+    (parts : List (List ℕ)) × AllByRecursion (Contains (flat_map replacements table.entries)) parts
+    × (flat_map (λ s. s) parts ≡ label)

@@ -47,5 +47,7 @@ entry_code =
 
 abbrev pub table_code : Coded TableValue
 table_code =
-    code_by (Version × (Definitions × List Entry)) (coded× version_code (coded× definitions_code (coded_list entry_code))) (λ t. (t.version, (t.definitions, t.entries)))
+    code_by (Version × (Definitions × List Entry))
+    (coded× version_code (coded× definitions_code (coded_list entry_code)))
+    (λ t. (t.version, (t.definitions, t.entries)))
     (λ p. table_of p.0 p.1.0 p.1.1) (λ _. refl)

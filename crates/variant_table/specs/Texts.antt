@@ -1,9 +1,11 @@
 -- What a text spells: one table, or one first fault.
-use Rattle.std.specs.Prelude.{◌≡◌, ◌⊎◌, ℕ, ◌+◌, ◌≤◌, ◌<◌, Bool, false, not, IsTrue, Some, None, List, [], ◌∷◌, ◌++◌, length, All}
+use Rattle.std.specs.Prelude.{◌≡◌, ◌⊎◌, ℕ, ◌+◌, ◌≤◌, ◌<◌, Bool, false, not, IsTrue, Some, None, List, [], ◌∷◌, ◌++◌}
+use Rattle.std.specs.Prelude.{length, All}
 use Rattle.std.specs.List.{AllByRecursion, list_any}
 use Rattle.std.specs.Str.Lines.{strip_carriage_return}
 use Rattle.idn_text.specs.Lines.{raw_lines}
-use Rattle.variant_table.specs.Faults.{LineFault, Limit, Syntax, BadClass, SameVariant, SameSource, NoSuchName, table_fault}
+use Rattle.variant_table.specs.Faults.{LineFault, Limit, Syntax, BadClass, SameVariant, SameSource, NoSuchName}
+use Rattle.variant_table.specs.Faults.{table_fault}
 use Rattle.variant_table.specs.declared.fault.TableFault.{TableFault}
 use Rattle.variant_table.specs.declared.fault.TableFault.TheVariants.{Memory}
 use Rattle.variant_table.specs.declared.version.Notation.{Notation}
@@ -31,22 +33,27 @@ AreBlanks line = AllByRecursion (λ c. IsTrue (is_blank c)) line
 abbrev pub IsComment : List ℕ → Type 0
 IsComment line = (blanks : List ℕ) × (rest : List ℕ) × AreBlanks blanks × (line ≡ blanks ++ 35 ∷ rest)
 
--- the entries that a line spells, after these definitions: none by a blank line or a comment, and those of an entry or a range
+-- the entries that a line spells, after these definitions: none by a blank line or a comment, and those of an entry or
+-- a range
 abbrev pub LineSpells : Version → Definitions → List ℕ → List Entry → Type 0
-LineSpells version definitions line entries = (AreBlanks line × (entries ≡ [])) ⊎ (IsComment line × (entries ≡ [])) ⊎ SpellsEntries version definitions line entries
+LineSpells version definitions line entries =
+    (AreBlanks line × (entries ≡ [])) ⊎ (IsComment line × (entries ≡ []))
+    ⊎ SpellsEntries version definitions line entries
 
 -- ---- a text without a fault
 
 -- after lines that spell the table t the line leads to the table u: it spells further entries, or it defines something
 abbrev pub LineAdds : TableValue → List ℕ → TableValue → Type 0
 LineAdds t line u =
-    ((entries : List Entry) × LineSpells t.version t.definitions line entries × (u ≡ record t { entries = t.entries ++ entries }))
+    ((entries : List Entry) × LineSpells t.version t.definitions line entries
+    × (u ≡ record t { entries = t.entries ++ entries }))
     ⊎ ((definitions : Definitions) × Defines t line definitions × (u ≡ record t { definitions = definitions }))
 
 -- the lines lead from the table t to this one, in their order
 abbrev pub LinesSpell : TableValue → List (List ℕ) → TableValue → Type 0
 LinesSpell t [] table = table ≡ t
-LinesSpell t (line ∷ lines) table = (u : TableValue) × LineAdds t (strip_carriage_return line) u × LinesSpell u lines table
+LinesSpell t (line ∷ lines) table =
+    (u : TableValue) × LineAdds t (strip_carriage_return line) u × LinesSpell u lines table
 
 -- lines without a fault, after a version line or without one, and the table that they spell
 pub record AreLinesOf (head lines : List (List ℕ)) (table : TableValue) : Type 0 where
@@ -107,11 +114,16 @@ IsSuch version line test = (form : EntryForm) × HasForm version (strip_carriage
 abbrev pub Holds : ℕ → TableValue → List ℕ → LineCondition → Type 0
 Holds bytes table line too_long = IsTrue (is_too_long table.version bytes line)
 Holds bytes table line no_form = HasSomeForm table.version (strip_carriage_return line) → ⊥
-Holds bytes table line over_limit = IsSuch table.version line (λ form. is_over_limit table.version table.definitions table.entries (written_out form))
+Holds bytes table line over_limit =
+    IsSuch table.version line (λ form. is_over_limit table.version table.definitions table.entries (written_out form))
 Holds bytes table line no_such_name = IsSuch table.version line (λ form. not (knows_all table.definitions form.mapped))
-Holds bytes table line bad_class = IsSuch table.version line (λ form. list_any (has_bad_class table.definitions.properties) (entries_of table.definitions form))
-Holds bytes table line same_variant = IsSuch table.version line (λ form. list_any has_repeat (entries_of table.definitions form))
-Holds bytes table line same_source = IsSuch table.version line (λ form. list_any (has_source_in table.entries) (entries_of table.definitions form))
+Holds bytes table line bad_class =
+    IsSuch table.version line
+    (λ form. list_any (has_bad_class table.definitions.properties) (entries_of table.definitions form))
+Holds bytes table line same_variant =
+    IsSuch table.version line (λ form. list_any has_repeat (entries_of table.definitions form))
+Holds bytes table line same_source =
+    IsSuch table.version line (λ form. list_any (has_source_in table.entries) (entries_of table.definitions form))
 
 -- the fault of the first condition that holds
 abbrev pub IsFirstTold : ℕ → TableValue → List ℕ → LineFault → Type 0
@@ -130,7 +142,8 @@ abbrev pub LacksVersion : Notation → List ℕ → Type 0
 LacksVersion notation text = version_of notation (raw_lines text) ≡ None
 
 -- the line of this number, from 1, has the fault, and the lines before it have none
-pub record IsFirstFaulty (properties : Properties) (notation : Notation) (text : List ℕ) (number : ℕ) (fault : LineFault) : Type 0 where
+pub record IsFirstFaulty (properties : Properties) (notation : Notation) (text : List ℕ) (number : ℕ)
+    (fault : LineFault) : Type 0 where
   pub before : List (List ℕ)
   pub line : List ℕ
   pub after : List (List ℕ)
@@ -142,7 +155,8 @@ pub record IsFirstFaulty (properties : Properties) (notation : Notation) (text :
   pub read : AreLinesOf (head_of notation (raw_lines text)) before table
   pub faulty : IsLineFault (size_of (head_of notation (raw_lines text)) + size_of before) table line fault
 
--- the first fault of the text, with the number of its line: a text that lacks its version has a fault of syntax in line 1
+-- the first fault of the text, with the number of its line: a text that lacks its version has a fault of syntax in line
+-- 1
 abbrev pub IsFaultOf : Properties → Notation → List ℕ → ℕ → LineFault → Type 0
 IsFaultOf properties notation text number fault =
     (LacksVersion notation text × (number ≡ 1) × (fault ≡ Syntax)) ⊎ IsFirstFaulty properties notation text number fault
@@ -150,4 +164,5 @@ IsFaultOf properties notation text number fault =
 -- the fault is the text's, or memory was refused
 abbrev pub IsToldOf : Properties → Notation → List ℕ → TableFault → Type 0
 IsToldOf properties notation text fault =
-    (fault ≡ Memory) ⊎ ((line : ℕ) × (kind : LineFault) × (fault ≡ table_fault line kind) × IsFaultOf properties notation text line kind)
+    (fault ≡ Memory)
+    ⊎ ((line : ℕ) × (kind : LineFault) × (fault ≡ table_fault line kind) × IsFaultOf properties notation text line kind)

@@ -16,18 +16,22 @@ use Rattle.variant_table.specs.WellFormed.{AreApart}
 abbrev pub BeginsOldSource : TableValue → EntryForm → LinePoint → Type 0
 BeginsOldSource t form p =
     (p.sequence ≡ 0) × (p.index ≡ 0)
-    × (e : Entry) × Contains (entries_of t.definitions form) e × (f : Entry) × Contains t.entries f × (f.source ≡ e.source)
+    × (e : Entry) × Contains (entries_of t.definitions form) e × (f : Entry) × Contains t.entries f
+    × (f.source ≡ e.source)
 
 -- the sequence of this number isn't apart from one of a lesser number
 abbrev pub StandsBefore : List Variant → ℕ → Type 0
-StandsBefore all n = (m : ℕ) × (m < n) × (v : Variant) × (w : Variant) × (slice_get all m ≡ Some v) × (slice_get all n ≡ Some w) × (AreApart v w → ⊥)
+StandsBefore all n =
+    (m : ℕ) × (m < n) × (v : Variant) × (w : Variant) × (slice_get all m ≡ Some v) × (slice_get all n ≡ Some w)
+    × (AreApart v w → ⊥)
 
 -- the code point begins a variant that is the source again, or one before it
 abbrev pub BeginsOldVariant : Definitions → EntryForm → LinePoint → Type 0
 BeginsOldVariant d form p = (p.index ≡ 0) × StandsBefore (full_replacements (entry_of d form.mapped)) p.sequence
 
 -- the line is an entry or a range of the version, and of the first of its code points that is so this is told
-pub record TellsFirst (Is : EntryForm → LinePoint → Type 0) (kind : ℕ → FaultPlace) (version : Version) (line : List ℕ) (place : Option FaultPlace) : Type 0 where
+pub record TellsFirst (Is : EntryForm → LinePoint → Type 0) (kind : ℕ → FaultPlace) (version : Version) (line : List ℕ)
+    (place : Option FaultPlace) : Type 0 where
   pub form : EntryForm
   pub spelled : HasForm version line form
   pub point : LinePoint

@@ -25,4 +25,5 @@ if_taken (Some s) go = go s
 -- the first such lexeme of those that are read on from a stage
 abbrev pub unknown_from : Known → Stage → List Placed → Option FaultPlace
 unknown_from k s [] = None
-unknown_from k s (w ∷ ws) = option_or (unknown_at k s w.lexeme (lexeme_place w)) (if_taken (step s w.lexeme) (λ t. unknown_from k t ws))
+unknown_from k s (w ∷ ws) =
+    option_or (unknown_at k s w.lexeme (lexeme_place w)) (if_taken (step s w.lexeme) (λ t. unknown_from k t ws))

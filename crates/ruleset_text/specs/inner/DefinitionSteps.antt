@@ -21,7 +21,8 @@ use Rattle.ruleset_text.specs.Definition as definition
 use Rattle.ruleset_text.specs.Definition.{Definition}
 use Rattle.ruleset_text.specs.DefinitionPlaces.{Known, definition_faults, known_after, pattern_faults}
 use Rattle.ruleset_text.specs.Canonical.{definition_text}
-use Rattle.ruleset_text.specs.Definitions.{Definitions, definition_atoms, has_bad_class, has_known_names, has_same_name, is_line_over_limit, is_one_too_many, whole_names}
+use Rattle.ruleset_text.specs.Definitions.{Definitions, definition_atoms, has_bad_class, has_known_names, has_same_name}
+use Rattle.ruleset_text.specs.Definitions.{is_line_over_limit, is_one_too_many, whole_names}
 use Rattle.ruleset_text.specs.WellFormed.{AreDefinitions}
 use Rattle.ruleset_text.specs.DefinitionTrees as trees
 use Rattle.ruleset_text.specs.Grammar.{Is, Whole}
@@ -33,7 +34,8 @@ use Rattle.ruleset_text.specs.Names.{predefined_types}
 use Rattle.ruleset_text.specs.Rules.{has, is_rule_or_whole}
 
 -- a pattern that was read, how many atoms may follow, and its faults
-pub record IsReadPattern (e : Earlier) (ws : List Placed) (r : ReadPattern) (answer : Result Pattern FaultPlace) : Type 0 where
+pub record IsReadPattern (e : Earlier) (ws : List Placed) (r : ReadPattern)
+    (answer : Result Pattern FaultPlace) : Type 0 where
   pub read : answer ≡ Ok (pattern r.tree)
   pub atoms : r.atoms_left ≡ e.atoms_left - atoms (pattern r.tree)
   pub faults : r.faults ≡ pattern_faults e.sets.now e.atoms_left e.properties (pattern r.tree) ws
@@ -54,7 +56,8 @@ known e = record {
 }
 
 -- an action that was read, and the first name that isn't defined
-pub record IsReadAction (k : Known) (ws : List Placed) (r : ReadAction) (answer : Result NamedAction FaultPlace) : Type 0 where
+pub record IsReadAction (k : Known) (ws : List Placed) (r : ReadAction)
+    (answer : Result NamedAction FaultPlace) : Type 0 where
   pub read : answer ≡ Ok (action r.action)
   pub unknown : r.unknown ≡ first_marked (action_marks k.types k.whole_rules (action r.action)) ws
 
@@ -63,12 +66,14 @@ GivesAction k ws end (Ok r) = IsReadAction k ws r (action_read end ws)
 GivesAction k ws end (Err error) = StopsAt error (action_read end ws)
 
 -- the same of a definition, by the lexemes after its keyword
-pub record IsReadDefinition (e : Earlier) (ws : List Placed) (r : ReadDefinition) (answer : Result Definition FaultPlace) : Type 0 where
+pub record IsReadDefinition (e : Earlier) (ws : List Placed) (r : ReadDefinition)
+    (answer : Result Definition FaultPlace) : Type 0 where
   pub read : answer ≡ Ok (trees.definition r.definition)
   pub atoms : r.atoms_left ≡ e.atoms_left - definition_atoms (trees.definition r.definition)
   pub faults : r.faults ≡ definition_faults (known e) (trees.definition r.definition) ws
 
-abbrev pub GivesDefinition : Earlier → List Placed → Result ReadDefinition ReadError → Result Definition FaultPlace → Type 0
+abbrev pub GivesDefinition : Earlier → List Placed → Result ReadDefinition ReadError → Result Definition FaultPlace →
+    Type 0
 GivesDefinition e ws (Ok r) read = IsReadDefinition e ws r read
 GivesDefinition e ws (Err error) read = StopsAt error read
 
@@ -95,7 +100,8 @@ Refuses fault.BadClass read = read ≡ Err fault.BadClass
 Refuses fault.SameName read = read ≡ Err fault.SameName
 
 -- the call gives what reading gives, or its fault
-abbrev pub Leaves : {X : Type 0} → Result X DefinitionRefusal → Definitions → Result Definitions DefinitionFault → Type 0
+abbrev pub Leaves : {X : Type 0} → Result X DefinitionRefusal → Definitions → Result Definitions DefinitionFault →
+    Type 0
 Leaves (Ok x) new read = read ≡ Ok new
 Leaves (Err refusal) new read = Refuses refusal.fault read
 

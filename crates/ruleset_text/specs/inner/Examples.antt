@@ -22,4 +22,5 @@ some_defined = record {
 
 -- a source or a variant, as it is written
 abbrev pub written : Bool → List ℕ → Option (List ℕ) → Option NamedCondition → Mapped
-written marked points type_name condition = record { marked = marked; points = points; type_name = type_name; condition = condition }
+written marked points type_name condition =
+    record { marked = marked; points = points; type_name = type_name; condition = condition }

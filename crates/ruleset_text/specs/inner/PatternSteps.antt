@@ -1,5 +1,6 @@
 -- What reading a pattern finds at each token that its form doesn't show.
-use Rattle.std.specs.Prelude.{ℕ, ◌-◌, ◌==◌, nat_le, Bool, true, false, ◌||◌, Option, Some, None, List, [], ◌∷◌, if◌then◌else◌}
+use Rattle.std.specs.Prelude.{ℕ, ◌-◌, ◌==◌, nat_le, Bool, true, false, ◌||◌, Option, Some, None, List, [], ◌∷◌}
+use Rattle.std.specs.Prelude.{if◌then◌else◌}
 use Rattle.std.specs.Option.{option_or}
 use Rattle.ruleset_text.specs.declared.fault.FaultPlace.{FaultPlace}
 use Rattle.ruleset_text.specs.declared.token.Token.{Token}
@@ -35,7 +36,8 @@ abbrev pub has_most_stars : List Piece → Bool
 has_most_stars (Part b p ∷ s) = nat_le 2 (stars p)
 has_most_stars s = false
 
--- after these pieces, within so many groups, where so many atoms may follow, the pattern goes past a limit with the token
+-- after these pieces, within so many groups, where so many atoms may follow, the pattern goes past a limit with the
+-- token
 abbrev pub is_past : List Piece → ℕ → ℕ → Token → Bool
 is_past s groups left (token.Point c) = left == 0
 is_past s groups left (token.Set n) = left == 0
@@ -63,4 +65,5 @@ abbrev pub limit_from : Bool → List (List ℕ) → State → ℕ → List Plac
 limit_from is_rule names s left [] = None
 limit_from is_rule names s left (w ∷ ws) =
     option_or (past_place s.pieces s.groups left (lexeme_place w) (token_of names w.lexeme))
-    (if_taken (pattern_step is_rule names s w.lexeme) (λ t. limit_from is_rule names t (left - atoms_at (token_of names w.lexeme)) ws))
+    (if_taken (pattern_step is_rule names s w.lexeme)
+    (λ t. limit_from is_rule names t (left - atoms_at (token_of names w.lexeme)) ws))

@@ -64,7 +64,8 @@ counted One text = 0
 counted Two text = length text
 counted Three text = length text
 
--- the canonical text of a table may have so many bytes more, where the version limits them; and the names of its entries are defined
+-- the canonical text of a table may have so many bytes more, where the version limits them; and the names of its
+-- entries are defined
 pub record IsCounted (version : Version) (definitions : Definitions) (left : ℕ) (table : List Entry) : Type 0 where
   pub count : counted version (table_text version definitions table) + left ≡ text_limit version
   pub named : AllByRecursion (IsNamed definitions) table

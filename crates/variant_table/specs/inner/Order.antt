@@ -1,5 +1,6 @@
 -- The order of a table's sources.
-use Rattle.std.specs.Prelude.{◌≡◌, ℕ, ◌<◌, ◌≤◌, Bool, ◌&&◌, nat_lt, nat_eq, List, [], ◌∷◌, ◌++◌, length, slice_index, slice_index_or, Contains, IsPermutation}
+use Rattle.std.specs.Prelude.{◌≡◌, ℕ, ◌<◌, ◌≤◌, Bool, ◌&&◌, nat_lt, nat_eq, List, [], ◌∷◌, ◌++◌, length, slice_index}
+use Rattle.std.specs.Prelude.{slice_index_or, Contains, IsPermutation}
 use Rattle.std.specs.Ordering.{nat_cmp}
 use Rattle.std.specs.declared.cmp.Ordering.TheVariants.{Less, Greater}
 use Rattle.std.specs.Cmp.Lexicographic.{slice_cmp}
@@ -15,7 +16,8 @@ source_at table order place = (slice_index_or table (slice_index order place) (e
 -- the numbers of the entries, each once, so that their sources rise
 pub record IsOrderOf (table : List Entry) (order : List ℕ) : Type 0 where
   pub numbers : IsPermutation (range_with_len 0 (length table)) order
-  pub rising : (i j : ℕ) → i < j → j < length order → slice_cmp nat_cmp (source_at table order i) (source_at table order j) ≡ Less
+  pub rising : (i j : ℕ) → i < j → j < length order →
+      slice_cmp nat_cmp (source_at table order i) (source_at table order j) ≡ Less
 
 -- the sources before the place are less than this one, and those from the place on are greater
 pub record IsGapFor (table : List Entry) (order : List ℕ) (source : List ℕ) (place : ℕ) : Type 0 where

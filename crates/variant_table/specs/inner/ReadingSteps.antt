@@ -7,7 +7,8 @@ use Rattle.variant_table.specs.declared.fault.LineRefusal.{LineRefusal}
 use Rattle.variant_table.specs.declared.fault.TableFault.{TableFault}
 use Rattle.variant_table.specs.declared.fault.TableFault.TheVariants as tables
 use Rattle.variant_table.specs.declared.fault.TableRefusal.{TableRefusal}
-use Rattle.variant_table.specs.Faults.{LineFault, Limit, Syntax, BadClass, SameVariant, SameSource, NoSuchName, SameName, table_fault}
+use Rattle.variant_table.specs.Faults.{LineFault, Limit, Syntax, BadClass, SameVariant, SameSource, NoSuchName}
+use Rattle.variant_table.specs.Faults.{SameName, table_fault}
 use Rattle.variant_table.specs.declared.reading.ReadText.{ReadText}
 use Rattle.variant_table.specs.Entries.{Variant, Entry, TableValue, table_of}
 use Rattle.variant_table.specs.Ranges.{entry_in_range}
@@ -50,7 +51,9 @@ with_points_of table v first count = with_new_sources table (map (entry_in_range
 
 -- the fault that reading gives, unless memory was refused
 abbrev pub FailsIn : {Y : Type 0} → TableFault → Result Y (ℕ × LineFault) → Type 0
-FailsIn {Y} fault read = (fault ≡ tables.Memory) ⊎ ((line : ℕ) × (kind : LineFault) × (fault ≡ table_fault line kind) × (read ≡ Err (line, kind)))
+FailsIn {Y} fault read =
+    (fault ≡ tables.Memory)
+    ⊎ ((line : ℕ) × (kind : LineFault) × (fault ≡ table_fault line kind) × (read ≡ Err (line, kind)))
 
 -- the answer is that of the function, unless memory was refused
 abbrev pub Reads : Result ReadText TableRefusal → Result TableValue (ℕ × LineFault) → Type 0
