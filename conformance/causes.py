@@ -6,6 +6,7 @@ A cause is the text after the colon, or None where none is told. Places and labe
 import functools
 import unicodedata
 
+from old_labels import MARK
 from registration import (BAD_A_LABEL, BIDI, CONTEXT_J, CONTEXT_O, HYPHEN, IS_DISALLOWED, IS_UNASSIGNED, LABEL_TOO_LONG,
                           LEADING_MARK, MOST_OCTETS, NOT_NFC, Refused, a_label, lowered, points_of)
 from idn2_registry.unicode_data import DISALLOWED, EXCEPTIONS, IGNORABLE_BLOCKS, OLD_HANGUL_JAMO, UNASSIGNED, is_in
@@ -14,6 +15,8 @@ from rules import NEUTRAL, RIGHT_TO_LEFT, fails_as_a_name, stands_between_joinin
 NOT_UTF8, LINE_TOO_LONG, OUT_OF_ORDER, FILE_TOO_LONG, INVALID, BAD_LENGTH, NOT_IN_TABLE, NOT_VALID = 1, 2, 4, 5, 20, 21, 40, 41
 # RFC 1035, section 2.3.4, without the last full stop and the lengths of labels.
 MOST_OCTETS_OF_A_NAME = 253
+# The classes that the Bidi rule names.
+NAMED = NEUTRAL | RIGHT_TO_LEFT | {"L"}
 APPENDICES = {0x200C: 1, 0x200D: 2, 0xB7: 3, 0x375: 4, 0x5F3: 5, 0x5F4: 6, 0x30FB: 7}
 
 
@@ -54,7 +57,7 @@ class Causes:
         """The cause of the refusal of a line of registered labels, by the bodies of all up to it."""
         if refusal != OUT_OF_ORDER:
             return self.of_body("variants", bodies[number - 1], refusal)
-        before, label = (body.decode() for body in bodies[number - 2:number])
+        before, label = (body.decode().removesuffix(MARK) for body in bodies[number - 2:number])
         place = first(range(len(label)), lambda place: before[place:place + 1] != label[place])
         return f"ends at place {len(label) + 1}" if place is None else at(place, ord(label[place]))
 
@@ -128,7 +131,8 @@ class Causes:
     def condition(self, points):
         classes = [self.known.bidi_class(point) for point in points]
         number, place = self.broken(classes)
-        return f"{at(place, points[place])} is {classes[place]}: RFC 5893 2, condition {number}"
+        told = classes[place] if classes[place] in NAMED else "-"
+        return f"{at(place, points[place])} is {told}: RFC 5893 2, condition {number}"
 
     @staticmethod
     def broken(classes):

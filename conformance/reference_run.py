@@ -228,7 +228,8 @@ class Run:
         """What the message of a refused line goes on with."""
         if "explain" not in options.given:
             return ""
-        mode = "jump" if "jump" in options.given else options.mode
+        # With --old a line is one label, as one that is to be registered.
+        mode = "jump" if "jump" in options.given else "register" if "old" in options.given else options.mode
         cause = self.causes.of_body(mode, body, refusal, table[0] if table else None)
         return "" if cause is None else f": {cause}"
 
