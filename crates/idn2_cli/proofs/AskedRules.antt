@@ -58,6 +58,6 @@ no_rules d [] all = tt
 no_rules d (a ∷ named) all = (ap (option_map (numbered d)) all.0.0, no_rules d named all.1)
 
 pub seen-rules : (test : Option Testing) (table : TableValue) (v : List ℕ) → IsSound table → ruling_in test ≡ ruling_of table → Sees v test → AreRulesOf table v (matched_in test)
-seen-rules None table v sound is sees = inr (no_rules table.definitions table.definitions.actions (nothing-asked table sound is).actions)
+seen-rules None table v sound is sees = inr (no_rules table.definitions table.definitions.actions (nothing-asked table sound is).cuts_alone.actions)
 seen-rules (Some test) table v sound is sees =
     inl (ap (λ (t : TableValue). matches_rule t test.cached) (same-table test table is) ∙ ap (matches_rule table) sees)
