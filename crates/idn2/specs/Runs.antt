@@ -12,29 +12,34 @@ use Rattle.idn2_cli.specs.Ends.{Ends, TellsUnread, mode_job}
 use Rattle.idn2_cli.specs.Headline.{PrintsListings}
 use Rattle.idn2_answers.specs.Transcript.{TableGiven, IsTableOf}
 
--- by a table of this text, among these registered labels, if there are some: the input is read from here to there, the output
--- and the messages take what the run says, and for a table without a fault the lines of each block are those of the theorem
-pub record Runs (o : Settings) (table : List ℕ) (labels : Option (List (List ℕ))) (start now : Reading) (old new : Held) (status : Status) : Type 0 where
+-- by a table of this text, among these registered labels, if there are some: the input is read from here to there, the
+-- output and the messages take what the run says, and for a table without a fault the lines of each block are those of
+-- the theorem
+pub record Runs (o : Settings) (table : List ℕ) (labels : Option (List (List ℕ))) (start now : Reading)
+    (old new : Held) (status : Status) : Type 0 where
   pub ends : (given : TableGiven) × IsTableOf (keeping labels o) table given
       × Ends (mode_job (keeping labels o) given) start now old new status
   pub headline : (given : TableValue) → o.mode ≡ Variants → IsTableOf (keeping labels o) table (Ok given)
       → PrintsListings (keeping labels o) given start now old.output.contents new.output.contents status
 
 -- the labels are those of which a file of this text has the lines
-pub record RunsAmong (o : Settings) (table text : List ℕ) (start now : Reading) (old new : Held) (status : Status) : Type 0 where
+pub record RunsAmong (o : Settings) (table text : List ℕ) (start now : Reading)
+    (old new : Held) (status : Status) : Type 0 where
   pub labels : List (List ℕ)
   pub read : IsTextOf o.properties text labels
   pub runs : Runs o table (Some labels) start now old new status
 
 -- a file of this text has a fault, which is told, and no line is read
-pub record TellsFault (o : Settings) (text : List ℕ) (start now : Reading) (old new : Held) (status : Status) : Type 0 where
+pub record TellsFault (o : Settings) (text : List ℕ) (start now : Reading)
+    (old new : Held) (status : Status) : Type 0 where
   pub fault : RegisteredFileFault
   pub found : IsFaultOf o.properties text fault
   pub unread : now ≡ start
   pub told : TellsUnread o text fault old new status
 
 -- by the text of a file of registered labels, if there is one
-abbrev pub RunsByFiles : Settings → (table : List ℕ) → (file : Option (List ℕ)) → (start now : Reading) → (old new : Held) → Status → Type 0
+abbrev pub RunsByFiles : Settings → (table : List ℕ) → (file : Option (List ℕ)) → (start now : Reading)
+    → (old new : Held) → Status → Type 0
 RunsByFiles o table None start now old new status = Runs o table None start now old new status
 RunsByFiles o table (Some text) start now old new status =
     RunsAmong o table text start now old new status ⊎ TellsFault o text start now old new status

@@ -4,6 +4,7 @@ use Rattle.idn_class.specs.declared.properties.Properties.{Properties}
 use Rattle.idna.specs.Labels.{labels_of}
 use Rattle.idn_label.specs.FirstFault.{first_fault}
 use Rattle.idn_label.specs.Memory.{NeedsNoMemory, LooksUpWithoutMemory, RegistersWithoutMemory, DecodesWithoutMemory}
+use Rattle.idn_label.specs.Memory.{StandsWithoutMemory}
 use Rattle.variant_table.specs.Entries.{TableValue}
 use Rattle.variant_list.specs.Spelled.{spelled}
 use Rattle.idn2_answers.specs.Listings.{Filter, filter_of, tested_after}
@@ -29,7 +30,7 @@ abbrev pub AnswersWithoutMemory : Mode → Settings → List ℕ → Type 0
 AnswersWithoutMemory Lookup o line = LooksUpWithoutMemory o.std3 line
 AnswersWithoutMemory Register o line = RegistersWithoutMemory (chars line)
 AnswersWithoutMemory Decode o line = DecodesLineWithoutMemory line
-AnswersWithoutMemory DecodeOld o line = ⊥
+AnswersWithoutMemory DecodeOld o line = StandsWithoutMemory (chars line)
 AnswersWithoutMemory Variants o line = IsRefusedWithoutMemory o.properties (chars line)
 AnswersWithoutMemory Jump o line = IsRefusedWithoutMemory o.properties (requested_label (chars line))
 AnswersWithoutMemory CheckTable o line = ⊥

@@ -11,6 +11,7 @@ use Rattle.idn_text.specs.declared.refusal.Refusal.TheVariants.{NotUtf8}
 use Rattle.idn_text.proofs.Utf8Lemmas.{IsUtf8-from_points, points_from_utf8, ascii_points}
 use Rattle.idn_class.specs.declared.properties.Properties.{Properties}
 use Rattle.idn_label.specs.Answers.{Answer, and_then}
+use Rattle.idn_label.specs.Memory.{RegistersWithoutMemory, StandsWithoutMemory}
 use Rattle.idn_label.specs.OldNames.{GivesInZone, ZoneAnswer, stands_for, old_answer, old_fault, unless_refused, zone_answer_by, zone_answer, zone_in_utf8, zone_utf8_answer}
 use Rattle.idn_label.specs.Register.{register_answer, register_utf8_answer}
 use Rattle.idn_label.specs.Steps.{lowercase}
@@ -19,6 +20,15 @@ use Rattle.idn_label.specs.declared.old_names.Standing.TheVariants.{Registrable,
 use Rattle.idn_label.proofs.AnswerLemmas.{register_utf8_answer-ascii}
 use Rattle.idn_label.proofs.LdhLemmas.{is_all_ascii-octets, past_ascii-points}
 use Rattle.idn_label.proofs.RegisteredBytes.{utf8_of_chars}
+
+pub chars-ascii : (bytes : List ℕ) → is_all_ascii bytes ≡ true → chars bytes ≡ bytes
+chars-ascii bytes ascii = points_from_utf8 bytes bytes (ascii_points bytes (is_all_ascii-octets bytes ascii))
+
+-- a line in ASCII that is answered without memory, in small letters
+pub stands-lower : (bytes name : List ℕ) → StandsWithoutMemory (chars bytes) → is_all_ascii bytes ≡ true → name ≡ lowercase bytes → is_all_ascii name ≡ true → RegistersWithoutMemory (chars name)
+stands-lower bytes name none ascii is named =
+    let same = chars-ascii bytes ascii in
+    subst RegistersWithoutMemory (ap lowercase same ∙ sym is ∙ sym (chars-ascii name named)) (none.1 (ap is_all_ascii same ∙ ascii))
 
 -- what registered bytes stand for, in UTF-8
 abbrev pub registered_stands : Properties → List ℕ → Answer

@@ -1,4 +1,5 @@
--- Labels that are tested, registered or decoded without memory, and names that are looked up so.
+-- Labels that are tested, registered, decoded or answered as those of a zone without memory, and names that are looked
+-- up so.
 use Rattle.std.specs.Prelude.{◌≡◌, ◌≢◌, ℕ, ◌≤◌, ◌⊎◌, Bool, true, false, not, List, length, drop, Some}
 use Rattle.std.specs.Char.{is_ascii_uppercase}
 use Rattle.std.specs.List.{list_any, list_all}
@@ -41,6 +42,11 @@ RegistersWithoutMemory label =
     (has_ace_prefix label ≡ false → NeedsNoMemory label)
     × (has_ace_prefix label ≡ true → (list_all (λ c. not (is_ascii_uppercase c)) label ≡ true)
     × NeedsNoMemoryDecoded label)
+
+-- a label of a zone: it is registered so, and if it is in ASCII, so is the same in small letters
+abbrev pub StandsWithoutMemory : List ℕ → Type 0
+StandsWithoutMemory label =
+    RegistersWithoutMemory label × (is_all_ascii label ≡ true → RegistersWithoutMemory (lowercase label))
 
 -- a name in UTF-8: lower-case ASCII that UTS 46 allows and that has no A-label, or letters,
 -- digits and hyphens in any ASCII case

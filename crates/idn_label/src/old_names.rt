@@ -8,7 +8,9 @@ ghost use Rattle.std.specs.Option.{is_none};
 ghost use Rattle.idna.specs.Validity.{is_all_ascii};
 ghost use Rattle.idn_text.specs.Points.{AreScalarValues, utf8_of};
 ghost use Rattle.idn_label.specs.Answers.{Gives, and_then};
-ghost use Rattle.idn_label.specs.OldNames.{before_mark, has_mark, is_old_point, old_answer, old_fault, old_utf8_fault, stands_for};
+ghost use Rattle.idn_label.specs.Memory.{RegistersWithoutMemory, StandsWithoutMemory};
+ghost use Rattle.idn_label.specs.OldNames.{before_mark, has_mark, is_old_point, old_answer, old_fault, old_utf8_fault};
+ghost use Rattle.idn_label.specs.OldNames.{stands_for};
 ghost use Rattle.idn_label.specs.OldNames.{GivesInZone, unless_refused, zone_in_utf8, zone_utf8_answer};
 ghost use Rattle.idn_label.specs.Register.{register_answer, register_utf8_answer};
 
@@ -38,10 +40,11 @@ pub enum Standing {
 }
 
 /// Writes into `room` the UTF-8 (RFC 3629) of a label of a zone, and returns how many octets these are and how the
-/// label stands: what may be registered, or the A-label of it, is answered as `register_utf8` tells it, by what it stands
-/// for. Else it is in ASCII, its capitals become small, and then it is the name of a label that may be registered or of
-/// an old one, or it is refused as `register_utf8` refuses it. Other bytes are refused as `NotUtf8`. Where it is
-/// refused, what is left in `room` says nothing. There must be room for 252 octets.
+/// label stands: what may be registered, or the A-label of it, is answered as `register_utf8` tells it, by what it
+/// stands for. Else it is in ASCII, its capitals become small, and then it is the name of a label that may be
+/// registered or of an old one, or it is refused as `register_utf8` refuses it. Other bytes are refused as `NotUtf8`.
+/// Where it is refused, what is left in `room` says nothing. There must be room for 252 octets. No memory is taken where
+/// `register_utf8` takes none for the label as it stands, nor, if it is in ASCII, for the same in small letters.
 /// `points` and `u_label` are room for the work: what stood there before says nothing.
 pub fn zone_label_utf8(
     alloc: Global,
@@ -56,6 +59,7 @@ pub fn zone_label_utf8(
     ensures answer { GivesInZone (λ len. take len room.new) result (zone_utf8_answer properties line.now) }
     ensures short { IfOk result (λ found. found.0 ≤ MAX_U_LABEL_LEN) }
     ensures length { length room.new ≡ length room.old }
+    ensures no_memory { StandsWithoutMemory (chars line.now) → result ≢ Err Refusal.Memory }
 {
     let refusal = match u_label_utf8(alloc, line, points, u_label, room, properties) {
         Ok(len) => return Ok((len, Standing::Registrable)),
@@ -96,6 +100,8 @@ fn named_label_utf8(
         (unless_refused name.now (register_answer properties name.now) (old_answer name.now refusal))) }
     ensures short { IfOk result (λ found. found.0 ≤ MAX_U_LABEL_LEN) }
     ensures length { length room.new ≡ length room.old }
+    ensures no_memory { RegistersWithoutMemory (chars name.now) → refusal ≢ Refusal.Memory →
+        result ≢ Err Refusal.Memory }
 {
     match u_label_utf8(alloc, name, points, u_label, room, properties) {
         Ok(len) => return Ok((len, Standing::Registrable)),
@@ -110,7 +116,7 @@ fn named_label_utf8(
 /// That a refusal says something of what is refused.
 fn unless_memory(refusal: Refusal) -> Result<(), Refusal>
     ensures told { OnOk result (refusal ≢ Refusal.Memory) }
-    ensures memory { IfErr result (λ other. other ≡ Refusal.Memory) }
+    ensures memory { IfErr result (λ other. (other ≡ Refusal.Memory) × (refusal ≡ Refusal.Memory)) }
 {
     match refusal {
         Refusal::Memory => Err(Refusal::Memory),
@@ -131,9 +137,11 @@ fn u_label_utf8(
     requires short { length label.now ≤ MAX_LINE_LEN }
     requires room { MAX_U_LABEL_LEN ≤ length room.old }
     ensures answer { Gives (λ len. take len room.new) result
-        (and_then (register_utf8_answer properties label.now) (λ a_label. Ok (utf8_of (stands_for (chars label.now))))) }
+        (and_then (register_utf8_answer properties label.now)
+        (λ a_label. Ok (utf8_of (stands_for (chars label.now))))) }
     ensures short { IfOk result (λ len. len ≤ MAX_U_LABEL_LEN) }
     ensures length { length room.new ≡ length room.old }
+    ensures no_memory { RegistersWithoutMemory (chars label.now) → result ≢ Err Refusal.Memory }
 {
     register_utf8(alloc, label, points, u_label, room, properties)?;
     if has_ace_prefix(label) {
@@ -180,9 +188,9 @@ pub fn before_mark(body: &[u8]) -> Option<&[u8]>
 }
 
 /// Returns the first fault of a label in UTF-8 (RFC 3629) that is to be an old one: no code point; of ASCII other than
-/// lower-case letters, digits and hyphens; more than 63 code points, or a name of more than 63 octets in the zone; or the
-/// name of another label. Other bytes are refused as `NotUtf8`. Takes no memory. `room` is room for the work: what stood there before says
-/// nothing.
+/// lower-case letters, digits and hyphens; more than 63 code points, or a name of more than 63 octets in the zone; or
+/// the name of another label. Other bytes are refused as `NotUtf8`. Takes no memory. `room` is room for the work: what
+/// stood there before says nothing.
 pub fn test_old_utf8(label: &[u8], room: &mut [u32; MAX_LINE_LEN]) -> Result<(), Refusal>
     requires short { length label.now ≤ MAX_LINE_LEN }
     ensures passes { OnOk result (old_utf8_fault label.now ≡ None) }

@@ -1,7 +1,8 @@
 //! The labels of a zone: each is answered by its line in a file of registered labels.
 
-ghost use Rattle.std.specs.Prelude.{◌≡◌, ◌≤◌, ◌∷◌, ◌++◌, [], length, IfErr};
+ghost use Rattle.std.specs.Prelude.{◌≡◌, ◌≤◌, ◌∷◌, ◌++◌, [], chars, length, IfErr};
 ghost use Rattle.answer_json.specs.Answers.{line_of};
+ghost use Rattle.idn_label.specs.Memory.{StandsWithoutMemory};
 ghost use Rattle.idn_label.specs.OldNames.{zone_answer, zone_in_utf8};
 ghost use Rattle.idn2_answers.specs.Answers.{zone_line, zone_said};
 ghost use Rattle.idn2_answers.specs.Said.{said_line};
@@ -30,6 +31,8 @@ pub(crate) struct DecodeOld {
 
 impl Answering for DecodeOld {
     ghost answer_of = { λ mode label. zone_line (zone_in_utf8 (zone_answer mode.properties label)) };
+
+    ghost needs_none = { λ _ line. StandsWithoutMemory (chars line) };
 
     fn answer<W: Sink, E: Sink>(
         &self,

@@ -3,7 +3,7 @@ use Rattle.std.specs.Option.{option_copied}
 use Rattle.idn_class.specs.declared.properties.Properties.{Properties}
 use Rattle.idn_label.specs.Lookup.{lookup_answer}
 use Rattle.idn_label.specs.Decode.{decode_answer}
-use Rattle.idn_label.specs.Memory.{LooksUpWithoutMemory, RegistersWithoutMemory}
+use Rattle.idn_label.specs.Memory.{LooksUpWithoutMemory, RegistersWithoutMemory, StandsWithoutMemory}
 use Rattle.idn_label.specs.OldNames.{zone_answer, zone_in_utf8}
 use Rattle.idn_label.specs.Register.{register_answer}
 use Rattle.idn_label.specs.Steps.{in_utf8}
@@ -75,7 +75,7 @@ returns-in-DecodeOld g c =
     let causes = c.tells_causes-wanted.ensures ∙ ap tells_causes c.settings.view_is in
     let given : Properties = c.options.inside.properties in
     let by : Properties → List ℕ → LineAnswer = λ p label. zone_line (zone_in_utf8 (zone_answer p label)) in
-    let job : Form → Explained → Properties → Job = λ f e p. lines_job f e (by p) false (λ line. ⊥) (λ line. Unit {0}) in
+    let job : Form → Explained → Properties → Job = λ f e p. lines_job f e (by p) false (λ line. StandsWithoutMemory (chars line)) (λ line. Unit {0}) in
     as_mode o DecodeOld c.args.table.now (Ok no_table) _ _ _ _ _ c.serve_lines-in-DecodeOld.result mode refl
     (ap (λ f. job f (explained_by c.if_wanted-explaining-in-DecodeOld.result) given) (ap (λ (v : Settings). v.form) seen)
     ∙ ap (λ e. job o.form e given) c.if_wanted-explaining-in-DecodeOld.ensures

@@ -4,7 +4,7 @@ use Rattle.idn_text.specs.declared.refusal.Refusal.TheVariants.{Empty}
 use Rattle.idn_label.specs.OldNames.{ZoneAnswer, zone_answer, zone_in_utf8, zone_utf8_answer}
 use Rattle.idn2_answers.specs.Answers.{LineAnswer, zone_line, zone_said}
 use Rattle.idn2_cli.proofs.TextAnswers.{text_answer-none, text_answer-zone}
-use Rattle.idn2_cli.proofs.RefusedLines.{answered_none, emits_answered, kept_as_it_was, kept_if_answered, replies_refusal, refused_is}
+use Rattle.idn2_cli.proofs.RefusedLines.{answered_none, emits_answered, kept_as_it_was, kept_if_answered, replies_refusal, refused_is, refused_without}
 use Rattle.idn2_cli.proofs.modes.decode_old.DecodeOldAnswering.answer.Goals as goal
 
 -- ---- no label
@@ -47,3 +47,6 @@ returns-in-Err-clause-refused g c =
 
 pub returns-in-Err-clause-kept : goal.returns-in-Err-clause-kept
 returns-in-Err-clause-kept g c = kept_as_it_was _ c.refused-in-Err.result
+
+pub returns-in-Err-clause-no_memory : goal.returns-in-Err-clause-no_memory
+returns-in-Err-clause-no_memory g c = λ none. refused_without c.in-Err.refusal c.refused-in-Err.result (λ e. c.in-Err.ensures.no_memory none (ap Err e)) c.refused-in-Err.ensures.refused
