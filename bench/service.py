@@ -6,8 +6,9 @@ python3 bench/service.py
     disturbed   the same while each second a process of the program is killed and the tables are read again, and every third
                 second PostgreSQL is started again; what isn't known then is told, and nothing else fails
 
-The service has one processor and two processes of the program, which have the others; with --together they share the one. The
-register is a file of SQLite, and then, where Debian's packages of it are installed, a database of PostgreSQL.
+The service has one processor and two processes of the program, which have the others; with --together they share the one. All of
+it goes before what else the machine does, where that is allowed. The register is a file of SQLite, and then, where Debian's
+packages of it are installed, a database of PostgreSQL.
 """
 
 import itertools

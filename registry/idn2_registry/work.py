@@ -116,13 +116,13 @@ def results(means: Means, name: str, task: Task, parts: Sequence[bytes], state: 
     kept = Kept(means, name, [name.encode(), *state, *parts])
     found = {number: result for number in range(len(parts)) if (result := kept.result(number)) is not None}
     open_parts = {number: part for number, part in enumerate(parts) if number not in found}
-    total, left = (sum(part.count(b"\n") for part in each) for each in (parts, open_parts.values()))
-    progress = Progress(name, total, total - left)
+    lines = [part.count(b"\n") for part in parts]
+    progress = Progress(name, sum(lines), sum(lines[number] for number in found))
     try:
         for number, result in done_parts(means, task, open_parts):
             kept.keep(number, result)
             found[number] = result
-            progress.add(parts[number].count(b"\n"))
+            progress.add(lines[number])
     except WrongRegistered:
         # It is done in another way.
         kept.remove()

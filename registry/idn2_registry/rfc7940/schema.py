@@ -104,44 +104,51 @@ def tree_of(text: bytes) -> Element:
         text.decode("utf-8")
     except UnicodeDecodeError as error:
         raise Refused(text.count(b"\n", 0, error.start) + 1, "no UTF-8") from error
-    parser = expat.ParserCreate("utf-8", " ")
-    top = Element("", {}, 1)
-    within = [top]
-
-    def demand(holds: bool, reason: str) -> None:
-        if not holds:
-            raise Refused(parser.CurrentLineNumber, reason)
-
-    def declaration(version: str, encoding: str | None, _: int) -> None:
-        demand(version == "1.0", f"XML {version}")
-        demand((encoding or "utf-8").lower() in ("utf-8", "us-ascii"), f"the encoding '{encoding}'")
-
-    def namespace(_: str | None, uri: str | None) -> None:
-        demand(len(within) == 1 and uri == NAMESPACE, f"the namespace '{uri or ''}' is declared")
-
-    def start(name: str, attributes: dict[str, str]) -> None:
-        of, _, local = name.rpartition(" ")
-        demand(of == NAMESPACE, f"{local}: it is in another namespace")
-        demand(len(within) <= DEEPEST, "too many levels")
-        element = Element(local, attributes, parser.CurrentLineNumber)
-        within[-1].children.append(element)
-        within.append(element)
-
-    def end(_: str) -> None:
-        within.pop()
-
-    def characters(data: str) -> None:
-        within[-1].text += data
-
-    parser.buffer_text = True
-    parser.XmlDeclHandler, parser.StartNamespaceDeclHandler = declaration, namespace
-    parser.StartDoctypeDeclHandler = lambda *_: demand(False, "a document type")
-    parser.StartElementHandler, parser.EndElementHandler, parser.CharacterDataHandler = start, end, characters
+    tree = Tree()
     try:
-        parser.Parse(text, True)
+        tree.parser.Parse(text, True)
     except expat.ExpatError as error:
         raise Refused(error.lineno, f"no XML: {expat.ErrorString(error.code)}") from error
-    return top
+    return tree.top
+
+
+class Tree:
+    """The elements that a parser of XML has told so far."""
+
+    def __init__(self) -> None:
+        self.top = Element("", {}, 1)
+        self._within = [self.top]
+        self.parser = parser = expat.ParserCreate("utf-8", " ")
+        parser.buffer_text = True
+        parser.XmlDeclHandler, parser.StartNamespaceDeclHandler = self._declaration, self._namespace
+        parser.StartDoctypeDeclHandler = lambda *_: self._demand(False, "a document type")
+        parser.StartElementHandler, parser.EndElementHandler = self._start, self._end
+        parser.CharacterDataHandler = self._characters
+
+    def _demand(self, holds: bool, reason: str) -> None:
+        if not holds:
+            raise Refused(self.parser.CurrentLineNumber, reason)
+
+    def _declaration(self, version: str, encoding: str | None, _: int) -> None:
+        self._demand(version == "1.0", f"XML {version}")
+        self._demand((encoding or "utf-8").lower() in ("utf-8", "us-ascii"), f"the encoding '{encoding}'")
+
+    def _namespace(self, _: str | None, uri: str | None) -> None:
+        self._demand(len(self._within) == 1 and uri == NAMESPACE, f"the namespace '{uri or ''}' is declared")
+
+    def _start(self, name: str, attributes: dict[str, str]) -> None:
+        of, _, local = name.rpartition(" ")
+        self._demand(of == NAMESPACE, f"{local}: it is in another namespace")
+        self._demand(len(self._within) <= DEEPEST, "too many levels")
+        element = Element(local, attributes, self.parser.CurrentLineNumber)
+        self._within[-1].children.append(element)
+        self._within.append(element)
+
+    def _end(self, _: str) -> None:
+        self._within.pop()
+
+    def _characters(self, data: str) -> None:
+        self._within[-1].text += data
 
 
 def check(element: Element, parent: str) -> None:
