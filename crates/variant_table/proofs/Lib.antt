@@ -76,3 +76,5 @@ pub mod LinePlaceLemmas
 pub mod FaultyLineLemmas
 -- Types that no action names.
 pub mod IdleLemmas
+-- The line of an entry.
+pub mod EntryLines
