@@ -144,6 +144,13 @@ def rows():
         (64, ["--jump"], ("a\tvariant\tvariant\n", "", 0)), (65, [], ("a\ta\n#end 1\n", "", 0)),
     ):
         yield ["--variants", "table", *words], "a\n", {"table": crowd(count), "registered": "a\n"}, answer
+    # The line is that of the 65th source, whatever comes after it; a pair that has its reverse doesn't count.
+    for table, line in (
+        (crowd(66) + "0062\n0063\n", 66), ("# sources\n\n" + crowd(70), 68), (crowd(66).replace("0061", "0061|4E00", 1), 67),
+    ):
+        answer = "", f"idn2: table line {line}: 34 {TEXTS[34]}\n", 2
+        yield ["--variants", "table", "--jump"], "a\n", {"table": table}, answer
+        yield ["--variants", "table", "--among", "registered"], "a\n", {"table": table, "registered": "a\n"}, answer
     # No part of the line is past the limit, and all other faults of the text come first.
     words, fault = ["--variants", "table", "--jump"], f"idn2: table line 67: 30 {TEXTS[30]}\n"
     yield [*words, "--explain"], "a\n", {"table": crowd(65)}, ("", TOO_MANY, 2)

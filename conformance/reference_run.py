@@ -5,6 +5,7 @@ Where it does not know, since a code point is newer than the data here, or since
 `Unknown`. It holds all labels that a label spells, or that are near it, in a set, so it is for small tables and short labels.
 """
 
+import collections
 import functools
 import itertools
 import re
@@ -21,6 +22,7 @@ from idn2_registry.notation.ruleset import BLOCKED, Entry, Mapped, Ruleset
 from registration import Registration, a_label
 from rules import ProfileProperties, UnicodeProperties
 from ruleset_labels import NOT_MADE_OF_ENTRIES, NOT_VALID, UNCLEAR, RulesetLabels, TableLabels, Unknown
+from ruleset_labels import text_of as text_of_points
 
 LINE_LIMIT, TEXT_LIMIT, LABEL_LIMIT = 1024, 1024, 63
 COUNT_LIMIT, TRIES = 1_000_000_000, 1_000_000
@@ -155,13 +157,15 @@ class Options:
         return int(text)
 
 
-def check_sources(entries, text):
-    """Refuses, at its last line, a text without any other fault by which too many sources have one of their variants
-    one way alone."""
-    found = sources_of(entries)
-    for variant, sources in found.items():
-        if sum(variant not in found.get(source, ()) for source in sources) > MOST_SOURCES:
-            raise TableFault(text[:-1].count(b"\n") + 1, LIMIT)
+def one_too_many(entries):
+    """The first source, if there is one, that is one too many of those that have one of their variants one way alone."""
+    found, counts = sources_of(entries), collections.Counter()
+    for source, entry in entries.items():
+        for variant in {text_of_points(each.points) for each in entry.variants} - found.get(source, set()):
+            counts[variant] += 1
+            if counts[variant] > MOST_SOURCES:
+                return source
+    return None
 
 
 class Reference:
@@ -257,8 +261,15 @@ class Run:
             text = files[options.given[options.mode]]
             table = self.table(options.mode, text)
             if {"--among", "jump"} & options.given.keys():
-                check_sources(table[0].entries, text)
+                self.check_sources(options.mode, text, table[0].entries)
         return registered, table
+
+    def check_sources(self, mode, text, entries):
+        """Refuses a text without any other fault at the line of the first source that is one too many."""
+        source, lines = one_too_many(entries), text.split(b"\n")
+        for number in range(1, len(lines) + 1) if source else ():
+            if source in self.table(mode, b"\n".join(lines[:number]))[0].entries:
+                raise TableFault(number, LIMIT)
 
     def table(self, mode, text):
         """What the table or ruleset says of labels, and whether it has dispositions."""

@@ -1,6 +1,6 @@
 -- The transcript of a run: all that it writes where nothing fails, line by line.
-use Rattle.std.specs.Prelude.{◌≡◌, ◌⊎◌, ◌==◌, ℕ, ◌+◌, ◌-◌, Bool, not, if◌then◌else◌, Option, Some, None, Result, Ok, Err}
-use Rattle.std.specs.Prelude.{List, [], ◌∷◌, ◌++◌, length, map, take, count_by}
+use Rattle.std.specs.Prelude.{◌≡◌, ◌⊎◌, ◌==◌, ℕ, ◌+◌, Bool, not, if◌then◌else◌, Option, Some, None, Result, Ok, Err}
+use Rattle.std.specs.Prelude.{List, [], ◌∷◌, ◌++◌, length, map}
 use Rattle.std.specs.List.{flat_map, list_any}
 use Rattle.std.specs.Result.{is_err}
 use Rattle.idn_class.specs.declared.properties.Properties.{Properties}
@@ -9,9 +9,9 @@ use Rattle.idn_text.specs.declared.refusal.Refusal.{Refusal}
 use Rattle.variant_table.specs.declared.version.Version.TheVariants.{One}
 use Rattle.variant_table.specs.Entries.{Entry, TableValue, empty_table}
 use Rattle.variant_table.specs.declared.version.Notation.{Notation}
-use Rattle.variant_table.specs.Texts.{IsTextOf, IsFaultOf}
+use Rattle.variant_table.specs.Texts.{IsTextOf, IsFaultOf, IsLineOfEntry}
 use Rattle.variant_table.specs.Faults.{LineFault, table_fault as fault_of_line}
-use Rattle.variant_list.specs.Reversed.{IsCrowded}
+use Rattle.variant_list.specs.Reversed.{IsCrowded, IsCrowdedAt}
 use Rattle.idn2_options.specs.declared.command_line.mode.Mode.{Mode}
 use Rattle.idn2_options.specs.declared.command_line.mode.Mode.TheVariants.{Lookup, Register, Decode, DecodeOld, Variants, Jump, CheckTable}
 use Rattle.idn_text.specs.Lines.{Numbered}
@@ -69,18 +69,21 @@ IsReadAs properties notation text (Err fault) = HasFault properties notation tex
 abbrev pub AreCrowded : List Entry → Type 0
 AreCrowded entries = (a : List ℕ) × IsCrowded entries a
 
--- the line of the last byte of a text
-abbrev pub last_line : List ℕ → ℕ
-last_line text = count_by (λ byte. byte == 10) (take (length text - 1) text) + 1
+-- the text spells such a table, and this line, from 1, has the source that is one too many
+pub record IsCrowdedIn (properties : Properties) (notation : Notation) (text : List ℕ) (line : ℕ) : Type 0 where
+  pub table : TableValue
+  pub spelled : IsTextOf properties notation text table
+  pub entry : ℕ
+  pub source : IsCrowdedAt table.entries entry
+  pub here : IsLineOfEntry notation text table entry line
 
 -- the text spells this table, by which collisions are searched; or it has this first fault, or spells a table by which they
--- aren't: that is told at its last line
+-- aren't: that is told where the source is one too many
 abbrev pub IsSearchedAs : Properties → Notation → List ℕ → TableGiven → Type 0
 IsSearchedAs properties notation text (Ok table) = IsTextOf properties notation text table × ¬ AreCrowded table.entries
 IsSearchedAs properties notation text (Err fault) =
     HasFault properties notation text fault
-    ⊎ (((table : TableValue) × IsTextOf properties notation text table × AreCrowded table.entries)
-    × (fault ≡ (last_line text, refusals.Limit, None)))
+    ⊎ (IsCrowdedIn properties notation text fault.0 × (fault.1 ≡ refusals.Limit) × (fault.2 ≡ None))
 
 -- a listing is whole, or the label is asked among registered ones
 abbrev pub IsListedBy : Option (List (List ℕ)) → Properties → Notation → List ℕ → TableGiven → Type 0

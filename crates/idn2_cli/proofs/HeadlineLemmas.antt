@@ -1,4 +1,4 @@
--- A run that ends as it should has printed the listings of its lines.
+-- A run that ends as it should has printed the answers to its lines.
 use Rattle.std.proofs.Common.{◌≡◌, ◌⊎◌, inl, inr, ℕ, Bool, true, false, ◌==◌, List, [], ◌∷◌, ◌++◌, length, map, take, drop, Option, Some, None, Ok, Err, refl, sym, ap, subst, ◌∙◌, append_assoc, if◌then◌else◌, arith}
 use Rattle.std.specs.List.{concat, flat_map}
 use Rattle.std.specs.Io.KnownBytes.{Appends}
@@ -8,7 +8,7 @@ use Rattle.std.proofs.lemmas.Bool.Decides.{nat_tests}
 use Rattle.std.proofs.lemmas.Grind.{flat_map-append}
 use Rattle.std.proofs.lemmas.List.{append-nil, take-append-drop}
 use Rattle.idn_class.specs.declared.properties.Properties.{Properties}
-use Rattle.idn_text.specs.Points.{IsUtf8Of, utf8_of}
+use Rattle.idn_text.specs.Points.{AreScalarValues, utf8_of}
 use Rattle.idn_text.specs.Lines.{Numbered}
 use Rattle.idn_text.specs.Reading.{Reading}
 use Rattle.idn_text.specs.Writers.{Writer}
@@ -17,15 +17,14 @@ use Rattle.idn_text.specs.declared.refusal.Refusal.TheVariants.{Empty, LineTooLo
 use Rattle.idn_text.proofs.Utf8Lemmas.{points_from_utf8}
 use Rattle.idn_label.specs.Answers.{unless_fault}
 use Rattle.idn_label.specs.FirstFault.{first_fault, IsRegistrable}
-use Rattle.idn_label.proofs.ALabels.{registrable_scalars}
 use Rattle.variant_table.specs.declared.version.Notation.{Notation}
 use Rattle.variant_table.specs.Entries.{TableValue}
 use Rattle.valid_labels.specs.Validity.{IsSound}
 use Rattle.variant_table.proofs.TextLemmas.{one_table, not_both}
 use Rattle.idn2_options.specs.Settings.{Settings}
 use Rattle.idn2_options.specs.declared.command_line.mode.Mode.{Mode}
-use Rattle.idn2_options.specs.declared.command_line.mode.Mode.TheVariants.{Variants}
-use Rattle.idn2_answers.specs.Answers.{LineAnswer, IsListing, line_answer, listing_answer, variants_answer}
+use Rattle.idn2_options.specs.declared.command_line.mode.Mode.TheVariants.{Variants, Jump}
+use Rattle.idn2_answers.specs.Answers.{LineAnswer, line_answer, listing_answer, mode_answer}
 use Rattle.idn2_options.specs.declared.command_line.form.Form.{Form}
 use Rattle.idn2_options.specs.declared.command_line.form.Form.TheVariants.{Plain, Json}
 use Rattle.idn2_answers.specs.Said.{Said, said_text}
@@ -37,13 +36,14 @@ use Rattle.idn2_refusals.specs.Explained.{Explained, body_cause}
 use Rattle.idn2_output.specs.Writing.{Held, IsCutBy, refusal_of}
 use Rattle.idn2_cli.specs.Ends.{Job, reads_lines, Does, Ends, Stands, Stops, StopsAtLine, StopsUnread, Closes, mode_job}
 use Rattle.idn2_refusals.specs.Reports.{closing_status}
-use Rattle.idn2_cli.specs.Headline.{printed_of, printed_refusal, IsLineOf, IsPrintedFor, ArePrintedFor, PrintsListings}
+use Rattle.idn2_cli.specs.Headline.{asked_label, printed_of, printed_refusal, AnswersLabels, IsAnswer, IsLineOf, IsPrintedFor, ArePrintedFor, PrintsAnswers}
 use Rattle.idn2_output.specs.declared.status.Status.{Status}
 use Rattle.idn2_output.specs.declared.status.Status.TheVariants.{Clean, Refused, Faulty, OutOfMemory}
 use Rattle.idn2_output.specs.declared.stop.Stop.{Stop}
 use Rattle.idn2_output.specs.declared.stop.Stop.TheVariants as stop
 use Rattle.idn2_answers.proofs.AdmittedLabels.{sound_table}
 use Rattle.idn2_cli.proofs.BlockMembers.{HasRising, variants_answer-IsListing}
+use Rattle.idn2_cli.proofs.JumpAnswers.{jump_answer-IsJumpAnswer, jump-refused}
 use Rattle.idn2_cli.proofs.TextAnswers.{text_answer-none, text_answer-points}
 use Rattle.idn2_refusals.proofs.Utf8Bytes.{chars-encoded, utf8-of_chars}
 use Rattle.idn2_output.proofs.WrittenOutputLines.{output_of-append}
@@ -62,90 +62,119 @@ output_for-printed : (form : Form) (how : Explained) (line : Numbered) (answer :
 output_for-printed form how line (Ok said) = outputs-printed form line said
 output_for-printed form how line (Err refusal) = refusal-printed form line refusal (body_cause how line.body refusal)
 
+-- ---- the two modes that answer labels by a table
+
+module _ (P : Mode → Type 0) (listings : P Variants) (jumps : P Jump) where
+  by_mode : (mode : Mode) → AnswersLabels mode → P mode
+  by_mode mode (inl is) = subst P (sym is) listings
+  by_mode mode (inr is) = subst P (sym is) jumps
+
 module _ (properties : Properties) where
   empty_is_faulty : IsRegistrable properties [] → ⊥
   unfolding first_fault
   empty_is_faulty none = let clash : Some Empty ≡ None = none in cc
 
-  -- the UTF-8 of a label that may be registered
-  utf8-given : (label : List ℕ) → IsRegistrable properties label → IsUtf8Of (utf8_of label) label
-  utf8-given label registrable = record { scalar_values = registrable_scalars properties label registrable; encoded = refl }
+  -- no text asks about no label that may be registered
+  none-asked : (mode : Mode) → AnswersLabels mode → IsRegistrable properties (asked_label mode []) → ⊥
+  none-asked = by_mode (λ m. IsRegistrable properties (asked_label m []) → ⊥) empty_is_faulty empty_is_faulty
 
-  utf8-some : (label : List ℕ) → IsRegistrable properties label → (length (utf8_of label) == 0) ≡ false
-  unfolding chars
-  utf8-some label registrable = by (utf8_of label) refl
-    where
-      by : (bytes : List ℕ) → utf8_of label ≡ bytes → (length bytes == 0) ≡ false
-      by [] none =
-          let same : [] ≡ label = ap chars (sym none) ∙ points_from_utf8 (utf8_of label) label (utf8-given label registrable) in
-          absurd (empty_is_faulty (subst (IsRegistrable properties) (sym same) registrable))
-      by (byte ∷ bytes) some = grind (arith, nat_tests)
+-- the UTF-8 of some text is some bytes
+utf8-some : (text : List ℕ) → AreScalarValues text → (text ≡ [] → ⊥) → (length (utf8_of text) == 0) ≡ false
+unfolding chars
+utf8-some text scalars some = by (utf8_of text) refl
+  where
+    by : (bytes : List ℕ) → utf8_of text ≡ bytes → (length bytes == 0) ≡ false
+    by [] none = absurd (some (sym (ap chars (sym none) ∙ points_from_utf8 (utf8_of text) text (record { scalar_values = scalars; encoded = refl }))))
+    by (byte ∷ bytes) more = grind (arith, nat_tests)
 
 module _ (o : Settings) (table : TableValue) where
+  -- the answer to a text of which the label may be registered
+  answer-is : IsSound table → HasRising o.registered → (mode : Mode) → AnswersLabels mode → (text : List ℕ) → IsRegistrable o.properties (asked_label mode text)
+      → IsAnswer mode o table text (mode_answer mode o table text)
+  answer-is sound rising =
+      by_mode (λ m. (text : List ℕ) → IsRegistrable o.properties (asked_label m text) → IsAnswer m o table text (mode_answer m o table text))
+      (λ text. variants_answer-IsListing o table text sound rising) (λ text. jump_answer-IsJumpAnswer o table text sound)
+
+  -- and to one of which it has a fault
+  fault-told : (mode : Mode) → AnswersLabels mode → (text : List ℕ) (refusal : Refusal) → first_fault o.properties (asked_label mode text) ≡ Some refusal → mode_answer mode o table text ≡ Err refusal
+  fault-told =
+      by_mode (λ m. (text : List ℕ) (refusal : Refusal) → first_fault o.properties (asked_label m text) ≡ Some refusal → mode_answer m o table text ≡ Err refusal)
+      (λ text refusal fault. ap (λ (f : Option Refusal). unless_fault f (listing_answer o table text)) fault) (λ text refusal. jump-refused o.properties table text refusal)
+
+-- ---- what is printed for the lines
+
+module _ (o : Settings) (table : TableValue) (asks : AnswersLabels o.mode) where
+  abbrev answer : List ℕ → LineAnswer
+  answer = mode_answer o.mode o table
+
+  abbrev how : Explained
+  how = explained_in o.mode o table
+
   -- what is printed for a line, by the output lines that a run writes for it
   abbrev printed_line : Numbered → List ℕ
-  printed_line line = output_of (line_output o.form (explained_in Variants o table) (variants_answer o table) line)
+  printed_line line = output_of (line_output o.form how answer line)
 
-  listing-printed : IsSound table → HasRising o.registered → (line : Numbered) (label : List ℕ) → IsLineOf o.properties label line
-      → (answer : LineAnswer) × IsListing o table label answer × (printed_line line ≡ printed_of o.form (explained_in Variants o table) line answer)
-  listing-printed formed rising line label is =
-      let answers : line_answer (variants_answer o table) line.body ≡ variants_answer o table label =
-      ap (line_answer (variants_answer o table)) is.utf8
-      ∙ text_answer-points (variants_answer o table) (utf8_of label) label (utf8-given o.properties label is.registrable) (utf8-some o.properties label is.registrable) in (
-        variants_answer o table label,
-        variants_answer-IsListing o table label formed rising is.registrable,
-        output_for-printed o.form (explained_in Variants o table) line (line_answer (variants_answer o table) line.body) ∙ ap (printed_of o.form (explained_in Variants o table) line) answers,
+  -- those of lines
+  abbrev all_output : List Numbered → List OutputLine
+  all_output lines = lines_output o.form how answer lines
+
+  answer-printed : IsSound table → HasRising o.registered → (line : Numbered) (text : List ℕ) → IsLineOf o text line
+      → (said : LineAnswer) × IsAnswer o.mode o table text said × (printed_line line ≡ printed_of o.form how line said)
+  answer-printed sound rising line text is =
+      let some : text ≡ [] → ⊥ = λ none. none-asked o.properties o.mode asks (subst (λ (t : List ℕ). IsRegistrable o.properties (asked_label o.mode t)) none is.registrable) in
+      let answers : line_answer answer line.body ≡ answer text =
+      ap (line_answer answer) is.utf8
+      ∙ text_answer-points answer (utf8_of text) text (record { scalar_values = is.scalar_values; encoded = refl }) (utf8-some text is.scalar_values some) in (
+        answer text,
+        answer-is o table sound rising o.mode asks text is.registrable,
+        output_for-printed o.form how line (line_answer answer line.body) ∙ ap (printed_of o.form how line) answers,
       )
 
-  -- a line that is no label that may be registered is refused
-  refused-printed : (line : Numbered) (fault : Refusal) → line_answer (variants_answer o table) line.body ≡ Err fault → printed_line line ≡ printed_of o.form (explained_in Variants o table) line (Err fault)
-  refused-printed line fault refused =
-      output_for-printed o.form (explained_in Variants o table) line (line_answer (variants_answer o table) line.body) ∙ ap (printed_of o.form (explained_in Variants o table) line) refused
+  -- a line that asks about no label that may be registered is refused
+  refused-printed : (line : Numbered) (fault : Refusal) → line_answer answer line.body ≡ Err fault → printed_line line ≡ printed_of o.form how line (Err fault)
+  refused-printed line fault refused = output_for-printed o.form how line (line_answer answer line.body) ∙ ap (printed_of o.form how line) refused
 
-  other-refused : (body : Option (List ℕ)) → ((label : List ℕ) → IsRegistrable o.properties label → body ≡ Some (utf8_of label) → ⊥)
-      → (fault : Refusal) × (line_answer (variants_answer o table) body ≡ Err fault)
+  other-refused : (body : Option (List ℕ)) → ((text : List ℕ) → AreScalarValues text → body ≡ Some (utf8_of text) → IsRegistrable o.properties (asked_label o.mode text) → ⊥)
+      → (fault : Refusal) × (line_answer answer body ≡ Err fault)
   other-refused None none = (LineTooLong, refl)
   other-refused (Some bytes) none = by_utf8 (cases_Bool (is_utf8 bytes))
     where
-      by_fault : (fault : Option Refusal) → first_fault o.properties (chars bytes) ≡ fault → is_utf8 bytes ≡ true → (length bytes == 0) ≡ false
-          → (fault : Refusal) × (line_answer (variants_answer o table) (Some bytes) ≡ Err fault)
-      by_fault None registrable utf8 some = absurd (none (chars bytes) registrable (ap Some (sym (chars-encoded bytes utf8))))
+      by_fault : (fault : Option Refusal) → first_fault o.properties (asked_label o.mode (chars bytes)) ≡ fault → is_utf8 bytes ≡ true → (length bytes == 0) ≡ false
+          → (fault : Refusal) × (line_answer answer (Some bytes) ≡ Err fault)
+      by_fault None registrable utf8 some = absurd (none (chars bytes) (utf8-of_chars bytes utf8).scalar_values (ap Some (sym (chars-encoded bytes utf8))) registrable)
       by_fault (Some refusal) refused utf8 some = (
         refusal,
-        text_answer-points (variants_answer o table) bytes (chars bytes) (utf8-of_chars bytes utf8) some
-            ∙ ap (λ (f : Option Refusal). unless_fault f (listing_answer o table (chars bytes))) refused,
+        text_answer-points answer bytes (chars bytes) (utf8-of_chars bytes utf8) some ∙ fault-told o table o.mode asks (chars bytes) refusal refused,
       )
 
-      by_length : (length bytes == 0) ≡ true ⊎ (length bytes == 0) ≡ false → is_utf8 bytes ≡ true
-          → (fault : Refusal) × (line_answer (variants_answer o table) (Some bytes) ≡ Err fault)
-      by_length (inl empty) utf8 = (Empty, text_answer-none (variants_answer o table) bytes empty)
-      by_length (inr some) utf8 = by_fault (first_fault o.properties (chars bytes)) refl utf8 some
+      by_length : (length bytes == 0) ≡ true ⊎ (length bytes == 0) ≡ false → is_utf8 bytes ≡ true → (fault : Refusal) × (line_answer answer (Some bytes) ≡ Err fault)
+      by_length (inl empty) utf8 = (Empty, text_answer-none answer bytes empty)
+      by_length (inr some) utf8 = by_fault (first_fault o.properties (asked_label o.mode (chars bytes))) refl utf8 some
 
-      by_utf8 : is_utf8 bytes ≡ true ⊎ is_utf8 bytes ≡ false → (fault : Refusal) × (line_answer (variants_answer o table) (Some bytes) ≡ Err fault)
+      by_utf8 : is_utf8 bytes ≡ true ⊎ is_utf8 bytes ≡ false → (fault : Refusal) × (line_answer answer (Some bytes) ≡ Err fault)
       by_utf8 (inl utf8) = by_length (cases_Bool (length bytes == 0)) utf8
       by_utf8 (inr other) = (
         NotUtf8,
-        ap (λ (b : Bool). let r : LineAnswer = if b then (if length bytes == 0 then Err Empty else variants_answer o table (chars bytes)) else Err NotUtf8 in r) other,
+        ap (λ (b : Bool). let r : LineAnswer = if b then (if length bytes == 0 then Err Empty else answer (chars bytes)) else Err NotUtf8 in r) other,
       )
 
   line-printed : IsSound table → HasRising o.registered → (line : Numbered) → IsPrintedFor o table line (printed_line line)
-  line-printed formed rising line = record {
-    listing = listing-printed formed rising line;
+  line-printed sound rising line = record {
+    answered = answer-printed sound rising line;
     refused = λ none.
-        let other = other-refused line.body (λ label registrable utf8. none label (record { registrable = registrable; utf8 = utf8 })) in
+        let other = other-refused line.body (λ text scalars utf8 registrable. none text (record { scalar_values = scalars; utf8 = utf8; registrable = registrable })) in
         (other.0, refused-printed line other.0 other.1);
   }
 
   lines-printed : IsSound table → HasRising o.registered → (lines : List Numbered) → ArePrintedFor o table lines (map printed_line lines)
-  lines-printed formed rising [] = tt
-  lines-printed formed rising (line ∷ lines) = (line-printed formed rising line, lines-printed formed rising lines)
+  lines-printed sound rising [] = tt
+  lines-printed sound rising (line ∷ lines) = (line-printed sound rising line, lines-printed sound rising lines)
 
   -- joined, it is what the output lines of these lines put on the output
-  lines-joined : (lines : List Numbered) → concat (map printed_line lines) ≡ output_of (lines_output o.form (explained_in Variants o table) (variants_answer o table) lines)
+  lines-joined : (lines : List Numbered) → concat (map printed_line lines) ≡ output_of (all_output lines)
   lines-joined [] = refl
   lines-joined (line ∷ lines) =
-      ap (λ (rest : List ℕ). printed_line line ++ rest) (lines-joined lines)
-      ∙ sym (output_of-append (line_output o.form (explained_in Variants o table) (variants_answer o table) line) (lines_output o.form (explained_in Variants o table) (variants_answer o table) lines))
+      ap (λ (rest : List ℕ). printed_line line ++ rest) (lines-joined lines) ∙ sym (output_of-append (line_output o.form how answer line) (all_output lines))
 
 -- ---- what a stop leaves
 
@@ -180,40 +209,42 @@ begun-cut stop.Messages output_lines written cut =
     rw (cut.split, cut.cut) (begun-before cut.before (Message cut.text ∷ cut.after) (Message (take cut.taken cut.text) ∷ []) (output_of cut.after, refl))
 begun-cut stop.Memory output_lines written cut = (output_of cut.0, ap output_of cut.1 ∙ output_of-append written cut.0)
 
-module _ (o : Settings) (table : TableValue) (formed : IsSound table) (rising : HasRising o.registered) (is : o.mode ≡ Variants) where
+module _ (o : Settings) (table : TableValue) (sound : IsSound table) (rising : HasRising o.registered) (asks : AnswersLabels o.mode) where
   abbrev job : Job
   job = mode_job o (Ok table)
 
-  output_lines-lines : (lines : List Numbered) → job.output_lines lines ≡ lines_output o.form (explained_in Variants o table) (variants_answer o table) lines
-  output_lines-lines lines = ap (λ (m : Mode). mode_output m o table lines) is
+  abbrev all : List Numbered → List OutputLine
+  all = all_output o table asks
 
-  output_lines-one : (before : List Numbered) (line : Numbered)
-      → lines_output o.form (explained_in Variants o table) (variants_answer o table) (before ++ line ∷ []) ≡ lines_output o.form (explained_in Variants o table) (variants_answer o table) before ++ lines_output o.form (explained_in Variants o table) (variants_answer o table) (line ∷ [])
-  output_lines-one before line = flat_map-append (line_output o.form (explained_in Variants o table) (variants_answer o table)) before (line ∷ [])
+  output_lines-lines : (lines : List Numbered) → job.output_lines lines ≡ all lines
+  output_lines-lines lines = by_mode (λ m. mode_output m o table lines ≡ lines_output o.form (explained_in m o table) (mode_answer m o table) lines) refl refl o.mode asks
+
+  output_lines-one : (before : List Numbered) (line : Numbered) → all (before ++ line ∷ []) ≡ all before ++ all (line ∷ [])
+  output_lines-one before line = flat_map-append (line_output o.form (explained_in o.mode o table) (mode_answer o.mode o table)) before (line ∷ [])
 
   begun-line : (why : Stop) (lines : List Numbered) (now : Reading) (written : List OutputLine) → StopsAtLine job why lines now written
-      → IsBeginningOf (lines_output o.form (explained_in Variants o table) (variants_answer o table) lines) written
+      → IsBeginningOf (all lines) written
   begun-line why lines now written stops =
-      let part : IsBeginningOf (lines_output o.form (explained_in Variants o table) (variants_answer o table) (stops.line ∷ [])) stops.part =
+      let part : IsBeginningOf (all (stops.line ∷ [])) stops.part =
       begun-cut why _ stops.part (subst (λ (output_lines : List OutputLine). IsCutBy why output_lines stops.part) (output_lines-lines (stops.line ∷ [])) stops.cut) in
-      let all = begun-before (lines_output o.form (explained_in Variants o table) (variants_answer o table) stops.before) (lines_output o.form (explained_in Variants o table) (variants_answer o table) (stops.line ∷ [])) stops.part part in
-      rw (stops.last, output_lines-one stops.before stops.line, stops.stand, output_lines-lines stops.before) all
+      let whole = begun-before (all stops.before) (all (stops.line ∷ [])) stops.part part in
+      rw (stops.last, output_lines-one stops.before stops.line, stops.stand, output_lines-lines stops.before) whole
 
   begun-unread : (why : Stop) (lines : List Numbered) (start now : Reading) (written : List OutputLine) → StopsUnread job why lines start now written
-      → IsBeginningOf (lines_output o.form (explained_in Variants o table) (variants_answer o table) lines) written
+      → IsBeginningOf (all lines) written
   begun-unread why lines start now written stops =
       rw stops.no_line (begun-cut why [] written (subst (λ (output_lines : List OutputLine). IsCutBy why output_lines written) (output_lines-lines []) stops.cut))
 
   begun-either : (why : Stop) (lines : List Numbered) (start now : Reading) (written : List OutputLine)
       → StopsAtLine job why lines now written ⊎ StopsUnread job why lines start now written
-      → IsBeginningOf (lines_output o.form (explained_in Variants o table) (variants_answer o table) lines) written
+      → IsBeginningOf (all lines) written
   begun-either why lines start now written stands =
       elim stands [ inl at ↦ begun-line why lines now written at | inr unread ↦ begun-unread why lines start now written unread ]
 
   begun-stop : (why : Stop) (lines : List Numbered) (start now : Reading) (written : List OutputLine) → Stands job why lines start now written
-      → IsBeginningOf (lines_output o.form (explained_in Variants o table) (variants_answer o table) lines) written
+      → IsBeginningOf (all lines) written
   begun-stop stop.Reading lines start now written stands =
-      subst (IsBeginningOf (lines_output o.form (explained_in Variants o table) (variants_answer o table) lines)) (sym (stands.2 ∙ output_lines-lines lines)) (begun-all (lines_output o.form (explained_in Variants o table) (variants_answer o table) lines))
+      subst (IsBeginningOf (all lines)) (sym (stands.2 ∙ output_lines-lines lines)) (begun-all (all lines))
   begun-stop stop.Output lines start now written stands = begun-either stop.Output lines start now written stands
   begun-stop stop.Messages lines start now written stands = begun-either stop.Messages lines start now written stands
   begun-stop stop.Memory lines start now written stands = begun-either stop.Memory lines start now written stands
@@ -233,25 +264,25 @@ module _ (o : Settings) (table : TableValue) (formed : IsSound table) (rising : 
   stopped-status stop.Memory which = elim which [ inl clash ↦ let no : OutOfMemory ≡ Clean = clash in cc | inr clash ↦ let no : OutOfMemory ≡ Refused = clash in cc ]
 
   reads-lines : job.reads ≡ true
-  reads-lines = ap (λ (m : Mode). reads_lines m (Ok table)) is
+  reads-lines = by_mode (λ m. reads_lines m (Ok table) ≡ true) refl refl o.mode asks
 
   done-prints : (start now : Reading) (old new : Held) (status : Status) → Does job start now old new (Ok status)
-      → PrintsListings o table start now old.output.contents new.output.contents status
+      → PrintsAnswers o table start now old.output.contents new.output.contents status
   done-prints start now old new status does = record {
     given = does.given;
     lines = does.lines;
     read = does.read;
-    printed = map (printed_line o table) does.lines;
-    each = lines-printed o table formed rising does.lines;
+    printed = map (printed_line o table asks) does.lines;
+    each = lines-printed o table asks sound rising does.lines;
     taken = output_of (job.output_lines does.lines);
     missing = [];
-    joined = lines-joined o table does.lines ∙ sym (ap output_of (output_lines-lines does.lines)) ∙ sym (append-nil (output_of (job.output_lines does.lines)));
+    joined = lines-joined o table asks does.lines ∙ sym (ap output_of (output_lines-lines does.lines)) ∙ sym (append-nil (output_of (job.output_lines does.lines)));
     output = does.ending.output_lines.takes.output;
     whole = λ _. (does.ending.ended reads-lines, refl);
   }
 
   stopped-prints : (start now : Reading) (old new : Held) (status : Status) → Stops job start now old new status
-      → PrintsListings o table start now old.output.contents new.output.contents status
+      → PrintsAnswers o table start now old.output.contents new.output.contents status
   stopped-prints start now old new status stops =
       let does = stops.stopped in
       let begun = begun-stop stops.why does.lines start now does.ending.written does.ending.stands in
@@ -259,18 +290,18 @@ module _ (o : Settings) (table : TableValue) (formed : IsSound table) (rising : 
         given = does.given;
         lines = does.lines;
         read = does.read;
-        printed = map (printed_line o table) does.lines;
-        each = lines-printed o table formed rising does.lines;
+        printed = map (printed_line o table asks) does.lines;
+        each = lines-printed o table asks sound rising does.lines;
         taken = output_of does.ending.written;
         missing = begun.0;
-        joined = lines-joined o table does.lines ∙ begun.1;
+        joined = lines-joined o table asks does.lines ∙ begun.1;
         output = subst (λ (w : Writer). Appends old.output.contents w.contents (output_of does.ending.written))
             (sym (output-stays stops.why stops.middle new stops.closes)) does.ending.output_lines.takes.output;
         whole = λ which. absurd (stopped-status stops.why (subst (λ (s : Status). (s ≡ Clean) ⊎ (s ≡ Refused)) stops.answered which));
       }
 
   ends-prints : (start now : Reading) (old new : Held) (status : Status) → Ends job start now old new status
-      → PrintsListings o table start now old.output.contents new.output.contents status
+      → PrintsAnswers o table start now old.output.contents new.output.contents status
   ends-prints start now old new status ends =
       elim ends [ inl does ↦ done-prints start now old new status does | inr stops ↦ stopped-prints start now old new status stops ]
 
@@ -285,8 +316,10 @@ module _ (properties : Properties) where
   same_searched n text (Ok other) table read spelled = ap Ok (one_table properties n text other table read.0 spelled.0)
   same_searched n text (Err fault) table (inl read) spelled = absurd (not_both properties n text table fault.0 read.0 spelled.0 read.2)
   same_searched n text (Err fault) table (inr crowd) spelled =
-      let same : crowd.0.0 ≡ table = one_table properties n text crowd.0.0 table crowd.0.1 spelled.0 in
-      absurd (spelled.1 (subst (λ (t : TableValue). AreCrowded t.entries) same crowd.0.2))
+      let at = crowd.0 in
+      let by = at.source.crowded in
+      let same : at.table ≡ table = one_table properties n text at.table table at.spelled spelled.0 in
+      absurd (spelled.1 (subst (λ (t : TableValue). AreCrowded t.entries) same (by.0, by.1.crowded)))
 
   same_listed : (registered : Option (List (List ℕ))) (n : Notation) (text : List ℕ) (given : TableGiven) (table : TableValue) → IsListedBy registered properties n text given → IsListedBy registered properties n text (Ok table) → given ≡ Ok table
   same_listed None n text given table read spelled = same_table n text given table read spelled
@@ -296,13 +329,22 @@ module _ (properties : Properties) where
   sound_listed None n text table spelled = sound_table table spelled.lines.well_formed
   sound_listed (Some labels) n text table spelled = sound_table table spelled.0.lines.well_formed
 
--- the law: what a run ends with is the theorem of a block
+module _ (o : Settings) (text : List ℕ) (table : TableValue) where
+  abbrev IsTableIn : Mode → TableGiven → Type 0
+  IsTableIn mode given = IsTableFor mode o.registered o.properties o.notation text given
+
+  same_given : (given : TableGiven) (mode : Mode) → AnswersLabels mode → IsTableIn mode given → IsTableIn mode (Ok table) → given ≡ Ok table
+  same_given given =
+      by_mode (λ m. IsTableIn m given → IsTableIn m (Ok table) → given ≡ Ok table) (same_listed o.properties o.registered o.notation text given table) (same_searched o.properties o.notation text given table)
+
+  sound_given : (mode : Mode) → AnswersLabels mode → IsTableIn mode (Ok table) → IsSound table
+  sound_given =
+      by_mode (λ m. IsTableIn m (Ok table) → IsSound table) (sound_listed o.properties o.registered o.notation text table) (λ spelled. sound_table table spelled.0.lines.well_formed)
+
+-- the law: what a run ends with is the theorem of its answers
 pub headline : (o : Settings) (text : List ℕ) (table : TableValue) (given : TableGiven) (start now : Reading) (old new : Held) (status : Status)
-    → HasRising o.registered → o.mode ≡ Variants → IsTableOf o text (Ok table) → IsTableOf o text given → Ends (mode_job o given) start now old new status
-    → PrintsListings o table start now old.output.contents new.output.contents status
-headline o text table given start now old new status rising is spelled read ends =
-    let of_mode : (g : TableGiven) → IsTableOf o text g → IsListedBy o.registered o.properties o.notation text g =
-    λ (g : TableGiven) table_of. subst (λ (m : Mode). IsTableFor m o.registered o.properties o.notation text g) is table_of in
-    let same = same_listed o.properties o.registered o.notation text given table (of_mode given read) (of_mode (Ok table) spelled) in
-    ends-prints o table (sound_listed o.properties o.registered o.notation text table (of_mode (Ok table) spelled)) rising is start now old new status
-    (subst (λ (g : TableGiven). Ends (mode_job o g) start now old new status) same ends)
+    → HasRising o.registered → AnswersLabels o.mode → IsTableOf o text (Ok table) → IsTableOf o text given → Ends (mode_job o given) start now old new status
+    → PrintsAnswers o table start now old.output.contents new.output.contents status
+headline o text table given start now old new status rising asks spelled read ends =
+    ends-prints o table (sound_given o text table o.mode asks spelled) rising asks start now old new status
+    (subst (λ (g : TableGiven). Ends (mode_job o g) start now old new status) (same_given o text table given o.mode asks read spelled) ends)

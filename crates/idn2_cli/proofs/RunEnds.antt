@@ -1,4 +1,6 @@
 -- From the lines of the input, or none, to the end of a run.
+use Rattle.std.specs.Prelude.{MatchResult}
+use Rattle.idn_text.specs.Lines.{Numbered}
 use Rattle.std.proofs.Common.{Option, Some, None, IfSome, Bool, inl, inr, ◌⊎◌, ◌≡◌, ◌≢◌, ℕ, List, [], ◌∷◌, true, false, Result, Ok, Err, IfOk, chars, refl, sym, ap, subst, ◌∙◌}
 use Rattle.idn_class.specs.declared.properties.Properties.{Properties}
 use Rattle.idn_text.specs.Reading.{Reading, IsUnread}
@@ -12,13 +14,13 @@ use Rattle.idn2_options.specs.Settings.{Settings, keeping, tells_causes}
 use Rattle.idn2_cli.specs.Memory.{BlockGoesOn, IsRefusedWithoutMemory, ListsWithoutMemory, reads_table}
 use Rattle.idn2_answers.specs.Answers.{variants_answer}
 use Rattle.idn2_refusals.specs.Explained.{Explained}
-use Rattle.idn2_answers.specs.Transcript.{TableGiven, AreCrowded, IsListedBy, IsReadAs, IsSearchedAs, IsTableFor, IsTableOf, check_output, check_status, last_line}
+use Rattle.idn2_answers.specs.Transcript.{TableGiven, IsCrowdedIn, IsListedBy, IsReadAs, IsSearchedAs, IsTableFor, IsTableOf, check_output, check_status}
 use Rattle.idn2_refusals.specs.Messages.{fault_piece}
 use Rattle.idn2_refusals.specs.TableCauses.{told_if}
 use Rattle.idn2_output.specs.OutputLines.{OutputLine}
 use Rattle.idn2_output.specs.Writing.{Held, refusal_of, Emits}
 use Rattle.idn2_refusals.specs.Reports.{TakesText, closing_message}
-use Rattle.idn2_cli.specs.Ends.{Job, Does, Ends, Closes, lines_job, mode_job}
+use Rattle.idn2_cli.specs.Ends.{Job, Does, Ends, EndsEarly, EndsWell, Closes, Stands, StopsAtLine, StopsUnread, at_lines_alone, lines_job, mode_job}
 use Rattle.idn2_options.specs.declared.command_line.form.Form.{Form}
 use Rattle.idn2_options.specs.declared.command_line.mode.Mode.{Mode}
 use Rattle.idn2_options.specs.declared.command_line.mode.Mode.TheVariants.{Variants, CheckTable}
@@ -46,6 +48,37 @@ pub does_mode : (o : Settings) (mode : Mode) (given : TableGiven) (job : Job) (s
     → o.mode ≡ mode → job ≡ mode_job (record o { mode = mode }) given → Does job start now old new r → Does (mode_job o given) start now old new r
 does_mode o mode given job start now old new r e same done =
     subst (λ (j : Job). Does j start now old new r) (same ∙ ap (λ (m : Mode). mode_job (record o { mode = m }) given) (sym e)) done
+
+-- the same where memory is taken at lines alone
+pub does_lines : (o : Settings) (mode : Mode) (given : TableGiven) (job : Job) (start now : Reading) (old new : Held) (r : Result Status Stop)
+    → o.mode ≡ mode → job ≡ at_lines_alone (mode_job (record o { mode = mode }) given) → Does job start now old new r → Does (at_lines_alone (mode_job o given)) start now old new r
+does_lines o mode given job start now old new r e same done =
+    subst (λ (j : Job). Does j start now old new r) (same ∙ ap (λ (m : Mode). at_lines_alone (mode_job (record o { mode = m }) given)) (sym e)) done
+
+-- then it may be taken before a line, too
+module _ (job : Job) (start now : Reading) (old new : Held) where
+  stops-unread : (why : Stop) (lines : List Numbered) (written : List OutputLine) → StopsUnread (at_lines_alone job) why lines start now written → StopsUnread job why lines start now written
+  stops-unread why lines written stops = record { no_line = stops.no_line; unread = stops.unread; cut = stops.cut; memory = λ is. absurd (false≢true (stops.memory is)) }
+
+  stops-anywhere : (why : Stop) (lines : List Numbered) (written : List OutputLine) → StopsAtLine (at_lines_alone job) why lines now written ⊎ StopsUnread (at_lines_alone job) why lines start now written
+      → StopsAtLine job why lines now written ⊎ StopsUnread job why lines start now written
+  stops-anywhere why lines written (inl at) =
+      inl (record { before = at.before; line = at.line; part = at.part; last = at.last; going = at.going; cut = at.cut; memory = at.memory; begun = at.begun; stand = at.stand })
+  stops-anywhere why lines written (inr unread) = inr (stops-unread why lines written unread)
+
+  stands-anywhere : (why : Stop) (lines : List Numbered) (written : List OutputLine) → Stands (at_lines_alone job) why lines start now written → Stands job why lines start now written
+  stands-anywhere stop.Reading lines written stands = stands
+  stands-anywhere stop.Output lines written stands = stops-anywhere stop.Output lines written stands
+  stands-anywhere stop.Messages lines written stands = stops-anywhere stop.Messages lines written stands
+  stands-anywhere stop.Memory lines written stands = stops-anywhere stop.Memory lines written stands
+
+  ends-anywhere : (r : Result Status Stop) (lines : List Numbered) → MatchResult r (EndsWell (at_lines_alone job) lines now old new) (EndsEarly (at_lines_alone job) lines start now old new)
+      → MatchResult r (EndsWell job lines now old new) (EndsEarly job lines start now old new)
+  ends-anywhere (Ok status) lines ends = record { ended = ends.ended; output_lines = ends.output_lines; answered = ends.answered }
+  ends-anywhere (Err why) lines ends = record { written = ends.written; output_lines = ends.output_lines; stands = stands-anywhere why lines ends.written ends.stands }
+
+  pub does_anywhere : (r : Result Status Stop) → Does (at_lines_alone job) start now old new r → Does job start now old new r
+  does_anywhere r done = record { given = done.given; lines = done.lines; read = done.read; unread = done.unread; ending = ends-anywhere r done.lines done.ending }
 
 -- with the table by which it works
 pub as_mode : (o : Settings) (mode : Mode) (text : List ℕ) (given : TableGiven) (job : Job) (start now : Reading) (old new : Held) (r : Result Status Stop)
@@ -214,16 +247,15 @@ closes_by stop.Output old new not same told = (same, told)
 closes_by stop.Memory old new not same told = (same, told)
 
 -- by the table no collision is searched
-pub crowded_search : (o : Settings) (among : Option (List (List ℕ))) (text : List ℕ) (table : TableValue) (line : ℕ) (start : Reading) (old new : Held) (r : Result Status Stop)
-    → o.mode ≡ search_mode among → IfSome among (λ labels. o.registered ≡ Some labels) → IsTextOf o.properties o.notation text table → AreCrowded table.entries → line ≡ last_line text → IsUnread start
+pub crowded_search : (o : Settings) (among : Option (List (List ℕ))) (text : List ℕ) (line : ℕ) (start : Reading) (old new : Held) (r : Result Status Stop)
+    → o.mode ≡ search_mode among → IfSome among (λ labels. o.registered ≡ Some labels) → IsCrowdedIn o.properties o.notation text line → IsUnread start
     → Emits old new (fault_piece o.form line refusals.Limit None ∷ []) r → IfOk r (λ status. status ≡ Unusable) → Serves o text start start old new r
-crowded_search o among text table line start old new r is registered spelled crowded at unread writes answered =
-    let told : ℕ × Refusal × Option LineCause = (last_line text, refusals.Limit, None) in
+crowded_search o among text line start old new r is registered crowded unread writes answered =
+    let told : ℕ × Refusal × Option LineCause = (line, refusals.Limit, None) in
     let job = mode_job (record o { mode = search_mode among }) (Err told) in
     let written : Emits old new (check_output o.form (tells_causes o) (Err told)) r =
-    subst (λ (cause : Option LineCause). Emits old new (fault_piece o.form (last_line text) refusals.Limit cause ∷ []) r) (sym (no_cause (tells_causes o)))
-    (subst (λ (n : ℕ). Emits old new (fault_piece o.form n refusals.Limit None ∷ []) r) at writes) in
-    as_mode o (search_mode among) text (Err told) job start start old new r is (searched_for o text (Err told) among registered (inr ((table, spelled, crowded), refl))) refl
+    subst (λ (cause : Option LineCause). Emits old new (fault_piece o.form line refusals.Limit cause ∷ []) r) (sym (no_cause (tells_causes o))) writes in
+    as_mode o (search_mode among) text (Err told) job start start old new r is (searched_for o text (Err told) among registered (inr (crowded, refl, refl))) refl
     (does_unread job start old new r unread written (with_false r _ answered) (search_reads among))
 
 -- memory was refused before a line was read
@@ -246,11 +278,11 @@ settings_among o given seen registered viewed is =
 
 -- a listing goes on where its variants need no memory; a block among registered labels does always
 pub listed_job : (o : Settings) (table : TableValue) (f : Form) (e : Explained) → o.registered ≡ None
-    → (let by : (List ℕ → Type 0) → Job = λ goes_on. lines_job f e (variants_answer o table) true (λ line. IsRefusedWithoutMemory o.properties (chars line)) goes_on in by (λ line. ListsWithoutMemory o table (chars line)) ≡ by (λ line. BlockGoesOn o.registered o table (chars line)))
+    → (let by : (List ℕ → Type 0) → Job = λ goes_on. lines_job f e (variants_answer o table) (λ line. IsRefusedWithoutMemory o.properties (chars line)) goes_on in by (λ line. ListsWithoutMemory o table (chars line)) ≡ by (λ line. BlockGoesOn o.registered o table (chars line)))
 listed_job o table f e whole =
-    ap (λ (r : Option (List (List ℕ))). lines_job f e (variants_answer o table) true (λ line. IsRefusedWithoutMemory o.properties (chars line)) (λ line. BlockGoesOn r o table (chars line))) (sym whole)
+    ap (λ (r : Option (List (List ℕ))). lines_job f e (variants_answer o table) (λ line. IsRefusedWithoutMemory o.properties (chars line)) (λ line. BlockGoesOn r o table (chars line))) (sym whole)
 
 pub among_job : (o : Settings) (table : TableValue) (f : Form) (e : Explained) (labels : List (List ℕ)) → o.registered ≡ Some labels
-    → (let by : (List ℕ → Type 0) → Job = λ goes_on. lines_job f e (variants_answer o table) true (λ line. IsRefusedWithoutMemory o.properties (chars line)) goes_on in by (λ line. Unit {0}) ≡ by (λ line. BlockGoesOn o.registered o table (chars line)))
+    → (let by : (List ℕ → Type 0) → Job = λ goes_on. lines_job f e (variants_answer o table) (λ line. IsRefusedWithoutMemory o.properties (chars line)) goes_on in by (λ line. Unit {0}) ≡ by (λ line. BlockGoesOn o.registered o table (chars line)))
 among_job o table f e labels is =
-    ap (λ (r : Option (List (List ℕ))). lines_job f e (variants_answer o table) true (λ line. IsRefusedWithoutMemory o.properties (chars line)) (λ line. BlockGoesOn r o table (chars line))) (sym is)
+    ap (λ (r : Option (List (List ℕ))). lines_job f e (variants_answer o table) (λ line. IsRefusedWithoutMemory o.properties (chars line)) (λ line. BlockGoesOn r o table (chars line))) (sym is)

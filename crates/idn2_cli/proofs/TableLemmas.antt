@@ -9,9 +9,10 @@ use Rattle.variant_table.specs.Faults.{table_fault, LineFault}
 use Rattle.variant_table.specs.Faults as kinds
 use Rattle.variant_table.specs.declared.fault.TableFault.{TableFault}
 use Rattle.variant_table.proofs.TextLemmas.{text_decided}
-use Rattle.variant_list.proofs.CrowdLemmas.{crowded-or-not}
+use Rattle.variant_table.proofs.EntryLines.{has-line}
+use Rattle.variant_list.proofs.CrowdLemmas.{crowded-somewhere}
 use Rattle.idn_text.specs.declared.refusal.Refusal.TheVariants as refusals
-use Rattle.idn2_answers.specs.Transcript.{TableGiven, IsReadAs, IsSearchedAs, last_line, table_refusal, check_output}
+use Rattle.idn2_answers.specs.Transcript.{TableGiven, IsReadAs, IsSearchedAs, table_refusal, check_output}
 use Rattle.idn2_refusals.specs.TableCauses.{fault_cause}
 use Rattle.idn2_refusals.proofs.ToldRefusals.{IsTold}
 use Rattle.idn2_refusals.specs.TableFaults.{told_of}
@@ -36,8 +37,10 @@ pub some_searched : (properties : Properties) (n : Notation) (text : List ℕ) �
 some_searched properties n text = by (some_table properties n text)
   where
     by : (given : TableGiven) × IsReadAs properties n text given → (given : TableGiven) × IsSearchedAs properties n text given
-    by (Ok table, read) = elim (crowded-or-not table.entries read.lines.well_formed.well_formed) [
-      | inl crowded ↦ (Err (last_line text, refusals.Limit, None), inr ((table, read, crowded), refl))
+    by (Ok table, read) = elim (crowded-somewhere table.entries read.lines.well_formed.well_formed) [
+      | inl at ↦
+          let line = has-line properties n text table at.0 read at.1.within in
+          (Err (line.0, refusals.Limit, None), inr (record { table = table; spelled = read; entry = at.0; source = at.1; here = line.1 }, refl, refl))
       | inr free ↦ (Ok table, (read, free))
     ]
     by (Err fault, read) = (Err fault, inl read)

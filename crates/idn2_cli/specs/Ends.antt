@@ -34,12 +34,12 @@ pub record Job : Type 1 where
   pub goes_on : List ℕ → Type 0
 
 -- to answer each line by itself
-abbrev pub lines_job : Form → Explained → (List ℕ → LineAnswer) → Bool → (needs_none goes_on : List ℕ → Type 0) → Job
-lines_job form explained answer by_table needs_none goes_on = record {
+abbrev pub lines_job : Form → Explained → (List ℕ → LineAnswer) → (needs_none goes_on : List ℕ → Type 0) → Job
+lines_job form explained answer needs_none goes_on = record {
   reads = true;
   output_lines = lines_output form explained answer;
   status = λ lines. status_if (has_refused answer lines);
-  reads_table = by_table;
+  reads_table = false;
   needs_none = NeedsNone explained answer needs_none;
   goes_on = goes_on;
 }
@@ -60,6 +60,10 @@ mode_job o table = record {
   needs_none = ServesWithoutMemory o.mode o table;
   goes_on = GoesOnWithoutMemory o.mode o table;
 }
+
+-- the same job, for which no memory is taken before a line is read
+abbrev pub at_lines_alone : Job → Job
+at_lines_alone job = record job { reads_table = false }
 
 -- ---- to the end or to a stop
 

@@ -1,9 +1,8 @@
--- The variant-list theorem in one record: what stands on the output of a run, line for line of its input.
+-- The variant-list theorem in one record, and that of jumps: what stands on the output of a run, line for line of its input.
 use Rattle.std.specs.Prelude.{◌≡◌, ◌⊎◌, ℕ, List, [], ◌∷◌, ◌++◌, Option, Some, Ok, Err}
 use Rattle.std.specs.List.{concat, flat_map}
 use Rattle.std.specs.Io.KnownBytes.{Appends}
-use Rattle.idn_class.specs.declared.properties.Properties.{Properties}
-use Rattle.idn_text.specs.Points.{utf8_of}
+use Rattle.idn_text.specs.Points.{AreScalarValues, utf8_of}
 use Rattle.idn_text.specs.Lines.{Numbered}
 use Rattle.idn_text.specs.Reading.{Reading, HasRead}
 use Rattle.idn_text.specs.declared.lines.State.TheVariants.{Ended}
@@ -15,11 +14,13 @@ use Rattle.idn2_options.specs.declared.command_line.form.Form.TheVariants.{Plain
 use Rattle.idn_text.specs.declared.refusal.Refusal.{Refusal}
 use Rattle.idn2_refusals.specs.Explained.{Explained, body_cause}
 use Rattle.idn2_answers.specs.Transcript.{explained_in}
-use Rattle.idn2_options.specs.declared.command_line.mode.Mode.TheVariants.{Variants}
+use Rattle.idn2_options.specs.declared.command_line.mode.Mode.{Mode}
+use Rattle.idn2_options.specs.declared.command_line.mode.Mode.TheVariants.{Variants, Jump}
 use Rattle.idn2_answers.specs.Said.{said_text}
 use Rattle.idn2_refusals.specs.Messages.{refused_object}
+use Rattle.idn2_refusals.specs.Requests.{requested_label}
 use Rattle.idn2_refusals.specs.declared.cause.LineCause.{LineCause}
-use Rattle.idn2_answers.specs.Answers.{LineAnswer, IsListing}
+use Rattle.idn2_answers.specs.Answers.{LineAnswer, IsJumpAnswer, IsListing}
 use Rattle.idn2_output.specs.declared.status.Status.{Status}
 use Rattle.idn2_output.specs.declared.status.Status.TheVariants.{Clean, Refused}
 
@@ -33,19 +34,34 @@ abbrev pub printed_of : Form → Explained → Numbered → LineAnswer → List 
 printed_of form how line (Ok said) = flat_map (said_text form line) said
 printed_of form how line (Err refusal) = printed_refusal form line refusal (body_cause how line.body refusal)
 
--- the line is this label in UTF-8, and the label may be registered
-pub record IsLineOf (properties : Properties) (label : List ℕ) (line : Numbered) : Type 0 where
-  pub registrable : IsRegistrable properties label
-  pub utf8 : line.body ≡ Some (utf8_of label)
+-- a mode that answers labels by a table
+abbrev pub AnswersLabels : Mode → Type 0
+AnswersLabels mode = (mode ≡ Variants) ⊎ (mode ≡ Jump)
 
--- these bytes stand on the output for a line: those of the listing of its label, or, where it is no label that may be
+-- the label that a text asks about: with `--jump` that of a request, and else the text
+abbrev pub asked_label : Mode → List ℕ → List ℕ
+asked_label Jump request = requested_label request
+asked_label mode label = label
+
+-- the answer to such a text: the least near label, or the listing or the block of the label
+abbrev pub IsAnswer : Mode → Settings → TableValue → List ℕ → LineAnswer → Type 0
+IsAnswer Jump o table request answer = IsJumpAnswer o table request answer
+IsAnswer mode o table label answer = IsListing o table label answer
+
+-- the line is this text in UTF-8, and the label that it asks about may be registered
+pub record IsLineOf (o : Settings) (text : List ℕ) (line : Numbered) : Type 0 where
+  pub scalar_values : AreScalarValues text
+  pub utf8 : line.body ≡ Some (utf8_of text)
+  pub registrable : IsRegistrable o.properties (asked_label o.mode text)
+
+-- these bytes stand on the output for a line: those of the answer to its text, or, where it asks about no label that may be
 -- registered, those of a refusal
 pub record IsPrintedFor (o : Settings) (table : TableValue) (line : Numbered) (printed : List ℕ) : Type 0 where
-  pub listing : (label : List ℕ) → IsLineOf o.properties label line
-      → (answer : LineAnswer) × IsListing o table label answer
-      × (printed ≡ printed_of o.form (explained_in Variants o table) line answer)
-  pub refused : ((label : List ℕ) → IsLineOf o.properties label line → ⊥)
-      → (refusal : Refusal) × (printed ≡ printed_of o.form (explained_in Variants o table) line (Err refusal))
+  pub answered : (text : List ℕ) → IsLineOf o text line
+      → (answer : LineAnswer) × IsAnswer o.mode o table text answer
+      × (printed ≡ printed_of o.form (explained_in o.mode o table) line answer)
+  pub refused : ((text : List ℕ) → IsLineOf o text line → ⊥)
+      → (refusal : Refusal) × (printed ≡ printed_of o.form (explained_in o.mode o table) line (Err refusal))
 
 -- the same for each of these lines, in their order
 abbrev pub ArePrintedFor : Settings → TableValue → List Numbered → List (List ℕ) → Type 0
@@ -57,7 +73,7 @@ ArePrintedFor o table (line ∷ lines) [] = ⊥
 
 -- from here to there these lines of the input were read, and the output took what is printed for each of them, one
 -- after the other: if the run answers 0 or 1, for all lines of the input and to the end, else up to where it stopped
-pub record PrintsListings (o : Settings) (table : TableValue) (start now : Reading) (old new : Option (List ℕ))
+pub record PrintsAnswers (o : Settings) (table : TableValue) (start now : Reading) (old new : Option (List ℕ))
     (status : Status) : Type 0 where
   pub given : List ℕ
   pub lines : List Numbered

@@ -1,11 +1,12 @@
 -- Lines that a mode answers without memory.
-use Rattle.std.specs.Prelude.{ℕ, Bool, true, false, List, chars, All, Option, Some, None, Ok, Err, ◌≢◌}
+use Rattle.std.specs.Prelude.{◌≡◌, ℕ, Bool, true, false, List, [], chars, All, Option, Some, None, Ok, Err, ◌≢◌}
 use Rattle.idn_class.specs.declared.properties.Properties.{Properties}
 use Rattle.idna.specs.Labels.{labels_of}
 use Rattle.idn_label.specs.FirstFault.{first_fault}
 use Rattle.idn_label.specs.Memory.{NeedsNoMemory, LooksUpWithoutMemory, RegistersWithoutMemory, DecodesWithoutMemory}
 use Rattle.idn_label.specs.Memory.{StandsWithoutMemory}
 use Rattle.variant_table.specs.Entries.{TableValue}
+use Rattle.variant_list.specs.Reversed.{IsReversed}
 use Rattle.variant_list.specs.Spelled.{spelled}
 use Rattle.idn2_answers.specs.Listings.{Filter, filter_of, tested_after}
 use Rattle.idn2_answers.specs.Answers.{LineAnswer, mode_answer, text_answer}
@@ -41,6 +42,11 @@ reads_table Variants = true
 reads_table Jump = true
 reads_table CheckTable = true
 reads_table mode = false
+
+-- what a search finds of a table once takes no memory: each pair has its reverse, and there are no actions
+pub record IsFoundWithoutMemory (table : TableValue) : Type 0 where
+  pub none_turned : (a b : List ℕ) → ¬ IsReversed table.entries a b
+  pub plain : table.definitions.actions ≡ []
 
 -- the line is answered, or the cause of its refusal is told so
 abbrev pub TellsWithoutMemory : Explained → List ℕ → LineAnswer → Type 0

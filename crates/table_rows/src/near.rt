@@ -101,7 +101,7 @@ fn sixty_four_sources_at_most(rt: HostRuntime) -> Result<(), Fail> {
     assert!(&rt;
         matches!(
             Reversed::of_table(alloc, &more),
-            Err(ReversedFault::TooManySources)
+            Err(ReversedFault::TooManySources { entry: 65 })
         )
     );
     Ok(())
@@ -111,7 +111,7 @@ fn sixty_four_sources_at_most(rt: HostRuntime) -> Result<(), Fail> {
 fn texts_of_faults(rt: HostRuntime) -> Result<(), Fail> {
     let text = format!(in rt.alloc();
         "{}, {}",
-        ReversedFault::TooManySources,
+        ReversedFault::TooManySources { entry: 0 },
         ReversedFault::Memory
     )?;
     assert_eq!(&rt; text.as_str(), "too many sources, out of memory");

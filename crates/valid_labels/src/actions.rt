@@ -1,5 +1,5 @@
 //! The actions of a ruleset, with numbers in place of names.
-ghost use Rattle.std.specs.Prelude.{◌≡◌, ◌^◌, true, IfOk, Some};
+ghost use Rattle.std.specs.Prelude.{◌≡◌, ◌^◌, true, [], IfOk, IsOk, Some};
 ghost use Rattle.std.specs.List.{list_all};
 ghost use Rattle.ruleset_text.specs.ActionForms as held;
 ghost use Rattle.ruleset_text.specs.Actions.{knows_action};
@@ -14,9 +14,11 @@ use std::alloc::{AllocError, Global};
 use variant_dispositions::{Action, TypeTrigger, kind_of_variant};
 use variant_table::look_up_condition;
 
-/// The actions of a ruleset, in the order of its lines. It is an `Err` only where memory was refused.
+/// The actions of a ruleset, in the order of its lines. It is an `Err` only where memory was refused, which is taken
+/// for actions alone.
 pub fn actions_of(alloc: Global, definitions: &Definitions) -> Result<Vec<Action>, AllocError>
-    ensures { IfOk result (λ actions. actions.items ≡ numbers.actions_of definitions.now) }
+    ensures actions { IfOk result (λ actions. actions.items ≡ numbers.actions_of definitions.now) }
+    ensures no_memory { definitions.now.actions ≡ [] → IsOk result }
 {
     let named_actions = definitions.actions();
     let mut actions = Vec::new(alloc);

@@ -23,7 +23,7 @@ use Rattle.variant_list.proofs.RowBits.{same_or_not}
 use Rattle.reading_kinds.proofs.TakenLemmas.{some_same, slice_get-Contains}
 use Rattle.variant_list.proofs.PlanLemmas.{Contains-at}
 use Rattle.variant_list.specs.Reversed.{Group, IsReversed, IsCrowded, AreReversedOf, AreFew, sources_of}
-use Rattle.variant_list.specs.inner.Turned.{sequences_of, groups_of, AreSound, AreTurned, Adds, Puts, TurnsUpTo, Turns, SomeTurns, HasNoRoom}
+use Rattle.variant_list.specs.inner.Turned.{sequences_of, groups_of, AreOfFirst, AreSound, AreTurned, Adds, Puts, TurnsUpTo, Turns, SomeTurns, HasNoRoom}
 
 abbrev Held : Type 0
 Held = Vec ℕ Global × Vec (Vec ℕ Global) Global
@@ -190,7 +190,7 @@ module _ (entries : List Entry) (e : Entry) where
   AreTurned-more there old mid n turned adds a b c = elim ((adds a b).0 c) [ inl o ↦ turned a b o | inr t ↦ IsReversed-turned there n a b t ]
 
 -- there is no room for one more
-pub IsCrowded-full : (entries : List Entry) (groups : List Group) (a b : List ℕ) → AreSound groups → AreTurned entries groups → IsReversed entries a b → HasNoRoom groups a b → IsCrowded entries a
+unfoldable pub IsCrowded-full : (entries : List Entry) (groups : List Group) (a b : List ℕ) → AreSound groups → AreTurned entries groups → IsReversed entries a b → HasNoRoom groups a b → IsCrowded entries a
 IsCrowded-full entries groups a b sound turned more full = record {
   sources = sources_of groups a ++ b ∷ [];
   reversed = λ k d l. member (get_or (sources_of groups a ++ b ∷ []) k d) (Contains-get_or (sources_of groups a ++ b ∷ []) k d l);
@@ -202,10 +202,6 @@ IsCrowded-full entries groups a b sound turned more full = record {
     member y c = elim ((members-more (sources_of groups a) b y).0 c) [ inl m ↦ turned a y m | inr e ↦ subst (IsReversed entries a) (sym e) more ]
 
 -- ---- entry by entry
-
--- the sources are those of the first so many entries
-abbrev pub AreOfFirst : List Entry → ℕ → List Group → Type 0
-AreOfFirst entries n groups = (a b : List ℕ) → Contains (sources_of groups a) b ↔ SomeTurns entries n a b
 
 module _ (entries : List Entry) where
   pub AreOfFirst-none : (groups : List Group) → groups ≡ [] → AreOfFirst entries 0 groups

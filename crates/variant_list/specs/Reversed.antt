@@ -1,5 +1,5 @@
 -- The pairs of a table that lack their reverse, turned round.
-use Rattle.std.specs.Prelude.{◌≡◌, ◌≢◌, ◌↔◌, ℕ, ◌≤◌, List, [], ◌∷◌, length, All, AllPairs, Contains, bytes_eq}
+use Rattle.std.specs.Prelude.{◌≡◌, ◌≢◌, ◌↔◌, ℕ, ◌+◌, ◌<◌, ◌≤◌, List, [], ◌∷◌, length, take, All, AllPairs, Contains, bytes_eq}
 use Rattle.std.specs.Prelude.{if◌then◌else◌}
 use Rattle.variant_table.specs.Entries.{Entry}
 use Rattle.variant_table.specs.Gaps.{IsPair}
@@ -33,3 +33,14 @@ pub record IsCrowded (entries : List Entry) (a : List ℕ) : Type 0 where
   pub reversed : All (IsReversed entries a) sources
   pub distinct : AllPairs (λ b c. b ≢ c) sources
   pub many : length sources ≡ 65
+
+-- it is one of more than 64 such sources of these entries alone
+pub record IsCrowdedBy (entries some : List Entry) (a : List ℕ) : Type 0 where
+  pub crowded : IsCrowded entries a
+  pub by_these : All (λ b. IsPair some b a) crowded.sources
+
+-- the source of the entry of this number, from 0, is the first that is one too many
+pub record IsCrowdedAt (entries : List Entry) (number : ℕ) : Type 0 where
+  pub within : number < length entries
+  pub crowded : (a : List ℕ) × IsCrowdedBy entries (take (number + 1) entries) a
+  pub first : (a : List ℕ) → ¬ IsCrowdedBy entries (take number entries) a

@@ -1,17 +1,16 @@
 //! The pairs of a table that lack their reverse, turned round.
-ghost use Rattle.std.specs.Prelude.{◌≡◌, ◌≤◌, ◌↔◌, ℕ, [], ◌∷◌, ◌++◌, List, length, Contains, IsTrue};
+ghost use Rattle.std.specs.Prelude.{◌≡◌, ◌+◌, ◌<◌, ◌≤◌, ◌↔◌, ℕ, [], ◌∷◌, ◌++◌, List, true, false, length, Contains, IsTrue};
 ghost use Rattle.std.specs.Prelude.{IsOk, IfOk, IfErr, OnOk};
 ghost use Rattle.variant_table.specs.Gaps.{IsPair};
-ghost use Rattle.variant_list.specs.Reversed.{AreReversedOf, AreFew, IsCrowded, IsReversed, sources_of};
+ghost use Rattle.variant_list.specs.Reversed.{AreReversedOf, AreFew, IsCrowded, IsCrowdedAt, IsReversed, sources_of};
 ghost use Rattle.variant_list.specs.declared.reversed.ReversedFault.TheVariants.{TooManySources};
-ghost use Rattle.variant_list.specs.inner.Turned.{sequences_of, groups_of, AreSound, AreTurned, Adds, Puts, Turns};
-ghost use Rattle.variant_list.specs.inner.Turned.{HasNoRoom};
+ghost use Rattle.variant_list.specs.inner.Turned.{sequences_of, groups_of, AreOfFirst, AreSound, Adds, HasNoRoom, Puts};
 
 use std::alloc::{AllocError, Global};
 use std::collections::BTreeMap;
 use std::marker::Model;
 use thiserror::Error;
-use variant_table::{Entry, Table};
+use variant_table::Table;
 
 /// A sequence is a variant of at most so many sources that aren't variants of it.
 const SOURCE_LIMIT: usize = 64;
@@ -40,9 +39,9 @@ impl Model for Reversed {
 /// Why the pairs of a table aren't turned round.
 #[derive(Clone, Copy, PartialEq, Eq, Debug, Drop, Error)]
 pub enum ReversedFault {
-    /// Some sequence is a variant of too many sources.
+    /// Some sequence is a variant of too many sources: the first one too many is that of the entry of this number.
     #[error("too many sources")]
-    TooManySources,
+    TooManySources { entry: usize },
     /// Memory was refused.
     #[error("out of memory")]
     Memory,
@@ -61,19 +60,19 @@ impl From<AllocError> for ReversedFault {
 
 impl Reversed {
     /// The pairs of a table. `TooManySources` comes exactly where a sequence is a variant of more than 64 sources that
-    /// aren't variants of it, and `Memory` only where memory was refused: none is taken for a table in which each pair
+    /// aren't variants of it, with the entry whose source is the first 65th, and `Memory` only where memory was refused: none is taken for a table in which each pair
     /// has its reverse.
     pub fn of_table(alloc: Global, table: &Table) -> Result<Reversed, ReversedFault>
         ensures pairs { IfOk result (AreReversedOf table.now.entries) }
         ensures few { IfOk result AreFew }
         ensures uncrowded { IfOk result (λ _. (a : List ℕ) → ¬ IsCrowded table.now.entries a) }
         ensures crowded { IfErr result
-            (λ fault. fault ≡ TooManySources → (a : List ℕ) × IsCrowded table.now.entries a) }
+            (λ fault. (entry : ℕ) → fault ≡ TooManySources entry → IsCrowdedAt table.now.entries entry) }
         ensures no_memory { ((a b : List ℕ) → ¬ IsReversed table.now.entries a b) → IsOk result }
     {
         let mut sources = BTreeMap::new(alloc);
         for number in 0..table.len() {
-            add_entry(alloc, table, &table.entry(number), &mut sources)?;
+            add_entry(alloc, table, number, &mut sources)?;
         }
         Ok(Reversed { sources })
     }
@@ -90,27 +89,34 @@ impl Reversed {
     }
 }
 
-/// Adds the pairs of an entry that lack their reverse.
+/// Adds the pairs of the entry of this number that lack their reverse.
 fn add_entry(
     alloc: Global,
     table: &Table,
-    entry: &Entry<'_>,
+    entry_number: usize,
     sources: &mut Sources,
 ) -> Result<(), ReversedFault>
-    requires in_table { Contains table.now.entries entry.now }
+    requires in_table { entry_number < length table.now.entries }
     requires sound { AreSound (groups_of sources.old.entries) }
-    requires turned { AreTurned table.now.entries (groups_of sources.old.entries) }
+    requires earlier { AreOfFirst table.now.entries entry_number (groups_of sources.old.entries) }
     ensures adds { OnOk result
-        (Adds (groups_of sources.old.entries) (groups_of sources.new.entries) (Turns table.now.entries entry.now)) }
+        (AreOfFirst table.now.entries (entry_number + 1) (groups_of sources.new.entries)) }
     ensures sound { OnOk result (AreSound (groups_of sources.new.entries)) }
-    ensures crowded { IfErr result (λ fault. fault ≡ TooManySources → (a : List ℕ) × IsCrowded table.now.entries a) }
+    ensures crowded { IfErr result
+        (λ fault. (entry : ℕ) → fault ≡ TooManySources entry → IsCrowdedAt table.now.entries entry) }
     ensures no_memory { ((a b : List ℕ) → ¬ IsReversed table.now.entries a b) → IsOk result }
 {
+    let entry = table.entry(entry_number);
     let source = entry.source();
     for number in 1..entry.replacements() {
         let variant = entry.replacement(number);
         if !is_pair(table, variant, source) {
-            add(alloc, sources, variant, source)?;
+            let has_room = add(alloc, sources, variant, source)?;
+            if !has_room {
+                return Err(ReversedFault::TooManySources {
+                    entry: entry_number,
+                });
+            }
         }
     }
     Ok(())
@@ -126,20 +132,21 @@ fn is_pair(table: &Table, source: &[u32], variant: &[u32]) -> bool
     }
 }
 
-/// Adds a source to those of a variant, unless it is there.
+/// Adds a source to those of a variant, unless it is there. Tells whether there is room for it; where there is none, the
+/// variant has lost its sources.
 fn add(
     alloc: Global,
     sources: &mut Sources,
     variant: &[u32],
     source: &[u32],
-) -> Result<(), ReversedFault>
+) -> Result<bool, AllocError>
     requires sound { AreSound (groups_of sources.old.entries) }
-    ensures adds { OnOk result
-        (Adds (groups_of sources.old.entries) (groups_of sources.new.entries)
+    ensures adds { IfOk result (λ has_room. has_room ≡ true →
+        Adds (groups_of sources.old.entries) (groups_of sources.new.entries)
         (λ a b. (a ≡ variant.now) × (b ≡ source.now))) }
-    ensures sound { OnOk result (AreSound (groups_of sources.new.entries)) }
-    ensures no_room { IfErr result
-        (λ fault. fault ≡ TooManySources → HasNoRoom (groups_of sources.old.entries) variant.now source.now) }
+    ensures sound { IfOk result (λ has_room. has_room ≡ true → AreSound (groups_of sources.new.entries)) }
+    ensures no_room { IfOk result
+        (λ has_room. has_room ≡ false → HasNoRoom (groups_of sources.old.entries) variant.now source.now) }
 {
     let mut of_variant = match sources.remove(variant) {
         Some(of_variant) => of_variant,
@@ -147,12 +154,12 @@ fn add(
     };
     if !has(&of_variant, source) {
         if of_variant.len() >= SOURCE_LIMIT {
-            return Err(ReversedFault::TooManySources);
+            return Ok(false);
         }
         push_copy(alloc, &mut of_variant, source)?;
     }
     put(alloc, sources, variant, of_variant)?;
-    Ok(())
+    Ok(true)
 }
 
 /// Whether a sequence is one of these.

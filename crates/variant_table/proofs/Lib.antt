@@ -77,3 +77,5 @@ pub mod FaultyLineLemmas
 pub mod AgainLemmas
 -- Types that no action names.
 pub mod IdleLemmas
+-- The line of an entry.
+pub mod EntryLines

@@ -68,6 +68,23 @@ pub record IsTextOf (properties : Properties) (notation : Notation) (text : List
   pub version : version_of notation (raw_lines text) ≡ Some table.version
   pub lines : AreLinesOf (head_of notation (raw_lines text)) (body_of notation (raw_lines text)) table
 
+-- ---- the line of an entry
+
+-- the line of this number, from 1, has the entry of this number, from 0: the lines before it spell no entry of that number, and with
+-- it they do
+pub record IsLineOfEntry (notation : Notation) (text : List ℕ) (table : TableValue) (entry number : ℕ) : Type 0 where
+  pub before : List (List ℕ)
+  pub line : List ℕ
+  pub after : List (List ℕ)
+  pub earlier : TableValue
+  pub later : TableValue
+  pub cut : body_of notation (raw_lines text) ≡ before ++ line ∷ after
+  pub numbered : number ≡ length (head_of notation (raw_lines text)) + length before + 1
+  pub spelled : LinesSpell (empty_table table.definitions.properties table.version) before earlier
+  pub added : LineAdds earlier (strip_carriage_return line) later
+  pub not_before : length earlier.entries ≤ entry
+  pub here : entry < length later.entries
+
 -- ---- the first fault of a text
 
 -- what may be wrong with a line that defines nothing, in the order in which it is told

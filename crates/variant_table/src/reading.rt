@@ -6,7 +6,7 @@ ghost use Rattle.ruleset_text.specs.EntryForms.{entry_form};
 ghost use Rattle.ruleset_text.specs.Lexemes.{lexemes};
 ghost use Rattle.ruleset_text.specs.PlacedLexemes.{unplaced};
 ghost use Rattle.variant_table.specs.declared.version.Version.TheVariants.{Three};
-ghost use Rattle.variant_table.specs.Entries.{empty_table, entry_from, source_of};
+ghost use Rattle.variant_table.specs.Entries.{TableValue, empty_table, entry_from, source_of};
 ghost use Rattle.variant_table.specs.FaultyLines.{IsRefusalOf};
 ghost use Rattle.variant_table.specs.inner.Held.{IsCounted};
 ghost use Rattle.variant_table.specs.inner.ReadingSteps.{Leaves, Reads, if_new, with_points_of};
@@ -14,6 +14,7 @@ ghost use Rattle.variant_table.specs.Limits.{text_limit};
 ghost use Rattle.variant_table.specs.LinePlaces.{body_place, definition_place, entry_place, read_place};
 ghost use Rattle.variant_table.specs.Reading.{is_skipped as is_skipped_line, table_of_text};
 ghost use Rattle.variant_table.specs.Reading.{with_definition, with_form_of, with_line, with_raw_line, with_words};
+ghost use Rattle.variant_table.specs.Texts.{IsLineOfEntry, IsTextOf};
 
 use crate::checks::{first_bad, given_again};
 use crate::definition_lines::{definition_line, fault_in};
@@ -77,6 +78,38 @@ pub fn read_text<'a>(
         definitions: reader.definitions,
         entries: reader.entries,
     })
+}
+
+/// The line, from 1, that has the entry of this number, in a text without a fault that has it.
+#[tactic(auto, unfolding(crate::specs::Reading::table_of_lines))]
+pub fn line_of_entry(
+    alloc: Global,
+    notation: Notation,
+    text: &[u8],
+    properties: Properties,
+    entry: usize,
+) -> Result<u64, AllocError>
+    requires { (table : TableValue) × IsTextOf properties notation text.now table × (entry < length table.entries) }
+    ensures { (table : TableValue) → IsTextOf properties notation text.now table →
+        IfOk result (IsLineOfEntry notation text.now table entry) }
+{
+    let Some(head) = head_of(notation, text) else {
+        unreachable!()
+    };
+    let mut reader = Reader::new(alloc, head.version, properties);
+    let (mut number, mut bytes) = (head.lines, head.bytes);
+    for line in head.body {
+        number += 1;
+        if let Err(_refused) = reader.add_raw_line(number, bytes, line) {
+            // The text has no fault, so memory was refused.
+            return Err(AllocError);
+        }
+        if reader.entries.len() > entry {
+            return Ok(number);
+        }
+        bytes += line.len() + 1;
+    }
+    unreachable!()
 }
 
 /// What has been read of a text so far. A reader that refused a line has no further use.

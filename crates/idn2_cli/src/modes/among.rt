@@ -42,8 +42,6 @@ impl<'t, 'r> PointAnswering for Among<'t, 'r> {
     ghost is_ready = { λ mode. IsReady mode.search.now × IsWithinLimits mode.options.now
         × AreRegistered mode.options.now.properties mode.registered.now };
 
-    ghost reads_table = { λ _. true };
-
     ghost needs_none = { λ mode label. IsRefusedWithoutMemory mode.options.now.properties label };
 
     fn answer_points<W: Sink, E: Sink>(

@@ -40,9 +40,6 @@ pub(crate) trait Answering {
     // What the mode needs to answer.
     ghost is_ready: { Self → Type 0 } = { λ _. Unit {0} };
 
-    // Whether it answers by a table.
-    ghost reads_table: { Self → Bool } = { λ _. false };
-
     // The bytes of lines that it answers without memory.
     ghost needs_none: { Self → List ℕ → Type 0 } = { λ _ _. ⊥ };
 

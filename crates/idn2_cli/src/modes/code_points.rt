@@ -25,9 +25,6 @@ pub(crate) trait PointAnswering {
     // What the mode needs to answer.
     ghost is_ready: { Self → Type 0 } = { λ _. Unit {0} };
 
-    // Whether it answers by a table.
-    ghost reads_table: { Self → Bool } = { λ _. false };
-
     // The code points of lines that it answers without memory.
     ghost needs_none: { Self → List ℕ → Type 0 } = { λ _ _. ⊥ };
 
@@ -64,8 +61,6 @@ impl<'m, M: PointAnswering> Answering for ByPoints<'m, M> {
     ghost answer_of = { λ by. M.answer_of by.mode.now };
 
     ghost is_ready = { λ by. M.is_ready by.mode.now };
-
-    ghost reads_table = { λ by. M.reads_table by.mode.now };
 
     ghost needs_none = { λ by line. M.needs_none by.mode.now (chars line) };
 

@@ -1,11 +1,12 @@
 //! What two labels are to each other: whether they collide, and how (RFC 7940, sections 5.1 and 7.3).
 
-ghost use Rattle.std.specs.Prelude.{◌≡◌, ◌≢◌, ◌≤◌, ◌↔◌, true, length, IsTrue, IfOk, IsOk};
+ghost use Rattle.std.specs.Prelude.{◌≡◌, ◌≢◌, ◌≤◌, ◌↔◌, true, length, IsTrue, IfOk, IsOk, None};
 ghost use Rattle.idn_class.specs.declared.properties.Properties.{Properties};
 ghost use Rattle.idn_label.specs.FirstFault.{IsRegistrable};
 ghost use Rattle.valid_labels.specs.Testing.{IsAdmission};
 ghost use Rattle.valid_labels.specs.declared.validity.Admission.TheVariants.{Admitted};
 ghost use Rattle.valid_labels.specs.Validity.{IsSound};
+ghost use Rattle.variant_table.specs.Segmentations.{IsMadeOfSources};
 ghost use Rattle.variant_list.specs.Arising.{Arises};
 ghost use Rattle.idn2_options.specs.Settings.{Settings};
 ghost use Rattle.idn2_answers.specs.Listings.{is_registrable};
@@ -24,7 +25,7 @@ use idn_label::test_label_by;
 use idn_text::Refusal;
 use reading_kinds::Readings;
 use std::alloc::{AllocError, Global};
-use valid_labels::{Admission, ValidityTest};
+use valid_labels::{Admission, ValidityTest, is_made_of_sources};
 use variant_dispositions::Disposition;
 use variant_list::{Cuts, substitutions_of};
 use variant_table::Table;
@@ -129,7 +130,8 @@ impl<'l> Decisions<'l> {
         }
     }
 
-    /// What today's rules say of a label of at most 63 code points, by whether it may be registered.
+    /// What today's rules say of a label of at most 63 code points, by whether it may be registered. It takes no memory
+    /// where the table asks nothing of its labels.
     fn standing_of(
         &mut self,
         alloc: Global,
@@ -142,6 +144,7 @@ impl<'l> Decisions<'l> {
         ensures standing { IfOk result (λ standing. (properties : Properties) →
             (IsTrue may_be_registered ↔ IsRegistrable properties other.now) →
             IsStanding properties self.old.table.now other.now standing) }
+        ensures no_memory { ruling_of self.old.table.now ≡ None → IsOk result }
         ensures decides { Decides self.new }
         ensures pair { IsOfPair self.old.table.now self.old.label.now self.new }
     {
@@ -232,6 +235,7 @@ impl<'l> Decisions<'l> {
         ensures regard { IfOk result (λ regard. (o : Settings) → IsGood o self.old.table.now self.old.label.now →
             IsStanding o.properties self.old.table.now other.now standing →
             regard ≡ regard_of (is_registrable o.properties) self.old.table.now other.now self.old.label.now) }
+        ensures no_memory { standing ≢ Standing.Good → ¬ IsMadeOfSources self.old.table.now other.now → IsOk result }
         ensures decides { Decides self.new }
         ensures pair { IsOfPair self.old.table.now self.old.label.now self.new }
     {
@@ -256,6 +260,7 @@ impl<'l> Decisions<'l> {
             (λ regard. Arises self.now.table.now label.now other.now → regard ≡ barred_in self.now.table.now.version) }
         ensures none { IfOk result
             (λ regard. ¬ Arises self.now.table.now label.now other.now → regard ≡ Regard.NoVariant) }
+        ensures no_memory { ¬ IsMadeOfSources self.now.table.now label.now → IsOk result }
     {
         if !arises(alloc, self.table, label, other)? {
             return Ok(Regard::NoVariant);
@@ -296,12 +301,17 @@ pub(crate) fn may_be_registered(
     }
 }
 
-/// Whether a label arises from another one, both of at most 63 code points.
+/// Whether another label arises from a label, both of at most 63 code points. Nothing does from one that isn't made of
+/// sources, and then no memory is taken.
 fn arises(alloc: Global, table: &Table, label: &[u32], other: &[u32]) -> Result<bool, AllocError>
     requires short { length label.now ≤ 63 }
     requires other { length other.now ≤ 63 }
-    ensures { IfOk result (λ told. IsTrue told ↔ Arises table.now label.now other.now) }
+    ensures told { IfOk result (λ told. IsTrue told ↔ Arises table.now label.now other.now) }
+    ensures no_memory { ¬ IsMadeOfSources table.now label.now → IsOk result }
 {
+    if !is_made_of_sources(table, label) {
+        return Ok(false);
+    }
     let substitutions = substitutions_of(alloc, table, label, Cuts::Anyhow)?;
     let mut readings = Readings::new(alloc, substitutions)?;
     Ok(readings.spells(other))

@@ -1,7 +1,7 @@
 //! The dispositions of the labels that a label spells, by the types and actions of a table (RFC 7940, sections 7 and
 //! 8.3).
 
-ghost use Rattle.std.specs.Prelude.{◌≡◌, ◌≢◌, false, ℕ, List, [], IfOk, Some};
+ghost use Rattle.std.specs.Prelude.{◌≡◌, ◌≢◌, false, ℕ, List, [], IfOk, IsOk, Some};
 ghost use Rattle.reading_kinds.specs.Readings.{SubstitutionsSpell};
 ghost use Rattle.variant_table.specs.Entries.{TableValue};
 ghost use Rattle.variant_dispositions.specs.Readings.{AreWordsOf};
@@ -64,6 +64,7 @@ impl Dispositions {
     /// for actions alone.
     pub fn of_table(alloc: Global, table: &Table) -> Result<Self, AllocError>
         ensures of_table { IfOk result (AreOfTable table.now) }
+        ensures no_memory { table.now.definitions.actions ≡ [] → IsOk result }
     {
         let actions = actions_of(alloc, table.definitions())?;
         let by = decided_by(table, &actions);

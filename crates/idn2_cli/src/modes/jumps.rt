@@ -47,8 +47,6 @@ impl<'t> PointAnswering for Jumps<'t> {
 
     ghost is_ready = { λ mode. IsReady mode.search.now };
 
-    ghost reads_table = { λ _. true };
-
     ghost needs_none = { λ mode line. IsRefusedWithoutMemory mode.properties (requested_label line) };
 
     fn answer_points<W: Sink, E: Sink>(

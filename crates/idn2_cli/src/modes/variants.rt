@@ -45,8 +45,6 @@ impl<'t, 'p> PointAnswering for Variants<'t, 'p> {
     ghost is_ready = { λ mode. IsSound mode.table.now × (mode.ruling.now ≡ ruling_of mode.table.now)
         × AreOfTable mode.table.now mode.dispositions.now × IsWithinLimits mode.options.now };
 
-    ghost reads_table = { λ _. true };
-
     ghost needs_none = { λ mode label. IsRefusedWithoutMemory mode.options.now.properties label };
 
     ghost goes_on = { λ mode label. ListsWithoutMemory mode.options.now mode.table.now label };

@@ -34,8 +34,8 @@ pub(crate) fn serve_lines<M: Answering, R: Source, W: Sink, E: Sink>(
     requires ready { M.is_ready mode.now }
     requires unread { IsUnread input.old }
     ensures { Does
-        (lines_job form (explained_by explaining.now) (M.answer_of mode.now) (M.reads_table mode.now)
-        (M.needs_none mode.now) (M.goes_on mode.now))
+        (lines_job form (explained_by explaining.now) (M.answer_of mode.now) (M.needs_none mode.now)
+        (M.goes_on mode.now))
         input.old input.new console.old console.new result }
 {
     let mut buffers = Buffers::new();

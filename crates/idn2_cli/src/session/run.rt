@@ -11,12 +11,13 @@ ghost use Rattle.variant_table.specs.Texts.{IsTextOf};
 ghost use Rattle.idn2_options.specs.Settings.{IsWithinLimits, keeping};
 ghost use Rattle.idn2_answers.specs.Answers.{jump_answer, variants_answer, IsJumpAnswer, IsListing};
 ghost use Rattle.idn2_answers.specs.Transcript.{TableGiven, IsCheck, IsReadAs, IsTableOf};
-ghost use Rattle.idn2_answers.specs.Transcript.{check_findings, last_line};
+ghost use Rattle.idn2_answers.specs.Transcript.{check_findings};
 ghost use Rattle.idn2_refusals.specs.Requests.{requested_label};
 ghost use Rattle.idn2_refusals.specs.Reports.{closing_status};
 ghost use Rattle.idn2_output.specs.Writing.{held, refusal_of};
-ghost use Rattle.idn2_cli.specs.Ends.{Does, Ends, Closes, mode_job};
-ghost use Rattle.idn2_cli.specs.Headline.{PrintsListings};
+ghost use Rattle.idn2_cli.specs.Ends.{Does, Ends, Closes, at_lines_alone, mode_job};
+ghost use Rattle.idn2_cli.specs.Headline.{AnswersLabels, PrintsAnswers};
+ghost use Rattle.idn2_cli.specs.Memory.{IsFoundWithoutMemory};
 ghost use Rattle.idn2_cli.specs.inner.Searches.{IsReady};
 ghost use Rattle.idn2_cli.specs.inner.ServedModes.{Runs, Serves, mode_of, search_mode};
 ghost use Rattle.idn2_options.specs.declared.command_line.mode.Mode.TheVariants as modes;
@@ -55,10 +56,10 @@ pub fn run<R: Source, W: Sink, E: Sink>(
     ensures ends { (given : TableGiven) × IsTableOf options.now table.now given
         × Ends (mode_job options.now given) input.old input.new
         (held (W.state out.old) (E.state err.old)) (held (W.state out.new) (E.state err.new)) result }
-    // The theorem of a listing: these bytes of this output are the lines of these labels.
-    ensures headline { (given : TableValue) → options.now.mode ≡ modes.Variants →
+    // The theorem of listings and of jumps: these bytes of this output are the answers to these lines.
+    ensures headline { (given : TableValue) → AnswersLabels options.now.mode →
         IsTableOf options.now table.now (Ok given) →
-        PrintsListings options.now given input.old input.new
+        PrintsAnswers options.now given input.old input.new
         (W.state out.old).contents (W.state out.new).contents result }
     // What the transcript has for a label that may be registered, for a request, and for the check of a table.
     ensures listing { (given : TableValue) (label : List ℕ) →
@@ -95,9 +96,9 @@ pub fn run_among<R: Source, W: Sink, E: Sink>(
         × IsTableOf (keeping (option_copied registered.entry) options.now) table.now given
         × Ends (mode_job (keeping (option_copied registered.entry) options.now) given) input.old input.new
         (held (W.state out.old) (E.state err.old)) (held (W.state out.new) (E.state err.new)) result }
-    ensures headline { (given : TableValue) → options.now.mode ≡ modes.Variants →
+    ensures headline { (given : TableValue) → AnswersLabels options.now.mode →
         IsTableOf (keeping (option_copied registered.entry) options.now) table.now (Ok given) →
-        PrintsListings (keeping (option_copied registered.entry) options.now) given input.old input.new
+        PrintsAnswers (keeping (option_copied registered.entry) options.now) given input.old input.new
         (W.state out.old).contents (W.state out.new).contents result }
     ensures listing { (given : TableValue) (label : List ℕ) →
         IsReadAs options.now.properties options.now.notation table.now (Ok given) →
@@ -283,14 +284,18 @@ fn serve_search<R: Source, W: Sink, E: Sink>(
     requires among { IfSome (option_copied among) (λ labels. settings.now.registered ≡ Some labels) }
     requires spelled { IsTextOf settings.now.properties settings.now.notation text.now table.now }
     requires unread { IsUnread input.old }
-    ensures { Serves settings.now text.now input.old input.new console.old console.new result }
+    ensures serves { Serves settings.now text.now input.old input.new console.old console.new result }
+    // Where nothing is found of the table with memory, it runs out at a line alone.
+    ensures no_memory { IsFoundWithoutMemory table.now → Does (at_lines_alone (mode_job settings.now (Ok table.now)))
+        input.old input.new console.old console.new result }
 {
     let options = settings.options;
     let reversed = match Reversed::of_table(alloc, table) {
         Ok(reversed) => reversed,
         Err(ReversedFault::Memory) => return Err(Stop::Memory),
-        Err(ReversedFault::TooManySources) => {
-            return refuse_search(options.form, last_line(text), console);
+        Err(ReversedFault::TooManySources { entry }) => {
+            let line = table.line_of_entry(alloc, options.notation, text, entry)?;
+            return refuse_search(options.form, line, console);
         }
     };
     let ruling = ruling_of_table(table);
@@ -307,14 +312,6 @@ fn serve_search<R: Source, W: Sink, E: Sink>(
     }
 }
 
-/// The line of the last byte of a text, from 1.
-fn last_line(text: &[u8]) -> u64
-    ensures { result ≡ last_line text.now }
-{
-    let before = &text[..text.len().saturating_sub(1)];
-    before.iter().filter(|byte| **byte == b'\n').count() as u64 + 1
-}
-
 /// Answers the label of each line by the registered labels that collide with it.
 fn serve_among<R: Source, W: Sink, E: Sink>(
     alloc: Global,
@@ -328,7 +325,7 @@ fn serve_among<R: Source, W: Sink, E: Sink>(
     requires among { settings.now.registered ≡ Some registered.now }
     requires ready { IsReady search.now }
     requires unread { IsUnread input.old }
-    ensures { Does (mode_job settings.now (Ok search.now.table.now)) input.old input.new
+    ensures { Does (at_lines_alone (mode_job settings.now (Ok search.now.table.now))) input.old input.new
         console.old console.new result }
 {
     let options = settings.options;
@@ -355,7 +352,7 @@ fn serve_jumps<R: Source, W: Sink, E: Sink>(
     requires mode { settings.now.mode ≡ modes.Jump }
     requires ready { IsReady search.now }
     requires unread { IsUnread input.old }
-    ensures { Does (mode_job settings.now (Ok search.now.table.now)) input.old input.new
+    ensures { Does (at_lines_alone (mode_job settings.now (Ok search.now.table.now))) input.old input.new
         console.old console.new result }
 {
     let options = settings.options;

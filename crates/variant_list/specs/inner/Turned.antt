@@ -45,6 +45,10 @@ Turns entries e = TurnsUpTo entries e (length e.variants)
 abbrev pub SomeTurns : List Entry → ℕ → List ℕ → List ℕ → Type 0
 SomeTurns entries n a b = (k : ℕ) × (e : Entry) × (k < n) × (slice_get entries k ≡ Some e) × Turns entries e a b
 
+-- the sources are those of the first so many entries
+abbrev pub AreOfFirst : List Entry → ℕ → List Group → Type 0
+AreOfFirst entries n groups = (a b : List ℕ) → Contains (sources_of groups a) b ↔ SomeTurns entries n a b
+
 -- a sequence has 64 sources, and is a variant of another one
 pub record HasNoRoom (groups : List Group) (a b : List ℕ) : Type 0 where
   pub full : length (sources_of groups a) ≡ 64

@@ -10,7 +10,7 @@ use Rattle.variant_list.proofs.reversed.add.Goals.{in-Some, in-None, then-not-ha
 use Rattle.variant_list.proofs.reversed.add.Goals as goal
 
 pub returns-then-len-ge-SOURCE_LIMIT-clause-no_room : goal.returns-then-len-ge-SOURCE_LIMIT-clause-no_room
-returns-then-len-ge-SOURCE_LIMIT-clause-no_room c fault =
+returns-then-len-ge-SOURCE_LIMIT-clause-no_room c told =
     let a : List ℕ = c.args.variant.now in
     let old = groups_of c.args.sources.now.entries in
     let was : sequences_of c.match-remove.of_variant.items ≡ sources_of old a = elim c.match-remove.branch [
@@ -27,7 +27,7 @@ returns-then-len-ge-SOURCE_LIMIT-clause-no_room c fault =
     }
 
 pub returns-clause-adds : goal.returns-clause-adds
-returns-clause-adds c =
+returns-clause-adds c told =
     let a : List ℕ = c.args.variant.now in
     let b : List ℕ = c.args.source.now in
     let old = groups_of c.args.sources.now.entries in
@@ -49,7 +49,7 @@ returns-clause-adds c =
     Adds-put old (groups_of c.remove.new.self.entries) (groups_of c.put.new.sources.entries) a (sequences_of c.if-not-has.of_variant.items) others c.in_ok-put.ensures b members
 
 pub returns-clause-sound : goal.returns-clause-sound
-returns-clause-sound c =
+returns-clause-sound c told =
     let a : List ℕ = c.args.variant.now in
     let b : List ℕ = c.args.source.now in
     let old = groups_of c.args.sources.now.entries in

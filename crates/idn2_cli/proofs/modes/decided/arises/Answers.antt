@@ -2,8 +2,8 @@ use Rattle.std.proofs.Common.{List, subst, sym}
 use Rattle.reading_kinds.specs.Readings.{Substitution, SubstitutionsSpell}
 use Rattle.idn2_cli.proofs.modes.decided.arises.Goals as goal
 
-pub returns : goal.returns
-returns c =
+pub returns-clause-told : goal.returns-clause-told
+returns-clause-told c =
     let same = c.in_ok-readings.ensures in
     let told = c.spells.ensures.spelled in
     let gives = c.in_ok-substitutions.ensures.gives c.args.other.now in (

@@ -11,7 +11,7 @@ pub returns-in_err-advance : goal.returns-in_err-advance
 returns-in_err-advance g c =
     let p = err_from_is_err_and c.from_residual.result c.from_residual.ensures.1 in
     let so_far = c.lines.invariant.so_far in
-    rw (p.1, p.2) (stops_reading _ _ _ (g.M.Answering.reads_table c.args.mode.now) (g.M.Answering.needs_none c.args.mode.now) (g.M.Answering.goes_on c.args.mode.now) _ _ c.advance.new.self _ _ _ so_far c.in_err-advance.ensures.cause c.in_err-advance.ensures.state (c.in_err-advance.ensures.lines _ so_far.given so_far.lines so_far.read))
+    rw (p.1, p.2) (stops_reading _ _ _ (g.M.Answering.needs_none c.args.mode.now) (g.M.Answering.goes_on c.args.mode.now) _ _ c.advance.new.self _ _ _ so_far c.in_err-advance.ensures.cause c.in_err-advance.ensures.state (c.in_err-advance.ensures.lines _ so_far.given so_far.lines so_far.read))
 
 pub returns-in_err-serve_line : goal.returns-in_err-serve_line
 returns-in_err-serve_line g c =
@@ -25,7 +25,7 @@ returns-in_err-serve_line g c =
       lines = so_far.lines ++ line_at c.advance.new.self ∷ [];
       read = read;
       unread = λ e. cc;
-      ending = stops_in_line _ _ _ (g.M.Answering.reads_table c.args.mode.now) (g.M.Answering.needs_none c.args.mode.now) (g.M.Answering.goes_on c.args.mode.now) _ _ c.advance.new.self _ _ _ _ (line_at c.advance.new.self) so_far c.serve_line.result p.0 going c.serve_line.ensures.written (c.in_err-serve_line.was ∙ ap Err (sym p.2)) c.serve_line.ensures.no_memory c.serve_line.ensures.begun;
+      ending = stops_in_line _ _ _ (g.M.Answering.needs_none c.args.mode.now) (g.M.Answering.goes_on c.args.mode.now) _ _ c.advance.new.self _ _ _ _ (line_at c.advance.new.self) so_far c.serve_line.result p.0 going c.serve_line.ensures.written (c.in_err-serve_line.was ∙ ap Err (sym p.2)) c.serve_line.ensures.no_memory c.serve_line.ensures.begun;
     })
 
 pub lines-preserved-then-branch-2 : goal.lines-preserved-then-branch-2

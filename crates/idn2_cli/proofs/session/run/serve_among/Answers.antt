@@ -11,7 +11,7 @@ use Rattle.idn2_refusals.specs.Explained.{ByTable, Explained, if_wanted}
 use Rattle.idn2_refusals.specs.Explaining.{explained_by}
 use Rattle.idn2_cli.specs.Ends.{Job, lines_job}
 use Rattle.idn2_cli.specs.Memory.{IsRefusedWithoutMemory}
-use Rattle.idn2_cli.proofs.RunEnds.{among_job, does_mode, settings_among}
+use Rattle.idn2_cli.proofs.RunEnds.{among_job, does_lines, settings_among}
 use Rattle.idn2_cli.proofs.session.run.serve_among.Goals as goal
 
 pub returns : goal.returns
@@ -23,8 +23,8 @@ returns g c =
     let labels : List (List ℕ) = c.args.registered.now in
     let seen = ap (keeping (option_copied c.settings.inside.registered)) c.options.view_is ∙ c.settings.view_is in
     let among : keeping (Some labels) given ≡ set = settings_among o given (option_copied c.settings.inside.registered) (Some labels) c.settings.view_is c.requires.among ∙ ap (λ (m : Mode). record o { mode = m }) c.requires.mode in
-    let job : Settings → Form → Explained → Job = λ s f e. lines_job f e (variants_answer s table) true (λ line. IsRefusedWithoutMemory s.properties (chars line)) (λ line. Unit {0}) in
-    does_mode o Variants (Ok table) _ _ _ _ _ c.serve_lines.result c.requires.mode
+    let job : Settings → Form → Explained → Job = λ s f e. lines_job f e (variants_answer s table) (λ line. IsRefusedWithoutMemory s.properties (chars line)) (λ line. Unit {0}) in
+    does_lines o Variants (Ok table) _ _ _ _ _ c.serve_lines.result c.requires.mode
     (ap (λ s. job s c.options.inside.form (explained_by c.if_wanted-explaining.result)) among
     ∙ ap (λ f. job set f (explained_by c.if_wanted-explaining.result)) (ap (λ (v : Settings). v.form) seen)
     ∙ ap (λ e. job set o.form e)

@@ -27,7 +27,7 @@ returns-in-Lookup g c =
     let mode = sym (ap (λ (v : Settings). v.mode) seen) ∙ c.in-Lookup.is in
     let causes = c.tells_causes-wanted.ensures ∙ ap tells_causes c.settings.view_is in
     let by : Bool → List ℕ → LineAnswer = λ b name. one_answer LookedUp (lookup_answer name b) in
-    let job : Form → Explained → Bool → Job = λ f e b. lines_job f e (by b) false (LooksUpWithoutMemory b) (λ line. Unit {0}) in
+    let job : Form → Explained → Bool → Job = λ f e b. lines_job f e (by b) (LooksUpWithoutMemory b) (λ line. Unit {0}) in
     as_mode o Lookup c.args.table.now (Ok no_table) _ _ _ _ _ c.serve_lines.result mode refl
     (ap (λ f. job f (explained_by c.if_wanted-explaining.result) c.options.inside.std3) (ap (λ (v : Settings). v.form) seen)
     ∙ ap (λ e. job o.form e c.options.inside.std3) c.if_wanted-explaining.ensures
@@ -43,7 +43,7 @@ returns-in-Register g c =
     let causes = c.tells_causes-wanted.ensures ∙ ap tells_causes c.settings.view_is in
     let given : Properties = c.options.inside.properties in
     let by : Properties → List ℕ → LineAnswer = λ p label. one_answer (Registered (u_label_of p label)) (register_answer p label) in
-    let job : Form → Explained → Properties → Job = λ f e p. lines_job f e (by p) false (λ line. RegistersWithoutMemory (chars line)) (λ line. Unit {0}) in
+    let job : Form → Explained → Properties → Job = λ f e p. lines_job f e (by p) (λ line. RegistersWithoutMemory (chars line)) (λ line. Unit {0}) in
     as_mode o Register c.args.table.now (Ok no_table) _ _ _ _ _ c.serve_lines-in-Register.result mode refl
     (ap (λ f. job f (explained_by c.if_wanted-explaining-in-Register.result) given) (ap (λ (v : Settings). v.form) seen)
     ∙ ap (λ e. job o.form e given) c.if_wanted-explaining-in-Register.ensures
@@ -59,7 +59,7 @@ returns-in-Decode g c =
     let causes = c.tells_causes-wanted.ensures ∙ ap tells_causes c.settings.view_is in
     let given : Properties = c.options.inside.properties in
     let by : Properties → List ℕ → LineAnswer = λ p name. one_answer Decoded (in_utf8 (decode_answer p name)) in
-    let job : Form → Explained → Properties → Job = λ f e p. lines_job f e (by p) false DecodesLineWithoutMemory (λ line. Unit {0}) in
+    let job : Form → Explained → Properties → Job = λ f e p. lines_job f e (by p) DecodesLineWithoutMemory (λ line. Unit {0}) in
     as_mode o Decode c.args.table.now (Ok no_table) _ _ _ _ _ c.serve_lines-in-Decode.result mode refl
     (ap (λ f. job f (explained_by c.if_wanted-explaining-in-Decode.result) given) (ap (λ (v : Settings). v.form) seen)
     ∙ ap (λ e. job o.form e given) c.if_wanted-explaining-in-Decode.ensures
@@ -75,7 +75,7 @@ returns-in-DecodeOld g c =
     let causes = c.tells_causes-wanted.ensures ∙ ap tells_causes c.settings.view_is in
     let given : Properties = c.options.inside.properties in
     let by : Properties → List ℕ → LineAnswer = λ p label. zone_line (zone_in_utf8 (zone_answer p label)) in
-    let job : Form → Explained → Properties → Job = λ f e p. lines_job f e (by p) false (λ line. StandsWithoutMemory (chars line)) (λ line. Unit {0}) in
+    let job : Form → Explained → Properties → Job = λ f e p. lines_job f e (by p) (λ line. StandsWithoutMemory (chars line)) (λ line. Unit {0}) in
     as_mode o DecodeOld c.args.table.now (Ok no_table) _ _ _ _ _ c.serve_lines-in-DecodeOld.result mode refl
     (ap (λ f. job f (explained_by c.if_wanted-explaining-in-DecodeOld.result) given) (ap (λ (v : Settings). v.form) seen)
     ∙ ap (λ e. job o.form e given) c.if_wanted-explaining-in-DecodeOld.ensures

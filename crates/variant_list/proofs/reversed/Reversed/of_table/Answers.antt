@@ -1,7 +1,6 @@
 use Rattle.std.proofs.Common.{◌≡◌, ◌≤◌, [], length, ap, arith}
 use Rattle.variant_list.specs.inner.Turned.{groups_of}
-use Rattle.variant_list.proofs.PlanLemmas.{Contains-at}
-use Rattle.variant_list.proofs.TurnedLemmas.{AreOfFirst-none, AreSound-none, AreOfFirst-next, AreTurned-first, AreReversedOf-all, sound_few}
+use Rattle.variant_list.proofs.TurnedLemmas.{AreOfFirst-none, AreSound-none, AreReversedOf-all, sound_few}
 use Rattle.variant_list.proofs.CrowdLemmas.{uncrowded}
 use Rattle.variant_list.proofs.reversed.Reversed.of_table.Goals as goal
 
@@ -10,20 +9,11 @@ loop-number-init c =
     let none : groups_of c.new-sources.result.entries ≡ [] = ap groups_of c.new-sources.ensures.empty in
     (AreSound-none c.args.table.now.entries (groups_of c.new-sources.result.entries) none, AreOfFirst-none c.args.table.now.entries (groups_of c.new-sources.result.entries) none)
 
-pub add_entry-requires-clause-in_table : goal.add_entry-requires-clause-in_table
-add_entry-requires-clause-in_table c = Contains-at c.args.table.now.entries c.loop-number.number c.entry.result c.entry.ensures
-
-pub add_entry-requires-clause-sound : goal.add_entry-requires-clause-sound
-add_entry-requires-clause-sound c = c.loop-number.invariant.0
-
-pub add_entry-requires-clause-turned : goal.add_entry-requires-clause-turned
-add_entry-requires-clause-turned c = AreTurned-first c.args.table.now.entries (groups_of c.loop-number.sources.entries) c.loop-number.number c.loop-number.invariant.1
+pub add_entry-requires : goal.add_entry-requires
+add_entry-requires c = record { in_table = omega (arith, c.loop-number-test.true, c.len-number-end.ensures.count); sound = c.loop-number.invariant.0; earlier = c.loop-number.invariant.1 }
 
 pub loop-number-preserved : goal.loop-number-preserved
-loop-number-preserved c = (
-  c.in_ok-add_entry.ensures.sound,
-  AreOfFirst-next c.args.table.now.entries (groups_of c.loop-number.sources.entries) (groups_of c.add_entry.new.sources.entries) c.loop-number.number c.entry.result c.entry.ensures c.loop-number.invariant.1 c.in_ok-add_entry.ensures.adds,
-)
+loop-number-preserved c = (c.in_ok-add_entry.ensures.sound, c.in_ok-add_entry.ensures.adds)
 
 pub returns-clause-pairs : goal.returns-clause-pairs
 returns-clause-pairs c =

@@ -1,5 +1,4 @@
-use Rattle.variant_list.specs.inner.Turned.{groups_of, AreSound}
-use Rattle.variant_list.proofs.TurnedLemmas.{AreOfFirst}
+use Rattle.variant_list.specs.inner.Turned.{groups_of, AreOfFirst, AreSound}
 use Rattle.variant_list.proofs.reversed.Reversed.of_table.Given as goal
 
 -- the pairs of the entries so far

@@ -12,6 +12,7 @@ returns-then-is_valid_by c =
         (told.0 c.if-not-may_be_registered.false, sym (ap (λ r. passes r c.args.other.now) ruling) ∙ sym c.is_valid_by.ensures.passes ∙ c.if-is_valid_by.true),
         not_admitted c.args.self.now.table.now c.args.other.now c.in_ok-admission.admission c.in_ok-admission.ensures.admission c.in_default.not-Admitted,
       );
+      no_memory = λ none. refl;
       decides = record { sound = d.sound; of_table = d.of_table; some = d.some; short = d.short; own = d.own; listed = d.listed; ruling = c.is_valid_by.ensures.same ∙ ruling };
       pair = record { table_is = refl; label_is = refl };
     }
@@ -24,6 +25,7 @@ returns-else-is_valid_by c =
         λ good. not_admitted c.args.self.now.table.now c.args.other.now c.in_ok-admission.admission c.in_ok-admission.ensures.admission c.in_default.not-Admitted good.1,
         λ may. (let clash : false ≡ true = sym c.if-is_valid_by.false ∙ c.is_valid_by.ensures.passes ∙ ap (λ r. passes r c.args.other.now) ruling ∙ may.1 in cc),
       );
+      no_memory = λ none. refl;
       decides = record { sound = d.sound; of_table = d.of_table; some = d.some; short = d.short; own = d.own; listed = d.listed; ruling = c.is_valid_by.ensures.same ∙ ruling };
       pair = record { table_is = refl; label_is = refl };
     }
