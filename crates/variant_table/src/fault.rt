@@ -39,22 +39,6 @@ pub enum TableFault {
     Memory,
 }
 
-impl From<AllocError> for TableFault {
-    ghost from_gives = { λ _ e. e ≡ Memory };
-
-    fn from(_: AllocError) -> Self {
-        TableFault::Memory
-    }
-}
-
-impl<T: Drop> From<AllocFailed<T>> for TableFault {
-    ghost from_gives = { λ _ e. e ≡ Memory };
-
-    fn from(_: AllocFailed<T>) -> Self {
-        TableFault::Memory
-    }
-}
-
 /// Why a line is refused, and where, if a place is told.
 #[derive(Clone, Copy, Debug, PartialEq, Eq)]
 pub struct LineRefusal {

@@ -1,6 +1,6 @@
 //! The registered labels that collide with a label under a table.
 
-ghost use Rattle.std.specs.Prelude.{◌≡◌, ◌≤◌, true, length, Some};
+ghost use Rattle.std.specs.Prelude.{◌≡◌, true, Some};
 ghost use Rattle.idn_text.specs.Points.{AreScalarValues};
 ghost use Rattle.idn_label.specs.FirstFault.{IsRegistrable};
 ghost use Rattle.registered_labels.specs.Registered.{AreRegistered};
@@ -21,7 +21,7 @@ use crate::modes::code_points::PointAnswering;
 use crate::modes::collisions::write_collisions;
 use crate::modes::search::Search;
 use idn_label::test_label_by;
-use idn_text::{MAX_LINE_LEN, Sink};
+use idn_text::Sink;
 use idn2_options::Options;
 use idn2_output::Console;
 use registered_labels::RegisteredLabels;
@@ -70,7 +70,6 @@ fn answer_label<W: Sink, E: Sink>(
     requires ready { IsReady mode.now.search.now }
     requires limits { IsWithinLimits mode.now.options.now }
     requires registered { AreRegistered mode.now.options.now.properties mode.now.registered.now }
-    requires few { length asked.now.text.now ≤ MAX_LINE_LEN }
     requires scalar_values { AreScalarValues label.now }
     requires registrable { IsRegistrable mode.now.options.now.properties label.now }
     ensures written { Emits console.old console.new

@@ -16,7 +16,7 @@ ghost use Rattle.idn2_output.specs.declared.stop.Stop.TheVariants as stop;
 use crate::modes::asked::Asked;
 use crate::modes::buffers::Buffers;
 use answer_json::Input;
-use idn_text::{MAX_LINE_LEN, Refusal, Sink};
+use idn_text::{Refusal, Sink};
 use idn2_options::Form;
 use idn2_output::{Console, Object, Stop};
 use std::alloc::Global;
@@ -55,7 +55,6 @@ pub(crate) trait Answering {
         console: &mut Console<'_, '_, W, E>,
     ) -> Served
         requires ready { is_ready self.now }
-        requires few { length asked.now.text.now ≤ MAX_LINE_LEN }
         ensures written { Emits console.old console.new
             (reply_to asked.now (text_answer (answer_of self.now) asked.now.text.now)) (result_of result) }
         ensures refused { IsServedAs (text_answer (answer_of self.now) asked.now.text.now) result }
@@ -115,7 +114,6 @@ pub(crate) fn reply<W: Sink, E: Sink>(
     line: &[u8],
     console: &mut Console<'_, '_, W, E>,
 ) -> Result<(), Stop>
-    requires few { length asked.now.text.now ≤ MAX_LINE_LEN }
     requires utf8 { kind ≡ Kind.LookedUp → IsUtf8 asked.now.text.now }
     requires filled { 1 ≤ length line.now }
     requires short { length line.now ≤ longest kind }
@@ -139,7 +137,6 @@ fn write_object_of<W: Sink, E: Sink>(
     line: &[u8],
     console: &mut Console<'_, '_, W, E>,
 ) -> Result<(), Stop>
-    requires few { length asked.text.now ≤ MAX_LINE_LEN }
     requires utf8 { kind ≡ Kind.LookedUp → IsUtf8 asked.text.now }
     requires filled { 1 ≤ length line.now }
     requires short { length line.now ≤ longest kind }
@@ -156,7 +153,6 @@ fn write_object_of<W: Sink, E: Sink>(
 /// The object of a name that is looked up.
 #[inline(always)]
 fn looked_up_of<'a>(asked: Asked<'a>, line: &'a [u8]) -> Object<'a>
-    requires few { length asked.text.now ≤ MAX_LINE_LEN }
     requires utf8 { IsUtf8 asked.text.now }
     requires filled { 1 ≤ length line.now }
     requires short { length line.now ≤ 255 }
@@ -171,7 +167,6 @@ fn looked_up_of<'a>(asked: Asked<'a>, line: &'a [u8]) -> Object<'a>
 /// The object of a name that is decoded.
 #[inline(always)]
 fn decoded_of<'a>(asked: Asked<'a>, line: &'a [u8]) -> Object<'a>
-    requires few { length asked.text.now ≤ MAX_LINE_LEN }
     requires filled { 1 ≤ length line.now }
     requires short { length line.now ≤ 4097 }
     ensures told { (text : List ℕ) → line.now ≡ text ++ 10 ∷ [] →

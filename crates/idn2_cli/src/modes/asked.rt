@@ -1,5 +1,8 @@
 //! The line that is being answered.
 
+ghost use Rattle.std.specs.Prelude.{◌≤◌, length};
+ghost use Rattle.idn_text.specs.declared.body.TheConstants.{MAX_LINE_LEN};
+
 use idn2_options::Form;
 
 /// A line that is being answered.
@@ -11,4 +14,5 @@ pub(crate) struct Asked<'a> {
     pub number: u64,
     /// The bytes of the line, without its end.
     pub text: &'a [u8],
+    ghost few: { length text.now ≤ MAX_LINE_LEN },
 }

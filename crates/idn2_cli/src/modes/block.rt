@@ -36,7 +36,7 @@ use answer_json::{Disposition, Input};
 use arrayvec::{ArrayString, ArrayVec};
 use idn_class::{CachedPrefixes, Properties};
 use idn_label::{ALabel, CachedALabel};
-use idn_text::{MAX_LINE_LEN, Refusal, Sink};
+use idn_text::{Refusal, Sink};
 use idn2_options::{Form, Options};
 use idn2_output::{Console, Object, Stop, append};
 use itoa::Buffer;
@@ -55,7 +55,6 @@ pub(crate) fn write_block<W: Sink, E: Sink>(
     dispositions: LabelDispositions<'_>,
     console: &mut Console<'_, '_, W, E>,
 ) -> Result<(), Stop>
-    requires few { length asked.now.text.now ≤ MAX_LINE_LEN }
     requires limits { IsWithinLimits options.now }
     requires spelled { All AreScalarValues net.now.spelled }
     requires new { (v : List ℕ) → KeepsOf v validity }
@@ -299,7 +298,6 @@ pub(crate) fn write_stop<W: Sink, E: Sink>(
     cached: &mut CachedLine,
     console: &mut Console<'_, '_, W, E>,
 ) -> Result<(), Stop>
-    requires few { length asked.now.text.now ≤ MAX_LINE_LEN }
     requires short { length last.now ≤ 63 }
     requires scalar_values { AreScalarValues last.now }
     requires begun { IsBegun last.now cached.old }
@@ -342,7 +340,6 @@ pub(crate) fn write_end<W: Sink, E: Sink>(
     count: u64,
     console: &mut Console<'_, '_, W, E>,
 ) -> Result<(), Stop>
-    requires few { length asked.now.text.now ≤ MAX_LINE_LEN }
     ensures written { Emits console.old console.new
         (said_to asked.now (BlockEnd count None) ∷ []) result }
     ensures why { IfErr result (λ why. why ≡ stop.Output) }

@@ -40,7 +40,6 @@ pub(crate) trait PointAnswering {
         console: &mut Console<'_, '_, W, E>,
     ) -> Served
         requires ready { is_ready self.now }
-        requires few { length asked.now.text.now ≤ MAX_LINE_LEN }
         requires few_points { length points.now ≤ MAX_LINE_LEN }
         requires scalar_values { AreScalarValues points.now }
         ensures written { Emits console.old console.new

@@ -49,7 +49,6 @@ pub(crate) fn write_collisions<W: Sink, E: Sink>(
     registered: &RegisteredLabels<'_>,
     console: &mut Console<'_, '_, W, E>,
 ) -> Result<(), Stop>
-    requires few { length asked.now.text.now ≤ MAX_LINE_LEN }
     requires limits { IsWithinLimits options.now }
     requires near { IsNearOf near.decisions.table.now near.decisions.label.now near }
     requires good { IsGood options.now near.decisions.table.now near.decisions.label.now }
@@ -120,7 +119,6 @@ fn write_found<W: Sink, E: Sink>(
     found: &[Collision],
     console: &mut Console<'_, '_, W, E>,
 ) -> Result<(), Stop>
-    requires few { length asked.now.text.now ≤ MAX_LINE_LEN }
     requires short { length label.now ≤ 63 }
     requires scalar_values { AreScalarValues label.now }
     requires all { (properties : Properties) × AreRegistered properties registered.now }
@@ -145,7 +143,6 @@ fn write_ending<W: Sink, E: Sink>(
     found: &[Collision],
     console: &mut Console<'_, '_, W, E>,
 ) -> Result<(), Stop>
-    requires few { length asked.now.text.now ≤ MAX_LINE_LEN }
     requires short { length label.now ≤ 63 }
     requires scalar_values { AreScalarValues label.now }
     requires all { (properties : Properties) × AreRegistered properties registered.now }
@@ -227,7 +224,6 @@ fn write_end_of<W: Sink, E: Sink>(
     found: &[Collision],
     console: &mut Console<'_, '_, W, E>,
 ) -> Result<(), Stop>
-    requires few { length asked.now.text.now ≤ MAX_LINE_LEN }
     requires all { (properties : Properties) × AreRegistered properties registered.now }
     requires within { AreWithin registered.now found.now }
     ensures written { Emits console.old console.new
@@ -255,7 +251,6 @@ fn write_named_end<W: Sink, E: Sink>(
     found: &[Collision],
     console: &mut Console<'_, '_, W, E>,
 ) -> Result<(), Stop>
-    requires few { length asked.now.text.now ≤ MAX_LINE_LEN }
     requires short { length label.now ≤ 63 }
     requires scalar_values { AreScalarValues label.now }
     requires all { (properties : Properties) × AreRegistered properties registered.now }

@@ -18,7 +18,7 @@ use answer_json::Input;
 use arrayvec::ArrayVec;
 use idn_class::Properties;
 use idn_label::{MARK, MAX_U_LABEL_LEN, Standing, zone_label_utf8};
-use idn_text::{MAX_LINE_LEN, Refusal, Sink};
+use idn_text::{Refusal, Sink};
 use idn2_options::Form;
 use idn2_output::{Console, Object, Stop, append};
 use std::alloc::Global;
@@ -69,7 +69,6 @@ fn reply_label<W: Sink, E: Sink>(
     standing: Standing,
     console: &mut Console<'_, '_, W, E>,
 ) -> Result<(), Stop>
-    requires few { length asked.now.text.now ≤ MAX_LINE_LEN }
     requires short { length label.now ≤ MAX_U_LABEL_LEN }
     ensures written { Emits console.old console.new
         (said_to asked.now (zone_said standing label.now) ∷ []) result }
@@ -106,7 +105,6 @@ fn reply_object<W: Sink, E: Sink>(
     standing: Standing,
     console: &mut Console<'_, '_, W, E>,
 ) -> Result<(), Stop>
-    requires few { length asked.text.now ≤ MAX_LINE_LEN }
     requires short { length label.now ≤ MAX_U_LABEL_LEN }
     ensures written { Emits console.old console.new
         (Output (line_of (object_to asked.entry (zone_said standing label.now))) ∷ []) result }

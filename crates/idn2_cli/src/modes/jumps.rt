@@ -28,7 +28,7 @@ use crate::modes::search::{Near, Search};
 use answer_json::{Input, Regards};
 use idn_class::Properties;
 use idn_label::test_label_by;
-use idn_text::{MAX_LINE_LEN, Sink};
+use idn_text::Sink;
 use idn2_options::Form;
 use idn2_output::{Console, Object, Stop};
 use idn2_refusals::{label_of_request, parts_of};
@@ -72,7 +72,6 @@ fn answer_least<W: Sink, E: Sink>(
     console: &mut Console<'_, '_, W, E>,
 ) -> Served
     requires ready { IsReady mode.now.search.now }
-    requires few { length asked.now.text.now ≤ MAX_LINE_LEN }
     requires scalar_values { AreScalarValues points.now }
     requires registrable { IsRegistrable mode.now.properties (requested_label points.now) }
     ensures written { Emits console.old console.new (reply_to asked.now
@@ -98,7 +97,6 @@ fn write_least<W: Sink, E: Sink>(
     text: &[u32],
     console: &mut Console<'_, '_, W, E>,
 ) -> Result<(), Stop>
-    requires few { length asked.now.text.now ≤ MAX_LINE_LEN }
     requires near { IsNearOf near.decisions.table.now near.decisions.label.now near }
     requires sound { IsSound near.decisions.table.now }
     requires registrable { IsRegistrable mode.now.properties near.decisions.label.now }
@@ -126,7 +124,6 @@ fn write_label<W: Sink, E: Sink>(
     regards: Regards,
     console: &mut Console<'_, '_, W, E>,
 ) -> Result<(), Stop>
-    requires few { length asked.now.text.now ≤ MAX_LINE_LEN }
     requires short { length label.now ≤ 63 }
     requires scalar_values { AreScalarValues label.now }
     ensures written { Emits console.old console.new
@@ -153,7 +150,6 @@ fn write_none<W: Sink, E: Sink>(
     asked: &Asked<'_>,
     console: &mut Console<'_, '_, W, E>,
 ) -> Result<(), Stop>
-    requires few { length asked.now.text.now ≤ MAX_LINE_LEN }
     ensures written { Emits console.old console.new
         (said_to asked.now (Least None) ∷ []) result }
     ensures why { IfErr result (λ why. why ≡ stop.Output) }

@@ -1,6 +1,6 @@
 //! The variants of a label under a table.
 
-ghost use Rattle.std.specs.Prelude.{◌≡◌, ◌≤◌, None, true, length};
+ghost use Rattle.std.specs.Prelude.{◌≡◌, None, true};
 ghost use Rattle.idn_text.specs.Points.{AreScalarValues};
 ghost use Rattle.idn_label.specs.FirstFault.{IsRegistrable};
 ghost use Rattle.valid_labels.specs.Validity.{IsSound};
@@ -22,7 +22,7 @@ use crate::modes::code_points::PointAnswering;
 use crate::modes::dispositions::Dispositions;
 use crate::modes::label_dispositions::LabelDispositions;
 use idn_label::test_label_by;
-use idn_text::{MAX_LINE_LEN, Sink};
+use idn_text::Sink;
 use idn2_options::Options;
 use idn2_output::{Console, Stop};
 use std::alloc::Global;
@@ -76,7 +76,6 @@ fn list<W: Sink, E: Sink>(
     requires ruling { mode.now.ruling.now ≡ ruling_of mode.now.table.now }
     requires dispositions { AreOfTable mode.now.table.now mode.now.dispositions.now }
     requires limits { IsWithinLimits mode.now.options.now }
-    requires few { length asked.now.text.now ≤ MAX_LINE_LEN }
     requires scalar_values { AreScalarValues label.now }
     requires registrable { IsRegistrable mode.now.options.now.properties label.now }
     ensures written { Emits console.old console.new

@@ -13,7 +13,7 @@ object-requires g c =
     let most = length-utf8_of-le c.args.label.now in
     let count = ap length (c.as_slice-in-Json.ensures ∙ c.begin.ensures.line) in
     let input = c.of-input.ensures.len in
-    (omega (arith, input, c.requires.few), omega (arith, c.requires.short, most, count))
+    (omega (arith, input, c.args.asked.now.few), omega (arith, c.requires.short, most, count))
 
 pub append-requires-in-Plain : goal.append-requires-in-Plain
 append-requires-in-Plain g c =

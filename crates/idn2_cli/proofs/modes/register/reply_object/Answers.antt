@@ -52,7 +52,7 @@ object-requires g c =
     let other = by_octets c.args.properties text c.args.a_label.now c.requires.registered false (sym c.has_ace_prefix.ensures ∙ c.if-has_ace_prefix.false) in
     let registrable = registered-registrable c.args.properties points other (registered-points c.args.properties text points is ok) in
     let short : length text ≤ 252 = subst (λ (l : List ℕ). length l ≤ 252) is.encoded (registrable-octets c.args.properties points registrable) in
-    (omega (arith, c.of_utf8-input.ensures.len, c.requires.few), short, c.requires.short)
+    (omega (arith, c.of_utf8-input.ensures.len, c.args.asked.few), short, c.requires.short)
 
 pub returns-clause-written : goal.returns-clause-written
 returns-clause-written g c =
