@@ -18,7 +18,7 @@ _idn2_registry() {
         check) options+=" --holder --variants" ;;
         register) options+=" --holder" ;;
         variants) options+=" --table --page --after" ;;
-        load) options+=" --rest --resume --scheduler" ;;
+        load) options+=" --old --rest --resume --scheduler" ;;
         audit) options+=" --since --resume --scheduler" ;;
         change) options+=" --resume --scheduler" ;;
         publish) options+=" --as --meta" ;;

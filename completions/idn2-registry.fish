@@ -28,6 +28,7 @@ __idn2_registry_of variants -l after -x -d 'Only those after a text'
 __idn2_registry_of 'load audit change' -l resume -d 'Go on where a run was stopped'
 __idn2_registry_of 'load audit change' -l scheduler -x -d 'Let a cluster do it'
 __idn2_registry_of audit -l since -r -F -d 'Tell only what is new'
+__idn2_registry_of load -l old -d 'Take labels of older rules, too'
 __idn2_registry_of load -l rest -d 'Load the others'
 __idn2_registry_of 'load change compare join publish convert' -F
 __idn2_registry_of publish -l as -x -a 'xml rfc4290 html' -d 'In which form'

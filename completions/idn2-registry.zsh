@@ -22,7 +22,7 @@ case $words[2] in
     register) _arguments -S : $common '--holder[who asks]:HOLDER: ' '*:LABEL: ' ;;
     variants) _arguments -S : $common '--table[the table]:NAME: ' '--page[at most so many]:SIZE: ' \
         '--after[only those after a text]:TEXT: ' '*:LABEL: ' ;;
-    load) _arguments -S : $common $long '--rest[load the others]' '*:FILE:_files' ;;
+    load) _arguments -S : $common $long '--old[take labels of older rules, too]' '--rest[load the others]' '*:FILE:_files' ;;
     audit) _arguments -S : $common $long '--since[tell only what is new]:FILE:_files' ;;
     change) _arguments -S : $common $long '*:NAME=FILE:_files' ;;
     compare) _arguments -S : $common '*:TABLE:_files' ;;

@@ -86,9 +86,9 @@ class Refusal:
 
     @classmethod
     def read(cls, told: Mapping[str, Any]) -> "Refusal":
-        """The refusal of an object of the program."""
+        """The refusal that an object says."""
         details = {name: value for name, value in told.items() if name not in ("number", "text")}
-        return cls(told["number"], told["text"], details)
+        return cls(told.get("number"), told["text"], details)
 
     @classmethod
     def of_control_character(cls, label: str) -> "Refusal | None":

@@ -11,8 +11,10 @@ from .collisions import Collisions, pairs_in, refusals_in
 from .configuration import Configuration
 from .faults import Unknown
 from .holdings import Holdings
+from .old_labels import MARK, Barred
 from .output import Output
-from .program import HeldFile, Program, WrongRegistered
+from .program import HeldFile, Program
+from .register import text_of
 from .since import Earlier
 from .tables import Table, check_for_collisions, read_table
 from .words import counted, registered_words, shown
@@ -30,10 +32,34 @@ class TestTask:
     program: Program
 
     def done(self, part: bytes) -> bytes:
-        """Their refusals."""
-        output, refused = self.program.plain(["--register"], part)
-        check_answered(output.count(b"\n") + len(refused), part.count(b"\n"))
-        return json.dumps(causes(self.program, (["--register"], []), labels_at(part, refused))).encode()
+        """Their refusals, and which of them are of older rules."""
+        found = Barred.among(self.program, part)
+        return json.dumps([found.refusals, found.old]).encode()
+
+
+@dataclass(frozen=True)
+class Tested:
+    """The labels of a register: those that may be registered, each on a line; with them those of older rules, as a file of
+    registered labels has them; and why all others than the first are refused."""
+
+    valid: bytes
+    registered: bytes
+    refused: Refused
+
+    @classmethod
+    def read(cls, program: Program, holdings: Holdings, means: Means, name: str) -> "Tested":
+        """All of them are tested."""
+        refused: Refused = {}
+        old: set[str] = set()
+        for result in results(means, f"{name}-test", TestTask(program), parts_of(holdings.text), [program.state]):
+            refusals, marked = json.loads(result)
+            refused |= refusals
+            old.update(marked)
+        if not refused:
+            return cls(holdings.text, holdings.text, refused)
+        valid = text_of(label for label in holdings.labels if label not in refused)
+        registered = (label for label in holdings.labels if label in old or label not in refused)
+        return cls(valid, text_of(label + MARK if label in old else label for label in registered), refused)
 
 
 @dataclass(frozen=True)
@@ -145,31 +171,21 @@ def groups_of(pairs: Iterable[tuple[Each, Each]]) -> list[list[Each]]:
     return sorted(sorted(set(group)) for group in {id(group): group for group in joined.values()}.values())
 
 
-def findings(program: Program, admitting: Sequence[Table], zone: Table, holdings: Holdings, means: Means,
+def findings(program: Program, admitting: Sequence[Table], zone: Table, tested: Tested, means: Means,
              name: str) -> Findings:
-    """All that is wrong with the labels of a register under some tables. The program reads no registered labels with one that
-    may not be registered. Only where it says so, each label is tested alone."""
+    """All that is wrong with the labels of a register under some tables. Those that may be registered are asked, and what they
+    collide with may be a label of older rules, too."""
     check_for_collisions(zone, program)
-    try:
-        return findings_among(program, admitting, zone, holdings.text, means, name)
-    except WrongRegistered:
-        invalid = refusals(TestTask(program), holdings.text, means, f"{name}-test", [program.state])
-    text = lines_of(label.encode() for label in holdings.labels if label not in invalid)
-    found = findings_among(program, admitting, zone, text, means, f"{name}-rest")
-    return Findings(invalid | found.invalid, found.pairs)
-
-
-def findings_among(program: Program, admitting: Sequence[Table], zone: Table, text: bytes, means: Means, name: str) -> Findings:
-    """The same of labels that may be registered."""
-    parts = parts_of(text, means.lines_of_a_part(text.count(b"\n")))
-    told = [json.loads(result) for result in
-            results(means, name, AuditTask(program, zone, text), parts, [program.state, zone.data])]
+    parts = parts_of(tested.valid, means.lines_of_a_part(tested.valid.count(b"\n")))
+    task = AuditTask(program, zone, tested.registered)
+    told = [json.loads(result) for result in results(means, name, task, parts, [program.state, zone.data, task.registered])]
     pairs = [(first, second) for each in told for first, second in each["pairs"]]
     if list(admitting) == [zone]:
         refused = [label.encode() for each in told for label in each["refused"]]
-        return Findings(causes(program, admission_words(zone), refused), pairs)
+        return Findings(tested.refused | causes(program, admission_words(zone), refused), pairs)
     state = [program.state, *(table.data for table in admitting)]
-    return Findings(refusals(AdmissionTask(program, tuple(admitting)), text, means, f"{name}-tables", state), pairs)
+    not_admitted = refusals(AdmissionTask(program, tuple(admitting)), tested.valid, means, f"{name}-tables", state)
+    return Findings(tested.refused | not_admitted, pairs)
 
 
 def refusals(task: Task, text: bytes, means: Means, name: str, state: Sequence[bytes]) -> Refused:
@@ -187,7 +203,8 @@ def audit(configuration: Configuration, program: Program, holdings: Holdings, me
     earlier = Earlier.read(since)
     tables = {name: read_table(name, path, program) for name, path in configuration.tables.items()}
     admitting = [tables[name] for name in configuration.admitting]
-    found = findings(program, admitting, tables[configuration.zone], holdings, means, "audit")
+    tested = Tested.read(program, holdings, means, "audit")
+    found = findings(program, admitting, tables[configuration.zone], tested, means, "audit")
     groups = found.groups()
     new_labels = [label for label in sorted(found.invalid) if not earlier.knows(label)]
     new_groups = [group for group in groups if not earlier.knows_group(group)]

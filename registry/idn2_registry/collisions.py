@@ -69,6 +69,10 @@ class Collisions:
             raise Unknown(f"the program gave another answer than it should: {refusal}")
         return refusal
 
+    async def admits(self, label: str, questions: Questions) -> bool:
+        """Whether a registered label may be registered today, and the table admits it."""
+        return "refusal" not in only(await questions.ask(self._jump, label.encode()), "ulabel")
+
     async def is_offered(self, label: str, registered: str, questions: Questions) -> bool:
         """Whether the holder of a registered label may have the label, too: it is one of its allocatable variants."""
         near = await self._first_near(label, registered, questions)

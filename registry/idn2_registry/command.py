@@ -145,7 +145,8 @@ def holdings(configuration: Configuration) -> Holdings:
 def load(words: Words, output: Output) -> None:
     """Puts the labels of a file into the register, all or none. Each line is a label, or a label, a tab and a holder."""
     configuration = read_configuration(words.config)
-    load_file(configuration, program(words, configuration), means(words, configuration), words.file, words.rest, output)
+    load_file(configuration, program(words, configuration), means(words, configuration), words.file, words.old, words.rest,
+              output)
 
 
 def dump(words: Words, output: Output) -> None:
@@ -240,6 +241,7 @@ def parser() -> argparse.ArgumentParser:
         long.add_argument("--resume", action="store_true", help="go on where a run was stopped")
         long.add_argument("--scheduler", metavar="ADDRESS", help="let a cluster of Dask do it")
     jobs.choices["load"].add_argument("file", metavar="FILE")
+    jobs.choices["load"].add_argument("--old", action="store_true", help="take labels of older rules, too")
     jobs.choices["load"].add_argument("--rest", action="store_true", help="load the others if lines are refused")
     jobs.choices["audit"].add_argument("--since", metavar="FILE", help="tell only what an earlier output of it doesn't have")
     jobs.choices["change"].add_argument("new", metavar="NAME=FILE", help="a name in the configuration, and its new table")

@@ -8,6 +8,7 @@ from .collisions import Collisions
 from .configuration import Configuration
 from .faults import Unknown
 from .join import lacking
+from .old_labels import alabel_of
 from .processes import Pool, Question, Questions, only
 from .program import Program
 from .register import Transaction
@@ -104,16 +105,16 @@ class Tables:
         return replace(tested, status=Status.AVAILABLE)
 
     async def alabel_of(self, ulabel: str, questions: Questions) -> str:
-        """The A-label of a registered label; the label itself if it may not be registered any more."""
-        alabel: str = only(await questions.ask(REGISTER, ulabel.encode()), "alabel").get("alabel", ulabel)
-        return alabel
+        """The A-label of a registered label."""
+        return alabel_of(ulabel, only(await questions.ask(REGISTER, ulabel.encode()), "alabel"))
 
     async def is_offered(self, tested: Answer, registered: str, questions: Questions) -> bool:
         """Whether the holder of a registered label may have an admitted label, too: under each table that admits both,
         and one does."""
         assert tested.ulabel is not None
         label = tested.ulabel
-        both = [self._asked[name] for name in tested.tables or () if not await self.refusal(name, registered, questions)]
+        asked = [self._asked[name] for name in tested.tables or ()]
+        both = [each for each in asked if await each.admits(registered, questions)]
         return bool(both) and all([await each.is_offered(label, registered, questions) for each in both])
 
 

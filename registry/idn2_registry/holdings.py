@@ -5,6 +5,7 @@ from dataclasses import dataclass
 from functools import cached_property
 
 from .answers import RegisteredLabel
+from .old_labels import alabel_of
 from .program import Program
 from .register import Register
 
@@ -41,5 +42,5 @@ class Holdings:
         """Labels with their A-labels and holders."""
         wanted = sorted(set(labels))
         told = program.tested([label.encode() for label in wanted])
-        return {label: RegisteredLabel(label, answer.get("alabel", label), self.holders.get(label))
+        return {label: RegisteredLabel(label, alabel_of(label, answer), self.holders.get(label))
                 for label, answer in zip(wanted, told, strict=True)}

@@ -8,9 +8,10 @@ from typing import Any
 from .answers import ExitStatus, Object, Refusal, label_member
 from .configuration import Configuration
 from .holdings import Holdings
+from .old_labels import barred, name_of
 from .output import Output
 from .program import Program
-from .register import NO_HOLDER, open_register
+from .register import NO_HOLDER, open_register, text_of
 from .words import counted
 from .work import Means, parts_of, results
 
@@ -23,14 +24,19 @@ class LoadTask:
     """What the lines of a file stand for."""
 
     program: Program
+    takes_old: bool
 
     def done(self, part: bytes) -> bytes:
         """For each line a label with its holder, or a refusal."""
         read: list[tuple[str | None, str | None, Object | None]] = [read_line(line) for line in part.split(b"\n")[:-1]]
         asked = [number for number, (label, _, _) in enumerate(read) if label is not None]
-        told = self.program.tested([(read[number][0] or "").encode("utf-8", "surrogateescape") for number in asked])
+        labels = [(read[number][0] or "").encode("utf-8", "surrogateescape") for number in asked]
+        told = self.program.decoded(labels) if self.takes_old else self.program.tested(labels)
         for number, answer in zip(asked, told, strict=True):
-            read[number] = (answer.get("ulabel"), read[number][1], answer.get("refusal"))
+            label = answer.get("unicode" if self.takes_old else "ulabel")
+            # What a name of older rules stands for may have one.
+            control = Refusal.of_control_character(label or "")
+            read[number] = (label, read[number][1], control.object() if control else answer.get("refusal"))
         return json.dumps(read).encode()
 
 
@@ -87,21 +93,23 @@ def registered_before(configuration: Configuration) -> dict[str, str | None]:
         register.close()
 
 
-def load(configuration: Configuration, program: Program, means: Means, path: str, with_rest: bool, output: Output) -> None:
-    """Loads a file: whole, or with the rest what isn't refused. Each refused line is told, with number and cause."""
+def load(configuration: Configuration, program: Program, means: Means, path: str, takes_old: bool, with_rest: bool,
+         output: Output) -> None:
+    """Loads a file, with labels of older rules if they are taken: whole, or with the rest what isn't refused. Each refused line
+    is told, with number and cause."""
     lines = lines_of(path)
     loading = Loading(registered_before(configuration), {}, [])
     number = 0
-    for result in results(means, "load", LoadTask(program), parts_of(b"".join(line + b"\n" for line in lines)),
-                          [program.state]):
+    task = LoadTask(program, takes_old)
+    for result in results(means, "load", task, parts_of(b"".join(line + b"\n" for line in lines)),
+                          [program.state, repr(takes_old).encode()]):
         for read in json.loads(result):
             number += 1
             loading.add(number, *read)
     for number, refusal in loading.refused:
         line = lines[number - 1].decode("utf-8", "surrogateescape")
         told = {"line": number, **label_member(line.partition(TAB)[0]), "refusal": refusal}
-        cause = Refusal(refusal.get("number"), refusal["text"], refusal)
-        output.fact(told, f"{path}: line {number}: {cause}", ExitStatus.NO)
+        output.fact(told, f"{path}: line {number}: {Refusal.read(refusal)}", ExitStatus.NO)
     is_loaded = with_rest or not loading.refused
     if is_loaded:
         register = open_register(configuration, must_be=False)
@@ -118,14 +126,15 @@ def dump(holdings: Holdings, program: Program, as_json: bool) -> None:
     """Writes all labels in label order, each with its holder after a tab; or as objects."""
     for start in range(0, len(holdings.labels), DUMPED):
         labels = holdings.labels[start:start + DUMPED]
-        Output.line("\n".join(dumped(holdings, labels, program) if as_json else plain(holdings, labels)))
+        Output.line("\n".join((dumped if as_json else plain)(holdings, labels, program)))
 
 
-def plain(holdings: Holdings, labels: list[str]) -> Iterator[str]:
-    """The lines that load takes."""
+def plain(holdings: Holdings, labels: list[str], program: Program) -> Iterator[str]:
+    """The lines that load takes; with the name in the zone of what may not be registered today."""
+    names = {label: name_of(label) for label in barred(program, text_of(labels))}
     for label in labels:
-        holder = holdings.holders.get(label)
-        yield label if holder is None else f"{label}\t{holder}"
+        name, holder = names.get(label, label), holdings.holders.get(label)
+        yield name if holder is None else f"{name}\t{holder}"
 
 
 def dumped(holdings: Holdings, labels: list[str], program: Program) -> Iterator[str]:

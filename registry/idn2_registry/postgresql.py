@@ -22,7 +22,7 @@ except ImportError as error:
                    "/usr/bin/python3, and pip install psycopg for any other") from error
 
 TABLE = """create table if not exists registered (
-    label text collate "C" primary key check (label not like 'xn--%'),
+    label text collate "C" primary key,
     holder text
 )"""
 # So many labels are read at once.

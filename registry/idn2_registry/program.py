@@ -18,9 +18,8 @@ from .faults import Unknown, Unusable
 # Under which name the program is installed beside this one; `make install` writes another name here if it has one.
 NAME_FILE = "program_name.txt"
 ANSWERED = (0, 1)
-# The messages of a line that is refused, and of registered labels that are.
+# The message of a line that is refused.
 REFUSED = re.compile(rb"^idn2: line (\d+): \d+ .*\n", re.MULTILINE)
-WRONG_REGISTERED = b"idn2: registered line "
 OPTIONS: dict[LabelRules, tuple[str, ...]] = {LabelRules.PROFILE: (), LabelRules.STANDARD: ("--standard",)}
 
 
@@ -86,7 +85,15 @@ class Program:
 
     def tested(self, labels: Sequence[bytes]) -> list[Object]:
         """What it says of labels that are to be registered."""
-        output = self.answered(["--register"], b"".join(label + b"\n" for label in labels))
+        return self._told(["--register"], labels)
+
+    def decoded(self, names: Sequence[bytes]) -> list[Object]:
+        """Which labels of today or of older rules it says that names of a zone stand for."""
+        return self._told(["--decode", "--old"], names)
+
+    def _told(self, words: Sequence[str], labels: Sequence[bytes]) -> list[Object]:
+        """The object that answers each label."""
+        output = self.answered(words, b"".join(label + b"\n" for label in labels))
         told = [json.loads(line) for line in output.split(b"\n")[:-1]]
         if len(told) != len(labels):
             raise Unknown("the program didn't answer each label")
@@ -94,18 +101,12 @@ class Program:
 
     def plain(self, words: Sequence[str], given: bytes, files: Sequence[int] = ()) -> tuple[bytes, list[int]]:
         """The output, without objects, of a run that answered each line, and the numbers of the lines that it refused. Raises
-        WrongRegistered where it refuses the registered labels, and Unknown for any other."""
+        Unknown for any other."""
         done = self.run(words, given, files, None)
-        if done.stderr.startswith(WRONG_REGISTERED):
-            raise WrongRegistered(ended(done.returncode, done.stderr))
         refused = [int(line) for line in REFUSED.findall(done.stderr)]
         if done.returncode not in ANSWERED or len(refused) != done.stderr.count(b"\n"):
             raise Unknown(ended(done.returncode, done.stderr))
         return done.stdout, refused
-
-
-class WrongRegistered(Unknown):
-    """A label of the registered ones may not be registered, so that no line was answered."""
 
 
 def ended(status: int, messages: bytes) -> str:

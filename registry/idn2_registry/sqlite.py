@@ -11,7 +11,7 @@ from .idle import Idle
 from .register import MISSING, NO_HOLDERS, Register, Result, Row, Transaction, checked_lines, checked_row
 
 TABLE = """create table if not exists registered (
-    label text primary key check (typeof(label) = 'text') check (label not like 'xn--%'),
+    label text primary key check (typeof(label) = 'text'),
     holder text check (holder is null or typeof(holder) = 'text')
 ) without rowid"""
 FIRST = "select label, holder from registered where label >= ? collate binary order by label collate binary limit 1"

@@ -16,7 +16,7 @@ def counted(number: int, one: str, several: str | None = None) -> str:
 def registered_words(label: RegisteredLabel) -> str:
     """A registered label with its holder."""
     held = "" if label.holder is None else f", held by {shown(label.holder)}"
-    return f"{shown(label.ulabel)} ({label.alabel}{held})" if label.ulabel != label.alabel else f"{label.ulabel}{held}"
+    return f"{shown(label.ulabel)} ({label.alabel}{held})" if label.ulabel != label.alabel else f"{shown(label.ulabel)}{held}"
 
 
 def words_of(answer: Answer) -> str:

@@ -12,7 +12,6 @@ from pathlib import Path
 from typing import Protocol
 
 from .faults import Unusable
-from .program import WrongRegistered
 
 # Each part has so many lines.
 PART_LINES = 100_000
@@ -123,10 +122,6 @@ def results(means: Means, name: str, task: Task, parts: Sequence[bytes], state: 
             kept.keep(number, result)
             found[number] = result
             progress.add(lines[number])
-    except WrongRegistered:
-        # It is done in another way.
-        kept.remove()
-        raise
     finally:
         progress.close()
     kept.remove()

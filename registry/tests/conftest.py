@@ -14,7 +14,7 @@ ROOT = PACKAGE.parent
 PROGRAM = ROOT / "crates" / "idn2" / "out" / "idn2"
 TABLES = ROOT / "tables"
 LIMIT = 60
-sys.path[:0] = [str(PACKAGE), str(ROOT / "tests")]
+sys.path[:0] = [str(PACKAGE), str(ROOT / "tests"), str(ROOT / "conformance")]
 
 import postgresql  # noqa: E402
 

@@ -59,7 +59,7 @@ def test_audit_tells_invalid_labels_and_groups(place: Place, monkeypatch: pytest
 
 
 def test_audit_tells_labels_that_may_not_be_registered(place: Place, monkeypatch: pytest.MonkeyPatch) -> None:
-    """The program reads no registered labels with such a one, so that each is tested alone, and the rest is asked."""
+    """The others are asked without those that no name of a zone stands for."""
     place.load("haus", "sss\tH1", "sß\tH2", "zoo")
     with sqlite3.connect(place.folder / "register.db") as database:
         database.execute("insert into registered (label) values ('Maus')")
@@ -247,7 +247,7 @@ def test_shows_progress_on_a_terminal_alone(place: Place) -> None:
     os.close(master)
     assert process.returncode == 0 and "audit [####" in shown and "2 of 2" in shown and "s left" in shown, shown
     # It is there before the first part is done.
-    assert shown.startswith(f"\raudit [{' ' * work.BAR}] 0 of 2 \r"), shown
+    assert shown.startswith(f"\raudit-test [{' ' * work.BAR}] 0 of 2 \r"), shown
 
 
 def test_what_was_done_before_has_no_part_in_the_rate(monkeypatch: pytest.MonkeyPatch) -> None:
