@@ -23,7 +23,6 @@ from pathlib import Path
 from xml.parsers import expat
 
 ROOT = Path(__file__).resolve().parent.parent
-CRATES = ("idn_text", "idn_class", "label_patterns", "ruleset_text", "xml_text")
 LEVELS = 64
 
 PROGRAM = """//! Reads lines of hexadecimal digits as documents, and prints a sum of what each says, or where it stops.
@@ -168,13 +167,22 @@ def changed(rng: random.Random, text: bytes) -> bytes:
     return text
 
 
+def lines_of_crates(name: str, lines: dict[str, str]) -> dict[str, str]:
+    """Of the lines of crates.txt that of a crate, and those of all crates that it uses."""
+    if name not in lines:
+        return {}
+    below = [lines_of_crates(each, lines) for each in lines[name].partition(":")[2].split()]
+    return {other: line for each in below for other, line in each.items()} | {name: lines[name]}
+
+
 def build(folder: Path) -> list[str]:
     """A program in the folder that reads documents, and the command that runs it."""
-    for crate in CRATES:
+    lines = {line.partition(":")[0]: line for line in (ROOT / "crates.txt").read_text().splitlines()}
+    used = lines_of_crates("xml_text", lines)
+    for crate in used:
         ignored = shutil.ignore_patterns("out", "planted", "wrong-bodies", "must-fail")
         shutil.copytree(ROOT / "crates" / crate, folder / "crates" / crate, ignore=ignored)
-    lines = [line for line in (ROOT / "crates.txt").read_text().splitlines() if line.split(":")[0] in CRATES]
-    (folder / "crates.txt").write_text("\n".join([*lines, "xml_documents: xml_text", ""]))
+    (folder / "crates.txt").write_text("\n".join([*used.values(), "xml_documents: xml_text", ""]))
     source = folder / "crates" / "xml_documents" / "src"
     source.mkdir(parents=True)
     (source / "main.rt").write_text(PROGRAM)

@@ -19,8 +19,9 @@ from program import ROOT
 sys.path += [os.path.join(ROOT, folder) for folder in ("conformance", "registry")]
 
 import type_rows
-from explained import (DECODE, GERMAN, LOOKUP, MORE_ROWS, REGISTER, REGISTERED_ROWS, ROWS as CAUSES, SOURCES, TABLE_ROWS,
-                       VERSION_3, given_of, words_of)
+from explained import given_of, words_of
+from explained_rows import (DECODE, GERMAN, LOOKUP, MORE_ROWS, REGISTER, REGISTERED_ROWS, ROWS as CAUSES, SOURCES, TABLE_ROWS,
+                            VERSION_3)
 from program import (LIMIT, PROGRAM, TABLES, expect, is_installed, is_there, python_with, run, run_tests, table_file,
                      text_of as text_of_file)
 

@@ -18,7 +18,7 @@ from program import LIMIT, PROGRAM, ROOT, TABLES, expect, is_installed, is_there
 
 sys.path += [os.path.join(ROOT, folder) for folder in ("conformance", "registry", "tables")]
 
-import explained
+import explained_rows
 import quoted
 import rules
 from kit_data import Kit
@@ -245,11 +245,11 @@ def causes_of_the_manual():
 
 
 def lists_each_form_of_a_cause(folder):
-    """Each cause of the rows of explained.py has a form under its number in the manual page, and each form is that of a row. Each
-    line of RFC 5892 that bars a code point stands there, too."""
-    forms, told = list(causes_of_the_manual()), set()
-    rulesets = [("41", cause) for _, _, cause in explained.RULESET_ROWS]
-    for *_, text, cause in explained.ROWS + explained.MORE_ROWS + rulesets + explained.REGISTERED_ROWS + explained.TABLE_ROWS:
+    """Each cause of the rows of explained_rows.py has a form under its number in the manual page, and each form is that of a
+    row. Each line of RFC 5892 that bars a code point stands there, too."""
+    forms, told, rows = list(causes_of_the_manual()), set(), explained_rows
+    rulesets = [("41", cause) for _, _, cause in rows.RULESET_ROWS]
+    for *_, text, cause in rows.ROWS + rows.MORE_ROWS + rulesets + rows.REGISTERED_ROWS + rows.TABLE_ROWS:
         if cause is not None:
             cause = re.sub(r"^(label \d+, )?decoded: |^label \d+: (?!\d+ octets)", "", cause)
             found = {(number, shown) for number, shown, pattern in forms if number == text.split()[0] and re.fullmatch(pattern, cause)}
