@@ -13,7 +13,8 @@ use Rattle.variant_table.specs.Texts.{IsTextOf, IsFaultOf, IsLineOfEntry}
 use Rattle.variant_table.specs.Faults.{LineFault, table_fault as fault_of_line}
 use Rattle.variant_list.specs.Reversed.{IsCrowded, IsCrowdedAt}
 use Rattle.idn2_options.specs.declared.command_line.mode.Mode.{Mode}
-use Rattle.idn2_options.specs.declared.command_line.mode.Mode.TheVariants.{Lookup, Register, Decode, DecodeOld, Variants, Jump, CheckTable}
+use Rattle.idn2_options.specs.declared.command_line.mode.Mode.TheVariants.{Lookup, Register, Decode, DecodeOld}
+use Rattle.idn2_options.specs.declared.command_line.mode.Mode.TheVariants.{Variants, Jump, CheckTable}
 use Rattle.idn_text.specs.Lines.{Numbered}
 use Rattle.variant_table.specs.Differences.{differences_of, AreDifferencesOf}
 use Rattle.variant_table.specs.Gaps.{gaps_of, AreGapsOf}
@@ -21,7 +22,8 @@ use Rattle.variant_table.specs.IdleTypes.{idle_types}
 use Rattle.answer_json.specs.declared.checked.PairFinding.TheVariants.{Missing, Differs}
 use Rattle.idn2_options.specs.Settings.{Settings, tells_causes}
 use Rattle.idn2_answers.specs.Answers.{LineAnswer, mode_answer, line_answer}
-use Rattle.idn2_refusals.specs.Explained.{Unexplained, ByLabel, ByName, ByQuery, ByTable, ByRequest, if_wanted, Explained, body_cause}
+use Rattle.idn2_refusals.specs.Explained.{Unexplained, ByLabel, ByName, ByQuery, ByTable, ByRequest, if_wanted}
+use Rattle.idn2_refusals.specs.Explained.{Explained, body_cause}
 use Rattle.idn2_refusals.specs.TableCauses.{fault_cause, told_if}
 use Rattle.idn2_refusals.specs.Messages.{refusal_piece, fault_piece}
 use Rattle.idn2_output.specs.OutputLines.{OutputLine, Output, outputs}
@@ -77,8 +79,8 @@ pub record IsCrowdedIn (properties : Properties) (notation : Notation) (text : L
   pub source : IsCrowdedAt table.entries entry
   pub here : IsLineOfEntry notation text table entry line
 
--- the text spells this table, by which collisions are searched; or it has this first fault, or spells a table by which they
--- aren't: that is told where the source is one too many
+-- the text spells this table, by which collisions are searched; or it has this first fault, or spells a table by which
+-- they aren't: that is told where the source is one too many
 abbrev pub IsSearchedAs : Properties → Notation → List ℕ → TableGiven → Type 0
 IsSearchedAs properties notation text (Ok table) = IsTextOf properties notation text table × ¬ AreCrowded table.entries
 IsSearchedAs properties notation text (Err fault) =
@@ -103,16 +105,16 @@ IsTableOf o text table = IsTableFor o.mode o.registered o.properties o.notation 
 
 -- ---- what a run says
 
--- in answer to a line; that a line is refused, and its cause, if one is told; what is found in a table; the fault of a line of a
--- table, and its cause, if one is told
+-- in answer to a line; that a line is refused, and its cause, if one is told; what is found in a table; the fault of a
+-- line of a table, and its cause, if one is told
 pub data Statement : Type 0 where
   Says : (line : Numbered) (said : Said) → Statement
   Refuses : (line : Numbered) (refusal : Refusal) (cause : Option LineCause) → Statement
   Finds : (finding : Finding) → Statement
   Faults : (line : ℕ) (refusal : Refusal) (cause : Option LineCause) → Statement
 
--- a statement as it is written: answers and what is found go to the output in either form; a refusal is a message, or an object of
--- the output
+-- a statement as it is written: answers and what is found go to the output in either form; a refusal is a message, or
+-- an object of the output
 abbrev pub output_line_in : Form → Statement → OutputLine
 output_line_in form (Says line said) = Output (said_text form line said)
 output_line_in form (Finds finding) = Output (finding_text form finding)
@@ -147,7 +149,8 @@ lines_statements how answer lines = flat_map (λ line. answer_statements how lin
 -- the output lines of an answer, or of a refusal, as they are written
 abbrev pub output_for : Form → Explained → Numbered → LineAnswer → List OutputLine
 output_for form how line (Ok said) = outputs (said_text form line) said
-output_for form how line (Err refusal) = output_line_in form (Refuses line refusal (body_cause how line.body refusal)) ∷ []
+output_for form how line (Err refusal) =
+    output_line_in form (Refuses line refusal (body_cause how line.body refusal)) ∷ []
 
 -- the output lines of a line
 abbrev pub line_output : Form → Explained → (List ℕ → LineAnswer) → Numbered → List OutputLine

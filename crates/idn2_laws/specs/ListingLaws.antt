@@ -1,5 +1,6 @@
 -- Laws of the labels that are listed.
-use Rattle.std.specs.Prelude.{◌≡◌, ◌≢◌, ◌↔◌, ◌⊎◌, ℕ, true, List, [], ◌∷◌, ◌++◌, length, Option, Some, None, Ok, Err, Contains}
+use Rattle.std.specs.Prelude.{◌≡◌, ◌≢◌, ◌↔◌, ◌⊎◌, ℕ, true, List, [], ◌∷◌, ◌++◌, length, Option, Some, None, Ok, Err}
+use Rattle.std.specs.Prelude.{Contains}
 use Rattle.std.specs.List.{AllByRecursion, slice_get}
 use Rattle.idn_class.specs.declared.properties.Properties.{Properties}
 use Rattle.idn_text.specs.Lines.{Numbered, raw_lines}
@@ -43,7 +44,8 @@ pub record IsAsked (o : Settings) (table : TableValue) (label : List ℕ) : Type
 -- such a label is among its own variants, under a ruleset with the disposition that its own sources give, which is the
 -- only one; and in versions 1 and 2 it may be allocated
 pub record AdmittedAreListed : Type 0 where
-  pub listed : (o : Settings) (table : TableValue) (label : List ℕ) → IsAsked o table label → IsListed o table label label
+  pub listed : (o : Settings) (table : TableValue) (label : List ℕ) → IsAsked o table label →
+      IsListed o table label label
   pub disposed : (table : TableValue) (label : List ℕ) (d : Outcome) → IsSound table → label ≢ [] →
       table.version ≡ Three → IsAdmitted table label → IsOwnDisposition table label d →
       disposition table label label ≡ Some (allocation (is_allocatable d))
@@ -97,10 +99,14 @@ pub record IsSingle (table : TableValue) : Type 0 where
 -- table and over that ruleset, in each mode and with the same status: the same listings, gaps, refusals and causes; and
 -- the same labels are refused, none of them as not valid, and the same are allocatable
 pub record RulesetsSayTheSame : Type 0 where
-  pub read : (properties : Properties) (text other first second : List ℕ) (lines : List (List ℕ)) (table : TableValue) → table.version ≡ Two → raw_lines text ≡ first ∷ lines → raw_lines other ≡ second ∷ lines
-      → is_version_line Table first ≡ true → is_version_line Ruleset second ≡ true → IsTextOf properties Table text table → IsTextOf properties Ruleset other (as_ruleset table)
-  pub said : (o : Settings) (table : TableValue) (lines : List Numbered) → IsSingle table → statements o (Ok table) lines ≡ statements o (Ok (as_ruleset table)) lines
-  pub status : (o : Settings) (table : TableValue) (lines : List Numbered) → IsSingle table → status_of o (Ok table) lines ≡ status_of o (Ok (as_ruleset table)) lines
+  pub read : (properties : Properties) (text other first second : List ℕ) (lines : List (List ℕ)) (table : TableValue) →
+      table.version ≡ Two → raw_lines text ≡ first ∷ lines → raw_lines other ≡ second ∷ lines
+      → is_version_line Table first ≡ true → is_version_line Ruleset second ≡ true →
+      IsTextOf properties Table text table → IsTextOf properties Ruleset other (as_ruleset table)
+  pub said : (o : Settings) (table : TableValue) (lines : List Numbered) → IsSingle table →
+      statements o (Ok table) lines ≡ statements o (Ok (as_ruleset table)) lines
+  pub status : (o : Settings) (table : TableValue) (lines : List Numbered) → IsSingle table →
+      status_of o (Ok table) lines ≡ status_of o (Ok (as_ruleset table)) lines
   pub gaps : (table : TableValue) → gaps_of table.entries ≡ gaps_of (as_ruleset table).entries
   pub allocatable : (table : TableValue) (label v : List ℕ) → IsSingle table → v ≢ [] → Spells table label v →
       IsAllocatable table label v ↔ IsAllocatable (as_ruleset table) label v
@@ -119,4 +125,5 @@ pub record NotValidIsNeverTold : Type 0 where
 
 -- under a table that asks nothing what a label spells is valid
 abbrev pub SpelledAreValid : Type 0
-SpelledAreValid = (table : TableValue) (label v : List ℕ) → IsSound table → AsksNothing table → Spells table label v → IsValid table v
+SpelledAreValid =
+    (table : TableValue) (label v : List ℕ) → IsSound table → AsksNothing table → Spells table label v → IsValid table v

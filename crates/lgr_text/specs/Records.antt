@@ -23,8 +23,8 @@ use Rattle.lgr_text.specs.declared.records.Variant as held_variant
 
 -- ---- what is said
 
--- a class (section 6.2): code points and ranges; the code points of entries with a tag; those with a property and value,
--- as 'gc:Mn'; those of the class of a name; and what sets give together
+-- a class (section 6.2): code points and ranges; the code points of entries with a tag; those with a property and
+-- value, as 'gc:Mn'; those of the class of a name; and what sets give together
 pub data Class : Type 0 where
   Listed : List Span → Class
   OfTag : List ℕ → Class

@@ -227,7 +227,14 @@ definitions_code =
     (coded× names_code
     (coded× (coded_list pattern_code) (coded× (coded_list demand_code) (coded_list action_code))))))))
     (λ d. (d.properties, (d.types, (d.set_names, (d.sets, (d.rule_names, (d.rules, (d.demands, d.actions))))))))
-    (λ t. record
-    { properties = t.0; types = t.1.0; set_names = t.1.1.0; sets = t.1.1.1.0; rule_names = t.1.1.1.1.0;
-    rules = t.1.1.1.1.1.0; demands = t.1.1.1.1.1.1.0; actions = t.1.1.1.1.1.1.1 })
+    (λ t. record {
+      properties = t.0;
+      types = t.1.0;
+      set_names = t.1.1.0;
+      sets = t.1.1.1.0;
+      rule_names = t.1.1.1.1.0;
+      rules = t.1.1.1.1.1.0;
+      demands = t.1.1.1.1.1.1.0;
+      actions = t.1.1.1.1.1.1.1;
+    })
     (λ _. refl)

@@ -41,8 +41,13 @@ pub record Known : Type 0 where
 -- after these definitions, of which all patterns together may have 4,096 atoms
 abbrev pub known_after : Definitions → Known
 known_after d =
-    record { types = type_names d; sets = d.set_names; whole_rules = whole_rules d; left = 4096 - all_atoms d;
-    properties = d.properties }
+    record {
+      types = type_names d;
+      sets = d.set_names;
+      whole_rules = whole_rules d;
+      left = 4096 - all_atoms d;
+      properties = d.properties;
+    }
 
 -- ---- what the form doesn't show
 

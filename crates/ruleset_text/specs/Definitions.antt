@@ -39,8 +39,16 @@ pub record Definitions : Type 0 where
 
 abbrev pub nothing_defined : Properties → Definitions
 nothing_defined properties =
-    record { properties = properties; types = []; set_names = []; sets = []; rule_names = []; rules = []; demands = [];
-    actions = [] }
+    record {
+      properties = properties;
+      types = [];
+      set_names = [];
+      sets = [];
+      rule_names = [];
+      rules = [];
+      demands = [];
+      actions = [];
+    }
 
 -- ---- all of them, in the order of canonical text
 

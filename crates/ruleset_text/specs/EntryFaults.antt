@@ -90,5 +90,7 @@ range_place begins (Some c) = option_map (λ place. InRange place c) (slice_get 
 -- of an entry or of a range that a line spells, after these definitions
 abbrev pub notes_of : Definitions → EntryForm → List ℕ → Notes
 notes_of d form line =
-    record { begins = begin_places (line_points form line);
-    faults = faults_of d (line_words form line) (line_points form line) }
+    record {
+      begins = begin_places (line_points form line);
+      faults = faults_of d (line_words form line) (line_points form line);
+    }
