@@ -1,5 +1,5 @@
 -- Sets of code points (RFC 7940, section 6.2), as spans.
-use Rattle.std.specs.Prelude.{ℕ, ◌+◌, ◌≤◌, Bool, ◌&&◌, ◌||◌, not, List, [], ◌∷◌}
+use Rattle.std.specs.Prelude.{ℕ, ◌+◌, ◌≤◌, Bool, ◌&&◌, ◌||◌, not, List, [], ◌∷◌, All}
 use Rattle.label_patterns.specs.declared.span.Span.{Span}
 use Rattle.lgr_text.specs.declared.joins.SetOperation.{SetOperation}
 use Rattle.lgr_text.specs.declared.joins.SetOperation.TheVariants.{Union, Intersection, Difference, SymmetricDifference}
@@ -7,6 +7,10 @@ use Rattle.lgr_text.specs.declared.joins.SetOperation.TheVariants.{Union, Inters
 -- a span of code points that is not empty
 abbrev pub IsSpan : Span → Type 0
 IsSpan s = (s.first ≤ s.last) × (s.last ≤ 0x10FFFF)
+
+-- spans in any order, which may overlap
+abbrev pub AreSpans : List Span → Type 0
+AreSpans spans = All IsSpan spans
 
 -- spans that rise, with a code point between each and the next; the first begins at n or above
 abbrev pub AreApartFrom : ℕ → List Span → Type 0

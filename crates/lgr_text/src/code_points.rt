@@ -2,7 +2,7 @@
 ghost use Rattle.std.specs.Prelude.{◌≡◌, ◌+◌, ◌<◌, ◌≤◌, ◌||◌, ℕ, Bool, not, All, IfOk, OnOk, IsTrue};
 ghost use Rattle.label_patterns.specs.declared.span.Span.{Span};
 ghost use Rattle.label_patterns.specs.Sets.{is_in, is_in_span};
-ghost use Rattle.lgr_text.specs.CodePoints.{AreApart, IsSpan, is_joined};
+ghost use Rattle.lgr_text.specs.CodePoints.{AreApart, AreSpans, IsSpan, is_joined};
 ghost use Rattle.lgr_text.specs.inner.Stretches.{BeginUpTo, EndFrom};
 
 use crate::joins::SetOperation;
@@ -34,7 +34,7 @@ impl Model for CodePoints {
 impl CodePoints {
     /// The code points of these spans, which may come in any order, and overlap.
     pub fn of_spans(alloc: Global, spans: &[Span]) -> Result<Self, AllocError>
-        requires { All IsSpan spans.now }
+        requires { AreSpans spans.now }
         ensures { IfOk result (λ set. (c : ℕ) → is_in set c ≡ is_in spans.now c) }
     {
         let mut sorted = Vec::from_slice(alloc, spans)?;
@@ -68,6 +68,15 @@ impl CodePoints {
             is_in set c ≡ is_joined operation (is_in self.now c) (is_in other.now c)) }
     {
         join(alloc, operation, &self.spans, &other.spans)
+    }
+
+    /// The set once more.
+    pub fn copied(&self, alloc: Global) -> Result<Self, AllocError>
+        ensures { IfOk result (λ set. set ≡ self.now) }
+    {
+        Ok(CodePoints {
+            spans: Vec::from_slice(alloc, &self.spans)?,
+        })
     }
 
     /// The set as patterns take it.
