@@ -1,4 +1,13 @@
 -- Lemmas that several proofs cite, and those of one subject.
+pub mod ClassLemmas
 pub mod EachLemmas
+pub mod ItemLemmas
+pub mod JoinLemmas
 pub mod NumberLemmas
+pub mod OneFormLemmas
+pub mod PartLemmas
+pub mod RepeatLemmas
+pub mod RuleLemmas
+pub mod SortedLemmas
+pub mod SpanLemmas
 pub mod WordLemmas

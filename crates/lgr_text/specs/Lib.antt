@@ -1,4 +1,10 @@
 -- The definitions that contracts cite.
+pub mod ClassMembers
+pub mod CodePoints
+pub mod Known
+pub mod Laws
+pub mod PartMatches
 pub mod Records
 pub mod Values
 pub mod Words
+pub mod inner

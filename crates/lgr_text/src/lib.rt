@@ -1,16 +1,30 @@
 //! Rulesets in XML (RFC 7940): what the tokens of a document say, as entries, classes, rules and actions.
 #![tactic(auto)]
 
+mod class_sets;
+mod code_points;
 mod fault;
+mod joins;
+mod known;
+mod laws;
 mod names;
+mod part_items;
 mod records;
+mod rule_error;
 mod values;
 mod words;
 
+pub use class_sets::set_of;
+pub use code_points::CodePoints;
 pub use fault::ReadError;
+pub use joins::SetOperation;
+pub use known::Known;
+pub use laws::sets_have_one_form;
 pub use names::NameKind;
+pub use part_items::{Made, pattern_of_rule};
 pub use records::{
     Action, ClassTree, Condition, Count, Definition, Entry, Meaning, PartTree, Reference, Ruleset,
     Source, Trigger, Variant,
 };
+pub use rule_error::{RuleError, RuleFault};
 pub use values::{count_of, point_of, points_of, span_between, span_of, spans_of};

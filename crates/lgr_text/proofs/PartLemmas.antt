@@ -1,0 +1,299 @@
+-- Parts of rules and the items that match the same.
+use Rattle.std.proofs.Common.{◌≡◌, ℕ, zero, suc, ◌+◌, ◌-◌, ◌<◌, ◌≤◌, ◌⊎◌, inl, inr, Bool, true, false, ◌||◌, ◌&&◌, List, [], ◌∷◌, ◌++◌, length, drop, get_or, map, Option, Some, None, refl, ap, sym, subst, ◌∙◌, append_assoc, if◌then◌else◌, arith}
+use Rattle.std.specs.Prelude.{◌↔◌, IsTrue, slice_index}
+use Rattle.std.specs.List.{All, list_all}
+use Rattle.std.proofs.lemmas.List.Folds.{list_all-append}
+use Rattle.std.proofs.lemmas.Bool.{eqb-true, eq-eqb}
+use Rattle.std.proofs.lemmas.List.{append-nil, get_or_append_left, length-drop}
+use Rattle.std.proofs.Math.Bool.{and-true}
+use Rattle.std.proofs.Math.Seq.{drop-cons}
+use Rattle.label_patterns.specs.declared.span.Span.{Span}
+use Rattle.label_patterns.specs.Laws.{seen}
+use Rattle.label_patterns.specs.Matches.{Matches, Seen}
+use Rattle.label_patterns.specs.Patterns.{Pattern, Point, Set, Optional}
+use Rattle.label_patterns.specs.Places.{StandsAt}
+use Rattle.label_patterns.specs.Sets.{is_in}
+use Rattle.lgr_text.specs.ClassMembers.{has}
+use Rattle.lgr_text.specs.Known.{Known}
+use Rattle.lgr_text.specs.PartMatches.{BeginsWith, IsOf, has_anchor, rule_named, Matching, PartMatches, Place, Repeats, IsCounted, IsUpTo, StandThere}
+use Rattle.lgr_text.specs.Records.{Class, Part, Literal, Any, Of, Start, End, Anchor, OfRule, Then, Choice, Times}
+use Rattle.lgr_text.specs.declared.records.Count.{Count}
+use Rattle.lgr_text.specs.inner.Items.{anchors, as_atom, further_up_to, is_item, HasShape, choice_of, copies, further, AddsClass, Appends, AreItemsFor, ItemsMatch}
+use Rattle.lgr_text.proofs.ItemLemmas.{choice-is, copies-are, further-are, items-join, items-split, one-item}
+use Rattle.lgr_text.proofs.RepeatLemmas.{repeats-join, repeats-map, repeats-split}
+
+abbrev pub AppendsPart : Known → List (List Span) → List (List Span) → List Pattern → List Pattern → Part → Type 0
+AppendsPart known old_sets sets old items p = Appends known.points (has_anchor p) old_sets sets old items (Matching known p)
+
+pub begins-so : (sets : List (List Span)) → BeginsWith sets sets
+begins-so sets = ([], sym (append-nil sets))
+
+pub begins-too : (all sets first : List (List Span)) → BeginsWith all sets → BeginsWith sets first → BeginsWith all first
+begins-too all sets first h k = (k.0 ++ h.0, h.1 ∙ ap (λ l. l ++ h.0) k.1 ∙ append_assoc first k.0 h.0)
+
+-- ---- shapes
+
+points-flat : (points : List ℕ) → list_all is_item (map Point points) ≡ true
+points-flat [] = refl
+points-flat (c ∷ points) = points-flat points
+
+points-unanchored : (points : List ℕ) → anchors (map Point points) ≡ 0
+points-unanchored [] = refl
+points-unanchored (c ∷ points) = let e = points-unanchored points in omega (arith, e)
+
+flat-join : (ps qs : List Pattern) → list_all is_item ps ≡ true → list_all is_item qs ≡ true → list_all is_item (ps ++ qs) ≡ true
+flat-join ps qs left right = list_all-append is_item ps qs ∙ ap (λ b. b && list_all is_item qs) left ∙ right
+
+anchors-join : (ps qs : List Pattern) → anchors (ps ++ qs) ≡ anchors ps + anchors qs
+anchors-join [] qs = omega arith
+anchors-join (p ∷ ps) qs = let e = anchors-join ps qs in omega (arith, e)
+
+one-of-both : (a b : Bool) → (a && b) ≡ false → (if a then 1 else 0) + (if b then 1 else 0) ≡ (if a || b then 1 else 0)
+one-of-both true true e = absurd (cc)
+one-of-both true false e = refl
+one-of-both false true e = refl
+one-of-both false false e = refl
+
+shapes-join : (a b : Bool) (ps qs : List Pattern) → (a && b) ≡ false → HasShape a ps → HasShape b qs → HasShape (a || b) (ps ++ qs)
+shapes-join a b ps qs apart left right = record {
+  flat = flat-join ps qs left.flat right.flat;
+  one = anchors-join ps qs ∙ ap (λ n. n + anchors qs) left.one ∙ ap (λ n. (if a then 1 else 0) + n) right.one ∙ one-of-both a b apart;
+}
+
+copies-shape : (n : ℕ) (ps : List Pattern) → HasShape false ps → HasShape false (copies n ps)
+copies-shape zero ps shape = record { flat = refl; one = refl }
+copies-shape (suc n) ps shape = shapes-join false false (copies n ps) ps refl (copies-shape n ps shape) shape
+
+further-shape : (most : Option ℕ) (least : ℕ) (ps : List Pattern) → HasShape false (further_up_to most least ps)
+further-shape None least ps = record { flat = refl; one = refl }
+further-shape (Some most) least ps = copies-shape (most - least) (Optional (as_atom ps) ∷ []) (record { flat = refl; one = refl })
+
+times-shape : (count : Count) (a : Bool) (once : List Pattern) → a ≡ false → HasShape a once → HasShape a (copies count.least once ++ further count once)
+times-shape count a once none shape =
+    subst (λ b. HasShape b (copies count.least once ++ further count once)) (sym none)
+    (shapes-join false false (copies count.least once) (further count once) refl
+    (copies-shape count.least once (subst (λ b. HasShape b once) none shape)) (further-shape count.most count.least once))
+
+-- ---- a literal
+
+first-is : (c d : ℕ) (xs ys : List ℕ) → c ∷ xs ≡ d ∷ ys → c ≡ d
+first-is c d xs ys e = cc
+
+rest-is : (c d : ℕ) (xs ys : List ℕ) → c ∷ xs ≡ d ∷ ys → xs ≡ ys
+rest-is c d xs ys e = cc
+
+some-left : (label : List ℕ) (i c : ℕ) (rest : List ℕ) → drop i label ≡ c ∷ rest → i < length label
+some-left label i c rest e =
+    let n : length (drop i label) ≡ length (c ∷ rest) = ap length e in omega (arith, n, length-drop i label)
+
+pub literal-is : (s : Seen) (at : Option Place) (points : List ℕ) (i j : ℕ)
+    → ItemsMatch s at (map Point points) i j ↔ (StandThere points s.label i × (j ≡ i + length points))
+literal-is s at [] i j = (λ h. ((drop i s.label, refl), omega (arith, h)), λ h. omega (arith, h.1))
+literal-is s at (c ∷ points) i j = (
+  λ h.
+      let rest = (literal-is s at points h.0 j).0 h.2 in
+      let here : get_or s.label i 0 ≡ c = eqb-true (get_or s.label i 0) c h.1.0.1 in
+      let e : suc i ≡ h.0 = omega (arith, h.1.1) in
+      let next : drop (suc i) s.label ≡ points ++ rest.0.0 = ap (λ k. drop k s.label) e ∙ rest.0.1 in
+      ((rest.0.0, drop-cons s.label i 0 h.1.0.0 ∙ ap (λ d. d ∷ drop (suc i) s.label) here ∙ ap (λ l. c ∷ l) next), omega (arith, rest.1, h.1.1)),
+  λ h.
+      let less : i < length s.label = some-left s.label i c (points ++ h.0.0) h.0.1 in
+      let both : get_or s.label i 0 ∷ drop (suc i) s.label ≡ c ∷ (points ++ h.0.0) = sym (drop-cons s.label i 0 less) ∙ h.0.1 in
+      let here : get_or s.label i 0 ≡ c = first-is _ _ _ _ both in
+      let e : i + 1 ≡ suc i = omega arith in
+      let next : drop (i + 1) s.label ≡ points ++ h.0.0 = ap (λ k. drop k s.label) e ∙ rest-is _ _ _ _ both in
+      (i + 1, ((less, eq-eqb (get_or s.label i 0) c here), refl), (literal-is s at points (i + 1) j).1 ((h.0.0, next), omega (arith, h.1))),
+)
+
+pub literal-appends : (known : Known) (sets : List (List Span)) (old items : List Pattern) (points : List ℕ)
+    → items ≡ old ++ map Point points → AppendsPart known sets sets old items (Literal points)
+literal-appends known sets old items points e = record {
+  kept = begins-so sets;
+  added = map Point points;
+  is = e;
+  shape = record { flat = points-flat points; one = points-unanchored points };
+  match_them = λ all label at i j begins of. literal-is (seen all label) at points i j;
+}
+
+-- ---- a class
+
+pub class-appends : (known : Known) (class : Class) (old_sets sets : List (List Span)) (old items : List Pattern)
+    → AddsClass known class old_sets sets old items → AppendsPart known old_sets sets old items (Of class)
+class-appends known class old_sets sets old items adds = record {
+  kept = adds.kept;
+  added = Set adds.number ∷ [];
+  is = adds.is;
+  shape = record { flat = refl; one = refl };
+  match_them = λ all label at i j begins of.
+      let set : get_or all adds.number [] ≡ get_or sets adds.number [] =
+      ap (λ l. get_or l adds.number []) begins.1 ∙ get_or_append_left sets begins.0 [] adds.number adds.within in
+      let same : i < length label → is_in (get_or all adds.number []) (slice_index label i) ≡ has known class (slice_index label i) = λ less.
+      let here = of i 0 less in
+      ap (λ l. is_in l (slice_index label i)) set
+      ∙ adds.members (slice_index label i) here.1
+      ∙ ap (λ b. has known class (slice_index label i) && b) here.0
+      ∙ and-true (has known class (slice_index label i)) in (
+        λ h. (let one = (one-item (seen all label) at (Set adds.number) i j).0 h in ((one.0.0, sym (same one.0.0) ∙ one.0.1), one.1)),
+        λ h. (one-item (seen all label) at (Set adds.number) i j).1 ((h.0.0, same h.0.0 ∙ h.0.1), h.1),
+      );
+}
+
+-- ---- one after the other
+
+pub then-appends : (known : Known) (p q : Part) (first middle last : List (List Span)) (old between items : List Pattern)
+    → (has_anchor p && has_anchor q) ≡ false → AppendsPart known first middle old between p → AppendsPart known middle last between items q
+    → AppendsPart known first last old items (Then p q)
+then-appends known p q first middle last old between items apart left right = record {
+  kept = begins-too last middle first right.kept left.kept;
+  added = left.added ++ right.added;
+  is = right.is ∙ ap (λ l. l ++ right.added) left.is ∙ append_assoc old left.added right.added;
+  shape = shapes-join (has_anchor p) (has_anchor q) left.added right.added apart left.shape right.shape;
+  match_them = λ all label at i j begins of.
+      let lower = begins-too all last middle begins right.kept in (
+        λ h.
+            let both = items-split (seen all label) at left.added right.added i j h in
+            (both.0, (left.match_them all label at i both.0 lower of).0 both.1, (right.match_them all label at both.0 j begins of).0 both.2),
+        λ h. items-join (seen all label) at left.added right.added i h.0 j
+            ((left.match_them all label at i h.0 lower of).1 h.1) ((right.match_them all label at h.0 j begins of).1 h.2),
+      );
+}
+
+-- ---- what has no anchor is about no place
+
+or-left : (a b : Bool) → (a || b) ≡ false → a ≡ false
+or-left true b e = e
+or-left false b e = refl
+
+or-right : (a b : Bool) → (a || b) ≡ false → b ≡ false
+or-right true b e = absurd (cc)
+or-right false b e = e
+
+pub same-place : (has_it : Class → ℕ → Bool) (named : List ℕ → ℕ → ℕ → Type 0) (label : List ℕ) (at other : Option Place) (p : Part) (i j : ℕ)
+    → has_anchor p ≡ false → PartMatches has_it named label at p i j → PartMatches has_it named label other p i j
+same-place has_it named label at other (Literal points) i j none h = h
+same-place has_it named label at other Any i j none h = h
+same-place has_it named label at other (Of class) i j none h = h
+same-place has_it named label at other Start i j none h = h
+same-place has_it named label at other End i j none h = h
+same-place has_it named label at other Anchor i j none h = absurd (cc)
+same-place has_it named label at other (OfRule name) i j none h = h
+same-place has_it named label at other (Then p q) i j none h = (
+  h.0,
+  same-place has_it named label at other p i h.0 (or-left (has_anchor p) (has_anchor q) none) h.1,
+  same-place has_it named label at other q h.0 j (or-right (has_anchor p) (has_anchor q) none) h.2,
+)
+same-place has_it named label at other (Choice p q) i j none h = elim h [
+  | inl l ↦ inl (same-place has_it named label at other p i j (or-left (has_anchor p) (has_anchor q) none) l)
+  | inr r ↦ inr (same-place has_it named label at other q i j (or-right (has_anchor p) (has_anchor q) none) r)
+]
+same-place has_it named label at other (Times count p) i j none h = (
+  h.0,
+  h.1,
+  repeats-map (PartMatches has_it named label at p) (PartMatches has_it named label other p) (λ k m. same-place has_it named label at other p k m none) h.0 i j h.2,
+)
+
+matching-same : (known : Known) (p : Part) (s : Seen) (at other : Option Place) (i j : ℕ) → has_anchor p ≡ false → Matching known p s at i j → Matching known p s other i j
+matching-same known p s at other i j none h =
+    same-place (has known) (λ name k m. Matches s (rule_named known name) k m) s.label at other p i j none h
+
+-- ---- one or the other
+
+pub choice-appends : (known : Known) (p q : Part) (first middle last : List (List Span)) (old items left_items right_items : List Pattern)
+    → has_anchor p ≡ false → has_anchor q ≡ false
+    → AppendsPart known first middle [] left_items p → AppendsPart known middle last [] right_items q
+    → items ≡ old ++ choice_of left_items right_items ∷ []
+    → AppendsPart known first last old items (Choice p q)
+choice-appends known p q first middle last old items left_items right_items no_p no_q left right e = record {
+  kept = begins-too last middle first right.kept left.kept;
+  added = choice_of left_items right_items ∷ [];
+  is = e;
+  shape = record { flat = refl; one = ap (λ b. if b then 1 else 0) (sym (ap (λ b. b || has_anchor q) no_p ∙ no_q)) };
+  match_them = λ all label at i j begins of.
+      let s = seen all label in
+      let lower = begins-too all last middle begins right.kept in (
+        λ h. elim ((choice-is s at left_items right_items i j).0 h) [
+          | inl l ↦ inl (matching-same known p s None at i j no_p ((left.match_them all label None i j lower of).0 (subst (λ ps. ItemsMatch s None ps i j) left.is l)))
+          | inr r ↦ inr (matching-same known q s None at i j no_q ((right.match_them all label None i j begins of).0 (subst (λ ps. ItemsMatch s None ps i j) right.is r)))
+        ],
+        λ h. (choice-is s at left_items right_items i j).1 (elim h [
+          | inl l ↦ inl (subst (λ ps. ItemsMatch s None ps i j) (sym left.is) ((left.match_them all label None i j lower of).1 (matching-same known p s at None i j no_p l)))
+          | inr r ↦ inr (subst (λ ps. ItemsMatch s None ps i j) (sym right.is) ((right.match_them all label None i j begins of).1 (matching-same known q s at None i j no_q r)))
+        ]),
+      );
+}
+
+-- ---- so many times
+
+pub times-appends : (known : Known) (count : Count) (p : Part) (first last : List (List Span)) (old items once : List Pattern)
+    → has_anchor p ≡ false → IsUpTo count.least count.most
+    → AppendsPart known first last [] once p
+    → items ≡ old ++ (copies count.least once ++ further count once)
+    → AppendsPart known first last old items (Times count p)
+times-appends known count p first last old items once none fits appends e = record {
+  kept = appends.kept;
+  added = copies count.least once ++ further count once;
+  is = e;
+  shape = times-shape count (has_anchor p) once none (subst (HasShape (has_anchor p)) (sym appends.is) appends.shape);
+  match_them = λ all label at i j begins of.
+      let s = seen all label in
+      let R : ℕ → ℕ → Type 0 = Matching known p s at in
+      let forth : (o : Option Place) (k m : ℕ) → ItemsMatch s o once k m → R k m = λ o k m h.
+      matching-same known p s o at k m none ((appends.match_them all label o k m begins of).0 (subst (λ ps. ItemsMatch s o ps k m) appends.is h)) in
+      let back : (o : Option Place) (k m : ℕ) → R k m → ItemsMatch s o once k m = λ o k m h.
+      subst (λ ps. ItemsMatch s o ps k m) (sym appends.is) ((appends.match_them all label o k m begins of).1 (matching-same known p s at o k m none h)) in (
+        λ h.
+            let both = items-split s at (copies count.least once) (further count once) i j h in
+            let least = repeats-map (ItemsMatch s at once) R (forth at) count.least i both.0 ((copies-are s at once count.least i both.0).0 both.1) in
+            let more = (further-are s at once count.least count.most both.0 j fits).0 both.2 in
+            let rest = repeats-map (ItemsMatch s None once) R (forth None) more.0 both.0 j more.2 in
+            (count.least + more.0, (omega arith, more.1), repeats-join R count.least more.0 i both.0 j least rest),
+        λ h.
+            let same : h.0 ≡ count.least + (h.0 - count.least) = omega (arith, h.1.0) in
+            let whole : Repeats R (count.least + (h.0 - count.least)) i j = subst (λ n. Repeats R n i j) same h.2 in
+            let both = repeats-split R count.least (h.0 - count.least) i j whole in
+            let allowed : IsUpTo (count.least + (h.0 - count.least)) count.most = subst (λ n. IsUpTo n count.most) same h.1.1 in
+            items-join s at (copies count.least once) (further count once) i both.0 j
+            ((copies-are s at once count.least i both.0).1 (repeats-map R (ItemsMatch s at once) (back at) count.least i both.0 both.1))
+            ((further-are s at once count.least count.most both.0 j fits).1
+            (h.0 - count.least, allowed, repeats-map R (ItemsMatch s None once) (back None) (h.0 - count.least) both.0 j both.2)),
+      );
+}
+
+-- ---- the same of a part that is one of these
+
+pub literal-part : (known : Known) (old_sets sets : List (List Span)) (old items : List Pattern) (points : List ℕ) (p : Part)
+    → p ≡ Literal points → sets ≡ old_sets → items ≡ old ++ map Point points → AppendsPart known old_sets sets old items p
+literal-part known old_sets sets old items points p is same e =
+    subst (AppendsPart known old_sets sets old items) (sym is)
+    (subst (λ all. AppendsPart known old_sets all old items (Literal points)) (sym same) (literal-appends known old_sets old items points e))
+
+pub class-part : (known : Known) (class : Class) (old_sets sets : List (List Span)) (old items : List Pattern) (p : Part)
+    → p ≡ Of class → AddsClass known class old_sets sets old items → AppendsPart known old_sets sets old items p
+class-part known class old_sets sets old items p is adds =
+    subst (AppendsPart known old_sets sets old items) (sym is) (class-appends known class old_sets sets old items adds)
+
+pub then-part : (known : Known) (p q r : Part) (first middle last : List (List Span)) (old between items : List Pattern)
+    → r ≡ Then p q → (has_anchor p && has_anchor q) ≡ false → AppendsPart known first middle old between p → AppendsPart known middle last between items q
+    → AppendsPart known first last old items r
+then-part known p q r first middle last old between items is apart left right =
+    subst (AppendsPart known first last old items) (sym is) (then-appends known p q first middle last old between items apart left right)
+
+pub choice-part : (known : Known) (p q r : Part) (first middle last sets : List (List Span)) (old items left_items right_items : List Pattern)
+    → r ≡ Choice p q → sets ≡ last → has_anchor p ≡ false → has_anchor q ≡ false
+    → AppendsPart known first middle [] left_items p → AppendsPart known middle last [] right_items q
+    → items ≡ old ++ choice_of left_items right_items ∷ []
+    → AppendsPart known first sets old items r
+choice-part known p q r first middle last sets old items left_items right_items is same no_p no_q left right e =
+    subst (AppendsPart known first sets old items) (sym is)
+    (subst (λ all. AppendsPart known first all old items (Choice p q)) (sym same)
+    (choice-appends known p q first middle last old items left_items right_items no_p no_q left right e))
+
+pub times-part : (known : Known) (count : Count) (p r : Part) (first last sets : List (List Span)) (old items once : List Pattern)
+    → r ≡ Times count p → sets ≡ last → has_anchor p ≡ false → IsUpTo count.least count.most
+    → AppendsPart known first last [] once p
+    → items ≡ old ++ (copies count.least once ++ further count once)
+    → AppendsPart known first sets old items r
+times-part known count p r first last sets old items once is same none fits appends e =
+    subst (AppendsPart known first sets old items) (sym is)
+    (subst (λ all. AppendsPart known first all old items (Times count p)) (sym same)
+    (times-appends known count p first last old items once none fits appends e))

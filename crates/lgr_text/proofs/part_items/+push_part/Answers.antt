@@ -1,0 +1,95 @@
+use Rattle.std.proofs.Common.{◌≡◌, ◌&&◌, false, [], map, sym, ap, subst, ◌∙◌}
+use Rattle.std.proofs.lemmas.Result.{on_ok_weaker}
+use Rattle.label_patterns.specs.Patterns.{Pattern, Point}
+use Rattle.label_patterns.specs.Trees.{pattern}
+use Rattle.lgr_text.specs.Known.{known as known_of}
+use Rattle.lgr_text.specs.PartMatches.{has_anchor, IsUpTo, IsWellFormed}
+use Rattle.lgr_text.specs.Records.{class as class_of, part as part_of, Part, Literal, Of, Then, Choice, Times}
+use Rattle.lgr_text.proofs.PartLemmas.{choice-part, class-part, literal-part, then-part, times-part, AppendsPart}
+use Rattle.lgr_text.proofs.part_items.+push_part.Goals as goal
+
+pub returns-in-Literal-clause-items : goal.returns-in-Literal-clause-items
+returns-in-Literal-clause-items t c =
+    let is : part_of c.args.part.now ≡ Literal c.deref.result.now = ap part_of c.in-Literal.is ∙ ap Literal (sym c.deref.ensures.value) in
+    on_ok_weaker c.push_literal.result
+    (λ e. literal-part (known_of c.args.known) c.args.made.now.sets.items c.push_literal.new.made.sets.items
+    (map pattern c.args.items.now.items) (map pattern c.push_literal.new.items.items) c.deref.result.now (part_of c.args.part.now) is
+    (ap (λ v. v.items) c.push_literal.ensures.sets) e)
+    c.push_literal.ensures.items
+
+pub returns-in-Of-clause-items : goal.returns-in-Of-clause-items
+returns-in-Of-clause-items t c =
+    on_ok_weaker c.push_class.result
+    (λ adds. class-part (known_of c.args.known) (class_of c.in-Of.class) c.args.made.now.sets.items c.push_class.new.made.sets.items
+    (map pattern c.args.items.now.items) (map pattern c.push_class.new.items.items) (part_of c.args.part.now) (ap part_of c.in-Of.is) adds)
+    c.push_class.ensures.items
+
+pub returns-in_ok-push_part-in-Then-clause-items :
+    goal.returns-in_ok-push_part-in-Then-clause-items
+returns-in_ok-push_part-in-Then-clause-items t c =
+    let first = c.deref-in-Then-3.result.now in
+    let rest = c.deref-in-Then-4.result.now in
+    let is : part_of c.args.part.now ≡ Then (part_of first) (part_of rest) =
+    ap part_of c.in-Then.is
+    ∙ ap (λ q. Then (part_of q) (part_of c.in-Then.rest.value)) (sym c.deref-in-Then-3.ensures)
+    ∙ ap (λ q. Then (part_of first) (part_of q)) (sym c.deref-in-Then-4.ensures) in
+    let apart : (has_anchor (part_of first) && has_anchor (part_of rest)) ≡ false =
+    ap (λ q. has_anchor (part_of q) && has_anchor (part_of rest)) (c.deref-in-Then-3.ensures ∙ sym c.deref-in-Then.ensures)
+    ∙ ap (λ q. has_anchor (part_of c.deref-in-Then.result.now) && has_anchor (part_of q)) (c.deref-in-Then-4.ensures ∙ sym c.deref-in-Then-2.ensures)
+    ∙ sym c.have_anchors.ensures ∙ c.if-have_anchors.false in
+    on_ok_weaker c.push_part-in-Then.result
+    (λ right. then-part (known_of c.args.known) (part_of first) (part_of rest) (part_of c.args.part.now)
+    c.args.made.now.sets.items c.push_part.new.made.sets.items c.push_part-in-Then.new.made.sets.items
+    (map pattern c.args.items.now.items) (map pattern c.push_part.new.items.items) (map pattern c.push_part-in-Then.new.items.items)
+    is apart c.in_ok-push_part-in-Then.ensures.items right)
+    c.push_part-in-Then.ensures.items
+
+pub returns-in_ok-push_part-in-Choice-2-clause-items :
+    goal.returns-in_ok-push_part-in-Choice-2-clause-items
+returns-in_ok-push_part-in-Choice-2-clause-items t c =
+    let known = known_of c.args.known in
+    let left = c.deref-in-Choice-2.result.now in
+    let right = c.deref-in-Choice-3.result.now in
+    let is : part_of c.args.part.now ≡ Choice (part_of left) (part_of right) =
+    ap part_of c.in-Choice.is
+    ∙ ap (λ q. Choice (part_of q) (part_of c.in-Choice.right.value)) (sym c.deref-in-Choice-2.ensures)
+    ∙ ap (λ q. Choice (part_of left) (part_of q)) (sym c.deref-in-Choice-3.ensures) in
+    let no_left : has_anchor (part_of left) ≡ false =
+    ap (λ q. has_anchor (part_of q)) (c.deref-in-Choice-2.ensures ∙ sym c.deref-in-Choice.ensures) ∙ sym c.has_anchor.ensures ∙ c.if-has_anchor.false in
+    let no_right : has_anchor (part_of right) ≡ false =
+    ap (λ q. has_anchor (part_of q)) (c.deref-in-Choice-3.ensures ∙ sym c.deref-else-has_anchor.ensures) ∙ sym c.has_anchor-else-has_anchor.ensures ∙ c.if-has_anchor-2.false in
+    let left_items = map pattern c.push_part-in-Choice.new.items.items in
+    let right_items = map pattern c.push_part-in-Choice-2.new.items.items in
+    let first = c.args.made.now.sets.items in
+    let middle = c.push_part-in-Choice.new.made.sets.items in
+    let last = c.push_part-in-Choice-2.new.made.sets.items in
+    let made_left : AppendsPart known first middle [] left_items (part_of left) =
+    subst (λ l. AppendsPart known first middle (map pattern l) left_items (part_of left)) c.new-left_items.ensures.items c.in_ok-push_part-in-Choice.ensures.items in
+    let made_right : AppendsPart known middle last [] right_items (part_of right) =
+    subst (λ l. AppendsPart known middle last (map pattern l) right_items (part_of right)) c.new-right_items.ensures.items c.in_ok-push_part-in-Choice-2.ensures.items in
+    on_ok_weaker c.push_choice.result
+    (λ e. choice-part known (part_of left) (part_of right) (part_of c.args.part.now) first middle last c.push_choice.new.made.sets.items
+    (map pattern c.args.items.now.items) (map pattern c.push_choice.new.items.items) left_items right_items is
+    (ap (λ v. v.items) c.push_choice.ensures.sets) no_left no_right made_left made_right e)
+    c.push_choice.ensures.items
+
+pub returns-in_ok-push_part-in-Times-clause-items :
+    goal.returns-in_ok-push_part-in-Times-clause-items
+returns-in_ok-push_part-in-Times-clause-items t c =
+    let known = known_of c.args.known in
+    let inner = c.deref-in-Times-2.result.now in
+    let is : part_of c.args.part.now ≡ Times c.in-Times.count (part_of inner) =
+    ap part_of c.in-Times.is ∙ ap (λ q. Times c.in-Times.count (part_of q)) (sym c.deref-in-Times-2.ensures) in
+    let none : has_anchor (part_of inner) ≡ false =
+    ap (λ q. has_anchor (part_of q)) (c.deref-in-Times-2.ensures ∙ sym c.deref-in-Times.ensures) ∙ sym c.has_anchor-in-Times.ensures ∙ c.if-has_anchor-3.false in
+    let well : IsWellFormed (Times c.in-Times.count (part_of inner)) = subst IsWellFormed is c.requires.part in
+    let once = map pattern c.push_part-in-Times.new.items.items in
+    let first = c.args.made.now.sets.items in
+    let last = c.push_part-in-Times.new.made.sets.items in
+    let made : AppendsPart known first last [] once (part_of inner) =
+    subst (λ l. AppendsPart known first last (map pattern l) once (part_of inner)) c.new-once.ensures.items c.in_ok-push_part-in-Times.ensures.items in
+    on_ok_weaker c.push_times.result
+    (λ e. times-part known c.in-Times.count (part_of inner) (part_of c.args.part.now) first last c.push_times.new.made.sets.items
+    (map pattern c.args.items.now.items) (map pattern c.push_times.new.items.items) once is
+    (ap (λ v. v.items) c.push_times.ensures.sets) none well.0 made e)
+    c.push_times.ensures.items

@@ -1,0 +1,140 @@
+-- Which parts of a label a rule, or a part of one, matches (RFC 7940, sections 6.3 and 6.4).
+use Rattle.std.specs.Prelude.{◌≡◌, ℕ, zero, suc, ◌+◌, ◌<◌, ◌≤◌, ◌⊎◌, ◌↔◌, IsTrue, All, ◌||◌, ◌&&◌, Bool, true, false, not, nat_lt, List, ◌++◌, length, drop, slice_index_or, Option, Some, None, if◌then◌else◌}
+use Rattle.std.specs.Option.{option_or}
+use Rattle.label_patterns.specs.Matches.{Seen, Matches}
+use Rattle.label_patterns.specs.Patterns as pattern
+use Rattle.label_patterns.specs.Patterns.{Pattern}
+use Rattle.label_patterns.specs.Laws.{seen}
+use Rattle.label_patterns.specs.Rules.{is_context_rule, Holds}
+use Rattle.label_patterns.specs.Sets.{is_in}
+use Rattle.label_patterns.specs.declared.span.Span.{Span}
+use Rattle.ruleset_text.specs.Names.{number_of}
+use Rattle.lgr_text.specs.declared.rule_error.RuleFault.{RuleFault}
+use Rattle.lgr_text.specs.declared.rule_error.RuleFault.TheVariants.{Undefined, NotSupported}
+use Rattle.label_patterns.specs.Places.{StandsAt}
+use Rattle.lgr_text.specs.Records.{Class, Part, Literal, Any, Of, Start, End, Anchor, OfRule, Then, Choice, Times}
+use Rattle.lgr_text.specs.ClassMembers.{class_fault, has, HasSpans}
+use Rattle.lgr_text.specs.Known.{Known}
+use Rattle.lgr_text.specs.declared.records.Count.{Count}
+
+-- the part of a label that a condition is about, by the places where it begins and ends
+pub record Place : Type 0 where
+  pub start : ℕ
+  pub end : ℕ
+
+-- these code points stand at this place of the label
+abbrev pub StandThere : List ℕ → List ℕ → ℕ → Type 0
+StandThere points label i = (rest : List ℕ) × (drop i label ≡ points ++ rest)
+
+-- so many rounds of R lead from i to j
+abbrev pub Repeats : (ℕ → ℕ → Type 0) → ℕ → ℕ → ℕ → Type 0
+Repeats R zero i j = j ≡ i
+Repeats R (suc n) i j = (k : ℕ) × R i k × Repeats R n k j
+
+abbrev pub IsUpTo : ℕ → Option ℕ → Type 0
+IsUpTo n None = Unit {0}
+IsUpTo n (Some most) = n ≤ most
+
+-- the count allows so many times (section 6.3.3)
+abbrev pub IsCounted : Count → ℕ → Type 0
+IsCounted count n = (count.least ≤ n) × IsUpTo n count.most
+
+-- the anchor stands for this part of the label; where there is none, it stands for nothing (section 6.4)
+abbrev pub IsAnchored : Option Place → ℕ → ℕ → Type 0
+IsAnchored None i j = ⊥
+IsAnchored (Some place) i j = (i ≡ place.start) × (j ≡ place.end)
+
+-- the part of the label from i to j matches a part of a rule, by which code points classes have, and what the rules that are named
+-- match in this label
+abbrev pub PartMatches : (Class → ℕ → Bool) → (List ℕ → ℕ → ℕ → Type 0) → List ℕ → Option Place → Part → ℕ → ℕ → Type 0
+PartMatches has named label at (Literal points) i j = StandThere points label i × (j ≡ i + length points)
+PartMatches has named label at Any i j = (i < length label) × (j ≡ i + 1)
+PartMatches has named label at (Of class) i j = StandsAt (has class) label i × (j ≡ i + 1)
+PartMatches has named label at Start i j = (i ≡ 0) × (j ≡ 0)
+PartMatches has named label at End i j = (i ≡ length label) × (j ≡ length label)
+PartMatches has named label at Anchor i j = IsAnchored at i j
+PartMatches has named label at (OfRule name) i j = named name i j
+PartMatches has named label at (Then p q) i j =
+    (k : ℕ) × PartMatches has named label at p i k × PartMatches has named label at q k j
+PartMatches has named label at (Choice p q) i j =
+    PartMatches has named label at p i j ⊎ PartMatches has named label at q i j
+PartMatches has named label at (Times count p) i j =
+    (n : ℕ) × IsCounted count n × Repeats (PartMatches has named label at p) n i j
+
+-- ---- what it is made from
+
+-- the pattern of the rule of this name; where there is none, the anchor alone, which is no part of a label
+abbrev pub rule_named : Known → List ℕ → Pattern
+rule_named known name = slice_index_or known.rules (number_of known.rule_names name) pattern.Anchor
+
+-- what is known is enough to tell what matches in a label: it is the label that the pattern of a rule sees
+abbrev pub Matching : Known → Part → Seen → Option Place → ℕ → ℕ → Type 0
+Matching known p seen at i j =
+    PartMatches (has known) (λ name k m. Matches seen (rule_named known name) k m) seen.label at p i j
+
+-- the list begins so: sets keep their numbers
+abbrev pub BeginsWith : List (List Span) → List (List Span) → Type 0
+BeginsWith sets first = (more : List (List Span)) × (sets ≡ first ++ more)
+
+-- a label of these code points alone
+abbrev pub IsOf : List Span → List ℕ → Type 0
+IsOf points label = All (λ c. IsTrue (is_in points c) × (c ≤ 0x10FFFF)) label
+
+-- a rule holds for the part of a label from i to j: it matches some part of the label, where the anchor stands for that part; without
+-- an anchor it is about the whole label (sections 6.3.1 and 6.4)
+abbrev pub RuleHolds : Known → Part → Seen → ℕ → ℕ → Type 0
+RuleHolds known rule seen i j =
+    (k : ℕ) × (m : ℕ) × (k ≤ length seen.label) × Matching known rule seen (Some (record { start = i; end = j })) k m
+
+-- the pattern says the same as the rule of each label made of the code points that are known, whatever sets follow these
+abbrev pub SaysRule : Known → List (List Span) → Pattern → Part → Type 0
+SaysRule known sets p rule =
+    (all : List (List Span)) (label : List ℕ) (i j : ℕ) → BeginsWith all sets → IsOf known.points label → i ≤ length label → j ≤ length label
+    → Holds (seen all label) p i j ↔ RuleHolds known rule (seen all label) i j
+
+-- the anchor stands in it
+abbrev pub has_anchor : Part → Bool
+has_anchor Anchor = true
+has_anchor (Then p q) = has_anchor p || has_anchor q
+has_anchor (Choice p q) = has_anchor p || has_anchor q
+has_anchor (Times count p) = has_anchor p
+has_anchor (Literal points) = false
+has_anchor Any = false
+has_anchor (Of class) = false
+has_anchor Start = false
+has_anchor End = false
+has_anchor (OfRule name) = false
+
+-- no rule has the name; or one that has an anchor
+abbrev pub rule_fault : Known → List ℕ → Option RuleFault
+rule_fault known name =
+    if not (nat_lt (number_of known.rule_names name) (length known.rules)) then Some Undefined else
+    if is_context_rule (rule_named known name) then Some NotSupported else None
+
+-- the first thing that it names and that isn't there; or a second anchor, or one in a choice or in what is counted
+abbrev pub part_fault : Known → Part → Option RuleFault
+part_fault known (Of class) = class_fault known class
+part_fault known (OfRule name) = rule_fault known name
+part_fault known (Then p q) =
+    if has_anchor p && has_anchor q then Some NotSupported else option_or (part_fault known p) (part_fault known q)
+part_fault known (Choice p q) =
+    if has_anchor p || has_anchor q then Some NotSupported else option_or (part_fault known p) (part_fault known q)
+part_fault known (Times count p) = if has_anchor p then Some NotSupported else part_fault known p
+part_fault known (Literal points) = None
+part_fault known Any = None
+part_fault known Start = None
+part_fault known End = None
+part_fault known Anchor = None
+
+-- the spans of its classes are spans of code points, and no count is above what it may be at most
+abbrev pub IsWellFormed : Part → Type 0
+IsWellFormed (Of class) = HasSpans class
+IsWellFormed (Then p q) = IsWellFormed p × IsWellFormed q
+IsWellFormed (Choice p q) = IsWellFormed p × IsWellFormed q
+IsWellFormed (Times count p) = IsUpTo count.least count.most × IsWellFormed p
+IsWellFormed (Literal points) = Unit {0}
+IsWellFormed Any = Unit {0}
+IsWellFormed Start = Unit {0}
+IsWellFormed End = Unit {0}
+IsWellFormed Anchor = Unit {0}
+IsWellFormed (OfRule name) = Unit {0}

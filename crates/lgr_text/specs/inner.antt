@@ -1,0 +1,4 @@
+-- The definitions that inner functions cite.
+pub mod Faults
+pub mod Items
+pub mod Stretches

@@ -1,0 +1,113 @@
+-- Items of a pattern, one after the other.
+use Rattle.std.specs.Prelude.{◌≡◌, ℕ, ◌+◌, ◌↔◌, List, [], ◌∷◌, ◌++◌, All, IsTrue, ◌&&◌, ◌≤◌, ◌<◌, ◌-◌, zero, suc, length, slice_index_or, Option, Some, None, Bool, true, false, if◌then◌else◌}
+use Rattle.std.specs.List.{list_all}
+use Rattle.label_patterns.specs.declared.span.Span.{Span}
+use Rattle.label_patterns.specs.Laws.{seen}
+use Rattle.label_patterns.specs.Matches.{Seen, Matches}
+use Rattle.label_patterns.specs.Patterns.{Pattern, Point, Set, Any, Start, Anchor, Group, Optional, Many, Then, Either}
+use Rattle.label_patterns.specs.Rules.{is_anchor}
+use Rattle.label_patterns.specs.Sets.{is_in}
+use Rattle.lgr_text.specs.ClassMembers.{has}
+use Rattle.lgr_text.specs.Known.{Known}
+use Rattle.lgr_text.specs.PartMatches.{BeginsWith, IsAnchored, IsOf, Place}
+use Rattle.lgr_text.specs.Records.{Class}
+use Rattle.lgr_text.specs.declared.records.Count.{Count}
+
+-- what no part of a label matches: a code point before the start
+abbrev pub never : Pattern
+never = Then Any Start
+
+-- what matches the empty part of a label at each place, and nothing else
+abbrev pub nothing : Pattern
+nothing = Optional (Group never)
+
+-- an item, which may be the anchor
+abbrev pub ItemMatches : Seen → Option Place → Pattern → ℕ → ℕ → Type 0
+ItemMatches seen at Anchor i j = IsAnchored at i j
+ItemMatches seen at p i j = Matches seen p i j
+
+-- the part of a label from i to j matches the items, one after the other
+abbrev pub ItemsMatch : Seen → Option Place → List Pattern → ℕ → ℕ → Type 0
+ItemsMatch seen at [] i j = j ≡ i
+ItemsMatch seen at (p ∷ ps) i j = (k : ℕ) × ItemMatches seen at p i k × ItemsMatch seen at ps k j
+
+-- the items as one pattern
+abbrev pub in_sequence : List Pattern → Pattern
+in_sequence [] = nothing
+in_sequence (p ∷ []) = p
+in_sequence (p ∷ q ∷ ps) = Then p (in_sequence (q ∷ ps))
+
+-- an item to which '?' or '*' may be added
+abbrev pub is_atom : Pattern → Bool
+is_atom (Point c) = true
+is_atom (Set n) = true
+is_atom Any = true
+is_atom (Group p) = true
+is_atom p = false
+
+-- the items as one such item
+abbrev pub as_atom : List Pattern → Pattern
+as_atom [] = Group nothing
+as_atom (p ∷ []) = if is_atom p then p else Group p
+as_atom (p ∷ q ∷ ps) = Group (in_sequence (p ∷ q ∷ ps))
+
+-- what is in a group, or the pattern, if it is none
+abbrev pub ungrouped : Pattern → Pattern
+ungrouped (Group p) = p
+ungrouped p = p
+
+-- one of the two
+abbrev pub choice_of : List Pattern → List Pattern → Pattern
+choice_of left right = Group (Either (in_sequence left) (ungrouped (in_sequence right)))
+
+-- the items so many times
+abbrev pub copies : ℕ → List Pattern → List Pattern
+copies zero items = []
+copies (suc n) items = copies n items ++ items
+
+-- what may follow as many of the items as there have to be
+abbrev pub further_up_to : Option ℕ → ℕ → List Pattern → List Pattern
+further_up_to None least items = Many (as_atom items) ∷ []
+further_up_to (Some most) least items = copies (most - least) (Optional (as_atom items) ∷ [])
+
+abbrev pub further : Count → List Pattern → List Pattern
+further count items = further_up_to count.most count.least items
+
+-- an item by itself, which is neither a sequence nor a choice
+abbrev pub is_item : Pattern → Bool
+is_item (Then p q) = false
+is_item (Either p q) = false
+is_item p = true
+
+-- how many of the items are the anchor
+abbrev pub anchors : List Pattern → ℕ
+anchors [] = 0
+anchors (p ∷ ps) = (if is_anchor p then 1 else 0) + anchors ps
+
+-- items by themselves, one of which is the anchor, or none
+pub record HasShape (anchored : Bool) (items : List Pattern) : Type 0 where
+  pub flat : list_all is_item items ≡ true
+  pub one : anchors items ≡ (if anchored then 1 else 0)
+
+-- items that match what R says of a label made of these code points, whatever sets follow these
+abbrev pub AreItemsFor : List Span → List (List Span) → List Pattern → (Seen → Option Place → ℕ → ℕ → Type 0) → Type 0
+AreItemsFor points sets items R =
+    (all : List (List Span)) (label : List ℕ) (at : Option Place) (i j : ℕ) → BeginsWith all sets → IsOf points label
+    → ItemsMatch (seen all label) at items i j ↔ R (seen all label) at i j
+
+-- such items were appended, and maybe sets
+pub record Appends (points : List Span) (anchored : Bool) (old_sets sets : List (List Span)) (old items : List Pattern)
+    (R : Seen → Option Place → ℕ → ℕ → Type 0) : Type 0 where
+  pub kept : BeginsWith sets old_sets
+  pub added : List Pattern
+  pub is : items ≡ old ++ added
+  pub shape : HasShape anchored added
+  pub match_them : AreItemsFor points sets added R
+
+-- the number of a set was appended, which has those of a class that are in labels
+pub record AddsClass (known : Known) (class : Class) (old_sets sets : List (List Span)) (old items : List Pattern) : Type 0 where
+  pub kept : BeginsWith sets old_sets
+  pub number : ℕ
+  pub within : number < length sets
+  pub is : items ≡ old ++ Set number ∷ []
+  pub members : (c : ℕ) → c ≤ 0x10FFFF → is_in (slice_index_or sets number []) c ≡ (has known class c && is_in known.points c)

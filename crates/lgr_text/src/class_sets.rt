@@ -1,0 +1,108 @@
+//! Classes as sets (RFC 7940, section 6.2).
+ghost use Rattle.std.specs.Prelude.{◌≡◌, ◌≤◌, ◌++◌, ℕ, Bool, MatchResult, IfOk, OnOk, map, IsTrue, ◌↔◌, Some, None};
+ghost use Rattle.std.specs.List.{list_any};
+ghost use Rattle.label_patterns.specs.declared.span.Span.{Span};
+ghost use Rattle.label_patterns.specs.Sets.{is_in};
+ghost use Rattle.ruleset_text.specs.Names.{is_one_of as is_one};
+ghost use Rattle.lgr_text.specs.ClassMembers.{has, class_fault, set_fault, tag_fault, set_named, HasSpans};
+ghost use Rattle.lgr_text.specs.CodePoints.{AreSpans};
+ghost use Rattle.lgr_text.specs.Known.{known as known_of, tagged as tagged_spans, single_points, HaveSpans};
+ghost use Rattle.lgr_text.specs.Records.{class as class_of, entry, source};
+ghost use Rattle.lgr_text.specs.inner.Faults.{IsFaultOf};
+
+use crate::code_points::CodePoints;
+use crate::joins::SetOperation;
+use crate::known::Known;
+use crate::records::{ClassTree, Entry, Source};
+use crate::rule_error::{RuleError, RuleFault};
+use label_patterns::Span;
+use ruleset_text::{is_one_of, number_of};
+use std::alloc::{AllocError, Global};
+
+/// The code points of a class.
+pub fn set_of(alloc: Global, known: Known<'_>, class: &ClassTree) -> Result<CodePoints, RuleError>
+    requires spans { HasSpans (class_of class.now) }
+    requires entries { HaveSpans (known_of known).entries }
+    ensures members { IfOk result (λ set. (c : ℕ) → c ≤ 0x10FFFF → is_in set c ≡ has (known_of known.entry) (class_of class.now) c) }
+    ensures fault { IsFaultOf (class_fault (known_of known.entry) (class_of class.now)) result }
+{
+    match class {
+        ClassTree::Listed(spans) => Ok(CodePoints::of_spans(alloc, spans)?),
+        ClassTree::OfTag(tag) => tagged(alloc, known.entries, tag.name.as_slice()),
+        ClassTree::OfProperty(_) => Err(RuleError::Fault(RuleFault::NotSupported)),
+        ClassTree::OfClass(class) => named(alloc, known, class.name.as_slice()),
+        ClassTree::Union(left, right) => {
+            let left = set_of(alloc, known, left)?;
+            let right = set_of(alloc, known, right)?;
+            Ok(left.join(alloc, SetOperation::Union, &right)?)
+        }
+        ClassTree::Intersection(left, right) => {
+            let left = set_of(alloc, known, left)?;
+            let right = set_of(alloc, known, right)?;
+            Ok(left.join(alloc, SetOperation::Intersection, &right)?)
+        }
+        ClassTree::Difference(left, right) => {
+            let left = set_of(alloc, known, left)?;
+            let right = set_of(alloc, known, right)?;
+            Ok(left.join(alloc, SetOperation::Difference, &right)?)
+        }
+        ClassTree::SymmetricDifference(left, right) => {
+            let left = set_of(alloc, known, left)?;
+            let right = set_of(alloc, known, right)?;
+            Ok(left.join(alloc, SetOperation::SymmetricDifference, &right)?)
+        }
+        ClassTree::Complement(class) => Ok(set_of(alloc, known, class)?.complement(alloc)?),
+    }
+}
+
+/// The set of the class of this name.
+fn named(alloc: Global, known: Known<'_>, name: &[u8]) -> Result<CodePoints, RuleError>
+    ensures members { IfOk result (λ set. set ≡ set_named (known_of known.entry) name.now) }
+    ensures fault { IsFaultOf (set_fault (known_of known.entry) name.now) result }
+{
+    let number = number_of(known.set_names, name);
+    if number < known.sets.len() {
+        Ok(known.sets[number].copied(alloc)?)
+    } else {
+        Err(RuleError::Fault(RuleFault::Undefined))
+    }
+}
+
+/// The code points of the entries that have a tag.
+fn tagged(alloc: Global, entries: &[Entry], tag: &[u8]) -> Result<CodePoints, RuleError>
+    requires { HaveSpans (map entry entries.now) }
+    ensures members { IfOk result (λ set. (c : ℕ) → is_in set c ≡ is_in (tagged_spans (map entry entries.now) tag.now) c) }
+    ensures fault { IsFaultOf (tag_fault (map entry entries.now) tag.now) result }
+{
+    let mut spans = Vec::new(alloc);
+    let mut is_defined = false;
+    for entry in entries {
+        if is_one_of(&entry.tags, tag) {
+            is_defined = true;
+            push_points(&mut spans, &entry.source)?;
+        }
+    }
+    if is_defined {
+        Ok(CodePoints::of_spans(alloc, &spans)?)
+    } else {
+        Err(RuleError::Fault(RuleFault::Undefined))
+    }
+}
+
+/// Appends the code points of an entry, if each is an entry by itself.
+fn push_points(spans: &mut Vec<Span>, points: &Source) -> Result<(), AllocError>
+    ensures { OnOk result (spans.new.items ≡ spans.old.items ++ single_points (source points.now)) }
+{
+    match points {
+        Source::Range(span) => spans.push(*span)?,
+        Source::Sequence(points) => {
+            if let [point] = points.as_slice() {
+                spans.push(Span {
+                    first: *point,
+                    last: *point,
+                })?;
+            }
+        }
+    }
+    Ok(())
+}

@@ -1,0 +1,374 @@
+//! The parts of a rule as items of a pattern (RFC 7940, sections 6.3 and 6.4).
+ghost use Rattle.std.specs.Prelude.{◌≡◌, ◌<◌, ◌++◌, ◌&&◌, ◌∷◌, [], map, length, slice_index_or, IfOk, IfErr, OnOk};
+ghost use Rattle.label_patterns.specs.Patterns as patterns;
+ghost use Rattle.label_patterns.specs.Trees.{pattern};
+ghost use Rattle.lgr_text.specs.ClassMembers.{class_fault, HasSpans};
+ghost use Rattle.lgr_text.specs.Known.{known as known_of, HaveSpans};
+ghost use Rattle.lgr_text.specs.PartMatches.{has_anchor as has_anchor_part, part_fault, rule_fault, rule_named};
+ghost use Rattle.lgr_text.specs.PartMatches.{BeginsWith, IsWellFormed, Matching, SaysRule};
+ghost use Rattle.lgr_text.specs.Records.{class as class_of, part as part_of};
+ghost use Rattle.lgr_text.specs.inner.Faults.{IsLimit, IsPartFaultOf};
+ghost use Rattle.lgr_text.specs.inner.Items.{as_atom, choice_of, copies, further, in_sequence, is_atom as is_atom_pattern};
+ghost use Rattle.lgr_text.specs.inner.Items.{nothing as nothing_pattern, ungrouped as ungrouped_pattern};
+ghost use Rattle.lgr_text.specs.inner.Items.{AddsClass, Appends};
+
+use crate::class_sets::set_of;
+use crate::joins::SetOperation;
+use crate::known::Known;
+use crate::records::{ClassTree, Count, PartTree};
+use crate::rule_error::{RuleError, RuleFault};
+use label_patterns::{PatternTree, PointSet, is_context_rule};
+use ruleset_text::number_of;
+use std::alloc::{AllocError, Global};
+
+/// The sets that patterns name, and how many atoms are left for further items.
+#[derive(Drop)]
+pub struct Made {
+    pub sets: Vec<PointSet>,
+    pub atoms_left: usize,
+}
+
+/// The number of a set among those that patterns name, to which it is added if it is none of them.
+fn number_of_set(sets: &mut Vec<PointSet>, set: PointSet) -> Result<usize, AllocError>
+    ensures kept { OnOk result (BeginsWith sets.new.items sets.old.items) }
+    ensures within { IfOk result (λ number. number < length sets.new.items) }
+    ensures number { IfOk result (λ number. slice_index_or sets.new.items number [] ≡ set) }
+{
+    for number in 0..sets.len() {
+        if sets[number].spans() == set.spans() {
+            return Ok(number);
+        }
+    }
+    sets.push(set)?;
+    Ok(sets.len() - 1)
+}
+
+/// The items one after the other.
+fn sequence_of(alloc: Global, mut items: Vec<PatternTree>) -> Result<PatternTree, AllocError>
+    ensures { IfOk result (λ tree. pattern tree ≡ in_sequence (map pattern items.items)) }
+{
+    let Some(mut tree) = items.pop() else {
+        return nothing(alloc);
+    };
+    while let Some(item) = items.pop() {
+        tree = PatternTree::Then(Box::new(alloc, item)?, Box::new(alloc, tree)?);
+    }
+    Ok(tree)
+}
+
+/// What matches the empty part of a label at each place, and nothing else.
+fn nothing(alloc: Global) -> Result<PatternTree, AllocError>
+    ensures { IfOk result (λ tree. pattern tree ≡ nothing_pattern) }
+{
+    let any = Box::new(alloc, PatternTree::Any)?;
+    let start = Box::new(alloc, PatternTree::Start)?;
+    let never = Box::new(alloc, PatternTree::Then(any, start))?;
+    let group = Box::new(alloc, PatternTree::Group(never))?;
+    Ok(PatternTree::Optional(group))
+}
+
+/// The items as one atom, to which `?` or `*` may be added.
+fn atom_of(alloc: Global, mut items: Vec<PatternTree>) -> Result<PatternTree, AllocError>
+    ensures { IfOk result (λ tree. pattern tree ≡ as_atom (map pattern items.items)) }
+{
+    match items.pop() {
+        Some(item) if items.is_empty() && is_atom(&item) => Ok(item),
+        Some(item) => {
+            items.push(item)?;
+            let inner = sequence_of(alloc, items)?;
+            Ok(PatternTree::Group(Box::new(alloc, inner)?))
+        }
+        None => Ok(PatternTree::Group(Box::new(alloc, nothing(alloc)?)?)),
+    }
+}
+
+/// Whether `?` or `*` may be added to an item.
+fn is_atom(tree: &PatternTree) -> bool
+    ensures { result ≡ is_atom_pattern (pattern tree.now) }
+{
+    matches!(
+        tree,
+        PatternTree::Point(_) | PatternTree::Set(_) | PatternTree::Any | PatternTree::Group(_)
+    )
+}
+
+/// The pattern once more.
+fn copied(alloc: Global, tree: &PatternTree) -> Result<PatternTree, AllocError>
+    ensures { IfOk result (λ copy. pattern copy ≡ pattern tree.now) }
+{
+    match tree {
+        PatternTree::Point(point) => Ok(PatternTree::Point(*point)),
+        PatternTree::Set(number) => Ok(PatternTree::Set(*number)),
+        PatternTree::Any => Ok(PatternTree::Any),
+        PatternTree::Start => Ok(PatternTree::Start),
+        PatternTree::End => Ok(PatternTree::End),
+        PatternTree::Anchor => Ok(PatternTree::Anchor),
+        PatternTree::Group(part) => Ok(PatternTree::Group(Box::new(alloc, copied(alloc, part)?)?)),
+        PatternTree::Optional(part) => Ok(PatternTree::Optional(Box::new(
+            alloc,
+            copied(alloc, part)?,
+        )?)),
+        PatternTree::Many(part) => Ok(PatternTree::Many(Box::new(alloc, copied(alloc, part)?)?)),
+        PatternTree::Then(first, rest) => {
+            let first = copied(alloc, first)?;
+            let rest = copied(alloc, rest)?;
+            Ok(PatternTree::Then(Box::new(alloc, first)?, Box::new(alloc, rest)?))
+        }
+        PatternTree::Either(left, right) => {
+            let left = copied(alloc, left)?;
+            let right = copied(alloc, right)?;
+            Ok(PatternTree::Either(Box::new(alloc, left)?, Box::new(alloc, right)?))
+        }
+    }
+}
+
+/// How many atoms there are, as far as a number has room.
+fn atoms_of(tree: &PatternTree) -> usize {
+    match tree {
+        PatternTree::Anchor => 0,
+        PatternTree::Group(part) => atoms_of(part).saturating_add(1),
+        PatternTree::Optional(part) => atoms_of(part),
+        PatternTree::Many(part) => atoms_of(part),
+        PatternTree::Then(first, rest) => atoms_of(first).saturating_add(atoms_of(rest)),
+        PatternTree::Either(left, right) => atoms_of(left).saturating_add(atoms_of(right)),
+        _ => 1,
+    }
+}
+
+/// Appends an item, if there may be so many atoms more.
+fn push(items: &mut Vec<PatternTree>, made: &mut Made, item: PatternTree) -> Result<(), RuleError>
+    ensures items { OnOk result (map pattern items.new.items ≡ map pattern items.old.items ++ pattern item ∷ []) }
+    ensures sets { made.new.sets ≡ made.old.sets }
+    ensures err { IfErr result IsLimit }
+{
+    let atoms = atoms_of(&item);
+    if made.atoms_left < atoms {
+        return Err(RuleError::Fault(RuleFault::Limit));
+    }
+    made.atoms_left -= atoms;
+    items.push(item)?;
+    Ok(())
+}
+
+/// Appends copies of items.
+fn push_copies(
+    alloc: Global,
+    items: &mut Vec<PatternTree>,
+    made: &mut Made,
+    others: &[PatternTree],
+) -> Result<(), RuleError>
+    ensures items { OnOk result (map pattern items.new.items ≡ map pattern items.old.items ++ map pattern others.now) }
+    ensures sets { made.new.sets ≡ made.old.sets }
+    ensures err { IfErr result IsLimit }
+{
+    for other in others {
+        let copy = copied(alloc, other)?;
+        push(items, made, copy)?;
+    }
+    Ok(())
+}
+
+/// Appends code points.
+fn push_literal(
+    items: &mut Vec<PatternTree>,
+    made: &mut Made,
+    points: &[u32],
+) -> Result<(), RuleError>
+    ensures items { OnOk result (map pattern items.new.items ≡ map pattern items.old.items ++ map patterns.Point points.now) }
+    ensures sets { made.new.sets ≡ made.old.sets }
+    ensures err { IfErr result IsLimit }
+{
+    for point in points {
+        push(items, made, PatternTree::Point(*point))?;
+    }
+    Ok(())
+}
+
+/// Appends the set of a class.
+fn push_class(
+    alloc: Global,
+    known: Known<'_>,
+    items: &mut Vec<PatternTree>,
+    made: &mut Made,
+    class: &ClassTree,
+) -> Result<(), RuleError>
+    requires spans { HasSpans (class_of class.now) }
+    requires entries { HaveSpans (known_of known).entries }
+    ensures items { OnOk result (AddsClass (known_of known.entry) (class_of class.now) made.old.sets.items made.new.sets.items
+        (map pattern items.old.items) (map pattern items.new.items)) }
+    ensures fault { IsPartFaultOf (class_fault (known_of known.entry) (class_of class.now)) result }
+{
+    let class = set_of(alloc, known, class)?;
+    let set = class.join(alloc, SetOperation::Intersection, known.points)?;
+    let number = number_of_set(&mut made.sets, set.into_point_set())?;
+    push(items, made, PatternTree::Set(number))
+}
+
+/// Appends the pattern of the rule of this name, in a group.
+fn push_rule(
+    alloc: Global,
+    known: Known<'_>,
+    items: &mut Vec<PatternTree>,
+    made: &mut Made,
+    name: &[u8],
+) -> Result<(), RuleError>
+    ensures items { OnOk result (map pattern items.new.items ≡
+        map pattern items.old.items ++ patterns.Group (rule_named (known_of known.entry) name.now) ∷ []) }
+    ensures sets { made.new.sets ≡ made.old.sets }
+    ensures fault { IsPartFaultOf (rule_fault (known_of known.entry) name.now) result }
+{
+    let number = number_of(known.rule_names, name);
+    if number >= known.rules.len() {
+        return Err(RuleError::Fault(RuleFault::Undefined));
+    }
+    let rule = &known.rules[number];
+    if is_context_rule(rule) {
+        return Err(RuleError::Fault(RuleFault::NotSupported));
+    }
+    let copy = copied(alloc, rule)?;
+    push(items, made, PatternTree::Group(Box::new(alloc, copy)?))
+}
+
+/// Appends a choice between items and other items.
+fn push_choice(
+    alloc: Global,
+    items: &mut Vec<PatternTree>,
+    made: &mut Made,
+    left: Vec<PatternTree>,
+    right: Vec<PatternTree>,
+) -> Result<(), RuleError>
+    ensures items { OnOk result (map pattern items.new.items ≡
+        map pattern items.old.items ++ choice_of (map pattern left.items) (map pattern right.items) ∷ []) }
+    ensures sets { made.new.sets ≡ made.old.sets }
+    ensures err { IfErr result IsLimit }
+{
+    let left = sequence_of(alloc, left)?;
+    let right = ungrouped(sequence_of(alloc, right)?);
+    let either = PatternTree::Either(Box::new(alloc, left)?, Box::new(alloc, right)?);
+    push(items, made, PatternTree::Group(Box::new(alloc, either)?))
+}
+
+/// What is in a group, or the pattern, if it is none.
+fn ungrouped(tree: PatternTree) -> PatternTree
+    ensures { pattern result ≡ ungrouped_pattern (pattern tree) }
+{
+    match tree {
+        PatternTree::Group(inner) => Box::into_inner(inner),
+        other => other,
+    }
+}
+
+/// Appends items as often as a count says.
+fn push_times(
+    alloc: Global,
+    items: &mut Vec<PatternTree>,
+    made: &mut Made,
+    count: Count,
+    once: Vec<PatternTree>,
+) -> Result<(), RuleError>
+    ensures items { OnOk result (map pattern items.new.items ≡
+        map pattern items.old.items ++ (copies count.least (map pattern once.items) ++ further count (map pattern once.items))) }
+    ensures sets { made.new.sets ≡ made.old.sets }
+    ensures err { IfErr result IsLimit }
+{
+    for _time in 0..count.least {
+        push_copies(alloc, items, made, &once)?;
+    }
+    let atom = atom_of(alloc, once)?;
+    let Some(most) = count.most else {
+        return push(items, made, PatternTree::Many(Box::new(alloc, atom)?));
+    };
+    for _time in 0..most.saturating_sub(count.least) {
+        let copy = copied(alloc, &atom)?;
+        push(items, made, PatternTree::Optional(Box::new(alloc, copy)?))?;
+    }
+    Ok(())
+}
+
+/// Whether the anchor stands in a part of a rule.
+fn has_anchor(part: &PartTree) -> bool
+    ensures { result ≡ has_anchor_part (part_of part.now) }
+{
+    match part {
+        PartTree::Anchor => true,
+        PartTree::Then(first, rest) => has_anchor(first) || has_anchor(rest),
+        PartTree::Choice(left, right) => has_anchor(left) || has_anchor(right),
+        PartTree::Times(_, part) => has_anchor(part),
+        _ => false,
+    }
+}
+
+/// Whether the anchor stands in both parts.
+fn have_anchors(first: &PartTree, rest: &PartTree) -> bool
+    ensures { result ≡ (has_anchor_part (part_of first.now) && has_anchor_part (part_of rest.now)) }
+{
+    has_anchor(first) && has_anchor(rest)
+}
+
+/// Appends the items that match what a part of a rule matches.
+fn push_part(
+    alloc: Global,
+    known: Known<'_>,
+    items: &mut Vec<PatternTree>,
+    made: &mut Made,
+    part: &PartTree,
+) -> Result<(), RuleError>
+    requires part { IsWellFormed (part_of part.now) }
+    requires entries { HaveSpans (known_of known).entries }
+    ensures items { OnOk result (Appends (known_of known.entry).points (has_anchor_part (part_of part.now)) made.old.sets.items made.new.sets.items
+        (map pattern items.old.items) (map pattern items.new.items) (Matching (known_of known.entry) (part_of part.now))) }
+    ensures fault { IsPartFaultOf (part_fault (known_of known.entry) (part_of part.now)) result }
+{
+    match part {
+        PartTree::Literal(points) => push_literal(items, made, points),
+        PartTree::Any => push(items, made, PatternTree::Any),
+        PartTree::Of(class) => push_class(alloc, known, items, made, class),
+        PartTree::Start => push(items, made, PatternTree::Start),
+        PartTree::End => push(items, made, PatternTree::End),
+        PartTree::Anchor => push(items, made, PatternTree::Anchor),
+        PartTree::OfRule(rule) => push_rule(alloc, known, items, made, rule.name.as_slice()),
+        PartTree::Then(first, rest) => {
+            if have_anchors(first, rest) {
+                return Err(RuleError::Fault(RuleFault::NotSupported));
+            }
+            push_part(alloc, known, items, made, first)?;
+            push_part(alloc, known, items, made, rest)
+        }
+        PartTree::Choice(left, right) => {
+            if has_anchor(left) || has_anchor(right) {
+                return Err(RuleError::Fault(RuleFault::NotSupported));
+            }
+            let mut left_items = Vec::new(alloc);
+            push_part(alloc, known, &mut left_items, made, left)?;
+            let mut right_items = Vec::new(alloc);
+            push_part(alloc, known, &mut right_items, made, right)?;
+            push_choice(alloc, items, made, left_items, right_items)
+        }
+        PartTree::Times(count, part) => {
+            if has_anchor(part) {
+                return Err(RuleError::Fault(RuleFault::NotSupported));
+            }
+            let mut once = Vec::new(alloc);
+            push_part(alloc, known, &mut once, made, part)?;
+            push_times(alloc, items, made, *count, once)
+        }
+    }
+}
+
+/// The pattern of a rule. The anchor of a condition may stand in it, once, one after the other with other parts.
+pub fn pattern_of_rule(
+    alloc: Global,
+    known: Known<'_>,
+    made: &mut Made,
+    rule: &PartTree,
+) -> Result<PatternTree, RuleError>
+    requires rule { IsWellFormed (part_of rule.now) }
+    requires entries { HaveSpans (known_of known).entries }
+    ensures pattern { IfOk result (λ tree. SaysRule (known_of known.entry) made.new.sets.items (pattern tree) (part_of rule.now)) }
+    ensures sets { OnOk result (BeginsWith made.new.sets.items made.old.sets.items) }
+    ensures fault { IsPartFaultOf (part_fault (known_of known.entry) (part_of rule.now)) result }
+{
+    let mut items = Vec::new(alloc);
+    push_part(alloc, known, &mut items, made, rule)?;
+    Ok(sequence_of(alloc, items)?)
+}

@@ -1,0 +1,40 @@
+//! Why a class or a rule isn't made.
+ghost use Rattle.std.specs.Prelude.{◌≡◌};
+ghost use Rattle.lgr_text.specs.declared.rule_error.RuleError.TheVariants.{Memory};
+
+use std::alloc::{AllocError, AllocFailed};
+
+/// What is wrong with a class or a rule.
+#[derive(Clone, Copy, Debug, PartialEq, Eq)]
+pub enum RuleFault {
+    /// It names a class, a rule or a tag that isn't defined.
+    Undefined,
+    /// It has a property that isn't known, or an anchor where no pattern has one.
+    NotSupported,
+    /// It takes more atoms than a pattern may have.
+    Limit,
+}
+
+/// Why a class or a rule isn't made.
+#[derive(Clone, Copy, Debug, PartialEq, Eq)]
+pub enum RuleError {
+    Fault(RuleFault),
+    /// Memory was refused.
+    Memory,
+}
+
+impl From<AllocError> for RuleError {
+    ghost from_gives = { λ _ e. e ≡ Memory };
+
+    fn from(_: AllocError) -> Self {
+        RuleError::Memory
+    }
+}
+
+impl<T: Drop> From<AllocFailed<T>> for RuleError {
+    ghost from_gives = { λ _ e. e ≡ Memory };
+
+    fn from(_: AllocFailed<T>) -> Self {
+        RuleError::Memory
+    }
+}
