@@ -94,16 +94,9 @@ pub(crate) fn write_block<W: Sink, E: Sink>(
         }
         let variant = cursor.last();
         let cached = &mut judge;
-        let disposition = shown(wanted, cached.told);
+        let told = shown(wanted, cached.told);
         let a_label = cached.test.a_label();
-        write_variant(
-            asked,
-            variant,
-            a_label,
-            disposition,
-            &mut cached.line,
-            console,
-        )?;
+        write_variant(asked, variant, a_label, told, &mut cached.line, console)?;
         count += 1;
         if is_reached(options.limit, count) {
             return write_stop(asked, count, cursor.last(), &mut judge.line, console);

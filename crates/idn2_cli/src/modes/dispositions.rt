@@ -21,12 +21,9 @@ use std::alloc::{AllocError, Global};
 use valid_labels::actions_of;
 use variant_dispositions::{
     Action, Disposition as Outcome, LabelRules, UNMAPPED, VariantDisposition, disposition_of,
-    disposition_of_words,
+    disposition_of_words, is_allocatable_in_some,
 };
 use variant_table::Table;
-
-/// The bit of the type `blocked` in what a reading records.
-const BLOCKED_KIND: u32 = 3;
 
 /// What a listing does with a label that is spelled.
 #[derive(Clone, Copy)]
@@ -114,7 +111,10 @@ impl Dispositions {
             AreWordsOf (substitutions_of table label) v words.has words.lacks → result ≡ appearance table label v }
     {
         match self.by {
-            DecidedBy::Blocked => Appearance::Listed(Some(allocation(words.lacks(BLOCKED_KIND)))),
+            DecidedBy::Blocked => {
+                let is_allocatable = is_allocatable_in_some(words);
+                Appearance::Listed(Some(allocation(is_allocatable)))
+            }
             DecidedBy::Readings => {
                 appearance_told(disposition_of_words(&self.actions, words, rules))
             }

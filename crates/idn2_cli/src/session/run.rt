@@ -156,6 +156,7 @@ fn serve_mode<R: Source, W: Sink, E: Sink>(
     ensures { Serves settings.now table.now input.old input.new console.old console.new result }
 {
     let options = settings.options;
+    let properties = options.properties;
     let wanted = options.tells_causes();
     match options.mode {
         Mode::Lookup => {
@@ -164,24 +165,18 @@ fn serve_mode<R: Source, W: Sink, E: Sink>(
             serve_lines(alloc, options.form, &explaining, &mode, input, console)
         }
         Mode::Register => {
-            let explaining = Explaining::Label(options.properties).if_wanted(wanted);
-            let mode = Register {
-                properties: options.properties,
-            };
+            let explaining = Explaining::Label(properties).if_wanted(wanted);
+            let mode = Register { properties };
             serve_lines(alloc, options.form, &explaining, &mode, input, console)
         }
         Mode::Decode => {
-            let explaining = Explaining::Name(options.properties).if_wanted(wanted);
-            let mode = Decode {
-                properties: options.properties,
-            };
+            let explaining = Explaining::Name(properties).if_wanted(wanted);
+            let mode = Decode { properties };
             serve_lines(alloc, options.form, &explaining, &mode, input, console)
         }
         Mode::DecodeOld => {
-            let explaining = Explaining::Label(options.properties).if_wanted(wanted);
-            let mode = DecodeOld {
-                properties: options.properties,
-            };
+            let explaining = Explaining::Label(properties).if_wanted(wanted);
+            let mode = DecodeOld { properties };
             serve_lines(alloc, options.form, &explaining, &mode, input, console)
         }
         Mode::Variants => {

@@ -140,7 +140,7 @@ returns-in_err-write_variant-clause-written g c =
     let p = err_from_is_err_and c.from_residual-in_err-write_variant.result c.from_residual-in_err-write_variant.ensures.1 in
     let found = found-from (filter_for c.args.options.now.properties c.args.validity c.args.dispositions) c.variants.cursor c.seek.new.self c.variants.tries c.seek.new.tries c.variants.steps c.seek.new.steps c.seek.result c.in_ok-seek.field-0 c.in_ok-seek.was (decided_by (filter_of_judge c.variants.judge) (filter_for c.args.options.now.properties c.args.validity c.args.dispositions) c.variants.cursor c.variants.tries c.seek.new.tries c.seek.result c.variants.invariant.same_filter c.seek.ensures.decided) (moves_by (filter_of_judge c.variants.judge) (filter_for c.args.options.now.properties c.args.validity c.args.dispositions) (c.variants.tries - c.seek.new.tries) c.seek.result c.variants.cursor c.seek.new.self c.variants.invariant.same_filter c.seek.ensures.moves) (steps_by (filter_of_judge c.variants.judge) (filter_for c.args.options.now.properties c.args.validity c.args.dispositions) c.variants.cursor c.seek.new.self c.variants.steps c.seek.new.steps c.seek.result c.variants.invariant.same_filter c.seek.ensures.steps) c.in-Found.is in
     rw p.1 (listing-broken c.args.options.now.properties (filter_for c.args.options.now.properties c.args.validity c.args.dispositions) (said_text c.args.asked.now.form (asked_line c.args.asked.now)) (field_in c.args.options.now c.args.dispositions) _ _ _ _ _ c.variants.cursor c.seek.new.self c.variants.count c.variants.tries c.seek.new.tries c.variants.steps c.seek.new.steps c.last-variant.result.now c.write_variant.result p.0 c.variants.invariant.listing found c.last-variant.ensures.value
-    (emits_as _ _ Output _ _ c.write_variant.result (line_is (said_text c.args.asked.now.form (asked_line c.args.asked.now)) c.last-variant.result.now (told c.args.options.now c.args.dispositions c.seek.new.judge c.last-variant.result.now c.seek.new.self.last c.shown-disposition.ensures c.tells_causes-wanted.ensures c.last-variant.ensures.value (found-as _ c.seek.result c.in_ok-seek.field-0 c.in_ok-seek.was c.in-Found.is c.seek.ensures.verdict) (c.seek.ensures.same_classes ∙ c.variants.invariant.same_classes))) c.write_variant.ensures.written) (c.in_err-write_variant.was ∙ ap Err (sym p.2)))
+    (emits_as _ _ Output _ _ c.write_variant.result (line_is (said_text c.args.asked.now.form (asked_line c.args.asked.now)) c.last-variant.result.now (told c.args.options.now c.args.dispositions c.seek.new.judge c.last-variant.result.now c.seek.new.self.last c.shown-told.ensures c.tells_causes-wanted.ensures c.last-variant.ensures.value (found-as _ c.seek.result c.in_ok-seek.field-0 c.in_ok-seek.was c.in-Found.is c.seek.ensures.verdict) (c.seek.ensures.same_classes ∙ c.variants.invariant.same_classes))) c.write_variant.ensures.written) (c.in_err-write_variant.was ∙ ap Err (sym p.2)))
 
 pub write_stop-requires-then-is_reached-clause-scalar_values : goal.write_stop-requires-then-is_reached-clause-scalar_values
 write_stop-requires-then-is_reached-clause-scalar_values g c =
@@ -152,7 +152,7 @@ returns-then-is_reached-clause-written g c =
     let found = found-from (filter_for c.args.options.now.properties c.args.validity c.args.dispositions) c.variants.cursor c.seek.new.self c.variants.tries c.seek.new.tries c.variants.steps c.seek.new.steps c.seek.result c.in_ok-seek.field-0 c.in_ok-seek.was (decided_by (filter_of_judge c.variants.judge) (filter_for c.args.options.now.properties c.args.validity c.args.dispositions) c.variants.cursor c.variants.tries c.seek.new.tries c.seek.result c.variants.invariant.same_filter c.seek.ensures.decided) (moves_by (filter_of_judge c.variants.judge) (filter_for c.args.options.now.properties c.args.validity c.args.dispositions) (c.variants.tries - c.seek.new.tries) c.seek.result c.variants.cursor c.seek.new.self c.variants.invariant.same_filter c.seek.ensures.moves) (steps_by (filter_of_judge c.variants.judge) (filter_for c.args.options.now.properties c.args.validity c.args.dispositions) c.variants.cursor c.seek.new.self c.variants.steps c.seek.new.steps c.seek.result c.variants.invariant.same_filter c.seek.ensures.steps) c.in-Found.is in
     let reached = sym (ap (λ (o : Settings). reaches o.limit (c.variants.count + 1)) c.options.view_is) ∙ sym c.is_reached.ensures ∙ c.if-is_reached.true in
     listing-reached c.args.options.now.properties (filter_for c.args.options.now.properties c.args.validity c.args.dispositions) (said_text c.args.asked.now.form (asked_line c.args.asked.now)) (field_in c.args.options.now c.args.dispositions) _ _ _ _ _ _ c.variants.cursor c.seek.new.self c.variants.count c.variants.tries c.seek.new.tries c.variants.steps c.seek.new.steps c.last-variant.result.now c.last-then-is_reached.result.now c.write_stop-then-is_reached.result c.variants.invariant.listing
-    found c.last-variant.ensures.value (writes_as _ _ Output _ _ (line_is (said_text c.args.asked.now.form (asked_line c.args.asked.now)) c.last-variant.result.now (told c.args.options.now c.args.dispositions c.seek.new.judge c.last-variant.result.now c.seek.new.self.last c.shown-disposition.ensures c.tells_causes-wanted.ensures c.last-variant.ensures.value (found-as _ c.seek.result c.in_ok-seek.field-0 c.in_ok-seek.was c.in-Found.is c.seek.ensures.verdict) (c.seek.ensures.same_classes ∙ c.variants.invariant.same_classes))) c.in_ok-write_variant.ensures.written) reached c.last-then-is_reached.ensures.value c.write_stop-then-is_reached.ensures.written
+    found c.last-variant.ensures.value (writes_as _ _ Output _ _ (line_is (said_text c.args.asked.now.form (asked_line c.args.asked.now)) c.last-variant.result.now (told c.args.options.now c.args.dispositions c.seek.new.judge c.last-variant.result.now c.seek.new.self.last c.shown-told.ensures c.tells_causes-wanted.ensures c.last-variant.ensures.value (found-as _ c.seek.result c.in_ok-seek.field-0 c.in_ok-seek.was c.in-Found.is c.seek.ensures.verdict) (c.seek.ensures.same_classes ∙ c.variants.invariant.same_classes))) c.in_ok-write_variant.ensures.written) reached c.last-then-is_reached.ensures.value c.write_stop-then-is_reached.ensures.written
 
 pub variants-preserved : goal.variants-preserved
 variants-preserved g c =
@@ -163,7 +163,7 @@ variants-preserved g c =
       same_filter = same_filters (filter_of_judge c.seek.new.judge) (filter_of_judge c.variants.judge) c.seek.ensures.same_labels c.seek.ensures.same_beginnings ∙ c.variants.invariant.same_filter;
       same_classes = c.seek.ensures.same_classes ∙ c.variants.invariant.same_classes;
       listing = listing-found c.args.options.now.properties (filter_for c.args.options.now.properties c.args.validity c.args.dispositions) (said_text c.args.asked.now.form (asked_line c.args.asked.now)) (field_in c.args.options.now c.args.dispositions) _ _ _ _ _ c.variants.cursor c.seek.new.self c.variants.count c.variants.tries c.seek.new.tries c.variants.steps c.seek.new.steps c.last-variant.result.now c.requires.spelled c.variants.invariant.listing
-          found c.last-variant.ensures.value (writes_as _ _ Output _ _ (line_is (said_text c.args.asked.now.form (asked_line c.args.asked.now)) c.last-variant.result.now (told c.args.options.now c.args.dispositions c.seek.new.judge c.last-variant.result.now c.seek.new.self.last c.shown-disposition.ensures c.tells_causes-wanted.ensures c.last-variant.ensures.value (found-as _ c.seek.result c.in_ok-seek.field-0 c.in_ok-seek.was c.in-Found.is c.seek.ensures.verdict) (c.seek.ensures.same_classes ∙ c.variants.invariant.same_classes))) c.in_ok-write_variant.ensures.written) going;
+          found c.last-variant.ensures.value (writes_as _ _ Output _ _ (line_is (said_text c.args.asked.now.form (asked_line c.args.asked.now)) c.last-variant.result.now (told c.args.options.now c.args.dispositions c.seek.new.judge c.last-variant.result.now c.seek.new.self.last c.shown-told.ensures c.tells_causes-wanted.ensures c.last-variant.ensures.value (found-as _ c.seek.result c.in_ok-seek.field-0 c.in_ok-seek.was c.in-Found.is c.seek.ensures.verdict) (c.seek.ensures.same_classes ∙ c.variants.invariant.same_classes))) c.in_ok-write_variant.ensures.written) going;
       known = kept.0;
       apart = kept.1;
       begun = subst (λ v. IsBegun v c.write_variant.new.line) c.last-variant.ensures.value c.write_variant.ensures.begun;
