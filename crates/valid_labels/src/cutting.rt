@@ -1,11 +1,11 @@
 //! Cutting a label in any way: the places up to which it can be cut into sources.
-ghost use Rattle.std.specs.Prelude.{◌≡◌, ◌↔◌, ◌≤◌, length};
+ghost use Rattle.std.specs.Prelude.{◌≡◌, ◌↔◌, ◌<◌, ◌≤◌, ℕ, length};
 ghost use Rattle.label_patterns.specs.Matches.{Rounds};
 ghost use Rattle.label_patterns.specs.Places.{Has};
 ghost use Rattle.valid_labels.specs.inner.Steps.{AreSteps, SourceIs};
 
 use crate::source_predicate::SourcePredicate;
-use label_patterns::{either, has, with_place_if};
+use label_patterns::{both, either, has, with_place_if};
 use variant_table::Table;
 
 /// Places of a label from which one code point leads on, or nothing does.
@@ -15,6 +15,16 @@ pub struct SingleSteps {
     pub known: u64,
     /// Those of them from which a code point leads on.
     pub leading: u64,
+}
+
+impl SingleSteps {
+    /// How many code points lead on at the start of a label, one after the other.
+    pub fn run(self) -> usize
+        requires { ¬ Has self.known 63 }
+        ensures { (place : ℕ) → place < result → Has self.known place × Has self.leading place }
+    {
+        both(self.known, self.leading).trailing_ones() as usize
+    }
 }
 
 /// No such place is known.

@@ -26,8 +26,8 @@ pub(crate) fn cut_end(
 {
     // Only for the proof: the contract of `len` says that a table is well-formed.
     let _entries = table.len();
-    let mut place = 0;
-    for _ in 0..label.len() {
+    let mut place = steps.run();
+    for _ in place..label.len() {
         match next_place(table, seen, label, place, steps) {
             Some(next) => place = next,
             None => return place,

@@ -1,11 +1,31 @@
-use Rattle.std.proofs.Common.{◌≡◌, length, sym, subst, arith}
-use Rattle.label_patterns.specs.Matches.{no_round, one_more}
-use Rattle.valid_labels.specs.Eligible.{CutLeadsTo, IsCutEnd}
+use Rattle.std.proofs.Common.{◌≡◌, ℕ, zero, suc, ◌<◌, ◌≤◌, length, sym, subst, arith}
+use Rattle.label_patterns.specs.Matches.{Rounds, no_round, one_more}
+use Rattle.label_patterns.specs.Places.{Has}
+use Rattle.valid_labels.specs.declared.cutting.SingleSteps.{SingleSteps}
+use Rattle.valid_labels.specs.inner.Steps.{AreSteps}
+use Rattle.valid_labels.specs.Eligible.{CutLeadsTo, IsCutEnd, LongestLeads}
 use Rattle.valid_labels.proofs.EligibleLemmas.{whole-end}
 use Rattle.valid_labels.proofs.longest.cut_end.Goals as goal
 
+-- places from which one code point leads on, one after the other
+run-leads : (R : ℕ → ℕ → Type 0) (len : ℕ) (steps : SingleSteps) → AreSteps R len steps → (n : ℕ) → ((i : ℕ) → i < n → Has steps.known i × Has steps.leading i) → Rounds R 0 n × (n ≤ len)
+run-leads R len steps are zero each = (no_round, omega arith)
+run-leads R len steps are (suc n) each =
+    let last = each n (omega arith) in
+    let before = run-leads R len steps are n (λ i l. each i (omega (arith, l))) in
+    let from = are n last.0 in
+    let inside = from.0 in
+    (one_more n (suc n) before.0 ((from.1 (suc n)).1 (omega arith, last.1)), omega (arith, inside))
+
+pub run-place-requires : goal.run-place-requires
+run-place-requires c has =
+    let inside = (c.requires.steps 63 has).0 in
+    omega (arith, inside, c.requires.short)
+
 pub loop-init : goal.loop-init
-loop-init c = record { reached = no_round; within = omega arith; far = omega arith }
+loop-init c =
+    let run = run-leads (LongestLeads c.args.table.now c.args.label.now) (length c.args.label.now) c.args.steps c.requires.steps c.run-place.result c.run-place.ensures in
+    record { reached = run.0; within = run.1; far = omega arith }
 
 pub next_place-requires-clause-place : goal.next_place-requires-clause-place
 next_place-requires-clause-place c = c.loop.invariant.within
