@@ -101,10 +101,11 @@ def in_turn(runs, rounds):
 @contextlib.contextmanager
 def before_others():
     """Goes before what else the machine does, where that is allowed, and so does all that is started meanwhile."""
+    before = os.getpriority(os.PRIO_PROCESS, 0)
     with contextlib.suppress(PermissionError):
         os.setpriority(os.PRIO_PROCESS, 0, -20)
     yield
-    os.setpriority(os.PRIO_PROCESS, 0, 0)
+    os.setpriority(os.PRIO_PROCESS, 0, before)
 
 
 def children(process):

@@ -61,7 +61,7 @@ def does_what_its_tests_say(folder):
 
 
 def has_types(folder):
-    python = python_with("psycopg, aiohttp")
+    python = python_with("pytest, psycopg, aiohttp")
     if is_installed("mypy") and is_there("python3-aiohttp", python):
         words = ["mypy", f"--python-executable={python}", f"--cache-dir={folder}", *SOURCES]
         done = subprocess.run(words, cwd=PACKAGE, capture_output=True, text=True, timeout=LIMIT)
