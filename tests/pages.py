@@ -48,7 +48,7 @@ BOUNDS = {
         ("crates/variant_list/src/cursor.rt", "≤ 256 * self.old.net.edges"),
     ("docs/PROOFS.md", "126 times are proved of one search"):
         ("crates/variant_list/src/search.rt", "≤ looks.old + 126 * length self.old.net.edges"),
-    ("docs/PROOFS.md", "189 times are proved of one search"): JUMP,
+    ("docs/PROOFS.md", "tests at most 189 times as many edges as there are"): JUMP,
     ("docs/LISTING.md", "then is a step: at most 189 scans"): JUMP,
     ("docs/PROOFS.md", "at most 64 times 128 more than there are edges"):
         ("crates/variant_list/src/cursor.rt", "≤ 64 * (self.now.net.edges + 128)"),
