@@ -163,7 +163,7 @@ def compared(seed: int, number: int) -> collections.Counter[str]:
         assert answer == wanted, f"number {number}, label {label}: {answer}, and by RFC 7940 {wanted}\n{drawn.text}"
         refusal = labels.refusal(label)
         said = listed.get(label), refused.get(label)
-        assert said == (wanted, refusal), f"number {number}, label {label}: the program says {said}, and by RFC 7940 {wanted}\n{drawn.text}"
+        assert said == (wanted, refusal), f"number {number}, label {label}: {said} by the program, and {wanted}\n{drawn.text}"
         assert refusal != NOT_VALID or labels.cause(label), f"number {number}, label {label}: no cause\n{drawn.text}"
         counts[f"labels refused with {refusal}" if refusal else "labels accepted"] += 1
         counts.update(f"variants: {told}" for told in (answer or {}).values())
