@@ -211,7 +211,8 @@ def keeps_limits(folder):
 
 
 def says_large_rulesets(folder):
-    """More entries than versions 1 and 2 take, and a set that takes more than one line."""
+    """More entries than versions 1 and 2 take, and a set that takes more than one line: where it is all that a pattern asks, its
+    lines are branches."""
     text, told, status = converted(ruleset(folder, *many_entries()))
     assert (status, told, entries_of(text)) == (0, "", "%version 3\n4E00..9FFF\nAC00..D7A3\n"), (told, text[:400])
     text, told, status = converted(ruleset(folder, *long_set()))
@@ -223,6 +224,10 @@ def says_large_rulesets(folder):
     accepted = [label[0] for label in answers if answers[label]]
     assert accepted == ["一", "丂", "寀"], accepted
     program_says(folder, text, answers)
+    data, rules = long_set()
+    rules += rule('<class by-ref="many"/>', "w") + '<action disp="invalid" match="w"/>'
+    text, told, status = converted(ruleset(folder, data, rules))
+    assert status == 0 and "%never @many / @many_2\n" in text, (told, text[-400:])
 
 
 # Beside the evaluator.

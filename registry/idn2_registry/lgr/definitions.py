@@ -72,6 +72,9 @@ class Patterns:
         return " / ".join(" ".join([*self.items(before), "_", *self.items(after)]) for before, after in contexts)
 
     def branch(self, expression: Expression) -> str:
+        """A branch; a set that several lines define is a branch for each of them, and not a group."""
+        if isinstance(expression, Points):
+            return self.one_of(expression).strip("()")
         return " ".join(self.items(expression))
 
     def items(self, expression: Expression) -> list[str]:
