@@ -27,7 +27,7 @@ pub returns-in-Blocked : goal.returns-in-Blocked
 returns-in-Blocked g c = λ table label v sound of rules other spells words.
     let by = subst (IsDecidedBy table) c.in-Blocked.is of.by in
     ap (λ (d : Disposition). let a : Appearance = Listed (Some d) in a) c.allocation.ensures
-    ∙ appears-by_blocked table label v c.args.words.has c.args.words.lacks c.is_allocatable_in_some.result sound by.0 by.1 other words c.is_allocatable_in_some.ensures.lacks
+    ∙ appears-by_blocked table label v c.args.words.has c.args.words.lacks c.is_allocatable_in_some-is_allocatable.result sound by.0 by.1 other words c.is_allocatable_in_some-is_allocatable.ensures.lacks
 
 pub returns-in-Readings : goal.returns-in-Readings
 returns-in-Readings g c = λ table label v sound of rules other spells words.
