@@ -168,7 +168,12 @@ def one_of(each: list[list[Element]]) -> list[Element]:
     """The parts, if there is one way; else a choice."""
     if len(each) == 1:
         return each[0]
-    return [Element("choice", children=[parts[0] if len(parts) == 1 else Element("rule", children=parts) for parts in each])]
+    return [Element("choice", children=[choosable(parts) for parts in each])]
+
+
+def choosable(parts: list[Element]) -> Element:
+    """Parts as they stand in a choice, where no anchor can be by itself."""
+    return parts[0] if len(parts) == 1 and parts[0].name != "anchor" else Element("rule", children=parts)
 
 
 def branch_parts(items: Branch) -> list[Element]:

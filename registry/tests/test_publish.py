@@ -66,6 +66,10 @@ PARTS = [
     ("%rule end _ $\n0066|0061 when end:!0061 unless end",
      CHARS + '<char cp="0066"><var cp="0061" when="end"/><var cp="0061" type="blocked" not-when="end"/></char>',
      '<rule name="end"><anchor/><look-ahead><end/></look-ahead></rule>'),
+    ("%rule anywhere _ / 0061 _\n0066 when anywhere",
+     CHARS + '<char cp="0066" when="anywhere"/>',
+     '<rule name="anywhere"><choice><rule><anchor/></rule><rule><look-behind><char cp="0061"/></look-behind><anchor/></rule>'
+     "</choice></rule>"),
     ("%never ^ 0061 $ / (0062 0063)?0064*0065\n%always 0061",
      CHARS,
      '<rule name="demand-1"><choice><rule><start/><char cp="0061"/><end/></rule><rule><rule count="0:1"><char cp="0062"/>'
