@@ -12,7 +12,7 @@ use Rattle.idn2_cli.specs.Headline.{AnswersLabels, PrintsAnswers}
 use Rattle.idn2_answers.specs.Transcript.{TableGiven, IsTableOf}
 
 -- by a table of this text, among these registered labels, if there are some: the input is read from here to there, the output
--- and the messages take what the run says, and for a table without a fault the answer to each line is that of the theorem
+-- and the messages take what the run says, and for a table without a fault each line has the answer of the theorem
 pub record Runs (o : Settings) (table : List ℕ) (labels : Option (List (List ℕ))) (start now : Reading) (old new : Held) (status : Status) : Type 0 where
   pub ends : (given : TableGiven) × IsTableOf (keeping labels o) table given
       × Ends (mode_job (keeping labels o) given) start now old new status

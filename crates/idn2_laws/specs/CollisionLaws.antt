@@ -12,7 +12,8 @@ use Rattle.answer_json.specs.declared.collision.Regard.{Regard}
 use Rattle.answer_json.specs.declared.collision.Regard.TheVariants.{NoVariant}
 use Rattle.idn2_options.specs.Settings.{Settings}
 use Rattle.idn2_answers.specs.Listings.{IsListed, is_registrable}
-use Rattle.idn2_answers.specs.Collisions.{Collides, IsGood, IsRegard, IsVariantOf, collide, collisions_after, regard_of, regards_of, whole}
+use Rattle.idn2_answers.specs.Collisions.{Collides, IsGood, IsRegard, IsVariantOf}
+use Rattle.idn2_answers.specs.Collisions.{collide, collisions_after, regard_of, regards_of, whole}
 use Rattle.idn2_laws.specs.ListingLaws.{RefusesBySources}
 
 -- two labels collide whichever is asked about; a good label collides with itself; and what collides is near, so that a
@@ -56,8 +57,8 @@ pub record CollisionsAreFound : Type 0 where
       collisions_after o table (first ++ second) label
       ≡ collisions_after o table first label ++ collisions_after o table second label
 
--- two good labels under a table without gaps, of which each source and variant is one code point, no variant has a condition and
--- sources alone refuse
+-- two good labels under a table without gaps, of which each source and variant is one code point, no variant has a
+-- condition and sources alone refuse
 pub record AreOfMutualTable (o : Settings) (table : TableValue) (v w : List ℕ) : Type 0 where
   pub of_table : IsTable table
   pub without_gaps : IsMutual table
@@ -65,8 +66,9 @@ pub record AreOfMutualTable (o : Settings) (table : TableValue) (v w : List ℕ)
   pub good : IsGood o table v
   pub other_good : IsGood o table w
 
--- of such labels each is something to the other, or neither is anything; and they collide exactly where the least label of both whole
--- listings is the same, so that a database finds its collisions by that label as a key: vs are listed for v, and ws for w
+-- of such labels each is something to the other, or neither is anything; and they collide exactly where the least label
+-- of both whole listings is the same, so that a database finds collisions by that label as a key: vs are listed for v,
+-- and ws for w
 pub record KeysDecide : Type 0 where
   pub alike : (o : Settings) (table : TableValue) (v w : List ℕ) → AreOfMutualTable o table v w →
       IsRegard o table v w NoVariant ↔ IsRegard o table w v NoVariant

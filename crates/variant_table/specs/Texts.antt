@@ -63,8 +63,8 @@ pub record IsTextOf (properties : Properties) (notation : Notation) (text : List
 
 -- ---- the line of an entry
 
--- the line of this number, from 1, has the entry of this number, from 0: the lines before it spell no entry of that number, and with
--- it they do
+-- the line of this number, from 1, has the entry of this number, from 0: the lines before it spell no entry of that
+-- number, and with it they do
 pub record IsLineOfEntry (notation : Notation) (text : List ℕ) (table : TableValue) (entry number : ℕ) : Type 0 where
   pub before : List (List ℕ)
   pub line : List ℕ
