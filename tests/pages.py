@@ -34,7 +34,7 @@ DECIDED = (r"`[^`]*`", r"RFC \d+(, section \d+)?", "UTS #46", r"docs/idn2\.1", r
 
 # Bounds that documents state, each with the clause of a contract or a definition that has it.
 EDGES = ("crates/variant_list/src/net.rt", "result ≤ 326592")
-JUMP = ("crates/variant_list/src/search.rt", "≤ looks.old + 189 * length self.old.net.edges")
+JUMP = ("crates/variant_list/specs/Jumps.antt", "new.edge_tests ≤ 189 * old.net.edges")
 FITS = ("crates/idn_punycode/src/lengths.rt", "utf8_len ≤ 30 → IsTrue result")
 FILE = ("crates/registered_labels/src/labels.rt", "const MAX_TEXT_LEN: usize = 0xFFFF_FFFF;")
 BOUNDS = {
@@ -48,7 +48,7 @@ BOUNDS = {
         ("crates/variant_list/src/cursor.rt", "≤ 256 * self.old.net.edges"),
     ("docs/PROOFS.md", "126 times are proved of one search"):
         ("crates/variant_list/src/search.rt", "≤ looks.old + 126 * length self.old.net.edges"),
-    ("docs/PROOFS.md", "tests at most 189 times as many edges as there are"): JUMP,
+    ("docs/PROOFS.md", "a jump takes no memory, and tests at most 189 times as many edges as there are"): JUMP,
     ("docs/LISTING.md", "then is a step: at most 189 scans"): JUMP,
     ("docs/PROOFS.md", "at most 64 times 128 more than there are edges"):
         ("crates/variant_list/src/cursor.rt", "≤ 64 * (self.now.net.edges + 128)"),

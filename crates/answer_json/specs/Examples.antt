@@ -7,8 +7,7 @@ use Rattle.answer_json.specs.Answers.{Answer, json_of, text_of}
 use Rattle.answer_json.specs.Details.{Details, no_details}
 use Rattle.answer_json.specs.Inputs.{as_text, as_octets, not_kept}
 use Rattle.answer_json.specs.Objects.{looked_up, registered, decoded, refused, variant, trailer, pair, idle, checked}
-use Rattle.answer_json.specs.Objects.{table_fault}
-use Rattle.answer_json.specs.Objects.{collision}
+use Rattle.answer_json.specs.Objects.{table_fault, collision}
 use Rattle.answer_json.specs.declared.block.Disposition.TheVariants.{Allocatable, Unclear}
 use Rattle.answer_json.specs.declared.collision.Regard.TheVariants.{NoVariant}
 use Rattle.answer_json.specs.declared.collision.Regard.TheVariants as regard

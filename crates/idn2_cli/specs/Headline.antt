@@ -1,4 +1,4 @@
--- The variant-list theorem in one record, and that of jumps: what stands on the output of a run, line for line of its input.
+-- The variant-list theorem in one record, and that of jumps: what stands on the output of a run, line for line.
 use Rattle.std.specs.Prelude.{◌≡◌, ◌⊎◌, ℕ, List, [], ◌∷◌, ◌++◌, Option, Some, Ok, Err}
 use Rattle.std.specs.List.{concat, flat_map}
 use Rattle.std.specs.Io.KnownBytes.{Appends}
@@ -54,8 +54,8 @@ pub record IsLineOf (o : Settings) (text : List ℕ) (line : Numbered) : Type 0 
   pub utf8 : line.body ≡ Some (utf8_of text)
   pub registrable : IsRegistrable o.properties (asked_label o.mode text)
 
--- these bytes stand on the output for a line: those of the answer to its text, or, where it asks about no label that may be
--- registered, those of a refusal
+-- these bytes stand on the output for a line: those of the answer to its text, or, where it asks about no label that
+-- may be registered, those of a refusal
 pub record IsPrintedFor (o : Settings) (table : TableValue) (line : Numbered) (printed : List ℕ) : Type 0 where
   pub answered : (text : List ℕ) → IsLineOf o text line
       → (answer : LineAnswer) × IsAnswer o.mode o table text answer

@@ -12,8 +12,8 @@ use Rattle.answer_json.specs.declared.collision.Regard.{Regard}
 use Rattle.answer_json.specs.declared.collision.Regard.TheVariants.{NoVariant}
 use Rattle.idn2_options.specs.Settings.{Settings}
 use Rattle.idn2_answers.specs.Listings.{IsListed, is_registrable}
-use Rattle.idn2_answers.specs.Collisions.{Collides, IsGood, IsRegard, IsVariantOf, collide, collisions_after, regard_of}
-use Rattle.idn2_answers.specs.Collisions.{regards_of, whole}
+use Rattle.idn2_answers.specs.Collisions.{Collides, IsGood, IsRegard, IsVariantOf}
+use Rattle.idn2_answers.specs.Collisions.{collide, collisions_after, regard_of, regards_of, whole}
 use Rattle.idn2_laws.specs.ListingLaws.{RefusesBySources}
 
 -- two labels collide whichever is asked about; a good label collides with itself; and what collides is near, so that a
@@ -71,8 +71,8 @@ pub record AreOfMutualTable (o : Settings) (table : TableValue) (v w : List ℕ)
   pub other_good : IsGood o table w
 
 -- of such labels each is something to the other, or neither is anything; and they collide exactly where the least label
--- of both whole listings is the same, so that a database finds its collisions by that label as a key: vs are listed for
--- v, and ws for w
+-- of both whole listings is the same, so that a database finds collisions by that label as a key: vs are listed for v,
+-- and ws for w
 pub record KeysDecide : Type 0 where
   pub alike : (o : Settings) (table : TableValue) (v w : List ℕ) → AreOfMutualTable o table v w →
       IsRegard o table v w NoVariant ↔ IsRegard o table w v NoVariant

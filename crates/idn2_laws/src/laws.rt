@@ -78,8 +78,9 @@ pub fn regards_are_told()
     ensures { RegardsAreTold }
 {}
 
-/// In a table without gaps, of single code points and without conditions at variants, where sources alone refuse, two good
-/// labels collide whichever is a variant of the other, and exactly where the least label of their listings is the same.
+/// In a table without gaps, of single code points and without conditions at variants, where sources alone refuse, two
+/// good labels collide whichever is a variant of the other, and exactly where the least label of their listings is the
+/// same.
 pub fn keys_decide()
     ensures { KeysDecide }
 {}

@@ -1,7 +1,6 @@
 -- Why words are refused: `clap` refuses them, for an option that is used in a wrong way, of which the first is told; or
 -- they break a rule of the program, of which the first is told.
-use Rattle.std.specs.Prelude.{not, List, [], ◌∷◌, Option, Some, None, if◌then◌else◌, option_map}
-use Rattle.std.specs.Prelude.{string_bytes}
+use Rattle.std.specs.Prelude.{not, List, [], ◌∷◌, Option, Some, None, if◌then◌else◌, option_map, string_bytes}
 use Rattle.clap.specs.Kinds.{Kinds}
 use Rattle.clap.specs.Words.{Row, Text, fault_of, matches_of}
 use Rattle.idn2_options.specs.CommandLine.{app}

@@ -15,8 +15,7 @@ use Rattle.idn2_options.specs.declared.command_line.misuse.Misuse.{Misuse}
 use Rattle.idn2_options.specs.declared.command_line.misuse.Misuse.TheVariants.{Repeated}
 use Rattle.idn2_options.specs.declared.command_line.mode.Mode.{Mode}
 use Rattle.idn2_options.specs.declared.command_line.mode.Mode.TheVariants.{Lookup, Register, Decode, DecodeOld}
-use Rattle.idn2_options.specs.declared.command_line.mode.Mode.TheVariants.{Variants, Jump}
-use Rattle.idn2_options.specs.declared.command_line.mode.Mode.TheVariants.{CheckTable}
+use Rattle.idn2_options.specs.declared.command_line.mode.Mode.TheVariants.{Variants, Jump, CheckTable}
 use Rattle.idn2_options.specs.Names.{decode_name, jump_name, lookup_name, old_name, register_name}
 
 -- a word of the command line names the mode

@@ -1,8 +1,7 @@
 -- What the words of the command line request: what `clap`'s definition of the command gives for
 -- them, and then the rules that the program has of its own.
 use Rattle.std.specs.Prelude.{ℕ, ◌≡◌, ◌≢◌, ◌&&◌, ◌||◌, Bool, true, false, not, List, [], ◌∷◌, length, Option, Some}
-use Rattle.std.specs.Prelude.{None}
-use Rattle.std.specs.Prelude.{codes, count_by, if◌then◌else◌, is_some, nat_eq, nat_le, option_and_then, unwrap_or}
+use Rattle.std.specs.Prelude.{None, codes, count_by, if◌then◌else◌, is_some, nat_eq, nat_le, option_and_then, unwrap_or}
 use Rattle.std.specs.Prelude.{Result, Ok, Err}
 use Rattle.std.specs.Option.{option_map_or, option_or}
 use Rattle.std.specs.Char.{is_ascii_digit}

@@ -1,7 +1,6 @@
 -- Labels that a zone has since they were registered under other rules, and what a name of the zone stands for.
 use Rattle.std.specs.Prelude.{◌≡◌, ◌≢◌, ◌⊎◌, ◌≤◌, ◌-◌, ℕ, Bool, true, not, ◌||◌, ◌==◌, List, [], ◌∷◌, length, take}
-use Rattle.std.specs.Prelude.{drop, codes, chars, bytes_eq}
-use Rattle.std.specs.Prelude.{Option, None, Some, Result, Ok, Err, if◌then◌else◌}
+use Rattle.std.specs.Prelude.{drop, codes, chars, bytes_eq, Option, None, Some, Result, Ok, Err, if◌then◌else◌}
 use Rattle.std.specs.Char.{is_ascii}
 use Rattle.std.specs.List.{list_all}
 use Rattle.std.specs.Option.{is_none}

@@ -1,7 +1,6 @@
 -- The pairs of a table that lack their reverse, turned round.
 use Rattle.std.specs.Prelude.{◌≡◌, ◌≢◌, ◌↔◌, ℕ, ◌+◌, ◌<◌, ◌≤◌, List, [], ◌∷◌, length, take, All, AllPairs, Contains}
-use Rattle.std.specs.Prelude.{bytes_eq}
-use Rattle.std.specs.Prelude.{if◌then◌else◌}
+use Rattle.std.specs.Prelude.{bytes_eq, if◌then◌else◌}
 use Rattle.variant_table.specs.Entries.{Entry}
 use Rattle.variant_table.specs.Gaps.{IsPair}
 

@@ -1,6 +1,6 @@
 //! The pairs of a table that lack their reverse, turned round.
-ghost use Rattle.std.specs.Prelude.{◌≡◌, ◌+◌, ◌<◌, ◌≤◌, ◌↔◌, ℕ, [], ◌∷◌, ◌++◌, List, true, false, length, Contains, IsTrue};
-ghost use Rattle.std.specs.Prelude.{IsOk, IfOk, IfErr, OnOk};
+ghost use Rattle.std.specs.Prelude.{◌≡◌, ◌+◌, ◌<◌, ◌≤◌, ◌↔◌, ℕ, [], ◌∷◌, ◌++◌, List, true, false, length, Contains};
+ghost use Rattle.std.specs.Prelude.{IsTrue, IsOk, IfOk, IfErr, OnOk};
 ghost use Rattle.variant_table.specs.Gaps.{IsPair};
 ghost use Rattle.variant_list.specs.Reversed.{AreReversedOf, AreFew, IsCrowded, IsCrowdedAt, IsReversed, sources_of};
 ghost use Rattle.variant_list.specs.declared.reversed.ReversedFault.TheVariants.{TooManySources};
@@ -60,8 +60,8 @@ impl From<AllocError> for ReversedFault {
 
 impl Reversed {
     /// The pairs of a table. `TooManySources` comes exactly where a sequence is a variant of more than 64 sources that
-    /// aren't variants of it, with the entry whose source is the first 65th, and `Memory` only where memory was refused: none is taken for a table in which each pair
-    /// has its reverse.
+    /// aren't variants of it, with the entry whose source is the first 65th, and `Memory` only where memory was refused:
+    /// none is taken for a table in which each pair has its reverse.
     pub fn of_table(alloc: Global, table: &Table) -> Result<Reversed, ReversedFault>
         ensures pairs { IfOk result (AreReversedOf table.now.entries) }
         ensures few { IfOk result AreFew }
@@ -132,8 +132,8 @@ fn is_pair(table: &Table, source: &[u32], variant: &[u32]) -> bool
     }
 }
 
-/// Adds a source to those of a variant, unless it is there. Tells whether there is room for it; where there is none, the
-/// variant has lost its sources.
+/// Adds a source to those of a variant, unless it is there. Tells whether there is room for it; where there is none,
+/// the variant has lost its sources.
 fn add(
     alloc: Global,
     sources: &mut Sources,

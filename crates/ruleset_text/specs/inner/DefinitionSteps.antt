@@ -29,8 +29,7 @@ use Rattle.ruleset_text.specs.Grammar.{Is, Whole}
 use Rattle.ruleset_text.specs.Limits.{atoms}
 use Rattle.ruleset_text.specs.LineStops.{StopsAt}
 use Rattle.ruleset_text.specs.PlacedLexemes.{Placed}
-use Rattle.ruleset_text.specs.Names.{is_name}
-use Rattle.ruleset_text.specs.Names.{predefined_types}
+use Rattle.ruleset_text.specs.Names.{is_name, predefined_types}
 use Rattle.ruleset_text.specs.Rules.{has, is_rule_or_whole}
 
 -- a pattern that was read, how many atoms may follow, and its faults
