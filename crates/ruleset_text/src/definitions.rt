@@ -385,93 +385,21 @@ impl Definitions {
         ensures err { OnErr result (self.new ≡ self.old) }
     {
         match definition {
-            Definition::VariantType(name) => self.add_type(name, len),
-            Definition::Set(name, set) => self.add_set(name, set, len),
-            Definition::Rule(name, contexts) => self.add_rule(name, contexts, atoms_left, len),
-            Definition::Demand(kind, pattern) => self.add_demand(kind, pattern, atoms_left, len),
-            Definition::Action(action) => self.add_action(action, len),
+            Definition::VariantType(name) => self.types.push(name)?,
+            Definition::Set(name, set) => {
+                self.sets.reserve(1)?;
+                self.set_names.push(name)?;
+                self.sets.push(set).unwrap();
+            }
+            Definition::Rule(name, contexts) => {
+                self.rules.reserve(1)?;
+                self.rule_names.push(name)?;
+                self.rules.push(contexts).unwrap();
+            }
+            Definition::Demand(kind, pattern) => self.demands.push(Demand { kind, pattern })?,
+            Definition::Action(action) => self.actions.push(action)?,
         }
-    }
-
-    fn add_type(&mut self, name: Name, len: usize) -> Result<(), AllocError>
-        requires without_fault { AreDefinitions (added self.old (definition.VariantType name)) }
-        requires len { len ≡ length (definition_text self.old.set_names (definition.VariantType name)) }
-        requires room { canonical_size self.old + (len + 1) < 2 ^ 64 }
-        ensures ok { OnOk result (self.new ≡ added self.old (definition.VariantType name)) }
-        ensures err { OnErr result (self.new ≡ self.old) }
-    {
-        self.types.push(name)?;
-        self.written += len + 1;
-        Ok(())
-    }
-
-    fn add_set(&mut self, name: Name, set: PointSet, len: usize) -> Result<(), AllocError>
-        requires without_fault { AreDefinitions (added self.old (definition.Set name set)) }
-        requires len { len ≡ length (definition_text self.old.set_names (definition.Set name set)) }
-        requires room { canonical_size self.old + (len + 1) < 2 ^ 64 }
-        ensures ok { OnOk result (self.new ≡ added self.old (definition.Set name set)) }
-        ensures err { OnErr result (self.new ≡ self.old) }
-    {
-        self.sets.reserve(1)?;
-        self.set_names.push(name)?;
-        self.sets.push(set).unwrap();
-        self.written += len + 1;
-        Ok(())
-    }
-
-    fn add_rule(
-        &mut self,
-        name: Name,
-        contexts: PatternTree,
-        atoms_left: usize,
-        len: usize,
-    ) -> Result<(), AllocError>
-        requires without_fault { AreDefinitions (added self.old (definition.Rule name (pattern contexts))) }
-        requires atoms { atoms_left ≡ 4096 - all_atoms self.old - atoms (pattern contexts) }
-        requires len { len ≡ length (definition_text self.old.set_names (definition.Rule name (pattern contexts))) }
-        requires room { canonical_size self.old + (len + 1) < 2 ^ 64 }
-        ensures ok { OnOk result (self.new ≡ added self.old (definition.Rule name (pattern contexts))) }
-        ensures err { OnErr result (self.new ≡ self.old) }
-    {
-        self.rules.reserve(1)?;
-        self.rule_names.push(name)?;
-        self.rules.push(contexts).unwrap();
         self.atoms_left = atoms_left;
-        self.written += len + 1;
-        Ok(())
-    }
-
-    fn add_demand(
-        &mut self,
-        kind: DemandKind,
-        tree: PatternTree,
-        atoms_left: usize,
-        len: usize,
-    ) -> Result<(), AllocError>
-        requires without_fault { AreDefinitions (added self.old (definition.Demand kind (pattern tree))) }
-        requires atoms { atoms_left ≡ 4096 - all_atoms self.old - atoms (pattern tree) }
-        requires len { len ≡ length (definition_text self.old.set_names (definition.Demand kind (pattern tree))) }
-        requires room { canonical_size self.old + (len + 1) < 2 ^ 64 }
-        ensures ok { OnOk result (self.new ≡ added self.old (definition.Demand kind (pattern tree))) }
-        ensures err { OnErr result (self.new ≡ self.old) }
-    {
-        self.demands.push(Demand {
-            kind,
-            pattern: tree,
-        })?;
-        self.atoms_left = atoms_left;
-        self.written += len + 1;
-        Ok(())
-    }
-
-    fn add_action(&mut self, added_one: NamedAction, len: usize) -> Result<(), AllocError>
-        requires without_fault { AreDefinitions (added self.old (definition.Action (action added_one))) }
-        requires len { len ≡ length (definition_text self.old.set_names (definition.Action (action added_one))) }
-        requires room { canonical_size self.old + (len + 1) < 2 ^ 64 }
-        ensures ok { OnOk result (self.new ≡ added self.old (definition.Action (action added_one))) }
-        ensures err { OnErr result (self.new ≡ self.old) }
-    {
-        self.actions.push(added_one)?;
         self.written += len + 1;
         Ok(())
     }

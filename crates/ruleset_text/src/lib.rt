@@ -33,7 +33,7 @@ mod tokens;
 pub use action::{NamedAction, NamedTrigger, TriggerKind};
 pub use canonical::{push_pattern, push_spans};
 pub use classes::is_bad_point;
-pub use definition::{Definition, DemandKind, push_definition};
+pub use definition::{Definition, DemandKind};
 pub use definition_line::DefinitionLine;
 pub use definitions::{Definitions, Demand};
 pub use entry_form::{EntryForm, Mapped};
@@ -51,7 +51,7 @@ pub use laws::{
     the_first_condition_of_a_definition_is_told, the_first_lexeme_is_told,
     tokens_past_limits_are_marked, what_lines_define_has_no_fault,
 };
-pub use lexemes::{next_lexeme, without_blanks};
+pub use lexemes::without_blanks;
 pub use named_condition::NamedCondition;
-pub use names::{Name, is_name, is_one_of, number_of, predefined_type};
+pub use names::{Name, is_one_of, number_of, predefined_type};
 pub use placed::PlacedLexemes;

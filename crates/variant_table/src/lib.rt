@@ -27,4 +27,4 @@ pub use fault::{TableFault, TableRefusal};
 pub use forms::look_up_condition;
 pub use places::EntriesAt;
 pub use table::Table;
-pub use version::{Head, Notation, Version, head_of};
+pub use version::Notation;
