@@ -1,6 +1,7 @@
 //! Rulesets of RFC 7940: what a file in XML says.
 #![tactic(auto)]
 
+mod actions;
 mod class_sets;
 mod code_points;
 mod joins;
@@ -10,6 +11,7 @@ mod part_items;
 mod records;
 mod rule_error;
 
+pub use actions::{Renamed, named_action};
 pub use class_sets::set_of;
 pub use code_points::CodePoints;
 pub use joins::SetOperation;
