@@ -1,5 +1,6 @@
 -- Which code points a class has (RFC 7940, section 6.2).
-use Rattle.std.specs.Prelude.{ℕ, Bool, false, ◌||◌, ◌&&◌, not, List, [], slice_index_or, Option, Some, None, length, nat_lt, if◌then◌else◌}
+use Rattle.std.specs.Prelude.{ℕ, Bool, false, ◌||◌, ◌&&◌, not, List, [], slice_index_or, Option, Some, None, length}
+use Rattle.std.specs.Prelude.{nat_lt, if◌then◌else◌}
 use Rattle.std.specs.List.{list_any}
 use Rattle.std.specs.Option.{option_or}
 use Rattle.label_patterns.specs.declared.span.Span.{Span}
@@ -9,7 +10,8 @@ use Rattle.lgr_text.specs.declared.rule_error.RuleFault.{RuleFault}
 use Rattle.lgr_text.specs.declared.rule_error.RuleFault.TheVariants.{Undefined, NotSupported}
 use Rattle.lgr_text.specs.CodePoints.{AreSpans}
 use Rattle.lgr_text.specs.Known.{Known, tagged}
-use Rattle.lgr_text.specs.Records.{Class, Entry, Listed, OfTag, OfProperty, OfClass, Union, Intersection, Difference, SymmetricDifference, Complement}
+use Rattle.lgr_text.specs.Records.{Class, Entry, Listed, OfTag, OfProperty, OfClass, Union, Intersection, Difference}
+use Rattle.lgr_text.specs.Records.{SymmetricDifference, Complement}
 
 -- the set of the class of this name
 abbrev pub set_named : Known → List ℕ → List Span

@@ -9,7 +9,7 @@ use Rattle.lgr_text.specs.CodePoints.{AreSpans}
 use Rattle.lgr_text.specs.Records.{Entry, Source, Sequence, Range, entry}
 use Rattle.lgr_text.specs.declared.known.Known as held
 
--- the entries; classes as sets, and rules as patterns, with their names, by number; the code points of which labels are made
+-- the entries; classes as sets, and rules as patterns, with their names, by number; the code points that labels have
 pub record Known : Type 0 where
   pub entries : List Entry
   pub set_names : List (List ℕ)

@@ -1,4 +1,5 @@
 -- The definitions that contracts cite.
+pub mod ActionNames
 pub mod ClassMembers
 pub mod CodePoints
 pub mod Known

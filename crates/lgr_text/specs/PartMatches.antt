@@ -1,5 +1,7 @@
 -- Which parts of a label a rule, or a part of one, matches (RFC 7940, sections 6.3 and 6.4).
-use Rattle.std.specs.Prelude.{◌≡◌, ℕ, zero, suc, ◌+◌, ◌<◌, ◌≤◌, ◌⊎◌, ◌↔◌, IsTrue, All, ◌||◌, ◌&&◌, Bool, true, false, not, nat_lt, List, ◌++◌, length, drop, slice_index_or, Option, Some, None, if◌then◌else◌}
+use Rattle.std.specs.Prelude.{◌≡◌, ℕ, zero, suc, ◌+◌, ◌<◌, ◌≤◌, ◌⊎◌, ◌↔◌, IsTrue, All, ◌||◌, ◌&&◌, Bool, true, false}
+use Rattle.std.specs.Prelude.{not, nat_lt, List, ◌++◌, length, drop, slice_index_or, Option, Some, None}
+use Rattle.std.specs.Prelude.{if◌then◌else◌}
 use Rattle.std.specs.Option.{option_or}
 use Rattle.label_patterns.specs.Matches.{Seen, Matches}
 use Rattle.label_patterns.specs.Patterns as pattern
@@ -44,8 +46,8 @@ abbrev pub IsAnchored : Option Place → ℕ → ℕ → Type 0
 IsAnchored None i j = ⊥
 IsAnchored (Some place) i j = (i ≡ place.start) × (j ≡ place.end)
 
--- the part of the label from i to j matches a part of a rule, by which code points classes have, and what the rules that are named
--- match in this label
+-- the part of the label from i to j matches a part of a rule, by which code points classes have, and by what the rules
+-- that are named match in this label
 abbrev pub PartMatches : (Class → ℕ → Bool) → (List ℕ → ℕ → ℕ → Type 0) → List ℕ → Option Place → Part → ℕ → ℕ → Type 0
 PartMatches has named label at (Literal points) i j = StandThere points label i × (j ≡ i + length points)
 PartMatches has named label at Any i j = (i < length label) × (j ≡ i + 1)
@@ -80,16 +82,17 @@ BeginsWith sets first = (more : List (List Span)) × (sets ≡ first ++ more)
 abbrev pub IsOf : List Span → List ℕ → Type 0
 IsOf points label = All (λ c. IsTrue (is_in points c) × (c ≤ 0x10FFFF)) label
 
--- a rule holds for the part of a label from i to j: it matches some part of the label, where the anchor stands for that part; without
--- an anchor it is about the whole label (sections 6.3.1 and 6.4)
+-- a rule holds for the part of a label from i to j: it matches some part of the label, where the anchor stands for that
+-- part; without an anchor it is about the whole label (section 6.4)
 abbrev pub RuleHolds : Known → Part → Seen → ℕ → ℕ → Type 0
 RuleHolds known rule seen i j =
     (k : ℕ) × (m : ℕ) × (k ≤ length seen.label) × Matching known rule seen (Some (record { start = i; end = j })) k m
 
--- the pattern says the same as the rule of each label made of the code points that are known, whatever sets follow these
+-- the pattern says the same as the rule of each label made of the known code points, whatever sets follow these
 abbrev pub SaysRule : Known → List (List Span) → Pattern → Part → Type 0
 SaysRule known sets p rule =
-    (all : List (List Span)) (label : List ℕ) (i j : ℕ) → BeginsWith all sets → IsOf known.points label → i ≤ length label → j ≤ length label
+    (all : List (List Span)) (label : List ℕ) (i j : ℕ) → BeginsWith all sets → IsOf known.points label
+    → i ≤ length label → j ≤ length label
     → Holds (seen all label) p i j ↔ RuleHolds known rule (seen all label) i j
 
 -- the anchor stands in it

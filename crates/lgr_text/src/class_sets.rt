@@ -23,7 +23,8 @@ use std::alloc::{AllocError, Global};
 pub fn set_of(alloc: Global, known: Known<'_>, class: &ClassTree) -> Result<CodePoints, RuleError>
     requires spans { HasSpans (class_of class.now) }
     requires entries { HaveSpans (known_of known).entries }
-    ensures members { IfOk result (λ set. (c : ℕ) → c ≤ 0x10FFFF → is_in set c ≡ has (known_of known.entry) (class_of class.now) c) }
+    ensures members { IfOk result (λ set. (c : ℕ) → c ≤ 0x10FFFF →
+        is_in set c ≡ has (known_of known.entry) (class_of class.now) c) }
     ensures fault { IsFaultOf (class_fault (known_of known.entry) (class_of class.now)) result }
 {
     match class {
@@ -71,7 +72,8 @@ fn named(alloc: Global, known: Known<'_>, name: &[u8]) -> Result<CodePoints, Rul
 /// The code points of the entries that have a tag.
 fn tagged(alloc: Global, entries: &[Entry], tag: &[u8]) -> Result<CodePoints, RuleError>
     requires { HaveSpans (map entry entries.now) }
-    ensures members { IfOk result (λ set. (c : ℕ) → is_in set c ≡ is_in (tagged_spans (map entry entries.now) tag.now) c) }
+    ensures members { IfOk result (λ set. (c : ℕ) →
+        is_in set c ≡ is_in (tagged_spans (map entry entries.now) tag.now) c) }
     ensures fault { IsFaultOf (tag_fault (map entry entries.now) tag.now) result }
 {
     let mut spans = Vec::new(alloc);

@@ -1,6 +1,7 @@
 //! Rulesets in XML (RFC 7940): what the tokens of a document say, as entries, classes, rules and actions.
 #![tactic(auto)]
 
+mod actions;
 mod class_sets;
 mod code_points;
 mod fault;
@@ -14,6 +15,7 @@ mod rule_error;
 mod values;
 mod words;
 
+pub use actions::{Renamed, named_action};
 pub use class_sets::set_of;
 pub use code_points::CodePoints;
 pub use fault::ReadError;

@@ -8,7 +8,8 @@ ghost use Rattle.lgr_text.specs.PartMatches.{has_anchor as has_anchor_part, part
 ghost use Rattle.lgr_text.specs.PartMatches.{BeginsWith, IsWellFormed, Matching, SaysRule};
 ghost use Rattle.lgr_text.specs.Records.{class as class_of, part as part_of};
 ghost use Rattle.lgr_text.specs.inner.Faults.{IsLimit, IsPartFaultOf};
-ghost use Rattle.lgr_text.specs.inner.Items.{as_atom, choice_of, copies, further, in_sequence, is_atom as is_atom_pattern};
+ghost use Rattle.lgr_text.specs.inner.Items.{as_atom, choice_of, copies, further, in_sequence};
+ghost use Rattle.lgr_text.specs.inner.Items.{is_atom as is_atom_pattern};
 ghost use Rattle.lgr_text.specs.inner.Items.{nothing as nothing_pattern, ungrouped as ungrouped_pattern};
 ghost use Rattle.lgr_text.specs.inner.Items.{AddsClass, Appends};
 
@@ -174,7 +175,8 @@ fn push_literal(
     made: &mut Made,
     points: &[u32],
 ) -> Result<(), RuleError>
-    ensures items { OnOk result (map pattern items.new.items ≡ map pattern items.old.items ++ map patterns.Point points.now) }
+    ensures items { OnOk result (map pattern items.new.items ≡
+        map pattern items.old.items ++ map patterns.Point points.now) }
     ensures sets { made.new.sets ≡ made.old.sets }
     ensures err { IfErr result IsLimit }
 {
@@ -194,7 +196,8 @@ fn push_class(
 ) -> Result<(), RuleError>
     requires spans { HasSpans (class_of class.now) }
     requires entries { HaveSpans (known_of known).entries }
-    ensures items { OnOk result (AddsClass (known_of known.entry) (class_of class.now) made.old.sets.items made.new.sets.items
+    ensures items { OnOk result (AddsClass (known_of known.entry) (class_of class.now)
+        made.old.sets.items made.new.sets.items
         (map pattern items.old.items) (map pattern items.new.items)) }
     ensures fault { IsPartFaultOf (class_fault (known_of known.entry) (class_of class.now)) result }
 {
@@ -267,7 +270,8 @@ fn push_times(
     once: Vec<PatternTree>,
 ) -> Result<(), RuleError>
     ensures items { OnOk result (map pattern items.new.items ≡
-        map pattern items.old.items ++ (copies count.least (map pattern once.items) ++ further count (map pattern once.items))) }
+        map pattern items.old.items ++
+        (copies count.least (map pattern once.items) ++ further count (map pattern once.items))) }
     ensures sets { made.new.sets ≡ made.old.sets }
     ensures err { IfErr result IsLimit }
 {
@@ -315,8 +319,9 @@ fn push_part(
 ) -> Result<(), RuleError>
     requires part { IsWellFormed (part_of part.now) }
     requires entries { HaveSpans (known_of known).entries }
-    ensures items { OnOk result (Appends (known_of known.entry).points (has_anchor_part (part_of part.now)) made.old.sets.items made.new.sets.items
-        (map pattern items.old.items) (map pattern items.new.items) (Matching (known_of known.entry) (part_of part.now))) }
+    ensures items { OnOk result (Appends (known_of known.entry).points (has_anchor_part (part_of part.now))
+        made.old.sets.items made.new.sets.items (map pattern items.old.items) (map pattern items.new.items)
+        (Matching (known_of known.entry) (part_of part.now))) }
     ensures fault { IsPartFaultOf (part_fault (known_of known.entry) (part_of part.now)) result }
 {
     match part {
@@ -364,7 +369,8 @@ pub fn pattern_of_rule(
 ) -> Result<PatternTree, RuleError>
     requires rule { IsWellFormed (part_of rule.now) }
     requires entries { HaveSpans (known_of known).entries }
-    ensures pattern { IfOk result (λ tree. SaysRule (known_of known.entry) made.new.sets.items (pattern tree) (part_of rule.now)) }
+    ensures pattern { IfOk result (λ tree.
+        SaysRule (known_of known.entry) made.new.sets.items (pattern tree) (part_of rule.now)) }
     ensures sets { OnOk result (BeginsWith made.new.sets.items made.old.sets.items) }
     ensures fault { IsPartFaultOf (part_fault (known_of known.entry) (part_of rule.now)) result }
 {

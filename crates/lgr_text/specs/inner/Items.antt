@@ -1,5 +1,6 @@
 -- Items of a pattern, one after the other.
-use Rattle.std.specs.Prelude.{◌≡◌, ℕ, ◌+◌, ◌↔◌, List, [], ◌∷◌, ◌++◌, All, IsTrue, ◌&&◌, ◌≤◌, ◌<◌, ◌-◌, zero, suc, length, slice_index_or, Option, Some, None, Bool, true, false, if◌then◌else◌}
+use Rattle.std.specs.Prelude.{◌≡◌, ℕ, ◌+◌, ◌↔◌, List, [], ◌∷◌, ◌++◌, All, IsTrue, ◌&&◌, ◌≤◌, ◌<◌, ◌-◌, zero, suc}
+use Rattle.std.specs.Prelude.{length, slice_index_or, Option, Some, None, Bool, true, false, if◌then◌else◌}
 use Rattle.std.specs.List.{list_all}
 use Rattle.label_patterns.specs.declared.span.Span.{Span}
 use Rattle.label_patterns.specs.Laws.{seen}
@@ -105,9 +106,11 @@ pub record Appends (points : List Span) (anchored : Bool) (old_sets sets : List 
   pub match_them : AreItemsFor points sets added R
 
 -- the number of a set was appended, which has those of a class that are in labels
-pub record AddsClass (known : Known) (class : Class) (old_sets sets : List (List Span)) (old items : List Pattern) : Type 0 where
+pub record AddsClass (known : Known) (class : Class) (old_sets sets : List (List Span)) (old items : List Pattern)
+    : Type 0 where
   pub kept : BeginsWith sets old_sets
   pub number : ℕ
   pub within : number < length sets
   pub is : items ≡ old ++ Set number ∷ []
-  pub members : (c : ℕ) → c ≤ 0x10FFFF → is_in (slice_index_or sets number []) c ≡ (has known class c && is_in known.points c)
+  pub members : (c : ℕ) → c ≤ 0x10FFFF
+      → is_in (slice_index_or sets number []) c ≡ (has known class c && is_in known.points c)

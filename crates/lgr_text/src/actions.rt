@@ -1,0 +1,103 @@
+//! Actions of a file as a ruleset has them (RFC 7940, section 7).
+ghost use Rattle.std.specs.Prelude.{◌≡◌, IfOk, IfSome, map};
+ghost use Rattle.std.specs.Option.{option_map};
+ghost use Rattle.ruleset_text.specs.ActionForms as forms;
+ghost use Rattle.ruleset_text.specs.Actions.{disposition_word};
+ghost use Rattle.lgr_text.specs.ActionNames.{called as called_name, condition_called, trigger_called, SaysAction};
+ghost use Rattle.lgr_text.specs.Records.{action as action_of, condition as condition_of, trigger as trigger_of};
+
+use crate::records::{Action, Condition, Trigger};
+use crate::rule_error::{RuleError, RuleFault};
+use ruleset_text::{Name, NamedAction, NamedCondition, NamedTrigger, number_of};
+use std::alloc::{AllocError, Global};
+use variant_dispositions::Disposition;
+
+/// Names of a file, and what each is called in a ruleset.
+#[derive(Clone, Copy)]
+pub struct Renamed<'a> {
+    pub names: &'a [Name],
+    pub written: &'a [Name],
+}
+
+/// An action as a ruleset has it, with its names for rules and types.
+pub fn named_action(
+    alloc: Global,
+    rules: Renamed<'_>,
+    types: Renamed<'_>,
+    action: &Action,
+) -> Result<NamedAction, RuleError>
+    ensures { IfOk result (λ named. SaysAction rules.entry types.entry (action_of action.now) (forms.action named)) }
+{
+    let Some(disposition) = disposition_of(action.disposition.as_slice()) else {
+        return Err(RuleError::Fault(RuleFault::NotSupported));
+    };
+    Ok(NamedAction {
+        disposition,
+        condition: named_condition(alloc, rules, &action.condition)?,
+        trigger: named_trigger(alloc, types, &action.trigger)?,
+    })
+}
+
+/// The disposition of this name (RFC 7940, section 7.3).
+fn disposition_of(name: &[u8]) -> Option<Disposition>
+    ensures { IfSome result (λ disposition. disposition_word disposition ≡ name.now) }
+{
+    match name {
+        b"invalid" => Some(Disposition::Invalid),
+        b"blocked" => Some(Disposition::Blocked),
+        b"allocatable" => Some(Disposition::Allocatable),
+        b"activated" => Some(Disposition::Activated),
+        b"valid" => Some(Disposition::Valid),
+        _ => None,
+    }
+}
+
+fn named_condition(
+    alloc: Global,
+    rules: Renamed<'_>,
+    condition: &Option<Condition>,
+) -> Result<Option<NamedCondition>, RuleError>
+    ensures { IfOk result (λ named. named ≡
+        option_map (condition_called rules.entry) (option_map condition_of condition.now)) }
+{
+    let Some(condition) = condition else {
+        return Ok(None);
+    };
+    Ok(Some(NamedCondition {
+        kind: condition.kind,
+        rule: called(alloc, rules, condition.rule.name.as_slice())?,
+    }))
+}
+
+fn named_trigger(
+    alloc: Global,
+    types: Renamed<'_>,
+    trigger: &Option<Trigger>,
+) -> Result<Option<NamedTrigger>, RuleError>
+    ensures { IfOk result (λ named. option_map forms.trigger named ≡
+        option_map (trigger_called types.entry) (option_map trigger_of trigger.now)) }
+{
+    let Some(trigger) = trigger else {
+        return Ok(None);
+    };
+    let mut names = Vec::new(alloc);
+    for name in &trigger.types {
+        names.push(called(alloc, types, name.as_slice())?)?;
+    }
+    Ok(Some(NamedTrigger {
+        kind: trigger.kind,
+        types: names,
+    }))
+}
+
+/// What a name of the file is called in the ruleset.
+fn called(alloc: Global, names: Renamed<'_>, name: &[u8]) -> Result<Name, RuleError>
+    ensures { IfOk result (λ written. written ≡ called_name names.entry name.now) }
+{
+    let number = number_of(names.names, name);
+    if number < names.written.len() {
+        Ok(Name::copied(alloc, names.written[number].as_slice())?)
+    } else {
+        Err(RuleError::Fault(RuleFault::Undefined))
+    }
+}
