@@ -7,7 +7,6 @@ ghost use Rattle.label_patterns.specs.Trees.{pattern};
 ghost use Rattle.ruleset_text.specs.ActionForms.{action};
 ghost use Rattle.ruleset_text.specs.Actions.{knows_action};
 ghost use Rattle.ruleset_text.specs.Canonical.{definition_text};
-ghost use Rattle.ruleset_text.specs.Definition as definition;
 ghost use Rattle.ruleset_text.specs.Definitions as words;
 ghost use Rattle.ruleset_text.specs.Definitions.{added, all_atoms, canonical_size, defined, definition_atoms};
 ghost use Rattle.ruleset_text.specs.Definitions.{nothing_defined, with_definition};
@@ -16,7 +15,6 @@ ghost use Rattle.ruleset_text.specs.DefinitionPlaces.{AreFaultsOf, definition_pl
 ghost use Rattle.ruleset_text.specs.DefinitionTrees as trees;
 ghost use Rattle.ruleset_text.specs.DemandTrees.{demand};
 ghost use Rattle.ruleset_text.specs.inner.DefinitionSteps.{IsEarlier, IsFaultless, Leaves};
-ghost use Rattle.ruleset_text.specs.Limits.{atoms};
 ghost use Rattle.ruleset_text.specs.Names.{is_one_of as is_among};
 ghost use Rattle.ruleset_text.specs.PlacedLexemes.{placed_lexemes, unplaced};
 ghost use Rattle.ruleset_text.specs.WellFormed.{AreDefinitions};
