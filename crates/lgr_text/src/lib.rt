@@ -1,12 +1,15 @@
 //! Rulesets in XML (RFC 7940): what the tokens of a document say, as entries, classes, rules and actions.
 #![tactic(auto)]
 
+mod attributes;
+mod element;
 mod fault;
 mod names;
 mod records;
 mod values;
 mod words;
 
+pub use element::{Element, Elements};
 pub use fault::ReadError;
 pub use names::NameKind;
 pub use records::{
