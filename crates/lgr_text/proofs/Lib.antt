@@ -1,5 +1,6 @@
 -- Lemmas that several proofs cite, and those of one subject.
 pub mod ClassLemmas
+pub mod ContentLemmas
 pub mod EachLemmas
 pub mod ItemLemmas
 pub mod JoinLemmas

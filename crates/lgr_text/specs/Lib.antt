@@ -1,7 +1,9 @@
 -- The definitions that contracts cite.
 pub mod ActionNames
+pub mod Attributes
 pub mod ClassMembers
 pub mod CodePoints
+pub mod Elements
 pub mod Known
 pub mod Laws
 pub mod PartMatches

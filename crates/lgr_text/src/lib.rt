@@ -2,8 +2,10 @@
 #![tactic(auto)]
 
 mod actions;
+mod attributes;
 mod class_sets;
 mod code_points;
+mod element;
 mod fault;
 mod joins;
 mod known;
@@ -18,6 +20,7 @@ mod words;
 pub use actions::{Renamed, named_action};
 pub use class_sets::set_of;
 pub use code_points::CodePoints;
+pub use element::{Element, Elements};
 pub use fault::ReadError;
 pub use joins::SetOperation;
 pub use known::Known;
