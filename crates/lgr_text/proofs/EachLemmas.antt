@@ -12,7 +12,7 @@ pub none-before : {X : Type 0} (o : Option (List X)) → following [] o ≡ o
 none-before None = refl
 none-before (Some xs) = refl
 
-one_more : {X : Type 0} (xs : List X) (x : X) (o : Option (List X)) → following xs (option_map (λ ys. x ∷ ys) o) ≡ following (xs ++ x ∷ []) o
+pub one_more : {X : Type 0} (xs : List X) (x : X) (o : Option (List X)) → following xs (option_map (λ ys. x ∷ ys) o) ≡ following (xs ++ x ∷ []) o
 one_more xs x None = refl
 one_more xs x (Some ys) = ap Some (sym (append_assoc xs (x ∷ []) ys))
 

@@ -32,15 +32,11 @@ some_words read text = option_and_then not_empty (each read (words text))
 abbrev pub is_small_letter : ℕ → Bool
 is_small_letter b = is_between 97 122 b
 
--- code-point: 4 to 6 hexadecimal digits in upper case, which write a scalar value
+-- 4 to 6 hexadecimal digits in upper case, which write a scalar value
 abbrev pub point : List ℕ → Option ℕ
 point word = if list_all (λ b. not (is_small_letter b)) word then point_of_hex word else None
 
--- code-point-literal: one code point or more
-abbrev pub sequence : List ℕ → Option (List ℕ)
-sequence text = some_words point text
-
--- the same, or none, which is what a variant may be (section 5.3.3)
+-- code points; there may be none, which is what a variant may be (section 5.3.3)
 abbrev pub points : List ℕ → Option (List ℕ)
 points text = each point (words text)
 
@@ -60,7 +56,7 @@ span_cut word (Some place) = span_between (point (take place word)) (point (drop
 abbrev pub span : List ℕ → Option Span
 span word = span_cut word (position (λ b. b == 45) word)
 
--- code-point-set-shorthand: one of these or more
+-- one of these or more
 abbrev pub spans : List ℕ → Option (List Span)
 spans text = some_words span text
 

@@ -1,0 +1,2 @@
+-- The definitions that inner functions cite.
+pub mod Reading

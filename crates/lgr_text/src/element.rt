@@ -1,0 +1,127 @@
+//! The elements of a document, one after the other.
+ghost use Rattle.std.specs.Prelude.{◌≡◌, ◌+◌, ◌<◌, ◌≤◌, List, ℕ, false, length, map, IfOk, IfSome, MatchOption};
+ghost use Rattle.std.specs.List.{list_all};
+ghost use Rattle.lgr_text.specs.Elements.{Content, Say};
+ghost use Rattle.lgr_text.specs.Elements as contents;
+ghost use Rattle.lgr_text.specs.inner.Reading.{AreOf, NextIs, after_blanks, closes, is_blank_said, is_open};
+ghost use Rattle.xml_text.specs.Tokens.{Open, said as said_as};
+
+use crate::fault::ReadError;
+use xml_text::{Attribute, Said, Token, is_blank as is_blank_byte};
+
+/// The elements of tokens, from left to right.
+#[derive(Clone, Copy)]
+pub struct Elements<'a> {
+    /// What stands before the name of each element.
+    pub prefix: &'a [u8],
+    pub tokens: &'a [Token],
+}
+
+/// An element: its name without the prefix, its attributes, and the elements in it.
+#[derive(Clone, Copy)]
+pub struct Element<'a> {
+    pub name: &'a [u8],
+    pub attributes: &'a [Attribute],
+    pub within: Elements<'a>,
+    /// The line of its tag, counted from 1.
+    pub line: usize,
+}
+
+impl<'a> Elements<'a> {
+    /// The next element, if nothing but blanks stands before it; `None` if nothing but blanks is left.
+    pub fn next(&mut self) -> Result<Option<Element<'a>>, ReadError>
+        ensures next { (c : Content) → AreOf self.old c → NextIs self.new (after_blanks c) result }
+        ensures prefix { self.new.prefix ≡ self.old.prefix }
+        ensures shorter { IfOk result (λ found. IfSome found (λ e. length self.new.tokens.now < length self.old.tokens.now)) }
+    {
+        let Some((first, others)) = without_blank_texts(self.tokens).split_first() else {
+            return Ok(None);
+        };
+        let wrong = ReadError::Wrong(first.line());
+        let Some((full_name, attributes)) = opened(first.said()) else {
+            return Err(wrong);
+        };
+        let Some(name) = full_name.strip_prefix(self.prefix) else {
+            return Err(wrong);
+        };
+        let Some(len) = inner_len(others) else {
+            return Err(wrong);
+        };
+        let (tokens, _) = others.split_at(len);
+        let (_, rest) = others.split_at(len + 1);
+        self.tokens = rest;
+        Ok(Some(Element {
+            name,
+            attributes,
+            within: Elements {
+                prefix: self.prefix,
+                tokens,
+            },
+            line: first.line(),
+        }))
+    }
+}
+
+/// The name and the attributes of a start tag.
+fn opened(said: &Said) -> Option<(&[u8], &[Attribute])>
+    ensures { MatchOption result (is_open (said_as said.now) ≡ false)
+        (λ tag. said_as said.now ≡ Open tag.0.now tag.1.now) }
+{
+    match said {
+        Said::Open(name, attributes) => Some((name, attributes)),
+        Said::Text(_) | Said::Close => None,
+    }
+}
+
+/// What follows the texts at the front that are blank.
+fn without_blank_texts(tokens: &[Token]) -> &[Token]
+    ensures is { (p : List ℕ) (c : Content) → Say p tokens.now c → Say p result.now (after_blanks c) }
+    ensures within { length result.now ≤ length tokens.now }
+{
+    let mut rest = tokens;
+    while let Some((first, others)) = rest.split_first() {
+        if !is_blank(first.said()) {
+            break;
+        }
+        rest = others;
+    }
+    rest
+}
+
+/// Whether it is a text of blanks.
+fn is_blank(said: &Said) -> bool
+    ensures { result ≡ is_blank_said (said_as said.now) }
+{
+    match said {
+        Said::Text(text) => is_blank_text(text),
+        Said::Open(_, _) | Said::Close => false,
+    }
+}
+
+/// How many tokens stand before the end tag of the element in which they begin.
+fn inner_len(tokens: &[Token]) -> Option<usize>
+    ensures is { result ≡ closes 0 (map (λ t. t.said) tokens.now) }
+    ensures within { IfSome result (λ n. n < length tokens.now) }
+{
+    let mut open: usize = 0;
+    for (place, token) in tokens.iter().enumerate() {
+        match token.said() {
+            Said::Open(_, _) => open += 1,
+            Said::Text(_) => {}
+            Said::Close => {
+                if open == 0 {
+                    return Some(place);
+                }
+                open -= 1;
+            }
+        }
+    }
+    None
+}
+
+/// Whether nothing but blanks stands in a text.
+fn is_blank_text(text: &[u8]) -> bool
+    ensures { result ≡ contents.is_blank_text text.now }
+{
+    text.iter().all(|byte| is_blank_byte(*byte))
+}
