@@ -4,7 +4,9 @@ pub mod ItemLemmas
 pub mod JoinLemmas
 pub mod OneFormLemmas
 pub mod PartLemmas
+pub mod PropertyLemmas
 pub mod RepeatLemmas
 pub mod RuleLemmas
+pub mod SetNumberLemmas
 pub mod SortedLemmas
 pub mod SpanLemmas

@@ -5,5 +5,6 @@ pub mod CodePoints
 pub mod Known
 pub mod Laws
 pub mod PartMatches
+pub mod Properties
 pub mod Records
 pub mod inner

@@ -8,6 +8,7 @@ mod joins;
 mod known;
 mod laws;
 mod part_items;
+mod properties;
 mod records;
 mod rule_error;
 

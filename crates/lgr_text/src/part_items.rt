@@ -1,5 +1,6 @@
 //! The parts of a rule as items of a pattern (RFC 7940, sections 6.3 and 6.4).
 ghost use Rattle.std.specs.Prelude.{◌≡◌, ◌<◌, ◌++◌, ◌&&◌, ◌∷◌, [], map, length, slice_index_or, IfOk, IfErr, OnOk};
+ghost use Rattle.label_patterns.specs.Matches.{HasItsSets};
 ghost use Rattle.label_patterns.specs.Patterns as patterns;
 ghost use Rattle.label_patterns.specs.Trees.{pattern};
 ghost use Rattle.lgr_text.specs.ClassMembers.{class_fault, HasSpans};
@@ -11,7 +12,7 @@ ghost use Rattle.lgr_text.specs.inner.Faults.{IsLimit, IsPartFaultOf};
 ghost use Rattle.lgr_text.specs.inner.Items.{as_atom, choice_of, copies, further, in_sequence};
 ghost use Rattle.lgr_text.specs.inner.Items.{is_atom as is_atom_pattern};
 ghost use Rattle.lgr_text.specs.inner.Items.{nothing as nothing_pattern, ungrouped as ungrouped_pattern};
-ghost use Rattle.lgr_text.specs.inner.Items.{AddsClass, Appends};
+ghost use Rattle.lgr_text.specs.inner.Items.{AddsClass, Appends, HaveSets};
 
 use crate::class_sets::set_of;
 use crate::joins::SetOperation;
@@ -319,6 +320,7 @@ fn push_part(
 ) -> Result<(), RuleError>
     requires part { IsWellFormed (part_of part.now) }
     requires entries { HaveSpans (known_of known).entries }
+    requires rules { HaveSets (length made.old.sets.items) (known_of known).rules }
     ensures items { OnOk result (Appends (known_of known.entry).points (has_anchor_part (part_of part.now))
         made.old.sets.items made.new.sets.items (map pattern items.old.items) (map pattern items.new.items)
         (Matching (known_of known.entry) (part_of part.now))) }
@@ -369,6 +371,8 @@ pub fn pattern_of_rule(
 ) -> Result<PatternTree, RuleError>
     requires rule { IsWellFormed (part_of rule.now) }
     requires entries { HaveSpans (known_of known).entries }
+    requires rules { HaveSets (length made.old.sets.items) (known_of known).rules }
+    ensures known { IfOk result (λ tree. HasItsSets (length made.new.sets.items) (pattern tree)) }
     ensures pattern { IfOk result (λ tree.
         SaysRule (known_of known.entry) made.new.sets.items (pattern tree) (part_of rule.now)) }
     ensures sets { OnOk result (BeginsWith made.new.sets.items made.old.sets.items) }

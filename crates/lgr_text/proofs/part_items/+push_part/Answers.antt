@@ -1,11 +1,14 @@
-use Rattle.std.proofs.Common.{◌≡◌, ◌&&◌, false, [], map, sym, ap, subst, ◌∙◌}
+use Rattle.std.proofs.Common.{arith, rules, length, ◌≡◌, ◌&&◌, false, [], map, sym, ap, subst, ◌∙◌}
+use Rattle.std.proofs.lemmas.Grind.{common_steps}
 use Rattle.std.proofs.lemmas.Result.{on_ok_weaker}
 use Rattle.label_patterns.specs.Patterns.{Pattern, Point}
 use Rattle.label_patterns.specs.Trees.{pattern}
 use Rattle.lgr_text.specs.Known.{known as known_of}
 use Rattle.lgr_text.specs.PartMatches.{has_anchor, IsUpTo, IsWellFormed}
-use Rattle.lgr_text.specs.Records.{class as class_of, part as part_of, Part, Literal, Of, Then, Choice, Times}
-use Rattle.lgr_text.proofs.PartLemmas.{choice-part, class-part, literal-part, then-part, times-part, AppendsPart}
+use Rattle.lgr_text.specs.Records.{class as class_of, part as part_of, Part, Literal, Of, OfRule, Then, Choice, Times}
+use Rattle.lgr_text.specs.inner.Items.{HaveSets}
+use Rattle.lgr_text.proofs.SetNumberLemmas.{sets-stay}
+use Rattle.lgr_text.proofs.PartLemmas.{anchor-part, any-part, end-part, start-part, choice-part, class-part, literal-part, rule-part, then-part, times-part, AppendsPart}
 use Rattle.lgr_text.proofs.part_items.+push_part.Goals as goal
 
 pub returns-in-Literal-clause-items : goal.returns-in-Literal-clause-items
@@ -93,3 +96,72 @@ returns-in_ok-push_part-in-Times-clause-items t c =
     (map pattern c.args.items.now.items) (map pattern c.push_times.new.items.items) once is
     (ap (λ v. v.items) c.push_times.ensures.sets) none well.0 made e)
     c.push_times.ensures.items
+
+pub returns-in-OfRule-clause-items : goal.returns-in-OfRule-clause-items
+returns-in-OfRule-clause-items t c =
+    let is : part_of c.args.part.now ≡ OfRule c.as_slice.result.now = ap part_of c.in-OfRule.is ∙ ap OfRule (sym c.as_slice.ensures) in
+    on_ok_weaker c.push_rule.result
+    (λ e. rule-part (known_of c.args.known) c.as_slice.result.now c.args.made.now.sets.items c.push_rule.new.made.sets.items
+    (map pattern c.args.items.now.items) (map pattern c.push_rule.new.items.items) (part_of c.args.part.now) is
+    (ap (λ v. v.items) c.push_rule.ensures.sets) c.requires.rules e)
+    c.push_rule.ensures.items
+
+pub returns-in-Any-clause-items : goal.returns-in-Any-clause-items
+returns-in-Any-clause-items t c =
+    on_ok_weaker c.push.result
+    (λ e. any-part (known_of c.args.known) c.args.made.now.sets.items c.push.new.made.sets.items
+      (map pattern c.args.items.now.items) (map pattern c.push.new.items.items) (part_of c.args.part.now) (ap part_of c.in-Any.is)
+      (ap (λ v. v.items) c.push.ensures.sets) e)
+    c.push.ensures.items
+
+pub returns-in-Start-clause-items : goal.returns-in-Start-clause-items
+returns-in-Start-clause-items t c =
+    on_ok_weaker c.push-in-Start.result
+    (λ e. start-part (known_of c.args.known) c.args.made.now.sets.items c.push-in-Start.new.made.sets.items
+      (map pattern c.args.items.now.items) (map pattern c.push-in-Start.new.items.items) (part_of c.args.part.now) (ap part_of c.in-Start.is)
+      (ap (λ v. v.items) c.push-in-Start.ensures.sets) e)
+    c.push-in-Start.ensures.items
+
+pub returns-in-End-clause-items : goal.returns-in-End-clause-items
+returns-in-End-clause-items t c =
+    on_ok_weaker c.push-in-End.result
+    (λ e. end-part (known_of c.args.known) c.args.made.now.sets.items c.push-in-End.new.made.sets.items
+      (map pattern c.args.items.now.items) (map pattern c.push-in-End.new.items.items) (part_of c.args.part.now) (ap part_of c.in-End.is)
+      (ap (λ v. v.items) c.push-in-End.ensures.sets) e)
+    c.push-in-End.ensures.items
+
+pub returns-in-Anchor-clause-items : goal.returns-in-Anchor-clause-items
+returns-in-Anchor-clause-items t c =
+    on_ok_weaker c.push-in-Anchor.result
+    (λ e. anchor-part (known_of c.args.known) c.args.made.now.sets.items c.push-in-Anchor.new.made.sets.items
+      (map pattern c.args.items.now.items) (map pattern c.push-in-Anchor.new.items.items) (part_of c.args.part.now) (ap part_of c.in-Anchor.is)
+      (ap (λ v. v.items) c.push-in-Anchor.ensures.sets) e)
+    c.push-in-Anchor.ensures.items
+
+pub push_part-requires-in-Then : goal.push_part-requires-in-Then
+push_part-requires-in-Then t c =
+    let first = c.deref-in-Then-3.result.now in
+    let rest = c.deref-in-Then-4.result.now in
+    let is : part_of c.args.part.now ≡ Then (part_of first) (part_of rest) =
+        ap part_of c.in-Then.is
+        ∙ ap (λ q. Then (part_of q) (part_of c.in-Then.rest.value)) (sym c.deref-in-Then-3.ensures)
+        ∙ ap (λ q. Then (part_of first) (part_of q)) (sym c.deref-in-Then-4.ensures) in
+    let well : IsWellFormed (Then (part_of first) (part_of rest)) = subst IsWellFormed is c.requires.part in
+    let sets : HaveSets (length c.push_part.new.made.sets.items) (map pattern c.args.known.rules.now) =
+        sets-stay c.push_part.new.made.sets.items c.args.made.now.sets.items (map pattern c.args.known.rules.now)
+        c.in_ok-push_part-in-Then.ensures.items.kept c.requires.rules in
+    (first_of (search rules, grind (arith, common_steps)), (well.1, (c.requires.entries, sets)))
+
+pub push_part-requires-in-Choice-2 : goal.push_part-requires-in-Choice-2
+push_part-requires-in-Choice-2 t c =
+    let left = c.deref-in-Choice-2.result.now in
+    let right = c.deref-in-Choice-3.result.now in
+    let is : part_of c.args.part.now ≡ Choice (part_of left) (part_of right) =
+        ap part_of c.in-Choice.is
+        ∙ ap (λ q. Choice (part_of q) (part_of c.in-Choice.right.value)) (sym c.deref-in-Choice-2.ensures)
+        ∙ ap (λ q. Choice (part_of left) (part_of q)) (sym c.deref-in-Choice-3.ensures) in
+    let well : IsWellFormed (Choice (part_of left) (part_of right)) = subst IsWellFormed is c.requires.part in
+    let sets : HaveSets (length c.push_part-in-Choice.new.made.sets.items) (map pattern c.args.known.rules.now) =
+        sets-stay c.push_part-in-Choice.new.made.sets.items c.args.made.now.sets.items (map pattern c.args.known.rules.now)
+        c.in_ok-push_part-in-Choice.ensures.items.kept c.requires.rules in
+    (first_of (search rules, grind (arith, common_steps)), (well.1, (c.requires.entries, sets)))
