@@ -17,7 +17,7 @@ import sys
 
 sys.path.append(str(pathlib.Path(__file__).resolve().parent.parent / "registry"))
 
-from drawn_rulesets import DrawnRuleset, words_of_drawing
+from drawn_rulesets import DrawnRuleset, tell_counts, words_of_drawing
 from evaluator_answers import answer_of_evaluator, asked_of_program
 from idn2_registry.notation import patterns, reading
 from idn2_registry.notation.faults import TableFault
@@ -170,19 +170,18 @@ def compared(seed: int, number: int) -> collections.Counter[str]:
     return counts
 
 
+def counted(seed: int, count: int, jobs: int) -> collections.Counter[str]:
+    """What is found in so many rulesets."""
+    counts = collections.Counter[str]()
+    with multiprocessing.Pool(jobs) as pool:
+        for found in pool.imap(functools.partial(compared, seed), range(count), chunksize=16):
+            counts += found
+    return counts
+
+
 def main(words: list[str]) -> int:
     given = words_of_drawing("Compares the reference implementation with another.", 7940).parse_args(words)
-    counts = collections.Counter[str]()
-    try:
-        with multiprocessing.Pool(given.jobs) as pool:
-            for found in pool.imap(functools.partial(compared, given.seed), range(given.count), chunksize=16):
-                counts += found
-    except AssertionError as difference:
-        print(difference)
-        return 1
-    for name, count in counts.items():
-        print(f"{count:9,}  {name}")
-    return 0
+    return tell_counts(lambda: counted(given.seed, given.count, given.jobs))
 
 
 if __name__ == "__main__":

@@ -2,6 +2,8 @@
 well-formed."""
 
 import argparse
+from collections import Counter
+from collections.abc import Callable
 
 from idn2_registry.notation.points import spelled as spelled_points
 from idn2_registry.notation.ruleset import DISPOSITIONS
@@ -33,6 +35,18 @@ def words_of_drawing(description: str, seed: int) -> argparse.ArgumentParser:
     words.add_argument("--jobs", type=int, default=1, help="processes side by side")
     words.add_argument("count", metavar="N", type=int, nargs="?", default=6000)
     return words
+
+
+def tell_counts(count: Callable[[], Counter[str]]) -> int:
+    """Prints what a script counts, the most first, and gives its status: 1, with the difference, where it finds one."""
+    try:
+        counts = count()
+    except AssertionError as difference:
+        print(difference)
+        return 1
+    for name, number in counts.most_common():
+        print(f"{number:9,}  {name}")
+    return 0
 
 
 def spelled(sequence):

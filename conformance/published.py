@@ -29,7 +29,7 @@ ROOT = pathlib.Path(__file__).resolve().parent.parent
 for folder in ("conformance", "registry", "tests"):
     sys.path.append(str(ROOT / folder))
 
-from drawn_rulesets import DrawnRuleset, spelled, words_of_drawing
+from drawn_rulesets import DrawnRuleset, spelled, tell_counts, words_of_drawing
 from rich_ruleset import RichRuleset
 
 from idn2_registry.faults import Unsayable, Unusable
@@ -210,22 +210,19 @@ def outcomes(program: Program, seed: int, count: int, jobs: int) -> Iterator[str
                 print(f"{number} of {count}", file=sys.stderr, flush=True)
 
 
+def counted(program: Program, seed: int, count: int, jobs: int) -> collections.Counter[str]:
+    """What comes of so many drawn tables. What comes of each example is printed before."""
+    with tempfile.TemporaryDirectory() as folder:
+        for name, text in examples(program):
+            print(f"{name}: {Publishing(program, pathlib.Path(folder)).outcome(text) if text else 'no table'}", flush=True)
+    return collections.Counter(map(reason_of, outcomes(program, seed, count, jobs)))
+
+
 def main(words: list[str]) -> int:
     options = words_of_drawing("Publishes tables as XML and reads them back.", 62)
     options.add_argument("--idn2", default=str(PROGRAM))
     given = options.parse_args(words)
-    program = Program(given.idn2)
-    try:
-        with tempfile.TemporaryDirectory() as folder:
-            for name, text in examples(program):
-                print(f"{name}: {Publishing(program, pathlib.Path(folder)).outcome(text) if text else 'no table'}", flush=True)
-        counts = collections.Counter(map(reason_of, outcomes(program, given.seed, given.count, given.jobs)))
-    except AssertionError as error:
-        print(error)
-        return 1
-    for outcome, count in counts.most_common():
-        print(f"{count:6} {outcome}")
-    return 0
+    return tell_counts(lambda: counted(Program(given.idn2), given.seed, given.count, given.jobs))
 
 
 if __name__ == "__main__":
