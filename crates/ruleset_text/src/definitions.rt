@@ -203,8 +203,8 @@ impl Definitions {
     /// The actions.
     pub fn actions(&self) -> &[NamedAction]
         ensures is { map action result.now ≡ self.now.actions }
-        ensures known { AllByRecursion (λ a. knows_action (words.type_names self.now) (words.whole_rules self.now) a ≡ true)
-            self.now.actions }
+        ensures known { AllByRecursion
+            (λ a. knows_action (words.type_names self.now) (words.whole_rules self.now) a ≡ true) self.now.actions }
     {
         &self.actions
     }
@@ -224,7 +224,8 @@ impl Definitions {
         self.written
     }
 
-    /// Adds what a line defines. The canonical text of the definitions may have `limit` bytes. An `Err` changes nothing.
+    /// Adds what a line defines. The canonical text of the definitions may have `limit` bytes. An `Err` changes
+    /// nothing.
     pub fn define(
         &mut self,
         alloc: Global,
@@ -277,8 +278,8 @@ impl Definitions {
         }
     }
 
-    /// Refuses what was read, if something is wrong with it. The first thing that is, in this order, is told by the place
-    /// of the keyword or of the name, or by what reading told. The canonical line has `len` bytes.
+    /// Refuses what was read, if something is wrong with it. The first thing that is, in this order, is told by the
+    /// place of the keyword or of the name, or by what reading told. The canonical line has `len` bytes.
     fn check(
         &self,
         limit: usize,
