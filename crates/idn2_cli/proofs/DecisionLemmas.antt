@@ -37,7 +37,7 @@ use Rattle.idn2_cli.specs.inner.Decided.{IsOfPair, IsStanding, MayBeListed, Tell
 use Rattle.idn2_cli.specs.inner.Decided.{regard_of as appears_as}
 use Rattle.idn2_cli.specs.inner.Dispositions.{appearance}
 use Rattle.idn2_cli.specs.declared.modes.decided.Decisions.{Decisions}
-use Rattle.idn2_cli.specs.declared.modes.listed.Listed.{Listed}
+use Rattle.idn2_cli.specs.declared.modes.listed.Listed.{Listed as Listing}
 use Rattle.idn2_cli.specs.inner.Ruling.{filter_by, passes, ruling_in, ruling_of}
 use Rattle.idn2_cli.specs.declared.modes.decided.Standing.{Standing}
 use Rattle.idn2_cli.specs.declared.modes.decided.Standing.TheVariants.{Good, VariantAlone, Refused}
@@ -51,12 +51,12 @@ not_admitted table v NotAdmitted is other = is.1
 not_admitted table v (Admitted d) is other = absurd (other d refl)
 
 -- the test of other labels is of the table, once it is made
-pub others-ruling : (table : TableValue) (label : List ℕ) (listed : Option Listed) (others : Option Testing) → IsSome listed → TellsOthers table label listed others → ruling_in others ≡ ruling_of table
-others-ruling table label None others made tells = absurd made
+pub others-ruling : (table : TableValue) (label : List ℕ) (listed : Option Listing) (others : Option Testing) → IsSome listed → TellsOthers table label listed others → ruling_in others ≡ ruling_of table
+others-ruling table label None others made tells = let clash : false ≡ true = made in cc
 others-ruling table label (Some listed) others made tells = tells.1
 
 -- and so is each other one of that table
-pub others-kept : (table : TableValue) (label : List ℕ) (listed : Option Listed) (old new : Option Testing) → TellsOthers table label listed old → ruling_in new ≡ ruling_in old → TellsOthers table label listed new
+pub others-kept : (table : TableValue) (label : List ℕ) (listed : Option Listing) (old new : Option Testing) → TellsOthers table label listed old → ruling_in new ≡ ruling_in old → TellsOthers table label listed new
 others-kept table label None old new tells same = tt
 others-kept table label (Some listed) old new tells same = (tells.0, same ∙ tells.1)
 

@@ -213,6 +213,7 @@ pub(crate) fn is_valid_by(test: &mut Option<ValidityTest<'_>>, label: &[u32], sh
     requires kept { KeepsShared test.old shared label.now }
     ensures passes { result ≡ passes (ruling_in test.old) label.now }
     ensures kept { KeepsOf label.now test.new }
+    ensures sees { Sees label.now test.new }
     ensures same { ruling_in test.new ≡ ruling_in test.old }
 {
     matches!(validity_by(test, label, shared), Validity::Valid)

@@ -233,10 +233,10 @@ impl<'l> Decisions<'l> {
         ensures pair { IsOfPair self.old.table.now self.old.label.now self.new }
     {
         let rules = MatchedRules::of_test(&self.others);
-        match &mut self.listed {
-            Some(listed) => listed.regard(other, &rules),
-            None => unreachable!(),
-        }
+        let Some(listed) = &mut self.listed else {
+            unreachable!()
+        };
+        listed.regard(other, &rules)
     }
 
     /// What this label is to the other one.

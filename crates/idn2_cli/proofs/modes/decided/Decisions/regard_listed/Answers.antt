@@ -8,8 +8,8 @@ use Rattle.idn2_cli.specs.inner.Ruling.{matched_in}
 use Rattle.idn2_cli.proofs.AskedRules.{seen-rules}
 use Rattle.idn2_cli.proofs.modes.decided.Decisions.regard_listed.Goals as goal
 
-pub returns-in-Some-clause-regard : goal.returns-in-Some-clause-regard
-returns-in-Some-clause-regard c =
+pub returns-clause-regard : goal.returns-clause-regard
+returns-clause-regard c =
     let table = c.args.self.now.table.now in
     let label = c.args.self.now.label.now in
     let other = c.args.other.now in
@@ -18,8 +18,8 @@ returns-in-Some-clause-regard c =
     let rules = subst (λ (t : Option Testing). AreRulesOf table other (matched_in t)) (sym c.of_test-rules.ensures) (seen-rules c.args.self.now.others table other d.sound tells.1 c.requires.sees) in
     c.regard.ensures.regard table label d.sound tells.0 rules c.requires.another
 
-pub returns-in-Some-clause-decides : goal.returns-in-Some-clause-decides
-returns-in-Some-clause-decides c =
+pub returns-clause-decides : goal.returns-clause-decides
+returns-clause-decides c =
     let table = c.args.self.now.table.now in
     let label = c.args.self.now.label.now in
     let d = c.requires.decides in

@@ -21,13 +21,13 @@ returns-in-Refused-clause-regard c =
 
 pub returns-in-Some-clause-regard : goal.returns-in-Some-clause-regard
 returns-in-Some-clause-regard c = λ o good stands.
-    of_variant_alone o c.args.self.now.table.now c.requires.decides.sound c.args.self.now.label.now c.args.other.now good c.args.standing c.in-VariantAlone.is stands c.in-Some.regard (sym c.in-Some.is ∙ c.regard_listed-in-VariantAlone.ensures.regard)
+    of_variant_alone o c.args.self.now.table.now c.requires.decides.sound c.args.self.now.label.now c.args.other.now good c.args.standing c.in-VariantAlone.is stands c.in-Some.regard (sym c.in-Some.is ∙ c.regard_listed.ensures.regard)
 
 pub returns-in-None-clause-regard : goal.returns-in-None-clause-regard
 returns-in-None-clause-regard c =
     let table = c.args.self.now.table.now in
     let label = c.args.self.now.label.now in
     let other = c.args.other.now in
-    barred_by table label other c.regard_listed-in-VariantAlone.new.self _ c.barred.result c.regard_listed-in-VariantAlone.ensures.pair
-    (λ regard barred o good stands. of_unlisted o table c.requires.decides.sound label other good c.args.standing c.in-VariantAlone.is stands (sym c.in-None.is ∙ c.regard_listed-in-VariantAlone.ensures.regard) regard barred)
+    barred_by table label other c.regard_listed.new.self _ c.barred.result c.regard_listed.ensures.pair
+    (λ regard barred o good stands. of_unlisted o table c.requires.decides.sound label other good c.args.standing c.in-VariantAlone.is stands (sym c.in-None.is ∙ c.regard_listed.ensures.regard) regard barred)
     c.barred.ensures.arising c.barred.ensures.none
