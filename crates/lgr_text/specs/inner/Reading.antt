@@ -1,6 +1,6 @@
 -- How elements are read from tokens.
-use Rattle.std.specs.Prelude.{◌≡◌, ℕ, ◌+◌, ◌-◌, Bool, true, false, ◌==◌, Option, Some, None, List, [], ◌∷◌, Result, Ok, Err, option_map}
-use Rattle.std.specs.Prelude.{if◌then◌else◌}
+use Rattle.std.specs.Prelude.{◌≡◌, ℕ, ◌+◌, ◌-◌, Bool, true, false, ◌==◌, Option, Some, None, List, [], ◌∷◌, Result, Ok}
+use Rattle.std.specs.Prelude.{Err, option_map, if◌then◌else◌}
 use Rattle.lgr_text.specs.declared.element.Element as held
 use Rattle.lgr_text.specs.declared.element.Elements as held_elements
 use Rattle.lgr_text.specs.declared.fault.ReadError.{ReadError}
