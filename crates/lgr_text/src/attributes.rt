@@ -1,11 +1,11 @@
 //! The attributes of an element.
-ghost use Rattle.std.specs.Prelude.{◌≡◌, option_copied, option_map};
+ghost use Rattle.std.specs.Prelude.{◌≡◌, ◌&&◌, option_copied, option_map};
 ghost use Rattle.lgr_text.specs.Attributes as terms;
+ghost use Rattle.lgr_text.specs.Elements.{Content, is_empty};
 ghost use Rattle.lgr_text.specs.Records as records;
-ghost use Rattle.lgr_text.specs.declared.fault.ReadError.TheVariants.{Wrong};
 ghost use Rattle.lgr_text.specs.declared.names.NameKind.TheVariants.{Identifier};
 ghost use Rattle.lgr_text.specs.Values as values;
-ghost use Rattle.lgr_text.specs.inner.Reading.{Checks, Reads};
+ghost use Rattle.lgr_text.specs.inner.Reading.{AreOf, Checks, Reads};
 
 use crate::element::Element;
 use crate::fault::ReadError;
@@ -18,13 +18,6 @@ use std::alloc::Global;
 use xml_text::Attribute;
 
 impl<'a> Element<'a> {
-    /// Why the element isn't one of RFC 7940.
-    pub fn wrong(&self) -> ReadError
-        ensures { result ≡ Wrong self.now.line }
-    {
-        ReadError::Wrong(self.line)
-    }
-
     /// The value of an attribute, if the element has it.
     pub fn value(&self, name: &[u8]) -> Option<&'a [u8]>
         ensures { option_copied result ≡ terms.value self.now.attributes.now name.now }
@@ -50,6 +43,19 @@ impl<'a> Element<'a> {
             Ok(())
         } else {
             Err(self.wrong())
+        }
+    }
+
+    /// The same, and that nothing is in it.
+    pub fn check_plain(&self, names: &[u8]) -> Result<(), ReadError>
+        ensures { (c : Content) → AreOf self.now.within c →
+            Checks (terms.are_among names.now self.now.attributes.now && is_empty c) result }
+    {
+        self.check(names)?;
+        let mut within = self.within;
+        match within.next()? {
+            None => Ok(()),
+            Some(_) => Err(self.wrong()),
         }
     }
 
