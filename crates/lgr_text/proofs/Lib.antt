@@ -5,7 +5,9 @@ pub mod EachLemmas
 pub mod ElementLemmas
 pub mod ItemLemmas
 pub mod JoinLemmas
+pub mod LevelLemmas
 pub mod LoopLemmas
+pub mod NestedLemmas
 pub mod NumberLemmas
 pub mod OneFormLemmas
 pub mod PartLemmas
@@ -14,4 +16,5 @@ pub mod RepeatLemmas
 pub mod RuleLemmas
 pub mod SortedLemmas
 pub mod SpanLemmas
+pub mod TextLemmas
 pub mod WordLemmas

@@ -2,11 +2,17 @@
 pub mod ActionNames
 pub mod Attributes
 pub mod ClassMembers
+pub mod Classes
 pub mod CodePoints
+pub mod Definitions
 pub mod Elements
+pub mod Entries
 pub mod Known
 pub mod Laws
+pub mod Nested
+pub mod Orders
 pub mod PartMatches
+pub mod Parts
 pub mod Records
 pub mod Values
 pub mod Words
