@@ -14,6 +14,7 @@ pub mod Orders
 pub mod PartMatches
 pub mod Parts
 pub mod Records
+pub mod RuleExamples
 pub mod Values
 pub mod Words
 pub mod inner

@@ -30,7 +30,7 @@ pub use element::{Element, Elements};
 pub use fault::ReadError;
 pub use joins::SetOperation;
 pub use known::Known;
-pub use laws::sets_have_one_form;
+pub use laws::{rule_examples_hold, sets_have_one_form};
 pub use names::NameKind;
 pub use part_items::{Made, pattern_of_rule};
 pub use records::{
