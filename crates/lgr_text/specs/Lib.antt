@@ -3,10 +3,15 @@ pub mod ActionNames
 pub mod Attributes
 pub mod ClassMembers
 pub mod CodePoints
+pub mod DefinitionOrder
 pub mod Elements
 pub mod Known
 pub mod Laws
+pub mod NamedParts
+pub mod PartAtoms
 pub mod PartMatches
+pub mod Properties
+pub mod PropertyNames
 pub mod Records
 pub mod Values
 pub mod Words

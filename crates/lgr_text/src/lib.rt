@@ -2,16 +2,23 @@
 #![tactic(auto)]
 
 mod actions;
+mod atoms;
 mod attributes;
 mod class_sets;
 mod code_points;
+mod combining;
 mod element;
 mod fault;
 mod joins;
 mod known;
 mod laws;
+mod named_parts;
 mod names;
+mod order;
+mod order_error;
 mod part_items;
+mod properties;
+mod property_names;
 mod records;
 mod rule_error;
 mod values;
@@ -26,6 +33,8 @@ pub use joins::SetOperation;
 pub use known::Known;
 pub use laws::sets_have_one_form;
 pub use names::NameKind;
+pub use order::definition_order;
+pub use order_error::OrderError;
 pub use part_items::{Made, pattern_of_rule};
 pub use records::{
     Action, ClassTree, Condition, Count, Definition, Entry, Meaning, PartTree, Reference, Ruleset,
