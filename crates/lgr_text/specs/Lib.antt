@@ -1,13 +1,21 @@
 -- The definitions that contracts cite.
 pub mod ActionNames
+pub mod Actions
 pub mod Attributes
 pub mod ClassMembers
 pub mod CodePoints
+pub mod Definitions
+pub mod Documents
 pub mod Elements
+pub mod Entries
+pub mod Examples
+pub mod Facts
 pub mod Known
 pub mod Laws
 pub mod PartMatches
 pub mod Records
+pub mod Sections
+pub mod Statements
 pub mod Values
 pub mod Words
 pub mod inner

@@ -1,30 +1,42 @@
 //! Rulesets in XML (RFC 7940): what the tokens of a document say, as entries, classes, rules and actions.
 #![tactic(auto)]
 
+mod action_elements;
 mod actions;
 mod attributes;
 mod class_sets;
 mod code_points;
+mod definitions;
+mod documents;
 mod element;
+mod entries;
+mod facts;
 mod fault;
 mod joins;
 mod known;
 mod laws;
 mod names;
+mod nesting;
 mod part_items;
 mod records;
 mod rule_error;
+mod sections;
+mod statements;
 mod values;
 mod words;
 
+pub use action_elements::read_action;
 pub use actions::{Renamed, named_action};
 pub use class_sets::set_of;
 pub use code_points::CodePoints;
+pub use definitions::read_definition;
+pub use documents::read_ruleset;
 pub use element::{Element, Elements};
+pub use entries::read_entries;
 pub use fault::ReadError;
 pub use joins::SetOperation;
 pub use known::Known;
-pub use laws::sets_have_one_form;
+pub use laws::{a_document_says_one_ruleset, definitions_give_the_examples, sets_have_one_form};
 pub use names::NameKind;
 pub use part_items::{Made, pattern_of_rule};
 pub use records::{
