@@ -1,11 +1,9 @@
 -- What is read of elements, one after the other.
-use Rattle.std.proofs.Common.{◌≡◌, ℕ, Bool, true, false, cond, ◌&&◌, List, [], ◌∷◌, ◌++◌, Option, Some, None, refl, sym, ap, ◌∙◌}
-use Rattle.std.specs.Prelude.{option_map, option_and_then}
+use Rattle.std.proofs.Common.{◌≡◌, ℕ, Bool, true, false, cond, ◌&&◌, List, [], Option, Some, None, refl, sym, ap, ◌∙◌}
 use Rattle.xml_text.specs.Attributes.{Attribute}
 use Rattle.lgr_text.specs.Elements
 use Rattle.lgr_text.specs.Elements.{Content, Node, each_element, every_element, is_blank_text, with_first}
 use Rattle.lgr_text.specs.inner.Reading.{BeginsWithText, after_blanks}
-use Rattle.lgr_text.proofs.EachLemmas.{following}
 
 module _ {X : Type 0} (read : Node → Option X) where
   text_step : (text : List ℕ) (more : Content) (b : Bool) → is_blank_text text ≡ b → each_element read (after_blanks more) ≡ each_element read more → each_element read (cond b (after_blanks more) (Elements.Text text more)) ≡ each_element read (Elements.Text text more)

@@ -7,7 +7,9 @@ pub mod ElementLemmas
 pub mod FoldLemmas
 pub mod ItemLemmas
 pub mod JoinLemmas
+pub mod LevelLemmas
 pub mod LoopLemmas
+pub mod NestedLemmas
 pub mod NestingLemmas
 pub mod NumberLemmas
 pub mod OneFormLemmas
@@ -18,4 +20,5 @@ pub mod RuleLemmas
 pub mod SectionLemmas
 pub mod SortedLemmas
 pub mod SpanLemmas
+pub mod TextLemmas
 pub mod WordLemmas

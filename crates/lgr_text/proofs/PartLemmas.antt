@@ -1,7 +1,7 @@
 -- Parts of rules and the items that match the same.
-use Rattle.std.proofs.Common.{◌≡◌, ℕ, zero, suc, ◌+◌, ◌-◌, ◌<◌, ◌≤◌, ◌⊎◌, inl, inr, Bool, true, false, ◌||◌, ◌&&◌, List, [], ◌∷◌, ◌++◌, length, drop, get_or, map, Option, Some, None, refl, ap, sym, subst, ◌∙◌, append_assoc, if◌then◌else◌, arith}
-use Rattle.std.specs.Prelude.{◌↔◌, IsTrue, slice_index}
-use Rattle.std.specs.List.{All, list_all}
+use Rattle.std.proofs.Common.{◌≡◌, ℕ, zero, suc, ◌+◌, ◌-◌, ◌<◌, inl, inr, Bool, true, false, ◌||◌, ◌&&◌, List, [], ◌∷◌, ◌++◌, length, drop, get_or, map, Option, Some, None, refl, ap, sym, subst, ◌∙◌, append_assoc, if◌then◌else◌, arith}
+use Rattle.std.specs.Prelude.{◌↔◌, slice_index}
+use Rattle.std.specs.List.{list_all}
 use Rattle.std.proofs.lemmas.List.Folds.{list_all-append}
 use Rattle.std.proofs.lemmas.Bool.{eqb-true, eq-eqb}
 use Rattle.std.proofs.lemmas.List.{append-nil, get_or_append_left, length-drop}
@@ -11,14 +11,13 @@ use Rattle.label_patterns.specs.declared.span.Span.{Span}
 use Rattle.label_patterns.specs.Laws.{seen}
 use Rattle.label_patterns.specs.Matches.{Matches, Seen}
 use Rattle.label_patterns.specs.Patterns.{Pattern, Point, Set, Optional}
-use Rattle.label_patterns.specs.Places.{StandsAt}
 use Rattle.label_patterns.specs.Sets.{is_in}
 use Rattle.lgr_text.specs.ClassMembers.{has}
 use Rattle.lgr_text.specs.Known.{Known}
-use Rattle.lgr_text.specs.PartMatches.{BeginsWith, IsOf, has_anchor, rule_named, Matching, PartMatches, Place, Repeats, IsCounted, IsUpTo, StandThere}
+use Rattle.lgr_text.specs.PartMatches.{BeginsWith, has_anchor, rule_named, Matching, PartMatches, Place, Repeats, IsUpTo, StandThere}
 use Rattle.lgr_text.specs.Records.{Class, Part, Literal, Any, Of, Start, End, Anchor, OfRule, Then, Choice, Times}
 use Rattle.lgr_text.specs.declared.records.Count.{Count}
-use Rattle.lgr_text.specs.inner.Items.{anchors, as_atom, further_up_to, is_item, HasShape, choice_of, copies, further, AddsClass, Appends, AreItemsFor, ItemsMatch}
+use Rattle.lgr_text.specs.inner.Items.{anchors, as_atom, further_up_to, is_item, HasShape, choice_of, copies, further, AddsClass, Appends, ItemsMatch}
 use Rattle.lgr_text.proofs.ItemLemmas.{choice-is, copies-are, further-are, items-join, items-split, one-item}
 use Rattle.lgr_text.proofs.RepeatLemmas.{repeats-join, repeats-map, repeats-split}
 

@@ -1,13 +1,10 @@
 -- Actions of a file as a ruleset has them (RFC 7940, section 7): each with the names that the ruleset gives to rules
 -- and types. The default actions (section 7.6) follow those of each ruleset, and are not written.
-use Rattle.std.specs.Prelude.{◌≡◌, ℕ, ◌<◌, ◌&&◌, Bool, true, List, [], length, map, slice_index_or, nat_lt, Option}
-use Rattle.std.specs.Prelude.{Some, None, is_some}
-use Rattle.std.specs.List.{list_all}
+use Rattle.std.specs.Prelude.{◌≡◌, ℕ, Bool, List, [], length, map, slice_index_or, nat_lt}
 use Rattle.std.specs.Option.{option_map}
 use Rattle.ruleset_text.specs.Actions.{NamedAction, NamedTrigger, disposition_word}
 use Rattle.ruleset_text.specs.declared.named_condition.NamedCondition.{NamedCondition}
 use Rattle.ruleset_text.specs.Names.{number_of}
-use Rattle.variant_dispositions.specs.declared.disposition.Disposition.{Disposition}
 use Rattle.lgr_text.specs.Records.{Action, Condition, Trigger}
 use Rattle.lgr_text.specs.declared.actions.Renamed.{Renamed}
 

@@ -3,6 +3,7 @@ pub mod ActionNames
 pub mod Actions
 pub mod Attributes
 pub mod ClassMembers
+pub mod Classes
 pub mod CodePoints
 pub mod Definitions
 pub mod Documents
@@ -12,7 +13,10 @@ pub mod Examples
 pub mod Facts
 pub mod Known
 pub mod Laws
+pub mod Nested
+pub mod Orders
 pub mod PartMatches
+pub mod Parts
 pub mod Records
 pub mod Sections
 pub mod Statements

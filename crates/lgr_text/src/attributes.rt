@@ -2,6 +2,7 @@
 ghost use Rattle.std.specs.Prelude.{◌≡◌, ◌&&◌, option_copied, option_map};
 ghost use Rattle.lgr_text.specs.Attributes as terms;
 ghost use Rattle.lgr_text.specs.Elements.{Content, is_empty};
+ghost use Rattle.lgr_text.specs.Entries as entries;
 ghost use Rattle.lgr_text.specs.Records as records;
 ghost use Rattle.lgr_text.specs.declared.names.NameKind.TheVariants.{Identifier};
 ghost use Rattle.lgr_text.specs.Values as values;
@@ -11,6 +12,7 @@ use crate::element::Element;
 use crate::fault::ReadError;
 use crate::names::NameKind;
 use crate::records::{Condition, Reference};
+use crate::values::points_of;
 use crate::words::next_word;
 use label_patterns::ConditionKind;
 use ruleset_text::Name;
@@ -112,6 +114,25 @@ impl<'a> Element<'a> {
     {
         let rule = self.reference(alloc, NameKind::Identifier, rule)?;
         Ok(Some(Condition { kind, rule }))
+    }
+
+    /// Its code points; there may be none.
+    pub fn points(&self, alloc: Global) -> Result<Vec<u32>, ReadError>
+        ensures { Reads (λ v. v.items) (entries.points_by self.now.attributes.now) result }
+    {
+        let text = self.needed(b"cp")?;
+        points_of(alloc, text)?.ok_or(self.wrong())
+    }
+
+    /// Its code points, one or more.
+    pub fn sequence(&self, alloc: Global) -> Result<Vec<u32>, ReadError>
+        ensures { Reads (λ v. v.items) (entries.sequence_by self.now.attributes.now) result }
+    {
+        let points = self.points(alloc)?;
+        if points.is_empty() {
+            return Err(self.wrong());
+        }
+        Ok(points)
     }
 }
 

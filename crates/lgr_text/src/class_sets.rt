@@ -11,7 +11,6 @@ ghost use Rattle.lgr_text.specs.Records.{class as class_of, entry, source};
 ghost use Rattle.lgr_text.specs.inner.Faults.{IsFaultOf};
 
 use crate::code_points::CodePoints;
-use crate::joins::SetOperation;
 use crate::known::Known;
 use crate::records::{ClassTree, Entry, Source};
 use crate::rule_error::{RuleError, RuleFault};
@@ -32,25 +31,10 @@ pub fn set_of(alloc: Global, known: Known<'_>, class: &ClassTree) -> Result<Code
         ClassTree::OfTag(tag) => tagged(alloc, known.entries, tag.name.as_slice()),
         ClassTree::OfProperty(_) => Err(RuleError::Fault(RuleFault::NotSupported)),
         ClassTree::OfClass(class) => named(alloc, known, class.name.as_slice()),
-        ClassTree::Union(left, right) => {
+        ClassTree::Joined(operation, left, right) => {
             let left = set_of(alloc, known, left)?;
             let right = set_of(alloc, known, right)?;
-            Ok(left.join(alloc, SetOperation::Union, &right)?)
-        }
-        ClassTree::Intersection(left, right) => {
-            let left = set_of(alloc, known, left)?;
-            let right = set_of(alloc, known, right)?;
-            Ok(left.join(alloc, SetOperation::Intersection, &right)?)
-        }
-        ClassTree::Difference(left, right) => {
-            let left = set_of(alloc, known, left)?;
-            let right = set_of(alloc, known, right)?;
-            Ok(left.join(alloc, SetOperation::Difference, &right)?)
-        }
-        ClassTree::SymmetricDifference(left, right) => {
-            let left = set_of(alloc, known, left)?;
-            let right = set_of(alloc, known, right)?;
-            Ok(left.join(alloc, SetOperation::SymmetricDifference, &right)?)
+            Ok(left.join(alloc, *operation, &right)?)
         }
         ClassTree::Complement(class) => Ok(set_of(alloc, known, class)?.complement(alloc)?),
     }

@@ -10,7 +10,7 @@ use crate::element::{Element, Elements};
 use crate::fault::ReadError;
 use crate::names::NameKind;
 use crate::records::{Entry, Source, Variant};
-use crate::values::{point_of, points_of, span_between};
+use crate::values::{point_of, span_between};
 use label_patterns::Span;
 use ruleset_text::{Name, is_one_of};
 use std::alloc::Global;
@@ -137,25 +137,6 @@ impl<'a> Element<'a> {
             variants,
             line: self.line,
         })
-    }
-
-    /// Its code points; there may be none.
-    fn points(&self, alloc: Global) -> Result<Vec<u32>, ReadError>
-        ensures { Reads (λ v. v.items) (entries.points_by self.now.attributes.now) result }
-    {
-        let text = self.needed(b"cp")?;
-        points_of(alloc, text)?.ok_or(self.wrong())
-    }
-
-    /// Its code points, one or more.
-    fn sequence(&self, alloc: Global) -> Result<Vec<u32>, ReadError>
-        ensures { Reads (λ v. v.items) (entries.sequence_by self.now.attributes.now) result }
-    {
-        let points = self.points(alloc)?;
-        if points.is_empty() {
-            return Err(self.wrong());
-        }
-        Ok(points)
     }
 
     /// The range from its first code point to its last.

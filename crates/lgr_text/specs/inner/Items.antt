@@ -1,5 +1,5 @@
 -- Items of a pattern, one after the other.
-use Rattle.std.specs.Prelude.{◌≡◌, ℕ, ◌+◌, ◌↔◌, List, [], ◌∷◌, ◌++◌, All, IsTrue, ◌&&◌, ◌≤◌, ◌<◌, ◌-◌, zero, suc}
+use Rattle.std.specs.Prelude.{◌≡◌, ℕ, ◌+◌, ◌↔◌, List, [], ◌∷◌, ◌++◌, ◌&&◌, ◌≤◌, ◌<◌, ◌-◌, zero, suc}
 use Rattle.std.specs.Prelude.{length, slice_index_or, Option, Some, None, Bool, true, false, if◌then◌else◌}
 use Rattle.std.specs.List.{list_all}
 use Rattle.label_patterns.specs.declared.span.Span.{Span}

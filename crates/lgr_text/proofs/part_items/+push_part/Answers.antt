@@ -1,10 +1,9 @@
 use Rattle.std.proofs.Common.{◌≡◌, ◌&&◌, false, [], map, sym, ap, subst, ◌∙◌}
 use Rattle.std.proofs.lemmas.Result.{on_ok_weaker}
-use Rattle.label_patterns.specs.Patterns.{Pattern, Point}
 use Rattle.label_patterns.specs.Trees.{pattern}
 use Rattle.lgr_text.specs.Known.{known as known_of}
-use Rattle.lgr_text.specs.PartMatches.{has_anchor, IsUpTo, IsWellFormed}
-use Rattle.lgr_text.specs.Records.{class as class_of, part as part_of, Part, Literal, Of, Then, Choice, Times}
+use Rattle.lgr_text.specs.PartMatches.{has_anchor, IsWellFormed}
+use Rattle.lgr_text.specs.Records.{class as class_of, part as part_of, Literal, Then, Choice, Times}
 use Rattle.lgr_text.proofs.PartLemmas.{choice-part, class-part, literal-part, then-part, times-part, AppendsPart}
 use Rattle.lgr_text.proofs.part_items.+push_part.Goals as goal
 

@@ -1,5 +1,4 @@
-use Rattle.std.proofs.Common.{[], map, sym, subst, ◌∙◌, ap}
-use Rattle.std.proofs.lemmas.Result.{on_ok_weaker}
+use Rattle.std.proofs.Common.{[], map, sym, subst}
 use Rattle.label_patterns.specs.Trees.{pattern}
 use Rattle.lgr_text.specs.Known.{known as known_of}
 use Rattle.lgr_text.specs.PartMatches.{SaysRule}
