@@ -1,23 +1,19 @@
 -- Lemmas that several proofs cite, and those of one subject.
 pub mod ClassLemmas
 pub mod ContentLemmas
-pub mod DocumentLemmas
 pub mod EachLemmas
 pub mod ElementLemmas
-pub mod FoldLemmas
 pub mod ItemLemmas
 pub mod JoinLemmas
 pub mod LevelLemmas
 pub mod LoopLemmas
 pub mod NestedLemmas
-pub mod NestingLemmas
 pub mod NumberLemmas
 pub mod OneFormLemmas
 pub mod PartLemmas
 pub mod PassLemmas
 pub mod RepeatLemmas
 pub mod RuleLemmas
-pub mod SectionLemmas
 pub mod SortedLemmas
 pub mod SpanLemmas
 pub mod TextLemmas

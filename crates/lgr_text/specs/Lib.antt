@@ -6,11 +6,9 @@ pub mod ClassMembers
 pub mod Classes
 pub mod CodePoints
 pub mod Definitions
-pub mod Documents
 pub mod Elements
 pub mod Entries
 pub mod Examples
-pub mod Facts
 pub mod Known
 pub mod Laws
 pub mod Nested
@@ -18,8 +16,6 @@ pub mod Orders
 pub mod PartMatches
 pub mod Parts
 pub mod Records
-pub mod Sections
-pub mod Statements
 pub mod Values
 pub mod Words
 pub mod inner

@@ -1,8 +1,5 @@
 -- The definitions that inner functions cite.
 pub mod Faults
 pub mod Items
-pub mod Nesting
 pub mod Reading
-pub mod Roots
-pub mod Stages
 pub mod Stretches

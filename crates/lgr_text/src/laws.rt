@@ -1,16 +1,11 @@
 //! Laws of rulesets. The functions are empty, and their contracts are the laws.
 ghost use Rattle.lgr_text.specs.Examples.{AreCountExamples, AreNoSpans, IsActionExample, IsEntryExample, IsNoEntry};
 ghost use Rattle.lgr_text.specs.Examples.{IsRangeExample, IsSpansExample};
-ghost use Rattle.lgr_text.specs.Laws.{ADocumentSaysOneRuleset, SetsHaveOneForm};
+ghost use Rattle.lgr_text.specs.Laws.{SetsHaveOneForm};
 
 /// Two sets that have the same code points are held in the same form.
 pub fn sets_have_one_form()
     ensures { SetsHaveOneForm }
-{}
-
-/// The tokens of a document say one ruleset at most.
-pub fn a_document_says_one_ruleset()
-    ensures { ADocumentSaysOneRuleset }
 {}
 
 /// Examples of RFC 7940 say what it says that they say.
