@@ -25,10 +25,10 @@ two_more : (k m s : ℕ) (o : Option ℕ) → s ≡ suc (k + suc m) → option_m
 two_more k m s None e = refl
 two_more k m s (Some n) e = ap Some (omega arith)
 
-not_zero : (o : ℕ) → eqb (o + 1) 0 ≡ false
+pub not_zero : (o : ℕ) → eqb (o + 1) 0 ≡ false
 not_zero o = grind (arith, nat_tests)
 
-one_less : (o : ℕ) → o + 1 - 1 ≡ o
+pub one_less : (o : ℕ) → o + 1 - 1 ≡ o
 one_less o = omega arith
 
 -- the end tag of an element that was opened
@@ -147,11 +147,11 @@ not-open p (Elements.Element local others within more) t ts closed e =
     let opened : is_open t.said ≡ true = ap is_open said in
     absurd cc
 
-take-front : {X : Type 0} (xs ys : List X) → take (length xs) (xs ++ ys) ≡ xs
+pub take-front : {X : Type 0} (xs ys : List X) → take (length xs) (xs ++ ys) ≡ xs
 take-front [] ys = refl
 take-front (x ∷ xs) ys = ap (λ l. x ∷ l) (take-front xs ys)
 
-drop-past : {X : Type 0} (xs ys : List X) (y : X) → drop (suc (length xs)) (xs ++ y ∷ ys) ≡ ys
+pub drop-past : {X : Type 0} (xs ys : List X) (y : X) → drop (suc (length xs)) (xs ++ y ∷ ys) ≡ ys
 drop-past [] ys y = refl
 drop-past (x ∷ xs) ys y = drop-past xs ys y
 
@@ -179,7 +179,7 @@ module _ (p : List ℕ) (name : List ℕ) (attributes : List Attribute) (ts : Li
 
 -- ---- the name without the prefix
 
-drop-front : {X : Type 0} (xs ys : List X) → drop (length xs) (xs ++ ys) ≡ ys
+pub drop-front : {X : Type 0} (xs ys : List X) → drop (length xs) (xs ++ ys) ≡ ys
 drop-front [] ys = refl
 drop-front (x ∷ xs) ys = drop-front xs ys
 

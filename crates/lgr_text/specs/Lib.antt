@@ -1,5 +1,6 @@
 -- The definitions that contracts cite.
 pub mod ActionNames
+pub mod Actions
 pub mod Attributes
 pub mod ClassMembers
 pub mod Classes
@@ -8,6 +9,7 @@ pub mod DefinitionOrder
 pub mod Definitions
 pub mod Elements
 pub mod Entries
+pub mod Examples
 pub mod Known
 pub mod Laws
 pub mod NamedParts

@@ -117,7 +117,7 @@ impl<'a> Element<'a> {
     }
 
     /// Its code points; there may be none.
-    fn points(&self, alloc: Global) -> Result<Vec<u32>, ReadError>
+    pub fn points(&self, alloc: Global) -> Result<Vec<u32>, ReadError>
         ensures { Reads (λ v. v.items) (entries.points_by self.now.attributes.now) result }
     {
         let text = self.needed(b"cp")?;

@@ -94,7 +94,7 @@ impl<'a> Element<'a> {
 }
 
 /// The name and the attributes of a start tag.
-fn opened(said: &Said) -> Option<(&[u8], &[Attribute])>
+pub fn opened(said: &Said) -> Option<(&[u8], &[Attribute])>
     ensures { MatchOption result (is_open (said_as said.now) ≡ false)
         (λ tag. said_as said.now ≡ Open tag.0.now tag.1.now) }
 {

@@ -1,4 +1,6 @@
 //! Laws of rulesets. The functions are empty, and their contracts are the laws.
+ghost use Rattle.lgr_text.specs.Examples.{AreCountExamples, AreNoSpans, IsActionExample, IsEntryExample, IsNoEntry};
+ghost use Rattle.lgr_text.specs.Examples.{IsRangeExample, IsSpansExample};
 ghost use Rattle.lgr_text.specs.Laws.{SetsHaveOneForm};
 ghost use Rattle.lgr_text.specs.RuleExamples.{AreClasses, AreNoRules, AreNoSets, AreRules, AreSets, IsChoice};
 
@@ -15,4 +17,15 @@ pub fn rule_examples_hold()
     ensures choice { IsChoice }
     ensures rules { AreRules }
     ensures no_rules { AreNoRules }
+{}
+
+/// Examples of RFC 7940 say what it says that they say.
+pub fn definitions_give_the_examples()
+    ensures spans { IsSpansExample }
+    ensures no_spans { AreNoSpans }
+    ensures counts { AreCountExamples }
+    ensures entry { IsEntryExample }
+    ensures range { IsRangeExample }
+    ensures no_entry { IsNoEntry }
+    ensures action { IsActionExample }
 {}

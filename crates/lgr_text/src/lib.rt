@@ -1,6 +1,7 @@
 //! Rulesets in XML (RFC 7940): what the tokens of a document say, as entries, classes, rules and actions.
 #![tactic(auto)]
 
+mod action_elements;
 mod actions;
 mod atoms;
 mod attributes;
@@ -10,6 +11,7 @@ mod code_points;
 mod combining;
 mod definitions;
 mod element;
+mod entries;
 mod fault;
 mod joins;
 mod known;
@@ -29,15 +31,17 @@ mod rule_error;
 mod values;
 mod words;
 
+pub use action_elements::read_action;
 pub use actions::{Renamed, named_action};
 pub use class_sets::set_of;
 pub use code_points::CodePoints;
 pub use definitions::read_definition;
 pub use element::{Element, Elements};
+pub use entries::read_entries;
 pub use fault::ReadError;
 pub use joins::SetOperation;
 pub use known::Known;
-pub use laws::{rule_examples_hold, sets_have_one_form};
+pub use laws::{definitions_give_the_examples, rule_examples_hold, sets_have_one_form};
 pub use names::NameKind;
 pub use order::definition_order;
 pub use order_error::OrderError;

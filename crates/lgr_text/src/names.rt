@@ -59,7 +59,8 @@ impl NameKind {
     }
 }
 
-fn is_name(word: &[u8]) -> bool
+/// Whether a word is a name of a class or a rule.
+pub fn is_name(word: &[u8]) -> bool
     ensures { result ≡ values.is_name word.now }
 {
     match word {
