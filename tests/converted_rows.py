@@ -308,7 +308,8 @@ UNICODE_FILES = {
 PROPERTIES = {
     "sc:Latn": "0061", "Script:latin": "0061", "sc:Qaai": "0301", "sc:Unknown": "094D", "jt:D": "0628",
     "Joining_Type:Non_Joining": "0061 0430 0915 094D", "InSC:Virama": "094D", "Indic_Syllabic_Category:Other": "0061 0301 0430 0628",
-    "Dep:N": "0061 0301 0430 0628 0915 094D", "gc:Ll": "0061 0430",
+    "Dep:N": "0061 0301 0430 0628 0915 094D", "gc:Ll": "0061 0430", "gc:Punctuation": "", "General_Category:Dash_Punctuation": "",
+    "gc:Cn": "",
 }
 NO_PROPERTIES = {"sc:Grek": "which has no such value", "jt:X": "which has no such value"}
 # What the file itself has wrong.

@@ -157,12 +157,14 @@ class Copy:
             it.write(text)
 
 
-def is_of(body, folder):
+def is_of(body, folder, said):
     """Whether the proof of a body stands in this folder: its module, its type if it is a method, and its own name, with a plus
-    sign if it calls itself. The proof of a method stands in the module of its type, where that is another one."""
+    sign if it calls itself. The proof of a method stands in the module of its type, where that is another one. Functions that
+    call each other have one folder, and there the name of each is the first part of its goals."""
     module = body.file.removeprefix("src/").removesuffix(".rt")
     *path, function = folder.split("/")
-    return function.removeprefix("+") == body.function and (folder.startswith(f"proofs/{module}/") or (body.owner != "" and path[-1].startswith(body.owner)))
+    is_named = function.removeprefix("+") == body.function or function.startswith("+") and said.startswith(f"`{body.function}-")
+    return is_named and (folder.startswith(f"proofs/{module}/") or (body.owner != "" and path[-1].startswith(body.owner)))
 
 
 def goals_of(edit, lines):
@@ -187,7 +189,7 @@ def proofs_of(edit, lines):
     """What is said of proofs of a body that an edit changes; of all proofs, where it edits anything else."""
     for line in lines:
         proof = PROOF.match(line)
-        if proof and (not edit.bodies or any(is_of(body, proof[1]) for body in edit.bodies)):
+        if proof and (not edit.bodies or any(is_of(body, *proof.groups()) for body in edit.bodies)):
             yield proof.groups()
 
 

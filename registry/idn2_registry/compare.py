@@ -16,6 +16,8 @@ from .words import counted
 
 # What is said of a thing, by its kind and its name.
 Facts = dict[tuple["Kind", Any], str]
+# As many spans of a set a person is told.
+MOST_SPANS = 8
 
 
 class Kind(Enum):
@@ -55,13 +57,13 @@ class Difference:
         return None if None not in self.said else names[self.said.index(None) ^ 1]
 
     def words(self, names: tuple[str, str]) -> str:
-        """The difference in words."""
-        head = f"{self.kind.value} {self.subject}:"
+        """The difference in words, with the first spans of each large set."""
+        head = f"{self.kind.value} {shortened(self.subject)}:"
         if name := self.only_in(names):
-            [said] = [each for each in self.said if each is not None]
+            [said] = [shortened(each) for each in self.said if each is not None]
             return f"{head} only in {name}" + (f": {said}" if said else "")
         each = zip(names, self.said, strict=True)
-        return head + ",".join(f" in {name} {said or 'without a condition'}" for name, said in each)
+        return head + ",".join(f" in {name} {shortened(said or 'without a condition')}" for name, said in each)
 
 
 @dataclass(frozen=True)
@@ -174,6 +176,16 @@ def set_text(spans: tuple[tuple[int, int], ...]) -> str:
             joined.append([first, last])
     texts = [f"{first:04X}" if first == last else f"{first:04X}..{last:04X}" for first, last in joined]
     return texts[0] if texts == [f"{joined[0][0]:04X}"] else f"[{' '.join(texts)}]"
+
+
+def shortened(text: str) -> str:
+    """A text with the first spans of each set, and how many more it has."""
+    def first_spans(found: re.Match[str]) -> str:
+        spans = found[1].split(" ")
+        more = len(spans) - MOST_SPANS
+        return found[0] if more <= 0 else f"[{' '.join(spans[:MOST_SPANS])} and {counted(more, 'more span')}]"
+
+    return re.sub(r"\[([^]]*)\]", first_spans, text)
 
 
 # ---- Differences

@@ -15,6 +15,8 @@ from .register import Transaction
 from .tables import Table, table_of_zone
 
 REGISTER = Question(("--register",))
+# Which label a name of the zone stands for, one of older rules among them.
+NAME = Question(("--decode", "--old"))
 
 
 class Tables:

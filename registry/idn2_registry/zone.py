@@ -8,7 +8,7 @@ from types import TracebackType
 
 from .answers import Answer, Refusal, Status, bytes_of
 from .configuration import DEFAULT_PATH, Configuration, Limits, read_configuration
-from .decisions import REGISTER, Tables
+from .decisions import NAME, REGISTER, Tables
 from .faults import Fault, Unknown, Unusable
 from .processes import Questions, only
 from .program import Program
@@ -147,21 +147,32 @@ class Zone:
         return self._answered(label, asked)
 
     def release(self, label: str) -> Answer:
-        """Releases a label: released, or free if it wasn't registered."""
+        """Releases a label: released, or free if it wasn't registered. One that may not be registered today is given as it
+        stands in the register, or by its name in the zone."""
 
         async def asked(tables: Tables, questions: Questions) -> Answer:
             if refusal := Refusal.of_control_character(label):
                 return Answer(label, Status.REFUSED, refusal=refusal)
             told = only(await questions.ask(REGISTER, bytes_of(label)), "alabel")
-            # A label that may not be registered any more is released by its U-label.
-            ulabel = told.get("ulabel", label)
-            if is_text(ulabel) and self._register.change(lambda transaction: transaction.delete(ulabel)):
-                return Answer(label, Status.RELEASED, ulabel, told.get("alabel"))
-            if "refusal" in told:
-                return Answer(label, Status.REFUSED, refusal=Refusal.read(told["refusal"]))
-            return Answer(label, Status.FREE, ulabel, told["alabel"])
+            if "refusal" not in told:
+                status = Status.RELEASED if self._released([told["ulabel"]]) else Status.FREE
+                return Answer(label, status, told["ulabel"], told["alabel"])
+            named = only(await questions.ask(NAME, bytes_of(label)), "unicode")
+            ulabel = self._released([label, *([named["unicode"]] if named.get("old") else [])])
+            if ulabel is not None:
+                return Answer(label, Status.RELEASED, ulabel)
+            return Answer(label, Status.REFUSED, refusal=Refusal.read(told["refusal"]))
 
         return self._answered(label, asked)
+
+    def _released(self, ulabels: Sequence[str]) -> str | None:
+        """The first of some U-labels that is registered, which is so no more; None if none is."""
+        asked = [ulabel for ulabel in ulabels if is_text(ulabel)]
+
+        def job(transaction: Transaction) -> str | None:
+            return next((ulabel for ulabel in asked if transaction.delete(ulabel)), None)
+
+        return self._register.change(job)
 
     def variants(self, label: str, table: str | None = None, page: int | None = None, after: str | None = None) -> Answer:
         """The variants of a label under a table, else under the first that admits it. Without a page an answer with more

@@ -62,6 +62,23 @@ def test_tells_objects(place: Place) -> None:
     assert {"kind": "code point", "subject": "U+0063..U+0072", "only_in": "de", "said": ["", None]} in told
 
 
+def test_cuts_large_sets_for_people(bare: Place) -> None:
+    """Of a set a line has the first eight spans; the object has all."""
+    points = [f"{point:04X}" for point in range(0x4E00, 0x4E00 + 2 * 500, 2)]
+    base = "%version 3\n0061\n"
+    bare.write("one.txt", base + f"%set s {' '.join(points[:8])}\n%set t {' '.join(points[:9])}\n%never @s @t\n")
+    bare.write("two.txt", base + "".join(f"%set s{start} {' '.join(points[start:start + 100])}\n%whole r{start} @s{start}\n"
+                                         f"%action blocked when r{start}\n" for start in range(0, 500, 100)))
+    first = " ".join(points[:8])
+    lines = bare.run("compare", "one.txt", "two.txt").stdout.decode().splitlines()
+    assert f"demand %never [{first}] [{first} and 1 more span]: only in one.txt" in lines, lines
+    assert f"rule r0: only in two.txt: [{first} and 92 more spans]" in lines and max(map(len, lines)) < 200, lines
+    told = [json.loads(line) for line in bare.run("compare", "--json", "one.txt", "two.txt").stdout.splitlines()]
+    assert {"kind": "rule", "subject": "r0", "only_in": "two.txt", "said": [None, f"[{' '.join(points[:100])}]"]} in told
+    assert {"kind": "demand", "subject": f"%never [{first}] [{' '.join(points[:9])}]", "only_in": "one.txt",
+            "said": ["", None]} in told
+
+
 def test_compares_no_faulty_table(bare: Place) -> None:
     bare.write("one.txt", "0061\n")
     bare.write("two.txt", "0061|\n")

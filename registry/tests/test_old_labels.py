@@ -57,11 +57,32 @@ def test_loads_and_writes_names_of_a_zone(kind: Place) -> None:
     assert [row["alabel"] for row in told(kind, "dump")] == [old_labels.name_of(label) for label in LABELS]
     kind.write("dumped.txt", DUMPED)
     kind.expect(["load", "--old", "dumped.txt"], "6 lines, 0 loaded, 0 refused, 6 known already\n", 0)
-    with kind.zone() as zone:
-        for label in LABELS:
-            assert zone.release(label).status is Status.RELEASED, label
-    kind.expect(["load", "--old", "dumped.txt"], "6 lines, 6 loaded, 0 refused\n", 0)
-    kind.expect(["dump"], DUMPED, 0)
+    for released in (LABELS, [line.partition("\t")[0] for line in DUMPED.splitlines()]):
+        with kind.zone() as zone:
+            answers = [zone.release(label) for label in released]
+        assert [(each.status, each.ulabel) for each in answers] == [(Status.RELEASED, label) for label in LABELS], answers
+        kind.expect(["load", "--old", "dumped.txt"], "6 lines, 6 loaded, 0 refused\n", 0)
+        kind.expect(["dump"], DUMPED, 0)
+
+
+def test_releases_by_a_name_old_labels_alone(place: Place) -> None:
+    """The name may have capitals. A label of today isn't released by a name that may not be registered, nor what is free."""
+    load_old(place, "haus", "xn--ls8h")
+    place.expect(["release", "XN--LS8H", "xn--ls8h", "Haus", "XN--HAUS-", "ab--c"],
+                 "XN--LS8H: released\n"
+                 "xn--ls8h: refused: 10 disallowed code point: U+1F4A9 at place 1 (RFC 5892 2.1)\n"
+                 "Haus: refused: 10 disallowed code point: U+0048 at place 1 (RFC 5892 2.2)\n"
+                 "XN--HAUS-: refused: 10 disallowed code point: U+0058 at place 1 (RFC 5892 2.2)\n"
+                 "ab--c: refused: 13 hyphen out of place: U+002D at place 3\n", 1)
+    place.expect(["dump"], "haus\n", 0)
+
+
+def test_releases_what_stands_there_before_what_it_names(place: Place) -> None:
+    """Only other means register a name beside the label that it stands for."""
+    set_register(place, ["xn--ls8h", "\U0001F4A9"])
+    for ulabel in ("xn--ls8h", "\U0001F4A9"):
+        assert told(place, "release", "xn--ls8h") == [{"label": "xn--ls8h", "status": "released", "ulabel": ulabel}]
+    assert place.run("release", "xn--ls8h").returncode == 1
 
 
 def test_refuses_what_is_no_name_of_a_zone(place: Place) -> None:

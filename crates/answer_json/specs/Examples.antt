@@ -118,8 +118,8 @@ refusals =
           (record no_details { code_point = Some 0x61; place = Some 2; nfc = Some 0xE1 });
       text =
           codes "{\"line\":1,\"input\":\"" ++ utf8_of (0x78 ∷ 0x61 ∷ 0x301 ∷ [])
-          ++ codes
-          "\",\"refusal\":{\"number\":12,\"text\":\"not in NFC\",\"code_point\":\"U+0061\",\"place\":2,\"nfc\":\"U+00E1\"}}";
+          ++ codes "\",\"refusal\":{\"number\":12,\"text\":\"not in NFC\",\"code_point\":\"U+0061\",\"place\":2,"
+          ++ codes "\"nfc\":\"U+00E1\"}}";
     }
     ∷ record {
       answer =
@@ -148,8 +148,8 @@ refusals =
     ∷ record {
       answer = refused 1 (as_text (codes "a..b")) LookupLength (record no_details { label = Some 2; octets = Some 0 });
       text =
-          codes
-          "{\"line\":1,\"input\":\"a..b\",\"refusal\":{\"number\":21,\"text\":\"name or label length\",\"label\":2,\"octets\":0}}";
+          codes "{\"line\":1,\"input\":\"a..b\",\"refusal\":{\"number\":21,\"text\":\"name or label length\","
+          ++ codes "\"label\":2,\"octets\":0}}";
     }
     ∷ record {
       answer = refused 1 (as_octets (0x61 ∷ 0x62 ∷ 0xFF ∷ 0x63 ∷ [])) NotUtf8 (record no_details { byte = Some 3 });

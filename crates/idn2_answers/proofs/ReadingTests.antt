@@ -12,7 +12,8 @@ use Rattle.variant_table.specs.Segmentations.{IsSegmentation}
 use Rattle.valid_labels.specs.Actions.{actions_of, matches_rule}
 use Rattle.valid_labels.specs.Dispositions.{disposition_by, IsClearItself, IsOwnDisposition}
 use Rattle.valid_labels.specs.Dispositions as own
-use Rattle.valid_labels.specs.Staying.{staying, staying_of}
+use Rattle.valid_labels.specs.Staying.{staying_of}
+use Rattle.variant_table.specs.Staying.{staying}
 use Rattle.valid_labels.specs.Validity.{IsSound}
 use Rattle.valid_labels.proofs.ItselfLemmas.{spelled-itself}
 use Rattle.valid_labels.proofs.StayingLemmas.{AreSubstitutions-staying, reading-segmentation, recorded-staying, segmentation-reading}

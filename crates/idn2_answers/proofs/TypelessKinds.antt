@@ -1,9 +1,9 @@
 -- Kinds without a type: whatever they are, the disposition is that of a source that stays and has no type.
-use Rattle.std.proofs.Common.{◌≡◌, ◌&&◌, ℕ, Bool, true, false, List, [], ◌∷◌, refl, sym, ap, ◌∙◌}
+use Rattle.std.proofs.Common.{◌≡◌, ◌&&◌, ℕ, Bool, true, false, List, [], ◌∷◌, refl, ap, ◌∙◌}
 use Rattle.std.specs.Prelude.{filter, Option, Some, None, option_map, unwrap_or, if◌then◌else◌}
 use Rattle.std.specs.List.{Contains, find, list_all, list_any}
 use Rattle.std.proofs.lemmas.Bool.{and_parts, false_from_ne_true}
-use Rattle.reading_kinds.proofs.ListMembers.{Contains-filter, Contains-head, Contains-later}
+use Rattle.reading_kinds.proofs.ListMembers.{Contains-filter, Contains-head}
 use Rattle.variant_dispositions.specs.declared.action.Action.{Action}
 use Rattle.variant_dispositions.specs.declared.action.TypeTrigger.{TypeTrigger}
 use Rattle.variant_dispositions.specs.declared.action.TypeTrigger.TheVariants as trigger

@@ -1,5 +1,5 @@
 -- The pairs that are found in a table, as they are written.
-use Rattle.std.proofs.Common.{◌≡◌, ◌<◌, ◌⊎◌, inl, inr, ℕ, List, [], ◌∷◌, ◌++◌, All, map, length, get_or, Contains, refl, sym, ap, subst, ◌∙◌, Vec}
+use Rattle.std.proofs.Common.{◌≡◌, ◌<◌, ◌⊎◌, inl, inr, ℕ, List, [], ◌∷◌, ◌++◌, All, map, length, Contains, refl, sym, ap, subst, ◌∙◌, Vec}
 use Rattle.variant_table.specs.Entries.{Entry, TableValue, sequences_in, replacements}
 use Rattle.variant_table.specs.IdleTypes.{idle_types}
 use Rattle.variant_table.specs.WellFormed.{IsWellFormed, IsEntry, IsSequence}

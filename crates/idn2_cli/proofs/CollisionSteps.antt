@@ -1,11 +1,11 @@
 -- The block of a label that is asked among registered ones, label by label.
-use Rattle.std.proofs.Common.{◌≡◌, ◌↔◌, ◌≤◌, ◌<◌, ◌+◌, ◌-◌, ◌&&◌, ◌==◌, not, ℕ, zero, suc, List, [], ◌∷◌, ◌++◌, Bool, true, false, cond, Option, Some, None, IfSome, All, Contains, length, map, refl, sym, ap, subst, ◌∙◌, if◌then◌else◌, arith}
-use Rattle.std.specs.List.{filter, slice_get, slice_index_or}
+use Rattle.std.proofs.Common.{◌≡◌, ◌↔◌, ◌+◌, ◌-◌, ◌&&◌, ◌==◌, not, ℕ, zero, suc, List, [], ◌∷◌, ◌++◌, Bool, true, false, cond, Option, Some, None, IfSome, Contains, length, map, refl, sym, ap, subst, ◌∙◌, if◌then◌else◌, arith}
+use Rattle.std.specs.List.{filter, slice_get}
 use Rattle.std.specs.Option.{option_map}
 use Rattle.std.specs.Ordering.{is_gt}
 use Rattle.std.proofs.lemmas.Bool.{and_parts}
 use Rattle.std.proofs.lemmas.List.{append_assoc, map-append, length-append}
-use Rattle.std.proofs.lemmas.Option.{get_or_from_slice_get, slice_get_within}
+use Rattle.std.proofs.lemmas.Option.{get_or_from_slice_get}
 use Rattle.variant_table.specs.Entries.{TableValue}
 use Rattle.valid_labels.specs.Validity.{IsSound}
 use Rattle.variant_list.specs.Closure.{AreNear}
@@ -23,7 +23,7 @@ use Rattle.idn2_answers.proofs.CollisionTests.{collide-told, near-of}
 use Rattle.idn2_answers.proofs.FoundLabels.{found-walked}
 use Rattle.idn2_answers.proofs.LabelStops.{get-above}
 use Rattle.idn2_cli.specs.declared.modes.collisions.Collision.{Collision}
-use Rattle.idn2_cli.specs.inner.FoundLabels.{AreWithin, collision_line_by, ending, found_block, label_of, lines_from, said_of, stop_at, told_block}
+use Rattle.idn2_cli.specs.inner.FoundLabels.{collision_line_by, ending, found_block, label_of, lines_from, said_of, stop_at, told_block}
 use Rattle.idn2_cli.specs.declared.modes.decided.Decisions.{Decisions}
 use Rattle.idn2_cli.specs.inner.Decided.{IsOfPair}
 use Rattle.idn2_cli.specs.inner.LineAnswers.{reaches}

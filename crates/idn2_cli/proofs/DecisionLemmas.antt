@@ -1,6 +1,6 @@
 -- What two labels are to each other, by what is found of them.
 use Rattle.std.proofs.Common.{◌≡◌, ◌↔◌, ℕ, Bool, true, false, List, [], ◌∷◌, Option, Some, None, refl, sym, ap, subst, ◌∙◌}
-use Rattle.std.specs.Prelude.{unwrap_or, Result, Ok, Err, IfOk, if◌then◌else◌}
+use Rattle.std.specs.Prelude.{unwrap_or, Result, Ok, Err, IfOk, IsSome, if◌then◌else◌}
 use Rattle.std.proofs.lemmas.Bool.{false_from_ne_true}
 use Rattle.std.proofs.lemmas.Option.{same_Some}
 use Rattle.idn_class.specs.declared.properties.Properties.{Properties}
@@ -9,7 +9,7 @@ use Rattle.idn_label.proofs.RequirementLemmas.{MeetsRequirements-registrable}
 use Rattle.variant_table.specs.Entries.{TableValue}
 use Rattle.valid_labels.specs.declared.validity.Admission.{Admission}
 use Rattle.valid_labels.specs.declared.validity.Admission.TheVariants.{NotCut, NotAdmitted, Admitted}
-use Rattle.valid_labels.specs.Testing.{IsAdmission}
+use Rattle.valid_labels.specs.Testing.{IsAdmission, Testing}
 use Rattle.idn2_answers.proofs.AdmittedLabels.{admitted-made}
 use Rattle.valid_labels.specs.Tests.{asks_nothing}
 use Rattle.valid_labels.specs.Validity.{IsAdmitted, IsSound, IsValid}
@@ -33,11 +33,12 @@ use Rattle.idn2_answers.proofs.FilterLemmas.{asked-is, registrable-some}
 use Rattle.idn2_answers.proofs.MemberTests.{among-found}
 use Rattle.idn2_cli.specs.declared.modes.dispositions.Appearance.{Appearance}
 use Rattle.idn2_cli.specs.declared.modes.dispositions.Appearance.TheVariants.{LeftOut, Listed}
-use Rattle.idn2_cli.specs.inner.Decided.{IsOfPair, IsStanding, MayBeListed, listed_regard}
+use Rattle.idn2_cli.specs.inner.Decided.{IsOfPair, IsStanding, MayBeListed, TellsOthers, listed_regard}
 use Rattle.idn2_cli.specs.inner.Decided.{regard_of as appears_as}
 use Rattle.idn2_cli.specs.inner.Dispositions.{appearance}
 use Rattle.idn2_cli.specs.declared.modes.decided.Decisions.{Decisions}
-use Rattle.idn2_cli.specs.inner.Ruling.{filter_by, passes, ruling_of}
+use Rattle.idn2_cli.specs.declared.modes.listed.Listed.{Listed as Listing}
+use Rattle.idn2_cli.specs.inner.Ruling.{filter_by, passes, ruling_in, ruling_of}
 use Rattle.idn2_cli.specs.declared.modes.decided.Standing.{Standing}
 use Rattle.idn2_cli.specs.declared.modes.decided.Standing.TheVariants.{Good, VariantAlone, Refused}
 use Rattle.idn2_cli.proofs.BlockMembers.{spelled-valid}
@@ -48,6 +49,16 @@ pub not_admitted : (table : TableValue) (v : List ℕ) (admission : Admission) �
 not_admitted table v NotCut is other = λ admitted. is (admitted-made table v admitted)
 not_admitted table v NotAdmitted is other = is.1
 not_admitted table v (Admitted d) is other = absurd (other d refl)
+
+-- the test of other labels is of the table, once it is made
+pub others-ruling : (table : TableValue) (label : List ℕ) (listed : Option Listing) (others : Option Testing) → IsSome listed → TellsOthers table label listed others → ruling_in others ≡ ruling_of table
+others-ruling table label None others made tells = let clash : false ≡ true = made in cc
+others-ruling table label (Some listed) others made tells = tells.1
+
+-- and so is each other one of that table
+pub others-kept : (table : TableValue) (label : List ℕ) (listed : Option Listing) (old new : Option Testing) → TellsOthers table label listed old → ruling_in new ≡ ruling_in old → TellsOthers table label listed new
+others-kept table label None old new tells same = tt
+others-kept table label (Some listed) old new tells same = (tells.0, same ∙ tells.1)
 
 -- what a listing accepts of what a label spells is what may be registered and is valid
 module _ (properties : Properties) (table : TableValue) (sound : IsSound table) where

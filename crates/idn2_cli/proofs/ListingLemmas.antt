@@ -17,7 +17,7 @@ use Rattle.variant_list.proofs.ListingLemmas.{fits_label-short, variants-cut}
 use Rattle.variant_list.proofs.TestedLaws.{accepted-tested, tested-cut}
 use Rattle.idn2_options.specs.Settings.{Settings, IsBound, IsCount, IsWithinLimits}
 use Rattle.answer_json.specs.declared.block.Disposition.{Disposition}
-use Rattle.idn2_answers.specs.Said.{Said, Listed, BlockEnd}
+use Rattle.idn2_answers.specs.Said.{Said, BlockEnd}
 use Rattle.idn2_answers.specs.Listings.{Filter, nth, nth_if_given, lesser_label, up_to, variant_by, block_to}
 use Rattle.idn2_cli.specs.inner.Dispositions.{block_by}
 use Rattle.idn2_cli.proofs.BlockSteps.{get_if_given, limit_from, lines_to}

@@ -1,7 +1,7 @@
 -- A demand says what an action says that makes invalid what doesn't meet it.
 use Rattle.std.proofs.Common.{◌≡◌, ◌↔◌, inl, inr, ◌&&◌, ◌||◌, ℕ, zero, suc, ◌+◌, ◌<◌, Bool, true, false, List, [], ◌∷◌, ◌++◌, length, map, Option, Some, None, refl, sym, ap, subst, ◌∙◌, if◌then◌else◌, not, arith}
 use Rattle.std.specs.Prelude.{bytes_eq, cond, option_map, unwrap_or}
-use Rattle.std.specs.List.{AllByRecursion, Contains, find, list_any}
+use Rattle.std.specs.List.{AllByRecursion, Contains, find}
 use Rattle.std.proofs.lemmas.Bool.{and_parts, false_from_ne_true}
 use Rattle.std.proofs.lemmas.List.Elements.{All-contains}
 use Rattle.std.proofs.lemmas.Slice.Eq.{bytes_eq-Decides}
@@ -23,19 +23,19 @@ use Rattle.variant_dispositions.specs.declared.action.Action.{Action}
 use Rattle.variant_dispositions.specs.declared.action.TypeTrigger.{TypeTrigger}
 use Rattle.variant_dispositions.specs.declared.disposition.Disposition.{Disposition as Outcome}
 use Rattle.variant_dispositions.specs.declared.disposition.Disposition.TheVariants.{Invalid, Valid}
-use Rattle.variant_dispositions.specs.Actions.{default_disposition, first_triggered, has_types, is_allocatable, is_as_asked, is_triggered, meets}
+use Rattle.variant_dispositions.specs.Actions.{default_disposition, first_triggered, has_types, is_as_asked, is_triggered, meets}
 use Rattle.variant_dispositions.specs.Kinds.{Kind}
 use Rattle.variant_table.specs.declared.version.Version.{Version}
 use Rattle.variant_table.specs.declared.version.Version.TheVariants.{Three}
 use Rattle.variant_table.specs.Entries.{Entry, TableValue, Variant, source_of, whole}
 use Rattle.variant_table.specs.Forms.{numbered}
 use Rattle.variant_table.specs.Segmentations.{AllHold, IsSegmentation, seen_under}
-use Rattle.variant_table.specs.WellFormed.{HasItsNames, HasItsRule, IsNamed, IsTable}
-use Rattle.variant_table.proofs.MemberLemmas.{Contains-cases, Contains-head, Contains-later, Contains-none}
-use Rattle.valid_labels.specs.Actions.{action_of, actions_of, matches_rule, trigger_by, trigger_of, with_type, with_types}
+use Rattle.variant_table.specs.WellFormed.{HasItsNames, HasItsRule, IsNamed}
+use Rattle.variant_table.proofs.MemberLemmas.{Contains-head, Contains-later}
+use Rattle.valid_labels.specs.Actions.{action_of, matches_rule, trigger_by, trigger_of, with_type, with_types}
 use Rattle.valid_labels.specs.Demands.{IsMet, IsWanted}
-use Rattle.valid_labels.specs.Dispositions.{IsClearItself, IsOwnDisposition, disposition_by}
-use Rattle.valid_labels.specs.Eligible.{IsEligible, IsLongest, LongestLeads, Stands}
+use Rattle.valid_labels.specs.Dispositions.{disposition_by}
+use Rattle.valid_labels.specs.Eligible.{IsEligible, LongestLeads, Stands}
 use Rattle.valid_labels.specs.Validity.{IsAdmitted, IsValid}
 use Rattle.valid_labels.proofs.NothingLemmas.{cut-segmentation}
 use Rattle.variant_list.specs.Readings.{Mapping, entry_of, kinds_of, IsReadingOf, MayAllBeMade}
@@ -44,10 +44,10 @@ use Rattle.variant_list.specs.Spelling.{Spells}
 use Rattle.variant_list.proofs.ReadingLemmas.{Spells-read}
 use Rattle.answer_json.specs.declared.block.Disposition.{Disposition}
 use Rattle.idn2_options.specs.Settings.{Settings}
-use Rattle.idn2_answers.specs.Dispositions.{HasOutcome, IsAllocatableIn, IsAllocation, IsClear, IsDisposition, IsFieldOf, IsLeftOut, IsReadingFor}
+use Rattle.idn2_answers.specs.Dispositions.{HasOutcome, IsAllocatableIn, IsAllocation, IsClear, IsDisposition, IsFieldOf, IsReadingFor}
 use Rattle.idn2_answers.specs.Listings.{IsListed}
 use Rattle.idn2_answers.proofs.ReadingTests.{some-reading}
-use Rattle.idn2_laws.specs.DemandLaws.{DemandsAreActions, MayGet, refused_by, with_action, with_demand}
+use Rattle.idn2_laws.specs.DemandLaws.{DemandsAreActions, MayGet, refused_by}
 
 -- ---- tables of the same entries and sets
 

@@ -1,8 +1,8 @@
 -- A table of which no variant has a condition has no differences.
 use Rattle.std.proofs.Common.{◌≡◌, inl, inr, ℕ, List, [], ◌∷◌, ◌++◌, All, Contains, length, map, Option, None, refl, sym, ap, subst, ◌∙◌}
 use Rattle.label_patterns.specs.declared.condition.Condition.{Condition}
-use Rattle.variant_table.specs.Differences.{IsDifference, IsPairUnder, differences_of}
-use Rattle.variant_table.specs.Entries.{Entry, Variant, TableValue, sequences_in}
+use Rattle.variant_table.specs.Differences.{IsPairUnder, differences_of}
+use Rattle.variant_table.specs.Entries.{Entry, Variant, sequences_in}
 use Rattle.variant_table.specs.Gaps.{IsPair, gaps_of}
 use Rattle.variant_table.specs.IdleTypes.{idle_types}
 use Rattle.variant_table.specs.WellFormed.{IsWellFormed}

@@ -27,7 +27,7 @@ use Rattle.idn_cause.specs.declared.cause.Cause.TheVariants.{Point}
 use Rattle.idn_cause.specs.Causes.{cause_of, IsCause}
 use Rattle.idn_cause.specs.ALabelCauses.{a_label_cause, IsALabelCause}
 use Rattle.idn_cause.specs.NameCauses.{name_cause, query_cause, IsNameCause, IsQueryCause}
-use Rattle.idn_cause.specs.CodedLabels.{IsALabelOf, coded_label}
+use Rattle.idn_cause.specs.CodedLabels.{coded_label}
 use Rattle.idn_cause.proofs.CauseLaws.{cause-is, fault-has_cause}
 use Rattle.idn_cause.proofs.CodedSteps.{coded_label-is}
 use Rattle.idn_cause.proofs.ALabelLaws.{a_label_cause-is, a_label_fault-has_cause}

@@ -1,5 +1,5 @@
 -- A listing counts no more variants than it has tries, or than there are registered labels to which it is kept.
-use Rattle.std.proofs.Common.{◌≡◌, ◌∙◌, ◌⊎◌, inl, inr, ℕ, zero, suc, ◌-◌, ◌≤◌, Bool, true, false, ◌&&◌, List, [], ◌∷◌, length, Option, Some, None, refl, sym, ap, subst, if◌then◌else◌, Ordering, arith}
+use Rattle.std.proofs.Common.{◌≡◌, ◌⊎◌, inl, inr, ℕ, zero, suc, ◌-◌, ◌≤◌, Bool, true, false, ◌&&◌, List, [], ◌∷◌, length, Option, Some, None, refl, sym, ap, subst, if◌then◌else◌, Ordering, arith}
 use Rattle.std.specs.Prelude.{slice_get}
 use Rattle.std.proofs.lemmas.Bool.{false≢true}
 use Rattle.std.specs.declared.cmp.Ordering.TheVariants.{Less, Equal, Greater}
@@ -16,7 +16,7 @@ use Rattle.variant_list.proofs.ListedLemmas.{variants-IsListed}
 use Rattle.variant_list.proofs.OrderLemmas.{below_through, ranked_labels}
 use Rattle.variant_list.proofs.TestedLaws.{accepted-tested}
 use Rattle.idn2_options.specs.Settings.{Settings}
-use Rattle.idn2_answers.specs.Listings.{Filter, filter_of, is_registrable, lesser_label, nth, nth_if_given, stop_of, up_to, variants_after}
+use Rattle.idn2_answers.specs.Listings.{Filter, filter_of, lesser_label, nth, nth_if_given, stop_of, up_to, variants_after}
 use Rattle.idn2_answers.specs.Collisions.{collisions_after, is_found}
 use Rattle.idn2_answers.proofs.LabelStops.{get-above, is_le-below, up_to-first, up_to-later}
 use Rattle.idn2_answers.proofs.FilterLemmas.{accepted-short, filter_of-IsSound}

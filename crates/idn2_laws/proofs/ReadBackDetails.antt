@@ -35,7 +35,7 @@ use Rattle.answer_json.specs.Hexadecimal.{leading_digit, point_text}
 use Rattle.answer_json.specs.Inputs.{told_of}
 use Rattle.answer_json.specs.Objects.{refused, registered_fault, table_fault}
 use Rattle.answer_json.specs.Unicode.{AreUnicode}
-use Rattle.idn2_refusals.specs.CauseParts.{a_label_parts, at_byte, by_action, changed_parts, fault_place_parts, label_parts, length_parts, parts_of, placed, point_at_byte, point_parts, told_details}
+use Rattle.idn2_refusals.specs.CauseParts.{a_label_parts, at_byte, changed_parts, fault_place_parts, label_parts, length_parts, parts_of, placed, point_at_byte, point_parts, told_details}
 use Rattle.idn2_refusals.specs.RuleTexts.{appendix_rule, barring_rule, bidi_rule, bidi_text, demand_text}
 use Rattle.idn2_laws.specs.ReadBack.{IsReadBack, byte_of}
 use Rattle.idn2_refusals.specs.declared.cause.LineCause.{LineCause}

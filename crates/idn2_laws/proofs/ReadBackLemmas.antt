@@ -17,7 +17,7 @@ use Rattle.idn_class.specs.declared.properties.Properties.{Properties}
 use Rattle.json.proofs.Printed.Trees.{document-print}
 use Rattle.json.specs.Tree.{json_tokens}
 use Rattle.idna.specs.Punycode.{encode}
-use Rattle.idna.specs.Validity.{has_ace_prefix, is_all_ascii}
+use Rattle.idna.specs.Validity.{is_all_ascii}
 use Rattle.idna.proofs.PunycodeLemmas.{IsDigitChar, All-encode}
 use Rattle.idn_text.specs.Lines.{Numbered}
 use Rattle.idn_text.specs.Points.{AreScalarValues, hex_digit, utf8_of}
@@ -25,17 +25,16 @@ use Rattle.idn_text.specs.declared.refusal.Refusal.{Refusal}
 use Rattle.idn_text.specs.declared.refusal.Refusal.TheVariants.{Empty, LineTooLong, NotUtf8, NotInTable, NotValid}
 use Rattle.idn_text.proofs.Utf8Lemmas.{IsUtf8-from_points}
 use Rattle.idn_label.specs.ALabel.{a_label_of}
-use Rattle.idn_label.specs.Answers.{Answer as LabelAnswer, unless_fault, and_then}
+use Rattle.idn_label.specs.Answers.{Answer as LabelAnswer, unless_fault}
 use Rattle.idn_label.specs.Decode.{decode_answer}
-use Rattle.idn_label.specs.FirstFault.{first_fault, IsRegistrable}
+use Rattle.idn_label.specs.FirstFault.{first_fault}
 use Rattle.idn_label.specs.OldNames.{IsInZone}
 use Rattle.idn_label.specs.declared.old_names.Standing.{Standing}
 use Rattle.idn_label.specs.declared.old_names.Standing.TheVariants.{Registrable, Old}
 use Rattle.idn_label.specs.Lookup.{lookup_answer, query_name, utf8_answer}
-use Rattle.idn_label.specs.Register.{register_answer, tested_answer, u_label_answer}
+use Rattle.idn_label.specs.Register.{register_answer}
 use Rattle.idn_label.specs.Steps.{in_utf8, is_ldh_point}
 use Rattle.idn_label.proofs.ALabels.{registrable_scalars}
-use Rattle.idn_label.proofs.AnswerLemmas.{u_label_answer-from}
 use Rattle.idn_label.proofs.BidiNames.{decode_answer-scalars}
 use Rattle.idn_label.proofs.LdhLemmas.{is_all_ascii-octets, is_ldh_point-ascii}
 use Rattle.idn_label.proofs.LookupLemmas.{utf8_answer-ascii}
@@ -52,7 +51,6 @@ use Rattle.variant_list.proofs.NearLemmas.{AreNear-scalar}
 use Rattle.variant_list.proofs.NearLists.{near-AreNear}
 use Rattle.variant_list.specs.Labels.{label_cmp}
 use Rattle.variant_list.specs.Spelled.{spelled}
-use Rattle.variant_list.specs.Tested.{tested_among}
 use Rattle.variant_list.specs.Variants.{candidates_among, fits_label, variants_among}
 use Rattle.variant_list.specs.Visited.{visited}
 use Rattle.variant_list.proofs.FromLemmas.{among_from-IsListOf}

@@ -24,7 +24,7 @@ use Rattle.variant_dispositions.specs.Kinds.Kind.{Unmapped, Untyped, Typed}
 use Rattle.variant_dispositions.proofs.MemberLemmas.{Contains-map, any-told}
 use Rattle.reading_kinds.proofs.ListMembers.{Contains-filter}
 use Rattle.variant_table.specs.declared.version.Version.TheVariants.{Three}
-use Rattle.variant_table.specs.Entries.{Entry, TableValue, Variant}
+use Rattle.variant_table.specs.Entries.{Entry, TableValue}
 use Rattle.variant_table.specs.Forms.{numbered}
 use Rattle.variant_table.specs.Segmentations.{IsSegmentation}
 use Rattle.variant_table.specs.WellFormed.{IsTable}

@@ -64,8 +64,8 @@ use Rattle.idn2_options.specs.Settings.{Settings, tells_causes}
 use Rattle.idn2_options.specs.declared.command_line.mode.Mode.{Mode}
 use Rattle.idn2_options.specs.declared.command_line.mode.Mode.TheVariants.{Lookup, Register, Decode, Variants, Jump, CheckTable}
 use Rattle.idn2_answers.specs.Answers.{IsRefusedAs, LineAnswer, block_among, if_admitted, jump_answer, least_answer, least_near, line_answer, variants_answer}
-use Rattle.idn2_answers.specs.Collisions.{IsVariantOf, barred_in, collide, collision_block, collision_by, collisions_after, collisions_to, is_barred, is_either, is_good, is_variant_of, regard_by, regard_of, regards_of}
-use Rattle.idn2_answers.specs.Dispositions.{IsAllocatable, IsAllocatableIn, IsAllocation, IsClear, IsFieldOf, IsLeftOut, IsReadingFor, disposition, is_left_out, shown}
+use Rattle.idn2_answers.specs.Collisions.{IsVariantOf, barred_in, collision_block, collision_by, collisions_after, collisions_to, is_barred, is_either, is_good, is_variant_of, regard_by, regard_of, regards_of}
+use Rattle.idn2_answers.specs.Dispositions.{IsAllocatableIn, IsAllocation, IsClear, IsFieldOf, IsLeftOut, IsReadingFor, disposition, is_left_out, shown}
 use Rattle.idn2_answers.specs.Listings.{Filter, block, block_to, field_of, filter_if, is_among, is_registrable, lesser_label, nth, nth_if_given, registrable_labels, tested_after, up_to, variant_by, variants_after, visited_in, without_left_out}
 use Rattle.idn2_answers.specs.Said.{Said, BlockEnd, Collision, Least, Listed}
 use Rattle.idn2_answers.proofs.AdmittedLabels.{admitted-made}

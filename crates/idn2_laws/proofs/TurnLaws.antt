@@ -10,7 +10,7 @@ use Rattle.valid_labels.specs.Validity.{IsSound}
 use Rattle.idn_label.specs.OldNames.{IsInZone}
 use Rattle.idn_label.proofs.OldNameLemmas.{in_zone-few, in_zone-some}
 use Rattle.variant_list.specs.Closure.{AreNear}
-use Rattle.variant_list.specs.Jumps.{HasNoneFrom, IsCandidate, IsFrom, IsLeastFrom}
+use Rattle.variant_list.specs.Jumps.{IsCandidate, IsFrom}
 use Rattle.variant_list.specs.Labels.{IsBelow, IsListOf, label_cmp}
 use Rattle.variant_list.proofs.ListedLemmas.{IsListOf-same}
 use Rattle.variant_list.proofs.OrderLemmas.{IsListOf-unique, below_both, below_from_Greater, below_itself, below_through, Greater_from_below}

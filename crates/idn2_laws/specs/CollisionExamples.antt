@@ -1,5 +1,5 @@
 -- Worked examples of labels that collide, by computation.
-use Rattle.std.specs.Prelude.{◌≡◌, ℕ, Bool, true, not, bytes_eq, List, [], ◌∷◌, ◌++◌, codes}
+use Rattle.std.specs.Prelude.{◌≡◌, ℕ, Bool, not, bytes_eq, List, [], ◌∷◌, ◌++◌, codes}
 use Rattle.label_patterns.specs.Patterns.{Pattern, Any, Anchor, Either, End, Point, Start, Then}
 use Rattle.variant_table.specs.Entries.{TableValue, entry_from}
 use Rattle.variant_table.specs.ExampleTables.{table_with, unless_first, when_first}

@@ -1,5 +1,5 @@
 -- Laws of the labels that are listed.
-use Rattle.std.specs.Prelude.{◌≡◌, ◌≢◌, ◌↔◌, ◌⊎◌, ℕ, true, List, [], ◌∷◌, ◌++◌, length, Option, Some, None, Ok, Err}
+use Rattle.std.specs.Prelude.{◌≡◌, ◌≢◌, ◌↔◌, ◌⊎◌, ℕ, true, List, [], ◌∷◌, ◌++◌, Some, None, Ok, Err}
 use Rattle.std.specs.Prelude.{Contains}
 use Rattle.std.specs.List.{AllByRecursion, slice_get}
 use Rattle.idn_class.specs.declared.properties.Properties.{Properties}
@@ -8,7 +8,7 @@ use Rattle.idn_text.specs.declared.refusal.Refusal.{Refusal}
 use Rattle.idn_text.specs.declared.refusal.Refusal.TheVariants.{NotValid}
 use Rattle.idn_label.specs.FirstFault.{IsRegistrable}
 use Rattle.ruleset_text.specs.declared.action.TriggerKind.TheVariants.{Any}
-use Rattle.ruleset_text.specs.Actions.{NamedAction, NamedTrigger}
+use Rattle.ruleset_text.specs.Actions.{NamedAction}
 use Rattle.ruleset_text.specs.Definitions.{type_number}
 use Rattle.variant_dispositions.specs.declared.disposition.Disposition.{Disposition as Outcome}
 use Rattle.variant_dispositions.specs.declared.disposition.Disposition.TheVariants.{Invalid}

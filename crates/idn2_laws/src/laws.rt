@@ -37,8 +37,8 @@ pub fn admitted_labels_are_listed()
     ensures { AdmittedAreListed }
 {}
 
-/// In a table without gaps, of single code points and without conditions at variants, where sources alone refuse, labels
-/// that are variants of each other have the same variants, and so the same least one; and others don't.
+/// In a table without gaps, of single code points and without conditions at variants, where sources alone refuse,
+/// labels that are variants of each other have the same variants, and so the same least one; and others don't.
 pub fn listed_labels_are_mutual()
     ensures { ListedAreMutual }
 {}

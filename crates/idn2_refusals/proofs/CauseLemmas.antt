@@ -1,6 +1,5 @@
 -- What messages of refused lines go on with.
 use Rattle.std.proofs.Common.{subst, ◌≡◌, ℕ, ◌≤◌, ◌<◌, ◌^◌, nat_le, decimal, Bool, true, false, List, [], length, cond, chars, Option, Some, None, slice_index, refl, sym, ap, ◌∙◌, arith}
-use Rattle.std.specs.Prelude.{codes}
 use Rattle.std.specs.Option.{option_map}
 use Rattle.std.specs.Str.{is_utf8, IsValidUpTo}
 use Rattle.std.proofs.lemmas.Bool.Decides.{nat_tests}

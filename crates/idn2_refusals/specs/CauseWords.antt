@@ -1,5 +1,5 @@
 -- What messages say of causes: the members of the object in their order, with words between them.
-use Rattle.std.specs.Prelude.{ℕ, List, [], ◌∷◌, ◌++◌, codes, Option, Some, None, if◌then◌else◌}
+use Rattle.std.specs.Prelude.{ℕ, List, [], ◌++◌, codes, Option, Some, None, if◌then◌else◌}
 use Rattle.std.specs.Fmt.{decimal}
 use Rattle.answer_json.specs.Details.{Details}
 use Rattle.idn_text.specs.declared.refusal.Refusal.{Refusal}

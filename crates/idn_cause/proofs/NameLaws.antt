@@ -1,5 +1,5 @@
 -- What is told of the fault of a name that is decoded is its cause and nothing else, and each such fault has a cause.
-use Rattle.std.proofs.Common.{◌≡◌, ◌≢◌, ℕ, suc, Bool, true, false, not, ◌&&◌, ◌||◌, ◌↔◌, List, [], ◌∷◌, map, cond, slice_index, IsTrue, Option, None, Some, Result, Ok, Err, refl, sym, ap, ap₂, subst, inl, inr, ◌∙◌}
+use Rattle.std.proofs.Common.{◌≡◌, ◌≢◌, ℕ, suc, Bool, true, false, not, ◌&&◌, ◌↔◌, List, [], ◌∷◌, map, cond, slice_index, IsTrue, Option, None, Some, Result, Ok, Err, refl, sym, ap, ap₂, subst, inl, inr, ◌∙◌}
 use Rattle.std.specs.List.{AllByRecursion, list_all}
 use Rattle.std.specs.Option.{is_none, is_some, option_map}
 use Rattle.std.proofs.lemmas.Bool.{cond-true, or_right}
@@ -32,7 +32,6 @@ use Rattle.idn_class.proofs.BrokenLemmas.{in_name-is, in_name-none}
 use Rattle.idn_label.proofs.KitBidiRule.{passes_bidi_rule-six}
 use Rattle.idn_cause.specs.Causes.{condition_at}
 use Rattle.idn_cause.specs.declared.cause.Cause.TheVariants.{Condition}
-use Rattle.idn_cause.specs.declared.a_label.ALabelCause.TheVariants.{Decoded, Copied}
 
 at_label-told : (number : ℕ) (told : Option ALabelCause) (cause : NameCause) → at_label number told ≡ Some cause → (told ≡ Some cause.cause) × (cause.label ≡ number)
 at_label-told number None cause h = let clash : None ≡ Some cause = h in cc

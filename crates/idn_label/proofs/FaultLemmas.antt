@@ -124,6 +124,13 @@ module _ (properties : Properties) where
   unfolding fault_but_length
   permitted-faultless label none = second-none _ _ _ none
 
+  -- the tests of a label, one after the other
+  pub fault_but_length-tests : (label : List ℕ) → fault_but_length properties label ≡ first_of (fault_if (length label == 0) Empty ∷ code_point_fault properties label ∷ first_of (rule_faults properties label) ∷ [])
+  unfolding fault_but_length rule_fault
+  fault_but_length-tests label = refl
+
+pub ruleset label_steps = (fault_but_length-tests, permitted_scalars)
+
 -- a label is short enough, where it has few code points and "xn--" and its Punycode few octets
 pub short_enough : (label : List ℕ) → length label ≤ 63 → length (codes "xn--" ++ encode label) ≤ 63 → is_too_long label ≡ false
 unfolding a_label_of

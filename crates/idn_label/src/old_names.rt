@@ -43,8 +43,8 @@ pub enum Standing {
 /// label stands: what may be registered, or the A-label of it, is answered as `register_utf8` tells it, by what it
 /// stands for. Else it is in ASCII, its capitals become small, and then it is the name of a label that may be
 /// registered or of an old one, or it is refused as `register_utf8` refuses it. Other bytes are refused as `NotUtf8`.
-/// Where it is refused, what is left in `room` says nothing. There must be room for 252 octets. No memory is taken where
-/// `register_utf8` takes none for the label as it stands, nor, if it is in ASCII, for the same in small letters.
+/// Where it is refused, what is left in `room` says nothing. There must be room for 252 octets. No memory is taken
+/// where `register_utf8` takes none for the label as it stands, nor, if it is in ASCII, for the same in small letters.
 /// `points` and `u_label` are room for the work: what stood there before says nothing.
 pub fn zone_label_utf8(
     alloc: Global,

@@ -1,8 +1,7 @@
 -- The code points of tags.
-use Rattle.std.proofs.Common.{◌≡◌, ℕ, ◌<◌, true, false, List, [], ◌∷◌, ◌++◌, length, if◌then◌else◌, arith}
+use Rattle.std.proofs.Common.{ℕ, true, false, List, [], ◌∷◌, ◌++◌, if◌then◌else◌, arith}
 use Rattle.std.specs.List.{All}
 use Rattle.std.proofs.lemmas.List.Elements.{All-append}
-use Rattle.label_patterns.specs.declared.span.Span.{Span}
 use Rattle.ruleset_text.specs.Names.{is_one_of}
 use Rattle.lgr_text.specs.CodePoints.{IsSpan}
 use Rattle.lgr_text.specs.Known.{single_points, tagged, HaveSpans}

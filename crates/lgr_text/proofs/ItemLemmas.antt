@@ -1,13 +1,12 @@
 -- Items of a pattern.
-use Rattle.std.proofs.Common.{◌≡◌, ℕ, zero, suc, ◌+◌, ◌-◌, ◌≤◌, ◌⊎◌, inl, inr, Bool, true, false, List, [], ◌∷◌, ◌++◌, Option, Some, None, refl, ap, sym, subst, ◌∙◌, append_assoc, if◌then◌else◌, arith}
+use Rattle.std.proofs.Common.{◌≡◌, ℕ, zero, suc, ◌+◌, ◌-◌, ◌≤◌, ◌⊎◌, inl, inr, true, false, List, [], ◌∷◌, ◌++◌, Option, Some, None, refl, ap, sym, subst, if◌then◌else◌, arith}
 use Rattle.std.specs.Prelude.{◌↔◌}
 use Rattle.std.proofs.lemmas.Bool.{cases_lt}
-use Rattle.label_patterns.specs.Matches.{Matches, Rounds, Seen}
+use Rattle.label_patterns.specs.Matches.{Matches, Seen}
 use Rattle.label_patterns.specs.Patterns.{Pattern, Point, Set, Any, Start, End, Anchor, Group, Optional, Many, Then, Either}
-use Rattle.lgr_text.specs.PartMatches.{Place, Repeats, IsUpTo, IsCounted}
-use Rattle.lgr_text.specs.inner.Items.{as_atom, choice_of, copies, further, further_up_to, in_sequence, is_atom, ungrouped, ItemMatches, ItemsMatch}
-use Rattle.lgr_text.specs.declared.records.Count.{Count}
-use Rattle.lgr_text.proofs.RepeatLemmas.{repeats-map, repeats-more, repeats-less, repeats-join, repeats-split, rounds-repeat, repeats-rounds}
+use Rattle.lgr_text.specs.PartMatches.{Place, Repeats, IsUpTo}
+use Rattle.lgr_text.specs.inner.Items.{as_atom, choice_of, copies, further_up_to, in_sequence, is_atom, ungrouped, ItemMatches, ItemsMatch}
+use Rattle.lgr_text.proofs.RepeatLemmas.{repeats-map, repeats-more, repeats-less, rounds-repeat, repeats-rounds}
 
 pub sequence-step : (ps : List Pattern) (p q : Pattern) → in_sequence ((ps ++ p ∷ []) ++ q ∷ []) ≡ in_sequence (ps ++ Then p q ∷ [])
 sequence-step [] p q = refl

@@ -1,14 +1,24 @@
 -- Lemmas that several proofs cite, and those of one subject.
 pub mod ClassLemmas
+pub mod CombiningLemmas
 pub mod ContentLemmas
 pub mod EachLemmas
+pub mod ElementLemmas
 pub mod ItemLemmas
 pub mod JoinLemmas
+pub mod LevelLemmas
+pub mod LoopLemmas
+pub mod NestedLemmas
 pub mod NumberLemmas
 pub mod OneFormLemmas
+pub mod OrderLemmas
 pub mod PartLemmas
+pub mod PassLemmas
+pub mod PropertyLemmas
 pub mod RepeatLemmas
 pub mod RuleLemmas
+pub mod SetNumberLemmas
 pub mod SortedLemmas
 pub mod SpanLemmas
+pub mod TextLemmas
 pub mod WordLemmas

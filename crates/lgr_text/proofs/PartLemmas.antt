@@ -1,7 +1,7 @@
 -- Parts of rules and the items that match the same.
-use Rattle.std.proofs.Common.{◌≡◌, ℕ, zero, suc, ◌+◌, ◌-◌, ◌<◌, ◌≤◌, ◌⊎◌, inl, inr, Bool, true, false, ◌||◌, ◌&&◌, List, [], ◌∷◌, ◌++◌, length, drop, get_or, map, Option, Some, None, refl, ap, sym, subst, ◌∙◌, append_assoc, if◌then◌else◌, arith}
-use Rattle.std.specs.Prelude.{◌↔◌, IsTrue, slice_index}
-use Rattle.std.specs.List.{All, list_all}
+use Rattle.std.proofs.Common.{◌≡◌, ℕ, zero, suc, ◌+◌, ◌-◌, ◌<◌, inl, inr, Bool, true, false, ◌||◌, ◌&&◌, List, [], ◌∷◌, ◌++◌, length, drop, get_or, map, Option, Some, None, refl, ap, sym, subst, ◌∙◌, append_assoc, if◌then◌else◌, arith}
+use Rattle.std.specs.Prelude.{◌↔◌, slice_index}
+use Rattle.std.specs.List.{list_all}
 use Rattle.std.proofs.lemmas.List.Folds.{list_all-append}
 use Rattle.std.proofs.lemmas.Bool.{eqb-true, eq-eqb}
 use Rattle.std.proofs.lemmas.List.{append-nil, get_or_append_left, length-drop}
@@ -9,17 +9,19 @@ use Rattle.std.proofs.Math.Bool.{and-true}
 use Rattle.std.proofs.Math.Seq.{drop-cons}
 use Rattle.label_patterns.specs.declared.span.Span.{Span}
 use Rattle.label_patterns.specs.Laws.{seen}
-use Rattle.label_patterns.specs.Matches.{Matches, Seen}
-use Rattle.label_patterns.specs.Patterns.{Pattern, Point, Set, Optional}
-use Rattle.label_patterns.specs.Places.{StandsAt}
+use Rattle.label_patterns.specs.Matches.{Matches, Seen, HasItsSets}
+use Rattle.label_patterns.specs.Patterns.{Pattern, Point, Set, Optional, Group}
+use Rattle.label_patterns.specs.Patterns as pattern
 use Rattle.label_patterns.specs.Sets.{is_in}
+use Rattle.ruleset_text.specs.Names.{number_of}
 use Rattle.lgr_text.specs.ClassMembers.{has}
 use Rattle.lgr_text.specs.Known.{Known}
-use Rattle.lgr_text.specs.PartMatches.{BeginsWith, IsOf, has_anchor, rule_named, Matching, PartMatches, Place, Repeats, IsCounted, IsUpTo, StandThere}
+use Rattle.lgr_text.specs.PartMatches.{BeginsWith, has_anchor, rule_named, Matching, PartMatches, Place, Repeats, IsUpTo, StandThere}
 use Rattle.lgr_text.specs.Records.{Class, Part, Literal, Any, Of, Start, End, Anchor, OfRule, Then, Choice, Times}
 use Rattle.lgr_text.specs.declared.records.Count.{Count}
-use Rattle.lgr_text.specs.inner.Items.{anchors, as_atom, further_up_to, is_item, HasShape, choice_of, copies, further, AddsClass, Appends, AreItemsFor, ItemsMatch}
+use Rattle.lgr_text.specs.inner.Items.{anchors, as_atom, further_up_to, is_item, HasShape, choice_of, copies, further, AddsClass, Appends, ItemsMatch, HaveSets, ItemMatches}
 use Rattle.lgr_text.proofs.ItemLemmas.{choice-is, copies-are, further-are, items-join, items-split, one-item}
+use Rattle.lgr_text.proofs.SetNumberLemmas.{begins-length, choice-has, have-join, have-more, points-have, rule-has, times-have}
 use Rattle.lgr_text.proofs.RepeatLemmas.{repeats-join, repeats-map, repeats-split}
 
 abbrev pub AppendsPart : Known → List (List Span) → List (List Span) → List Pattern → List Pattern → Part → Type 0
@@ -112,8 +114,44 @@ literal-appends known sets old items points e = record {
   added = map Point points;
   is = e;
   shape = record { flat = points-flat points; one = points-unanchored points };
+  known = points-have points (length sets);
   match_them = λ all label at i j begins of. literal-is (seen all label) at points i j;
 }
+
+-- ---- one item
+
+pub one-appends : (known : Known) (sets : List (List Span)) (old items : List Pattern) (one : Pattern) (q : Part)
+    → HasShape (has_anchor q) (one ∷ []) → HasItsSets (length sets) one
+    → ((s : Seen) (at : Option Place) (i j : ℕ) → ItemMatches s at one i j ↔ Matching known q s at i j)
+    → items ≡ old ++ one ∷ [] → AppendsPart known sets sets old items q
+one-appends known sets old items one q shape its_sets match_it e = record {
+  kept = begins-so sets;
+  added = one ∷ [];
+  is = e;
+  shape = shape;
+  known = (its_sets, tt);
+  match_them = λ all label at i j begins of.
+      let s = seen all label in (
+        λ h. (match_it s at i j).0 ((one-item s at one i j).0 h),
+        λ h. (one-item s at one i j).1 ((match_it s at i j).1 h),
+      );
+}
+
+any-appends : (known : Known) (sets : List (List Span)) (old items : List Pattern) → items ≡ old ++ pattern.Any ∷ [] → AppendsPart known sets sets old items Any
+any-appends known sets old items e =
+    one-appends known sets old items pattern.Any Any (record { flat = refl; one = refl }) tt (λ s at i j. (λ h. (h.0.0, h.1), λ h. ((h.0, refl), h.1))) e
+
+start-appends : (known : Known) (sets : List (List Span)) (old items : List Pattern) → items ≡ old ++ pattern.Start ∷ [] → AppendsPart known sets sets old items Start
+start-appends known sets old items e =
+    one-appends known sets old items pattern.Start Start (record { flat = refl; one = refl }) tt (λ s at i j. (λ h. h, λ h. h)) e
+
+end-appends : (known : Known) (sets : List (List Span)) (old items : List Pattern) → items ≡ old ++ pattern.End ∷ [] → AppendsPart known sets sets old items End
+end-appends known sets old items e =
+    one-appends known sets old items pattern.End End (record { flat = refl; one = refl }) tt (λ s at i j. (λ h. h, λ h. h)) e
+
+anchor-appends : (known : Known) (sets : List (List Span)) (old items : List Pattern) → items ≡ old ++ pattern.Anchor ∷ [] → AppendsPart known sets sets old items Anchor
+anchor-appends known sets old items e =
+    one-appends known sets old items pattern.Anchor Anchor (record { flat = refl; one = refl }) tt (λ s at i j. (λ h. h, λ h. h)) e
 
 -- ---- a class
 
@@ -124,6 +162,7 @@ class-appends known class old_sets sets old items adds = record {
   added = Set adds.number ∷ [];
   is = adds.is;
   shape = record { flat = refl; one = refl };
+  known = (adds.within, tt);
   match_them = λ all label at i j begins of.
       let set : get_or all adds.number [] ≡ get_or sets adds.number [] =
       ap (λ l. get_or l adds.number []) begins.1 ∙ get_or_append_left sets begins.0 [] adds.number adds.within in
@@ -138,6 +177,20 @@ class-appends known class old_sets sets old items adds = record {
       );
 }
 
+-- ---- a rule that is named
+
+pub rule-appends : (known : Known) (sets : List (List Span)) (old items : List Pattern) (name : List ℕ)
+    → HaveSets (length sets) known.rules → items ≡ old ++ Group (rule_named known name) ∷ []
+    → AppendsPart known sets sets old items (OfRule name)
+rule-appends known sets old items name rules e = record {
+  kept = begins-so sets;
+  added = Group (rule_named known name) ∷ [];
+  is = e;
+  shape = record { flat = refl; one = refl };
+  known = (rule-has known.rules (number_of known.rule_names name) (length sets) rules, tt);
+  match_them = λ all label at i j begins of. one-item (seen all label) at (Group (rule_named known name)) i j;
+}
+
 -- ---- one after the other
 
 pub then-appends : (known : Known) (p q : Part) (first middle last : List (List Span)) (old between items : List Pattern)
@@ -148,6 +201,8 @@ then-appends known p q first middle last old between items apart left right = re
   added = left.added ++ right.added;
   is = right.is ∙ ap (λ l. l ++ right.added) left.is ∙ append_assoc old left.added right.added;
   shape = shapes-join (has_anchor p) (has_anchor q) left.added right.added apart left.shape right.shape;
+  known = have-join left.added right.added (length last)
+      (have-more left.added (length middle) (length last) (begins-length last middle right.kept) left.known) right.known;
   match_them = λ all label at i j begins of.
       let lower = begins-too all last middle begins right.kept in (
         λ h.
@@ -208,6 +263,9 @@ choice-appends known p q first middle last old items left_items right_items no_p
   added = choice_of left_items right_items ∷ [];
   is = e;
   shape = record { flat = refl; one = ap (λ b. if b then 1 else 0) (sym (ap (λ b. b || has_anchor q) no_p ∙ no_q)) };
+  known = choice-has left_items right_items (length last)
+      (have-more left_items (length middle) (length last) (begins-length last middle right.kept) (subst (HaveSets (length middle)) (sym left.is) left.known))
+      (subst (HaveSets (length last)) (sym right.is) right.known);
   match_them = λ all label at i j begins of.
       let s = seen all label in
       let lower = begins-too all last middle begins right.kept in (
@@ -234,6 +292,7 @@ times-appends known count p first last old items once none fits appends e = reco
   added = copies count.least once ++ further count once;
   is = e;
   shape = times-shape count (has_anchor p) once none (subst (HasShape (has_anchor p)) (sym appends.is) appends.shape);
+  known = times-have count.least count.most once (length last) (subst (HaveSets (length last)) (sym appends.is) appends.known);
   match_them = λ all label at i j begins of.
       let s = seen all label in
       let R : ℕ → ℕ → Type 0 = Matching known p s at in
@@ -266,6 +325,35 @@ pub literal-part : (known : Known) (old_sets sets : List (List Span)) (old items
 literal-part known old_sets sets old items points p is same e =
     subst (AppendsPart known old_sets sets old items) (sym is)
     (subst (λ all. AppendsPart known old_sets all old items (Literal points)) (sym same) (literal-appends known old_sets old items points e))
+
+pub rule-part : (known : Known) (name : List ℕ) (old_sets sets : List (List Span)) (old items : List Pattern) (p : Part)
+    → p ≡ OfRule name → sets ≡ old_sets → HaveSets (length old_sets) known.rules → items ≡ old ++ Group (rule_named known name) ∷ []
+    → AppendsPart known old_sets sets old items p
+rule-part known name old_sets sets old items p is same rules e =
+    subst (AppendsPart known old_sets sets old items) (sym is)
+    (subst (λ all. AppendsPart known old_sets all old items (OfRule name)) (sym same) (rule-appends known old_sets old items name rules e))
+
+-- sets that stay, in the place of those that were
+same-sets : (known : Known) (old_sets sets : List (List Span)) (old items : List Pattern) (p q : Part) → p ≡ q → sets ≡ old_sets
+    → AppendsPart known old_sets old_sets old items q → AppendsPart known old_sets sets old items p
+same-sets known old_sets sets old items p q is same appends =
+    subst (AppendsPart known old_sets sets old items) (sym is) (subst (λ all. AppendsPart known old_sets all old items q) (sym same) appends)
+
+pub any-part : (known : Known) (old_sets sets : List (List Span)) (old items : List Pattern) (p : Part)
+    → p ≡ Any → sets ≡ old_sets → items ≡ old ++ pattern.Any ∷ [] → AppendsPart known old_sets sets old items p
+any-part known old_sets sets old items p is same e = same-sets known old_sets sets old items p Any is same (any-appends known old_sets old items e)
+
+pub start-part : (known : Known) (old_sets sets : List (List Span)) (old items : List Pattern) (p : Part)
+    → p ≡ Start → sets ≡ old_sets → items ≡ old ++ pattern.Start ∷ [] → AppendsPart known old_sets sets old items p
+start-part known old_sets sets old items p is same e = same-sets known old_sets sets old items p Start is same (start-appends known old_sets old items e)
+
+pub end-part : (known : Known) (old_sets sets : List (List Span)) (old items : List Pattern) (p : Part)
+    → p ≡ End → sets ≡ old_sets → items ≡ old ++ pattern.End ∷ [] → AppendsPart known old_sets sets old items p
+end-part known old_sets sets old items p is same e = same-sets known old_sets sets old items p End is same (end-appends known old_sets old items e)
+
+pub anchor-part : (known : Known) (old_sets sets : List (List Span)) (old items : List Pattern) (p : Part)
+    → p ≡ Anchor → sets ≡ old_sets → items ≡ old ++ pattern.Anchor ∷ [] → AppendsPart known old_sets sets old items p
+anchor-part known old_sets sets old items p is same e = same-sets known old_sets sets old items p Anchor is same (anchor-appends known old_sets old items e)
 
 pub class-part : (known : Known) (class : Class) (old_sets sets : List (List Span)) (old items : List Pattern) (p : Part)
     → p ≡ Of class → AddsClass known class old_sets sets old items → AppendsPart known old_sets sets old items p

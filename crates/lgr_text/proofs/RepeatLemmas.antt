@@ -1,6 +1,5 @@
 -- Rounds of a relation.
-use Rattle.std.proofs.Common.{◌≡◌, ℕ, zero, suc, ◌+◌, ◌-◌, ◌≤◌, ◌⊎◌, inl, inr, refl, sym, ap, subst, arith}
-use Rattle.std.proofs.lemmas.Bool.{cases_lt}
+use Rattle.std.proofs.Common.{◌≡◌, ℕ, zero, suc, ◌+◌, refl, sym, subst, arith}
 use Rattle.label_patterns.specs.Matches.{Rounds, no_round, one_more}
 use Rattle.lgr_text.specs.PartMatches.{Repeats}
 

@@ -1,6 +1,6 @@
 -- Rules as sequences of items: a whole-label rule, or a context.
-use Rattle.std.proofs.Common.{◌≡◌, ℕ, zero, suc, ◌+◌, ◌≤◌, ◌⊎◌, inl, inr, Bool, true, false, ◌||◌, ◌&&◌, not, List, [], ◌∷◌, ◌++◌, length, Option, Some, None, refl, ap, sym, subst, ◌∙◌, if◌then◌else◌, arith}
-use Rattle.std.specs.Prelude.{◌↔◌, IsTrue}
+use Rattle.std.proofs.Common.{◌≡◌, ℕ, ◌+◌, ◌≤◌, inl, inr, Bool, true, false, ◌||◌, ◌&&◌, not, List, [], ◌∷◌, length, Option, Some, None, refl, ap, sym, subst, ◌∙◌, if◌then◌else◌, arith}
+use Rattle.std.specs.Prelude.{◌↔◌}
 use Rattle.std.specs.List.{list_all}
 use Rattle.label_patterns.specs.declared.span.Span.{Span}
 use Rattle.label_patterns.specs.Laws.{seen}
@@ -8,10 +8,10 @@ use Rattle.label_patterns.specs.Matches.{Matches, Rounds, Seen, no_round, one_mo
 use Rattle.label_patterns.specs.Patterns.{Pattern, Point, Set, Any, Start, End, Anchor, Group, Optional, Many, Then, Either}
 use Rattle.label_patterns.specs.Rules.{branches, is_anchor, is_context, is_context_rule, After, Before, Holds, HoldsAs, HoldsInOne}
 use Rattle.lgr_text.specs.Known.{Known}
-use Rattle.lgr_text.specs.PartMatches.{has_anchor, BeginsWith, IsOf, Matching, Place, RuleHolds, SaysRule}
+use Rattle.lgr_text.specs.PartMatches.{has_anchor, Place, SaysRule}
 use Rattle.lgr_text.specs.Records.{Part}
-use Rattle.lgr_text.specs.inner.Items.{anchors, in_sequence, is_item, Appends, HasShape, ItemMatches, ItemsMatch}
-use Rattle.lgr_text.proofs.ItemLemmas.{item-is, one-item, sequence-is}
+use Rattle.lgr_text.specs.inner.Items.{anchors, in_sequence, is_item, HasShape, ItemMatches, ItemsMatch}
+use Rattle.lgr_text.proofs.ItemLemmas.{item-is, sequence-is}
 use Rattle.lgr_text.proofs.PartLemmas.{AppendsPart}
 
 -- ---- which patterns are those of context rules

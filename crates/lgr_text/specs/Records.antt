@@ -4,6 +4,7 @@ use Rattle.std.specs.Option.{option_map}
 use Rattle.label_patterns.specs.declared.condition.ConditionKind.{ConditionKind}
 use Rattle.label_patterns.specs.declared.span.Span.{Span}
 use Rattle.ruleset_text.specs.declared.action.TriggerKind.{TriggerKind}
+use Rattle.lgr_text.specs.declared.joins.SetOperation.{SetOperation}
 use Rattle.lgr_text.specs.declared.records.Action as held_action
 use Rattle.lgr_text.specs.declared.records.ClassTree.{ClassTree}
 use Rattle.lgr_text.specs.declared.records.ClassTree.TheVariants as tree
@@ -24,16 +25,13 @@ use Rattle.lgr_text.specs.declared.records.Variant as held_variant
 -- ---- what is said
 
 -- a class (section 6.2): code points and ranges; the code points of entries with a tag; those with a property and
--- value, as 'gc:Mn'; those of the class of a name; and what sets give together
+-- value, as 'gc:Mn'; those of the class of a name; what an operation makes of two sets; and those that aren't in a set
 pub data Class : Type 0 where
   Listed : List Span → Class
   OfTag : List ℕ → Class
   OfProperty : List ℕ → Class
   OfClass : List ℕ → Class
-  Union : Class → Class → Class
-  Intersection : Class → Class → Class
-  Difference : Class → Class → Class
-  SymmetricDifference : Class → Class → Class
+  Joined : SetOperation → Class → Class → Class
   Complement : Class → Class
 
 -- a rule or a part of one (sections 6.3 and 6.4). What looks behind or ahead stands before or after the anchor
@@ -105,10 +103,7 @@ class (tree.Listed spans) = Listed spans.items
 class (tree.OfTag r) = OfTag r.name
 class (tree.OfProperty r) = OfProperty r.name
 class (tree.OfClass r) = OfClass r.name
-class (tree.Union' b k c m) = Union (class k) (class m)
-class (tree.Intersection' b k c m) = Intersection (class k) (class m)
-class (tree.Difference' b k c m) = Difference (class k) (class m)
-class (tree.SymmetricDifference' b k c m) = SymmetricDifference (class k) (class m)
+class (tree.Joined' operation b k c m) = Joined operation (class k) (class m)
 class (tree.Complement' b k) = Complement (class k)
 
 abbrev pub part : PartTree → Part

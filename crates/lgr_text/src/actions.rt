@@ -1,9 +1,11 @@
 //! Actions of a file as a ruleset has them (RFC 7940, section 7).
-ghost use Rattle.std.specs.Prelude.{◌≡◌, IfOk, IfSome, map};
+ghost use Rattle.std.specs.Prelude.{◌≡◌, IfOk, map};
 ghost use Rattle.std.specs.Option.{option_map};
 ghost use Rattle.ruleset_text.specs.ActionForms as forms;
-ghost use Rattle.ruleset_text.specs.Actions.{disposition_word};
+ghost use Rattle.ruleset_text.specs.ActionSteps.{disposition_of as disposition_named};
 ghost use Rattle.lgr_text.specs.ActionNames.{called as called_name, condition_called, trigger_called, SaysAction};
+ghost use Rattle.lgr_text.specs.ActionNames.{action_fault, condition_fault, name_fault, trigger_fault};
+ghost use Rattle.lgr_text.specs.inner.Faults.{IsFaultOf};
 ghost use Rattle.lgr_text.specs.Records.{action as action_of, condition as condition_of, trigger as trigger_of};
 
 use crate::records::{Action, Condition, Trigger};
@@ -26,7 +28,9 @@ pub fn named_action(
     types: Renamed<'_>,
     action: &Action,
 ) -> Result<NamedAction, RuleError>
-    ensures { IfOk result (λ named. SaysAction rules.entry types.entry (action_of action.now) (forms.action named)) }
+    ensures says { IfOk result (λ named.
+        SaysAction rules.entry types.entry (action_of action.now) (forms.action named)) }
+    ensures fault { IsFaultOf (action_fault rules.entry types.entry (action_of action.now)) result }
 {
     let Some(disposition) = disposition_of(action.disposition.as_slice()) else {
         return Err(RuleError::Fault(RuleFault::NotSupported));
@@ -40,7 +44,7 @@ pub fn named_action(
 
 /// The disposition of this name (RFC 7940, section 7.3).
 fn disposition_of(name: &[u8]) -> Option<Disposition>
-    ensures { IfSome result (λ disposition. disposition_word disposition ≡ name.now) }
+    ensures { result ≡ disposition_named name.now }
 {
     match name {
         b"invalid" => Some(Disposition::Invalid),
@@ -57,8 +61,9 @@ fn named_condition(
     rules: Renamed<'_>,
     condition: &Option<Condition>,
 ) -> Result<Option<NamedCondition>, RuleError>
-    ensures { IfOk result (λ named. named ≡
+    ensures says { IfOk result (λ named. named ≡
         option_map (condition_called rules.entry) (option_map condition_of condition.now)) }
+    ensures fault { IsFaultOf (condition_fault rules.entry (option_map condition_of condition.now)) result }
 {
     let Some(condition) = condition else {
         return Ok(None);
@@ -74,8 +79,9 @@ fn named_trigger(
     types: Renamed<'_>,
     trigger: &Option<Trigger>,
 ) -> Result<Option<NamedTrigger>, RuleError>
-    ensures { IfOk result (λ named. option_map forms.trigger named ≡
+    ensures says { IfOk result (λ named. option_map forms.trigger named ≡
         option_map (trigger_called types.entry) (option_map trigger_of trigger.now)) }
+    ensures fault { IsFaultOf (trigger_fault types.entry (option_map trigger_of trigger.now)) result }
 {
     let Some(trigger) = trigger else {
         return Ok(None);
@@ -92,7 +98,8 @@ fn named_trigger(
 
 /// What a name of the file is called in the ruleset.
 fn called(alloc: Global, names: Renamed<'_>, name: &[u8]) -> Result<Name, RuleError>
-    ensures { IfOk result (λ written. written ≡ called_name names.entry name.now) }
+    ensures is { IfOk result (λ written. written ≡ called_name names.entry name.now) }
+    ensures fault { IsFaultOf (name_fault names.entry name.now) result }
 {
     let number = number_of(names.names, name);
     if number < names.written.len() {

@@ -1,16 +1,18 @@
 //! The attributes of an element.
-ghost use Rattle.std.specs.Prelude.{◌≡◌, option_copied, option_map};
+ghost use Rattle.std.specs.Prelude.{◌≡◌, ◌&&◌, option_copied, option_map};
 ghost use Rattle.lgr_text.specs.Attributes as terms;
+ghost use Rattle.lgr_text.specs.Elements.{Content, is_empty};
+ghost use Rattle.lgr_text.specs.Entries as entries;
 ghost use Rattle.lgr_text.specs.Records as records;
-ghost use Rattle.lgr_text.specs.declared.fault.ReadError.TheVariants.{Wrong};
 ghost use Rattle.lgr_text.specs.declared.names.NameKind.TheVariants.{Identifier};
 ghost use Rattle.lgr_text.specs.Values as values;
-ghost use Rattle.lgr_text.specs.inner.Reading.{Checks, Reads};
+ghost use Rattle.lgr_text.specs.inner.Reading.{AreOf, Checks, Reads};
 
 use crate::element::Element;
 use crate::fault::ReadError;
 use crate::names::NameKind;
 use crate::records::{Condition, Reference};
+use crate::values::points_of;
 use crate::words::next_word;
 use label_patterns::ConditionKind;
 use ruleset_text::Name;
@@ -18,13 +20,6 @@ use std::alloc::Global;
 use xml_text::Attribute;
 
 impl<'a> Element<'a> {
-    /// Why the element isn't one of RFC 7940.
-    pub fn wrong(&self) -> ReadError
-        ensures { result ≡ Wrong self.now.line }
-    {
-        ReadError::Wrong(self.line)
-    }
-
     /// The value of an attribute, if the element has it.
     pub fn value(&self, name: &[u8]) -> Option<&'a [u8]>
         ensures { option_copied result ≡ terms.value self.now.attributes.now name.now }
@@ -50,6 +45,19 @@ impl<'a> Element<'a> {
             Ok(())
         } else {
             Err(self.wrong())
+        }
+    }
+
+    /// The same, and that nothing is in it.
+    pub fn check_plain(&self, names: &[u8]) -> Result<(), ReadError>
+        ensures { (c : Content) → AreOf self.now.within c →
+            Checks (terms.are_among names.now self.now.attributes.now && is_empty c) result }
+    {
+        self.check(names)?;
+        let mut within = self.within;
+        match within.next()? {
+            None => Ok(()),
+            Some(_) => Err(self.wrong()),
         }
     }
 
@@ -106,6 +114,25 @@ impl<'a> Element<'a> {
     {
         let rule = self.reference(alloc, NameKind::Identifier, rule)?;
         Ok(Some(Condition { kind, rule }))
+    }
+
+    /// Its code points; there may be none.
+    fn points(&self, alloc: Global) -> Result<Vec<u32>, ReadError>
+        ensures { Reads (λ v. v.items) (entries.points_by self.now.attributes.now) result }
+    {
+        let text = self.needed(b"cp")?;
+        points_of(alloc, text)?.ok_or(self.wrong())
+    }
+
+    /// Its code points, one or more.
+    pub fn sequence(&self, alloc: Global) -> Result<Vec<u32>, ReadError>
+        ensures { Reads (λ v. v.items) (entries.sequence_by self.now.attributes.now) result }
+    {
+        let points = self.points(alloc)?;
+        if points.is_empty() {
+            return Err(self.wrong());
+        }
+        Ok(points)
     }
 }
 

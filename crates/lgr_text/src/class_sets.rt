@@ -4,15 +4,17 @@ ghost use Rattle.std.specs.List.{list_any};
 ghost use Rattle.label_patterns.specs.declared.span.Span.{Span};
 ghost use Rattle.label_patterns.specs.Sets.{is_in};
 ghost use Rattle.ruleset_text.specs.Names.{is_one_of as is_one};
-ghost use Rattle.lgr_text.specs.ClassMembers.{has, class_fault, set_fault, tag_fault, set_named, HasSpans};
+ghost use Rattle.lgr_text.specs.ClassMembers.{has, class_fault, property_fault, set_fault, tag_fault, set_named};
+ghost use Rattle.lgr_text.specs.ClassMembers.{HasSpans};
 ghost use Rattle.lgr_text.specs.CodePoints.{AreSpans};
 ghost use Rattle.lgr_text.specs.Known.{known as known_of, tagged as tagged_spans, single_points, HaveSpans};
+ghost use Rattle.lgr_text.specs.Properties.{property_has};
 ghost use Rattle.lgr_text.specs.Records.{class as class_of, entry, source};
 ghost use Rattle.lgr_text.specs.inner.Faults.{IsFaultOf};
 
 use crate::code_points::CodePoints;
-use crate::joins::SetOperation;
 use crate::known::Known;
+use crate::properties::property_set;
 use crate::records::{ClassTree, Entry, Source};
 use crate::rule_error::{RuleError, RuleFault};
 use label_patterns::Span;
@@ -30,27 +32,12 @@ pub fn set_of(alloc: Global, known: Known<'_>, class: &ClassTree) -> Result<Code
     match class {
         ClassTree::Listed(spans) => Ok(CodePoints::of_spans(alloc, spans)?),
         ClassTree::OfTag(tag) => tagged(alloc, known.entries, tag.name.as_slice()),
-        ClassTree::OfProperty(_) => Err(RuleError::Fault(RuleFault::NotSupported)),
+        ClassTree::OfProperty(property) => having(alloc, property.name.as_slice()),
         ClassTree::OfClass(class) => named(alloc, known, class.name.as_slice()),
-        ClassTree::Union(left, right) => {
+        ClassTree::Joined(operation, left, right) => {
             let left = set_of(alloc, known, left)?;
             let right = set_of(alloc, known, right)?;
-            Ok(left.join(alloc, SetOperation::Union, &right)?)
-        }
-        ClassTree::Intersection(left, right) => {
-            let left = set_of(alloc, known, left)?;
-            let right = set_of(alloc, known, right)?;
-            Ok(left.join(alloc, SetOperation::Intersection, &right)?)
-        }
-        ClassTree::Difference(left, right) => {
-            let left = set_of(alloc, known, left)?;
-            let right = set_of(alloc, known, right)?;
-            Ok(left.join(alloc, SetOperation::Difference, &right)?)
-        }
-        ClassTree::SymmetricDifference(left, right) => {
-            let left = set_of(alloc, known, left)?;
-            let right = set_of(alloc, known, right)?;
-            Ok(left.join(alloc, SetOperation::SymmetricDifference, &right)?)
+            Ok(left.join(alloc, *operation, &right)?)
         }
         ClassTree::Complement(class) => Ok(set_of(alloc, known, class)?.complement(alloc)?),
     }
@@ -66,6 +53,17 @@ fn named(alloc: Global, known: Known<'_>, name: &[u8]) -> Result<CodePoints, Rul
         Ok(known.sets[number].copied(alloc)?)
     } else {
         Err(RuleError::Fault(RuleFault::Undefined))
+    }
+}
+
+/// The code points that have a property.
+fn having(alloc: Global, property: &[u8]) -> Result<CodePoints, RuleError>
+    ensures members { IfOk result (λ set. (c : ℕ) → c ≤ 0x10FFFF → is_in set c ≡ property_has property.now c) }
+    ensures fault { IsFaultOf (property_fault property.now) result }
+{
+    match property_set(alloc, property)? {
+        Some(set) => Ok(set),
+        None => Err(RuleError::Fault(RuleFault::NotSupported)),
     }
 }
 

@@ -11,7 +11,7 @@ use std::alloc::{AllocError, Global};
 use std::marker::Model;
 
 /// The last code point.
-const LAST: u32 = 0x10_FFFF;
+pub(crate) const LAST: u32 = 0x10_FFFF;
 
 /// A set of code points, as spans that are sorted, disjoint and not adjacent.
 #[derive(Drop)]
@@ -89,7 +89,7 @@ impl CodePoints {
 
 /// Appends a span, of which no span begins after it, to spans that are apart. It becomes part of the last one where it
 /// overlaps or follows that.
-fn append(spans: &mut Vec<Span>, span: Span) -> Result<(), AllocError>
+pub(crate) fn append(spans: &mut Vec<Span>, span: Span) -> Result<(), AllocError>
     requires apart { AreApart spans.old.items }
     requires order { BeginUpTo span.first spans.old.items }
     requires span { IsSpan span }

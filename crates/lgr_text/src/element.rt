@@ -1,10 +1,12 @@
 //! The elements of a document, one after the other.
-ghost use Rattle.std.specs.Prelude.{◌≡◌, ◌+◌, ◌<◌, ◌≤◌, List, ℕ, false, length, map, IfOk, IfSome, MatchOption};
+ghost use Rattle.std.specs.Prelude.{◌≡◌, ◌+◌, ◌<◌, ◌≤◌, List, ℕ, bytes_eq, false, length, map, IfOk, IfSome, MatchOption};
 ghost use Rattle.std.specs.List.{list_all};
-ghost use Rattle.lgr_text.specs.Elements.{Content, Say};
+ghost use Rattle.lgr_text.specs.Elements.{Content, Say, text_of};
 ghost use Rattle.lgr_text.specs.Elements as contents;
-ghost use Rattle.lgr_text.specs.inner.Reading.{AreOf, NextIs, after_blanks, closes, is_blank_said, is_open};
-ghost use Rattle.xml_text.specs.Tokens.{Open, said as said_as};
+ghost use Rattle.lgr_text.specs.declared.fault.ReadError.TheVariants.{Wrong};
+ghost use Rattle.lgr_text.specs.inner.Reading.{AreOf, NextIs, Reads, after_blanks, closes, is_blank_said, is_open};
+ghost use Rattle.lgr_text.specs.inner.Reading.{is_text};
+ghost use Rattle.xml_text.specs.Tokens.{Open, Text, said as said_as};
 
 use crate::fault::ReadError;
 use xml_text::{Attribute, Said, Token, is_blank as is_blank_byte};
@@ -62,6 +64,35 @@ impl<'a> Elements<'a> {
     }
 }
 
+impl<'a> Element<'a> {
+    /// Why the element isn't one of RFC 7940.
+    pub fn wrong(&self) -> ReadError
+        ensures { result ≡ Wrong self.now.line }
+    {
+        ReadError::Wrong(self.line)
+    }
+
+    /// Whether the element has this name.
+    pub fn is_named(&self, name: &[u8]) -> bool
+        ensures { result ≡ bytes_eq self.now.name.now name.now }
+    {
+        self.name == name
+    }
+
+    /// Its text, if nothing else is in it.
+    pub fn text(&self) -> Result<&'a [u8], ReadError>
+        ensures { (c : Content) → AreOf self.now.within c → Reads (λ text. text.now) (text_of c) result }
+    {
+        let Some((first, others)) = self.within.tokens.split_first() else {
+            return Ok(b"");
+        };
+        match text_in(first.said()) {
+            Some(text) if others.is_empty() => Ok(text),
+            _ => Err(self.wrong()),
+        }
+    }
+}
+
 /// The name and the attributes of a start tag.
 fn opened(said: &Said) -> Option<(&[u8], &[Attribute])>
     ensures { MatchOption result (is_open (said_as said.now) ≡ false)
@@ -70,6 +101,16 @@ fn opened(said: &Said) -> Option<(&[u8], &[Attribute])>
     match said {
         Said::Open(name, attributes) => Some((name, attributes)),
         Said::Text(_) | Said::Close => None,
+    }
+}
+
+/// The text between two tags.
+fn text_in(said: &Said) -> Option<&[u8]>
+    ensures { MatchOption result (is_text (said_as said.now) ≡ false) (λ text. said_as said.now ≡ Text text.now) }
+{
+    match said {
+        Said::Text(text) => Some(text),
+        Said::Open(_, _) | Said::Close => None,
     }
 }
 
@@ -120,7 +161,7 @@ fn inner_len(tokens: &[Token]) -> Option<usize>
 }
 
 /// Whether nothing but blanks stands in a text.
-fn is_blank_text(text: &[u8]) -> bool
+pub fn is_blank_text(text: &[u8]) -> bool
     ensures { result ≡ contents.is_blank_text text.now }
 {
     text.iter().all(|byte| is_blank_byte(*byte))

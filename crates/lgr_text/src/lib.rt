@@ -2,17 +2,29 @@
 #![tactic(auto)]
 
 mod actions;
+mod atoms;
 mod attributes;
 mod class_sets;
+mod classes;
 mod code_points;
+mod combining;
+mod definitions;
 mod element;
 mod fault;
 mod joins;
 mod known;
 mod laws;
+mod named_parts;
 mod names;
+mod order;
+mod order_error;
+mod orders;
 mod part_items;
+mod parts;
+mod properties;
+mod property_names;
 mod records;
+mod rule_elements;
 mod rule_error;
 mod values;
 mod words;
@@ -20,12 +32,15 @@ mod words;
 pub use actions::{Renamed, named_action};
 pub use class_sets::set_of;
 pub use code_points::CodePoints;
+pub use definitions::read_definition;
 pub use element::{Element, Elements};
 pub use fault::ReadError;
 pub use joins::SetOperation;
 pub use known::Known;
-pub use laws::sets_have_one_form;
+pub use laws::{rule_examples_hold, sets_have_one_form};
 pub use names::NameKind;
+pub use order::definition_order;
+pub use order_error::OrderError;
 pub use part_items::{Made, pattern_of_rule};
 pub use records::{
     Action, ClassTree, Condition, Count, Definition, Entry, Meaning, PartTree, Reference, Ruleset,

@@ -1,18 +1,21 @@
 //! The parts of a rule as items of a pattern (RFC 7940, sections 6.3 and 6.4).
-ghost use Rattle.std.specs.Prelude.{◌≡◌, ◌<◌, ◌++◌, ◌&&◌, ◌∷◌, [], map, length, slice_index_or, IfOk, IfErr, OnOk};
+ghost use Rattle.std.specs.Prelude.{◌≡◌, ◌<◌, ◌+◌, ◌++◌, ◌&&◌, ◌∷◌, [], map, length, slice_index_or, None, IfOk, OnOk};
+ghost use Rattle.label_patterns.specs.Matches.{HasItsSets};
 ghost use Rattle.label_patterns.specs.Patterns as patterns;
 ghost use Rattle.label_patterns.specs.Trees.{pattern};
 ghost use Rattle.lgr_text.specs.ClassMembers.{class_fault, HasSpans};
 ghost use Rattle.lgr_text.specs.Known.{known as known_of, HaveSpans};
 ghost use Rattle.lgr_text.specs.PartMatches.{has_anchor as has_anchor_part, part_fault, rule_fault, rule_named};
+ghost use Rattle.lgr_text.specs.PartAtoms.{fault_within, part_atoms};
 ghost use Rattle.lgr_text.specs.PartMatches.{BeginsWith, IsWellFormed, Matching, SaysRule};
 ghost use Rattle.lgr_text.specs.Records.{class as class_of, part as part_of};
-ghost use Rattle.lgr_text.specs.inner.Faults.{IsLimit, IsPartFaultOf};
+ghost use Rattle.lgr_text.specs.inner.Faults.{IsFaultOf};
 ghost use Rattle.lgr_text.specs.inner.Items.{as_atom, choice_of, copies, further, in_sequence};
 ghost use Rattle.lgr_text.specs.inner.Items.{is_atom as is_atom_pattern};
 ghost use Rattle.lgr_text.specs.inner.Items.{nothing as nothing_pattern, ungrouped as ungrouped_pattern};
-ghost use Rattle.lgr_text.specs.inner.Items.{AddsClass, Appends};
+ghost use Rattle.lgr_text.specs.inner.Items.{AddsClass, Appends, HaveSets};
 
+use crate::atoms::left_after;
 use crate::class_sets::set_of;
 use crate::joins::SetOperation;
 use crate::known::Known;
@@ -22,7 +25,7 @@ use label_patterns::{PatternTree, PointSet, is_context_rule};
 use ruleset_text::number_of;
 use std::alloc::{AllocError, Global};
 
-/// The sets that patterns name, and how many atoms are left for further items.
+/// The sets that patterns name, and how many atoms are left for further patterns.
 #[derive(Drop)]
 pub struct Made {
     pub sets: Vec<PointSet>,
@@ -123,30 +126,11 @@ fn copied(alloc: Global, tree: &PatternTree) -> Result<PatternTree, AllocError>
     }
 }
 
-/// How many atoms there are, as far as a number has room.
-fn atoms_of(tree: &PatternTree) -> usize {
-    match tree {
-        PatternTree::Anchor => 0,
-        PatternTree::Group(part) => atoms_of(part).saturating_add(1),
-        PatternTree::Optional(part) => atoms_of(part),
-        PatternTree::Many(part) => atoms_of(part),
-        PatternTree::Then(first, rest) => atoms_of(first).saturating_add(atoms_of(rest)),
-        PatternTree::Either(left, right) => atoms_of(left).saturating_add(atoms_of(right)),
-        _ => 1,
-    }
-}
-
-/// Appends an item, if there may be so many atoms more.
-fn push(items: &mut Vec<PatternTree>, made: &mut Made, item: PatternTree) -> Result<(), RuleError>
+/// Appends an item.
+fn push(items: &mut Vec<PatternTree>, item: PatternTree) -> Result<(), RuleError>
     ensures items { OnOk result (map pattern items.new.items ≡ map pattern items.old.items ++ pattern item ∷ []) }
-    ensures sets { made.new.sets ≡ made.old.sets }
-    ensures err { IfErr result IsLimit }
+    ensures fault { IsFaultOf None result }
 {
-    let atoms = atoms_of(&item);
-    if made.atoms_left < atoms {
-        return Err(RuleError::Fault(RuleFault::Limit));
-    }
-    made.atoms_left -= atoms;
     items.push(item)?;
     Ok(())
 }
@@ -155,33 +139,26 @@ fn push(items: &mut Vec<PatternTree>, made: &mut Made, item: PatternTree) -> Res
 fn push_copies(
     alloc: Global,
     items: &mut Vec<PatternTree>,
-    made: &mut Made,
     others: &[PatternTree],
 ) -> Result<(), RuleError>
     ensures items { OnOk result (map pattern items.new.items ≡ map pattern items.old.items ++ map pattern others.now) }
-    ensures sets { made.new.sets ≡ made.old.sets }
-    ensures err { IfErr result IsLimit }
+    ensures fault { IsFaultOf None result }
 {
     for other in others {
         let copy = copied(alloc, other)?;
-        push(items, made, copy)?;
+        push(items, copy)?;
     }
     Ok(())
 }
 
 /// Appends code points.
-fn push_literal(
-    items: &mut Vec<PatternTree>,
-    made: &mut Made,
-    points: &[u32],
-) -> Result<(), RuleError>
+fn push_literal(items: &mut Vec<PatternTree>, points: &[u32]) -> Result<(), RuleError>
     ensures items { OnOk result (map pattern items.new.items ≡
         map pattern items.old.items ++ map patterns.Point points.now) }
-    ensures sets { made.new.sets ≡ made.old.sets }
-    ensures err { IfErr result IsLimit }
+    ensures fault { IsFaultOf None result }
 {
     for point in points {
-        push(items, made, PatternTree::Point(*point))?;
+        push(items, PatternTree::Point(*point))?;
     }
     Ok(())
 }
@@ -191,20 +168,19 @@ fn push_class(
     alloc: Global,
     known: Known<'_>,
     items: &mut Vec<PatternTree>,
-    made: &mut Made,
+    sets: &mut Vec<PointSet>,
     class: &ClassTree,
 ) -> Result<(), RuleError>
     requires spans { HasSpans (class_of class.now) }
     requires entries { HaveSpans (known_of known).entries }
     ensures items { OnOk result (AddsClass (known_of known.entry) (class_of class.now)
-        made.old.sets.items made.new.sets.items
-        (map pattern items.old.items) (map pattern items.new.items)) }
-    ensures fault { IsPartFaultOf (class_fault (known_of known.entry) (class_of class.now)) result }
+        sets.old.items sets.new.items (map pattern items.old.items) (map pattern items.new.items)) }
+    ensures fault { IsFaultOf (class_fault (known_of known.entry) (class_of class.now)) result }
 {
     let class = set_of(alloc, known, class)?;
     let set = class.join(alloc, SetOperation::Intersection, known.points)?;
-    let number = number_of_set(&mut made.sets, set.into_point_set())?;
-    push(items, made, PatternTree::Set(number))
+    let number = number_of_set(sets, set.into_point_set())?;
+    push(items, PatternTree::Set(number))
 }
 
 /// Appends the pattern of the rule of this name, in a group.
@@ -212,13 +188,11 @@ fn push_rule(
     alloc: Global,
     known: Known<'_>,
     items: &mut Vec<PatternTree>,
-    made: &mut Made,
     name: &[u8],
 ) -> Result<(), RuleError>
     ensures items { OnOk result (map pattern items.new.items ≡
         map pattern items.old.items ++ patterns.Group (rule_named (known_of known.entry) name.now) ∷ []) }
-    ensures sets { made.new.sets ≡ made.old.sets }
-    ensures fault { IsPartFaultOf (rule_fault (known_of known.entry) name.now) result }
+    ensures fault { IsFaultOf (rule_fault (known_of known.entry) name.now) result }
 {
     let number = number_of(known.rule_names, name);
     if number >= known.rules.len() {
@@ -229,26 +203,24 @@ fn push_rule(
         return Err(RuleError::Fault(RuleFault::NotSupported));
     }
     let copy = copied(alloc, rule)?;
-    push(items, made, PatternTree::Group(Box::new(alloc, copy)?))
+    push(items, PatternTree::Group(Box::new(alloc, copy)?))
 }
 
 /// Appends a choice between items and other items.
 fn push_choice(
     alloc: Global,
     items: &mut Vec<PatternTree>,
-    made: &mut Made,
     left: Vec<PatternTree>,
     right: Vec<PatternTree>,
 ) -> Result<(), RuleError>
     ensures items { OnOk result (map pattern items.new.items ≡
         map pattern items.old.items ++ choice_of (map pattern left.items) (map pattern right.items) ∷ []) }
-    ensures sets { made.new.sets ≡ made.old.sets }
-    ensures err { IfErr result IsLimit }
+    ensures fault { IsFaultOf None result }
 {
     let left = sequence_of(alloc, left)?;
     let right = ungrouped(sequence_of(alloc, right)?);
     let either = PatternTree::Either(Box::new(alloc, left)?, Box::new(alloc, right)?);
-    push(items, made, PatternTree::Group(Box::new(alloc, either)?))
+    push(items, PatternTree::Group(Box::new(alloc, either)?))
 }
 
 /// What is in a group, or the pattern, if it is none.
@@ -265,26 +237,24 @@ fn ungrouped(tree: PatternTree) -> PatternTree
 fn push_times(
     alloc: Global,
     items: &mut Vec<PatternTree>,
-    made: &mut Made,
     count: Count,
     once: Vec<PatternTree>,
 ) -> Result<(), RuleError>
     ensures items { OnOk result (map pattern items.new.items ≡
         map pattern items.old.items ++
         (copies count.least (map pattern once.items) ++ further count (map pattern once.items))) }
-    ensures sets { made.new.sets ≡ made.old.sets }
-    ensures err { IfErr result IsLimit }
+    ensures fault { IsFaultOf None result }
 {
     for _time in 0..count.least {
-        push_copies(alloc, items, made, &once)?;
+        push_copies(alloc, items, &once)?;
     }
     let atom = atom_of(alloc, once)?;
     let Some(most) = count.most else {
-        return push(items, made, PatternTree::Many(Box::new(alloc, atom)?));
+        return push(items, PatternTree::Many(Box::new(alloc, atom)?));
     };
     for _time in 0..most.saturating_sub(count.least) {
         let copy = copied(alloc, &atom)?;
-        push(items, made, PatternTree::Optional(Box::new(alloc, copy)?))?;
+        push(items, PatternTree::Optional(Box::new(alloc, copy)?))?;
     }
     Ok(())
 }
@@ -314,48 +284,50 @@ fn push_part(
     alloc: Global,
     known: Known<'_>,
     items: &mut Vec<PatternTree>,
-    made: &mut Made,
+    sets: &mut Vec<PointSet>,
     part: &PartTree,
 ) -> Result<(), RuleError>
     requires part { IsWellFormed (part_of part.now) }
     requires entries { HaveSpans (known_of known).entries }
+    requires rules { HaveSets (length sets.old.items) (known_of known).rules }
     ensures items { OnOk result (Appends (known_of known.entry).points (has_anchor_part (part_of part.now))
-        made.old.sets.items made.new.sets.items (map pattern items.old.items) (map pattern items.new.items)
+        sets.old.items sets.new.items (map pattern items.old.items) (map pattern items.new.items)
         (Matching (known_of known.entry) (part_of part.now))) }
-    ensures fault { IsPartFaultOf (part_fault (known_of known.entry) (part_of part.now)) result }
+    ensures rules { OnOk result (HaveSets (length sets.new.items) (known_of known.entry).rules) }
+    ensures fault { IsFaultOf (part_fault (known_of known.entry) (part_of part.now)) result }
 {
     match part {
-        PartTree::Literal(points) => push_literal(items, made, points),
-        PartTree::Any => push(items, made, PatternTree::Any),
-        PartTree::Of(class) => push_class(alloc, known, items, made, class),
-        PartTree::Start => push(items, made, PatternTree::Start),
-        PartTree::End => push(items, made, PatternTree::End),
-        PartTree::Anchor => push(items, made, PatternTree::Anchor),
-        PartTree::OfRule(rule) => push_rule(alloc, known, items, made, rule.name.as_slice()),
+        PartTree::Literal(points) => push_literal(items, points),
+        PartTree::Any => push(items, PatternTree::Any),
+        PartTree::Of(class) => push_class(alloc, known, items, sets, class),
+        PartTree::Start => push(items, PatternTree::Start),
+        PartTree::End => push(items, PatternTree::End),
+        PartTree::Anchor => push(items, PatternTree::Anchor),
+        PartTree::OfRule(rule) => push_rule(alloc, known, items, rule.name.as_slice()),
         PartTree::Then(first, rest) => {
             if have_anchors(first, rest) {
                 return Err(RuleError::Fault(RuleFault::NotSupported));
             }
-            push_part(alloc, known, items, made, first)?;
-            push_part(alloc, known, items, made, rest)
+            push_part(alloc, known, items, sets, first)?;
+            push_part(alloc, known, items, sets, rest)
         }
         PartTree::Choice(left, right) => {
             if has_anchor(left) || has_anchor(right) {
                 return Err(RuleError::Fault(RuleFault::NotSupported));
             }
             let mut left_items = Vec::new(alloc);
-            push_part(alloc, known, &mut left_items, made, left)?;
+            push_part(alloc, known, &mut left_items, sets, left)?;
             let mut right_items = Vec::new(alloc);
-            push_part(alloc, known, &mut right_items, made, right)?;
-            push_choice(alloc, items, made, left_items, right_items)
+            push_part(alloc, known, &mut right_items, sets, right)?;
+            push_choice(alloc, items, left_items, right_items)
         }
         PartTree::Times(count, part) => {
             if has_anchor(part) {
                 return Err(RuleError::Fault(RuleFault::NotSupported));
             }
             let mut once = Vec::new(alloc);
-            push_part(alloc, known, &mut once, made, part)?;
-            push_times(alloc, items, made, *count, once)
+            push_part(alloc, known, &mut once, sets, part)?;
+            push_times(alloc, items, *count, once)
         }
     }
 }
@@ -369,12 +341,22 @@ pub fn pattern_of_rule(
 ) -> Result<PatternTree, RuleError>
     requires rule { IsWellFormed (part_of rule.now) }
     requires entries { HaveSpans (known_of known).entries }
+    requires rules { HaveSets (length made.old.sets.items) (known_of known).rules }
+    ensures known { IfOk result (λ tree. HasItsSets (length made.new.sets.items) (pattern tree)) }
     ensures pattern { IfOk result (λ tree.
         SaysRule (known_of known.entry) made.new.sets.items (pattern tree) (part_of rule.now)) }
     ensures sets { OnOk result (BeginsWith made.new.sets.items made.old.sets.items) }
-    ensures fault { IsPartFaultOf (part_fault (known_of known.entry) (part_of rule.now)) result }
+    ensures rules { OnOk result (HaveSets (length made.new.sets.items) (known_of known.entry).rules) }
+    ensures atoms { OnOk result
+        (made.new.atoms_left + part_atoms (known_of known.entry) (part_of rule.now) ≡ made.old.atoms_left) }
+    ensures fault { IsFaultOf
+        (fault_within made.old.atoms_left (known_of known.entry) (part_of rule.now)) result }
 {
+    let Some(atoms_left) = left_after(known, rule, made.atoms_left) else {
+        return Err(RuleError::Fault(RuleFault::Limit));
+    };
+    made.atoms_left = atoms_left;
     let mut items = Vec::new(alloc);
-    push_part(alloc, known, &mut items, made, rule)?;
+    push_part(alloc, known, &mut items, &mut made.sets, rule)?;
     Ok(sequence_of(alloc, items)?)
 }

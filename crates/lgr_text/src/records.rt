@@ -1,4 +1,5 @@
 //! What a ruleset says (RFC 7940), in the order of its file. Names stand for what they name elsewhere.
+use crate::joins::SetOperation;
 use label_patterns::{ConditionKind, Span};
 use ruleset_text::{Name, TriggerKind};
 
@@ -20,10 +21,8 @@ pub enum ClassTree {
     OfProperty(Reference),
     /// Those of the class of this name.
     OfClass(Reference),
-    Union(Box<ClassTree>, Box<ClassTree>),
-    Intersection(Box<ClassTree>, Box<ClassTree>),
-    Difference(Box<ClassTree>, Box<ClassTree>),
-    SymmetricDifference(Box<ClassTree>, Box<ClassTree>),
+    /// What an operation makes of two sets.
+    Joined(SetOperation, Box<ClassTree>, Box<ClassTree>),
     Complement(Box<ClassTree>),
 }
 

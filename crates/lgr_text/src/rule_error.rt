@@ -4,18 +4,18 @@ ghost use Rattle.lgr_text.specs.declared.rule_error.RuleError.TheVariants.{Memor
 
 use std::alloc::{AllocError, AllocFailed};
 
-/// What is wrong with a class or a rule.
+/// What is wrong with a class, a rule or an action.
 #[derive(Clone, Copy, Debug, PartialEq, Eq)]
 pub enum RuleFault {
-    /// It names a class, a rule or a tag that isn't defined.
+    /// It names a class, a rule, a tag or a type that isn't defined.
     Undefined,
-    /// It has a property that isn't known, or an anchor where no pattern has one.
+    /// It has a property or a disposition that isn't known, or an anchor where no pattern has one.
     NotSupported,
     /// It takes more atoms than a pattern may have.
     Limit,
 }
 
-/// Why a class or a rule isn't made.
+/// Why a class, a rule or an action isn't made.
 #[derive(Clone, Copy, Debug, PartialEq, Eq)]
 pub enum RuleError {
     Fault(RuleFault),

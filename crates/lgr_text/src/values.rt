@@ -143,7 +143,7 @@ fn count_from(least: Option<u32>) -> Option<Count>
 
 /// The number that one to nine digits write.
 #[tactic(auto, unfolding(crate::specs::Values::number))]
-fn number_of(digits: &[u8]) -> Option<u32>
+pub(crate) fn number_of(digits: &[u8]) -> Option<u32>
     ensures { result ≡ values.number digits.now }
 {
     if digits.is_empty() || digits.len() > 9 {

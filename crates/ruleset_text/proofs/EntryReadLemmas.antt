@@ -15,7 +15,7 @@ use Rattle.ruleset_text.specs.Entries.{Mapped, EntryForm}
 use Rattle.ruleset_text.specs.EntryText.{MayHaveType, IsSequence, IsMapped, IsForm}
 use Rattle.ruleset_text.specs.NamedConditions.{HasRule}
 use Rattle.ruleset_text.specs.EntryWords as words
-use Rattle.ruleset_text.specs.EntryWords.{Word, IsWord, AreWords, IsEntryLine, point_of, mark_words, sequence_words, last_words, type_words, kind_word, condition_words, mapped_words, variants_words, entry_words}
+use Rattle.ruleset_text.specs.EntryWords.{Word, IsWord, AreWords, point_of, mark_words, sequence_words, last_words, type_words, kind_word, condition_words, mapped_words, variants_words, entry_words}
 use Rattle.ruleset_text.specs.EntrySteps.{State, start, word_of, at_point, at_last, begin_by, step_by, step, state_after, ended, entry_at, entry_in}
 use Rattle.ruleset_text.specs.Lexemes.{lexemes}
 use Rattle.ruleset_text.specs.Names.{is_name}

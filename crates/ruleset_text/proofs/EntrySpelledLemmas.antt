@@ -18,7 +18,7 @@ use Rattle.ruleset_text.specs.Entries.{Mapped, EntryForm}
 use Rattle.ruleset_text.specs.EntryFaults.{Notes, PlacedWord, begin_places, faults_of, notes_of, placed_words, points_from}
 use Rattle.ruleset_text.specs.EntryText.{IsMapped, IsForm}
 use Rattle.ruleset_text.specs.EntryWords as words
-use Rattle.ruleset_text.specs.EntryWords.{Word, IsWord, AreWords, point_of, mark_words, sequence_words, last_words, type_words, kind_word, condition_words, mapped_words, variants_words, entry_words}
+use Rattle.ruleset_text.specs.EntryWords.{Word, IsWord, AreWords, point_of, mark_words, sequence_words, last_words, type_words, kind_word, mapped_words, variants_words, entry_words}
 use Rattle.ruleset_text.specs.EntrySteps.{State, start, word_of, marked, at_point, at_last, at_type, at_rule, begin_by, after_rule, after_type, after_points, after_point, step_by, step, state_after, ended, entry_at, entry_in}
 use Rattle.ruleset_text.specs.Tokens.{without_prefix}
 use Rattle.ruleset_text.specs.Names.{is_name}

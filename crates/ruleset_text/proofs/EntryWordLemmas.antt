@@ -156,3 +156,9 @@ module _ (parts : EntryParts) (s : State) (w : List ℕ) where
       by phase.Last e h = absurd cc
       by phase.VariantType e h = absurd cc
       by phase.Rule e h = absurd cc
+
+-- ---- what a step does before a code point, and before a name
+
+pub ruleset point_steps = (after_mark, after_hyphen, after_range)
+
+pub ruleset name_steps = (name_lacks, name_had, name_free, type_next)

@@ -76,22 +76,9 @@ whole_rule (Optional p) e = refl
 whole_rule (Many p) e = refl
 whole_rule (Then p q) e = no_context (Then p q) e
 
-same_anchor : (p : Pattern) → rules.is_anchor p ≡ is_anchor p
-same_anchor Anchor = refl
-same_anchor (Point c) = refl
-same_anchor (Set n) = refl
-same_anchor Any = refl
-same_anchor Start = refl
-same_anchor End = refl
-same_anchor (Group p) = refl
-same_anchor (Optional p) = refl
-same_anchor (Many p) = refl
-same_anchor (Then p q) = refl
-same_anchor (Either p q) = refl
-
 a_context : (p : Pattern) → rules.is_context p ≡ true → is_context p ≡ true
 a_context Anchor e = refl
-a_context (Then p q) e = by (is_anchor p) (sym (ap (λ b. cond b (rules.is_after q) (rules.is_before p && rules.is_context q)) (same_anchor p)) ∙ e) (a_context q)
+a_context (Then p q) e = by (is_anchor p) e (a_context q)
   where
     by : (b : Bool) → cond b (rules.is_after q) (rules.is_before p && rules.is_context q) ≡ true → (rules.is_context q ≡ true → is_context q ≡ true) → (b || is_context q) ≡ true
     by true e rest = refl

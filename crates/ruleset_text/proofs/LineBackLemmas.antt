@@ -13,7 +13,7 @@ use Rattle.ruleset_text.specs.Signs as sign
 use Rattle.ruleset_text.specs.Actions.{NamedAction, action_lexemes}
 use Rattle.ruleset_text.specs.Canonical.{pattern_text, spans_text, definition_text, rule_word}
 use Rattle.ruleset_text.specs.Definition as definition
-use Rattle.ruleset_text.specs.Definition.{Definition, demand_word, if_such, contexts_in, demand_in, definition_of}
+use Rattle.ruleset_text.specs.Definition.{Definition, if_such, contexts_in, demand_in}
 use Rattle.ruleset_text.specs.Definitions.{Definitions, all_names, all_atoms, canonical_size, is_line_over_limit, is_pattern_over_limit, rule_lines, added, with_definition, with_words}
 use Rattle.ruleset_text.specs.Lexemes.{begins_in_word, lexemes}
 use Rattle.ruleset_text.specs.Limits.{groups, stars, atoms, has_its_sets, IsWithin}

@@ -7,7 +7,8 @@ use Rattle.ruleset_text.specs.Signs as sign
 use Rattle.label_patterns.specs.Patterns as patterns
 use Rattle.label_patterns.specs.Patterns.{Pattern}
 use Rattle.ruleset_text.specs.Grammar.{Is, Atom, Item, Branch, Whole, tokens}
-use Rattle.ruleset_text.specs.Rules.{has, is_anchor, is_before, is_after, is_context, is_rule}
+use Rattle.label_patterns.specs.Rules.{is_anchor}
+use Rattle.ruleset_text.specs.Rules.{has, is_before, is_after, is_context, is_rule}
 use Rattle.ruleset_text.proofs.PatternLemmas.{item_is}
 
 pub and_false : (b : Bool) → false ≡ (b && false)

@@ -4,6 +4,7 @@ use Rattle.ruleset_text.specs.Signs.{Sign}
 use Rattle.ruleset_text.specs.Signs as sign
 use Rattle.label_patterns.specs.Patterns.{Pattern, Point, Set, Any, Start, End, Anchor, Group, Optional, Many, Then}
 use Rattle.label_patterns.specs.Patterns.{Either}
+use Rattle.label_patterns.specs.Rules.{is_anchor}
 
 abbrev pub is_end : Sign → Bool
 is_end sign.End = true
@@ -30,10 +31,6 @@ has s (Optional p) = has s p
 has s (Many p) = has s p
 has s (Then p q) = has s p || has s q
 has s (Either p q) = has s p || has s q
-
-abbrev pub is_anchor : Pattern → Bool
-is_anchor Anchor = true
-is_anchor p = false
 
 -- no '_' or '$' stands before '_'; no '_' or '^' after it
 abbrev pub is_before : Pattern → Bool

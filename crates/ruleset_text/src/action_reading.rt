@@ -224,7 +224,8 @@ fn listing(
 
 /// Whether a whole-label rule has this name.
 pub fn is_whole_rule(earlier: Earlier<'_>, name: &[u8]) -> bool
-    ensures { result ≡ is_among (whole_names earlier.entry.rule_names.now (map pattern earlier.entry.rules.now)) name.now }
+    ensures { result ≡
+        is_among (whole_names earlier.entry.rule_names.now (map pattern earlier.entry.rules.now)) name.now }
 {
     let names = earlier.rule_names;
     let rules = earlier.rules;

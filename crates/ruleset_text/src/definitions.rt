@@ -206,8 +206,8 @@ impl Definitions {
     /// The actions.
     pub fn actions(&self) -> &[NamedAction]
         ensures is { map action result.now ≡ self.now.actions }
-        ensures known { AllByRecursion (λ a. knows_action (words.type_names self.now) (words.whole_rules self.now) a ≡ true)
-            self.now.actions }
+        ensures known { AllByRecursion
+            (λ a. knows_action (words.type_names self.now) (words.whole_rules self.now) a ≡ true) self.now.actions }
     {
         &self.actions
     }
@@ -227,7 +227,8 @@ impl Definitions {
         self.written
     }
 
-    /// Adds what a line defines. The canonical text of the definitions may have `limit` bytes. An `Err` changes nothing.
+    /// Adds what a line defines. The canonical text of the definitions may have `limit` bytes. An `Err` changes
+    /// nothing.
     pub fn define(
         &mut self,
         alloc: Global,

@@ -24,7 +24,8 @@ impl Definitions {
 
     fn push_types(&self, out: &mut Vec<u8>) -> Result<(), AllocError>
         ensures { OnOk result (out.new.items ≡
-            out.old.items ++ lines_text (map (definition_text self.now.set_names) (map definition.VariantType self.now.types))) }
+            out.old.items ++ lines_text (map (definition_text self.now.set_names)
+            (map definition.VariantType self.now.types))) }
     {
         let types = self.types();
         for name in types {

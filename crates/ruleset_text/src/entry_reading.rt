@@ -136,7 +136,7 @@ impl EntryState {
 
     /// A word of a part that is lacking may stand nowhere. A code point is no word.
     #[inline(always)]
-    #[tactic(auto, using(crate::proofs::EntryWordLemmas::after_mark, crate::proofs::EntryWordLemmas::after_hyphen, crate::proofs::EntryWordLemmas::after_range))]
+    #[tactic(auto, using(crate::proofs::EntryWordLemmas::point_steps))]
     fn step(
         &mut self,
         alloc: Global,
@@ -177,7 +177,7 @@ impl EntryState {
 
     /// Takes a name, which may be any word of types and conditions, if these are not lacking.
     #[inline(always)]
-    #[tactic(auto, using(crate::proofs::EntryWordLemmas::name_lacks, crate::proofs::EntryWordLemmas::name_had, crate::proofs::EntryWordLemmas::name_free, crate::proofs::EntryWordLemmas::type_next))]
+    #[tactic(auto, using(crate::proofs::EntryWordLemmas::name_steps))]
     fn take_name(
         &mut self,
         alloc: Global,

@@ -12,8 +12,8 @@ pub enum DefinitionFault {
     /// The line has not the form of its keyword.
     Syntax,
     /// The line goes past a limit: 62 types with those that are predefined, 256 sets, 256 rules, demands and actions
-    /// together, 4,096 atoms in all patterns, 8 groups or two `*` within each other, 8,192 bytes of a canonical line, or
-    /// the room for the canonical text.
+    /// together, 4,096 atoms in all patterns, 8 groups or two `*` within each other, 8,192 bytes of a canonical line,
+    /// or the room for the canonical text.
     Limit,
     /// The line names a set, a type or a rule that no earlier line defines, or where an action asks for one, a context
     /// rule.

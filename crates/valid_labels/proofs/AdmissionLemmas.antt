@@ -1,5 +1,5 @@
 -- Whether a label may be asked about, by what is told of it itself.
-use Rattle.std.proofs.Common.{◌≡◌, ℕ, inl, inr, Bool, true, false, List, refl, subst}
+use Rattle.std.proofs.Common.{◌≡◌, ◌↔◌, ℕ, inl, inr, Bool, true, false, List, refl, subst}
 use Rattle.std.specs.Prelude.{Option, Some, None}
 use Rattle.variant_dispositions.specs.declared.disposition.Disposition.{Disposition}
 use Rattle.variant_dispositions.specs.declared.disposition.Disposition.TheVariants.{Invalid}
@@ -11,10 +11,11 @@ use Rattle.valid_labels.specs.Causes.{IsDisposed}
 use Rattle.valid_labels.specs.Dispositions.{IsClearItself, IsOwnDisposition, told_itself}
 use Rattle.valid_labels.specs.Testing.{IsAdmission, admission_by, admission_of}
 use Rattle.valid_labels.specs.Tests.{is_invalid}
-use Rattle.valid_labels.specs.Validity.{AsksNothing, IsAdmitted, IsSound}
+use Rattle.valid_labels.specs.Validity.{AsksNothing, IsAdmitted, IsSound, IsValid}
 use Rattle.valid_labels.proofs.EligibleLemmas.{eligible-segmentation, opposite}
 use Rattle.valid_labels.proofs.ItselfLemmas.{one-disposition, told-clear, told-none, told-unclear}
 use Rattle.valid_labels.proofs.NothingLemmas.{any-cut-asks_nothing}
+use Rattle.valid_labels.proofs.SegmentationLemmas.{made-from_segmentation}
 use Rattle.valid_labels.proofs.TestLemmas.{invalid-agrees}
 
 module _ (table : TableValue) (label : List ℕ) where
@@ -22,9 +23,19 @@ module _ (table : TableValue) (label : List ℕ) where
   pub admitted-disposed : (AsksNothing table → ⊥) → IsAdmitted table label → IsDisposed table label
   admitted-disposed asks h = record { eligible = elim h.cut [ inl any ↦ absurd (asks (any-cut-asks_nothing table any.0)) | inr eligible ↦ eligible ]; met = h.met }
 
-  pub admission-told : IsSound table → IsMadeOfSources table label → IsDisposed table label → IsAdmission table label (admission_of (told_itself table label))
-  admission-told sound made disposed = by_value (told_itself table label) refl
+  -- and each that is valid is disposed
+  pub disposed-valid : (AsksNothing table → ⊥) → IsDisposed table label ↔ IsValid table label
+  disposed-valid asks = (
+    λ d. record { cut = inr d.eligible; met = d.met },
+    λ h. record { eligible = elim h.cut [ inl any ↦ absurd (asks (any-cut-asks_nothing table any)) | inr eligible ↦ eligible ]; met = h.met },
+  )
+
+  pub admission-told : IsSound table → IsDisposed table label → IsAdmission table label (admission_of (told_itself table label))
+  admission-told sound disposed = by_value (told_itself table label) refl
     where
+      made : IsMadeOfSources table label
+      made = made-from_segmentation table label (eligible-segmentation table label disposed.eligible)
+
       by_invalid : (d : Disposition) → IsClearItself table label → IsOwnDisposition table label d → (b : Bool) → is_invalid d ≡ b → IsAdmission table label (admission_by b d)
       by_invalid d clear own true is = (made, λ h. h.not_invalid (subst (IsOwnDisposition table label) ((invalid-agrees d).0 is) own))
       by_invalid d clear own false is = (

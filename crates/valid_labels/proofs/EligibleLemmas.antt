@@ -17,7 +17,7 @@ use Rattle.variant_table.proofs.NumberLemmas.{pairs_tail}
 use Rattle.variant_table.specs.Segmentations.{HasSegmentation, seen_under}
 use Rattle.valid_labels.specs.Eligible.{Stands, IsLongest, LongestLeads, CutLeadsTo, IsEligible, IsCutEnd}
 use Rattle.valid_labels.specs.Tests.{holds_in, last_standing, longest_at, place_after, advanced, cut_after, cut_end, is_eligible}
-use Rattle.valid_labels.specs.Validity.{IsOfPoints}
+use Rattle.valid_labels.specs.Validity.{HasSourcesOfPoints}
 use Rattle.valid_labels.specs.Laws.{LongestFirst, OneCut}
 use Rattle.valid_labels.proofs.CutLemmas.{EntryStands, rounds-map, sequence-filled, cut-steps, steps-cut}
 use Rattle.valid_labels.proofs.EndLemmas.{part-begins}
@@ -312,7 +312,7 @@ pub eligible-segmentation : (table : TableValue) (label : List ℕ) → IsEligib
 eligible-segmentation table label h = (segmentation-cut table label).1 (steps-cut (Contains table.entries) (HoldsIn table label) label (eligible-entries table label (length label) h).1)
 
 -- a source of one code point is the longest where each is one
-pub point-leads : (table : TableValue) (label : List ℕ) → IsOfPoints table → (i j : ℕ) → EntryStands (Contains table.entries) (HoldsIn table label) label i j → LongestLeads table label i j
+pub point-leads : (table : TableValue) (label : List ℕ) → HasSourcesOfPoints table → (i j : ℕ) → EntryStands (Contains table.entries) (HoldsIn table label) label i j → LongestLeads table label i j
 point-leads table label points i j s =
     let e = s.0 in
     let le = s.2 in
@@ -327,7 +327,7 @@ point-leads table label points i j s =
       end,
     )
 
-pub points-eligible : (table : TableValue) (label : List ℕ) → IsOfPoints table → HasSegmentation table label → IsEligible table label
+pub points-eligible : (table : TableValue) (label : List ℕ) → HasSourcesOfPoints table → HasSegmentation table label → IsEligible table label
 points-eligible table label points h =
     rounds-map (EntryStands (Contains table.entries) (HoldsIn table label) label) (LongestLeads table label) (point-leads table label points) 0 (length label)
     (cut-steps (Contains table.entries) (HoldsIn table label) label ((segmentation-cut table label).0 h))

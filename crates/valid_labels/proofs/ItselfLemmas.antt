@@ -19,7 +19,8 @@ use Rattle.variant_table.proofs.MemberLemmas.{Contains-head, Contains-none, Cont
 use Rattle.valid_labels.specs.Actions.{actions_of, matches_rule}
 use Rattle.valid_labels.specs.Dispositions.{IsClearItself, IsOwnDisposition, disposition_by, kinds_of, told_itself}
 use Rattle.valid_labels.specs.Laws.{LabelsAreToldThemselves, TypelessAreClear}
-use Rattle.valid_labels.specs.Staying.{staying, staying_of}
+use Rattle.valid_labels.specs.Staying.{staying_of}
+use Rattle.variant_table.specs.Staying.{staying}
 use Rattle.valid_labels.specs.Validity.{IsSound}
 use Rattle.valid_labels.proofs.EligibleLemmas.{source-filled}
 use Rattle.valid_labels.proofs.ReadingLists.{IsSo, readings-told, told-is}

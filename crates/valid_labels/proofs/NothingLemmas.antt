@@ -31,7 +31,7 @@ use Rattle.valid_labels.specs.Actions.{action_of, matches_rule, trigger_of}
 use Rattle.valid_labels.specs.Dispositions.{IsOwnDisposition, disposition_by, kinds_of}
 use Rattle.valid_labels.specs.Eligible.{IsEligible, LongestLeads}
 use Rattle.valid_labels.specs.Demands.{IsMet, MeetsDemands}
-use Rattle.valid_labels.specs.Validity.{AllowsAnyCut, AsksNothing, AsksTypesAlone, HasVariantsOfSources, IsAdmitted, IsOfPoints, IsValid}
+use Rattle.valid_labels.specs.Validity.{AllowsAnyCut, AsksNothing, AsksTypesAlone, HasVariantsOfSources, IsAdmitted, HasSourcesOfPoints, IsValid}
 use Rattle.valid_labels.specs.Laws.{AdmitsSources, AdmittedAreValid, NothingIsAsked}
 use Rattle.valid_labels.proofs.EligibleLemmas.{eligible-segmentation, point-leads, points-eligible}
 use Rattle.valid_labels.proofs.ItselfLemmas.{kinds-unmapped, one-disposition, some-unmapped, typeless-clear}
@@ -76,7 +76,7 @@ abbrev any-cut : (table : TableValue) → AdmitsSources table → table.version 
 any-cut table nothing earlier = record { earlier = earlier; cuts_alone = nothing.cuts_alone }
 
 -- each source is one code point, and each variant is made of sources
-module _ (table : TableValue) (label : List ℕ) (conditions : HasNoConditions table) (points : IsOfPoints table) (made : HasVariantsOfSources table) where
+module _ (table : TableValue) (label : List ℕ) (conditions : HasNoConditions table) (points : HasSourcesOfPoints table) (made : HasVariantsOfSources table) where
   abbrev Leads : ℕ → ℕ → Type 0
   Leads i j = LongestLeads table label i j
 

@@ -1,16 +1,14 @@
 -- No rule of a table asks for the end of a label before '_'.
 use Rattle.std.proofs.Common.{◌≡◌, ℕ, inl, inr, Bool, true, false, not, cond, ◌&&◌, ◌||◌, List, [], ◌∷◌, length, refl, sym, ap, ◌∙◌, arith}
-use Rattle.std.specs.Prelude.{IsTrue}
 use Rattle.std.specs.List.{AllByRecursion}
 use Rattle.std.proofs.lemmas.Bool.{or_parts}
 use Rattle.label_patterns.specs.Laws.{ContextsIgnoreEnd, IgnoresEnd, IgnoresEndBefore}
 use Rattle.label_patterns.specs.Patterns.{Pattern, Point, Set, Any, Start, End, Anchor, Group, Optional, Many, Then, Either}
-use Rattle.label_patterns.specs.Rules as rules
-use Rattle.label_patterns.specs.Rules.{branches}
+use Rattle.label_patterns.specs.Rules.{branches, is_anchor}
 use Rattle.ruleset_text.specs.Signs as sign
 use Rattle.ruleset_text.specs.Definition as definition
 use Rattle.ruleset_text.specs.Definitions.{Definitions, named}
-use Rattle.ruleset_text.specs.Rules.{has, is_anchor, is_before, is_after, is_context, is_rule, is_rule_or_whole}
+use Rattle.ruleset_text.specs.Rules.{has, is_before, is_after, is_context, is_rule, is_rule_or_whole}
 use Rattle.idn_class.specs.declared.properties.Properties.{Properties}
 use Rattle.ruleset_text.specs.WellFormed.{IsDefinition, AreDefinitions}
 use Rattle.ruleset_text.proofs.FormLemmas.{whole_rule}
@@ -35,25 +33,12 @@ not-is : (b : Bool) → not b ≡ true → b ≡ false
 not-is true h = not-true h
 not-is false h = refl
 
-same-anchor : (p : Pattern) → is_anchor p ≡ true → IsTrue (rules.is_anchor p)
-same-anchor (Point c) h = not-true h
-same-anchor (Set n) h = not-true h
-same-anchor Any h = not-true h
-same-anchor Start h = not-true h
-same-anchor End h = not-true h
-same-anchor Anchor h = refl
-same-anchor (Group p) h = not-true h
-same-anchor (Optional p) h = not-true h
-same-anchor (Many p) h = not-true h
-same-anchor (Then p q) h = not-true h
-same-anchor (Either p q) h = not-true h
-
 -- an item and what follows it
 item-before : (p q : Pattern) → (is_context q ≡ true → IgnoresEndBefore q) → cond (is_anchor p) (is_after q) (is_before p && is_context q) ≡ true → IgnoresEndBefore (Then p q)
 item-before p q later = by_item (is_anchor p) refl
   where
     by_item : (b : Bool) → is_anchor p ≡ b → cond b (is_after q) (is_before p && is_context q) ≡ true → IgnoresEndBefore (Then p q)
-    by_item true is h = inl (same-anchor p is)
+    by_item true is h = inl is
     by_item false is h =
         let two = (and-both (is_before p) (is_context q)).0 h in
         let parts = (and-both (not (has sign.Anchor p)) (not (has sign.End p))).0 two.0 in

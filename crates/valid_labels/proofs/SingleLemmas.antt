@@ -43,6 +43,16 @@ single-point table point e formed single = record {
     by_rest [] c f h is asks = (refl, sym asks ∙ ap (λ (x : Entry). x.condition) (same_entry table.entries f e formed.sources h single.in_table (is ∙ sym single.alone)))
     by_rest (d ∷ r) c f h is asks = absurd (single.longest f d r h is)
 
+-- where no entry is such, no code point is single
+pub no_single-point : (table : TableValue) (point : ℕ) → ((e : Entry) → ¬ sources.IsSingle table.entries point e) → (c : Option Condition) → ¬ IsSingle table point c
+no_single-point table point none c single =
+    let s = single.segment in
+    none s.0 (record {
+      in_table = s.1;
+      alone = s.2;
+      longest = λ f d rest h is. (let more = (single.alone (d ∷ rest) f.condition (f, h, is, refl)).0 in cc);
+    })
+
 -- ---- steps from single places
 
 -- from a single code point the longest source that stands is that code point, if it may stand there

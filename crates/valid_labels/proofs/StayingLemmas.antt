@@ -20,7 +20,8 @@ use Rattle.variant_table.proofs.MemberLemmas.{Contains-head}
 use Rattle.variant_table.proofs.MemberLists.{Contains-filter, Contains-map}
 use Rattle.valid_labels.specs.Dispositions.{kinds_of}
 use Rattle.valid_labels.specs.Eligible.{Stands}
-use Rattle.valid_labels.specs.Staying.{may_stand, staying, staying_at, staying_of}
+use Rattle.valid_labels.specs.Staying.{staying_at, staying_of}
+use Rattle.variant_table.specs.Staying.{may_stand, staying}
 use Rattle.valid_labels.specs.Validity.{IsSound}
 use Rattle.valid_labels.proofs.CutLemmas.{sources}
 use Rattle.valid_labels.proofs.EligibleLemmas.{begins-within, from-stands, source-filled, to-stands}

@@ -24,7 +24,7 @@ use Rattle.variant_table.specs.declared.version.Version.TheVariants.{One, Two, T
 use Rattle.variant_table.specs.Entries.{Entry, TableValue, sequences_in}
 use Rattle.variant_table.specs.WellFormed.{IsWellFormed}
 use Rattle.variant_table.proofs.MemberLemmas.{Contains-head}
-use Rattle.variant_table.specs.Segmentations.{IsMadeOfSources, HasNoConditions, HasSegmentation, seen_under}
+use Rattle.variant_table.specs.Segmentations.{IsMadeOfSources, HasSegmentation, seen_under}
 use Rattle.valid_labels.specs.Segments.{IsSegment, SegmentIs, MayReach}
 use Rattle.valid_labels.specs.Demands.{IsMet, IsWanted, MeetsDemands}
 use Rattle.valid_labels.specs.Dispositions.{IsClearItself, IsOwnDisposition, told_itself}

@@ -17,14 +17,14 @@ use Rattle.variant_table.specs.Segmentations.{IsMadeOfSources, HasSegmentation, 
 use Rattle.valid_labels.specs.Dispositions.{IsClearItself, IsOwnDisposition, told_itself}
 use Rattle.valid_labels.specs.Readings.{told_by}
 use Rattle.valid_labels.specs.Testing.{IsAdmission}
-use Rattle.valid_labels.specs.Validity.{IsSound, IsOfPoints, AsksCutsAlone, AsksNothing, IsAdmitted, IsValid}
+use Rattle.valid_labels.specs.Validity.{IsSound, HasSourcesOfPoints, AsksCutsAlone, AsksNothing, IsAdmitted, IsValid}
 use Rattle.valid_labels.specs.Validity.{IsDeadUnder}
 use Rattle.valid_labels.specs.Tests as tests
 
 -- longest first accepts no more labels than any cut; and the same where each source is one code point
 pub record LongestFirst : Type 0 where
   pub no_more : (table : TableValue) (label : List ℕ) → IsEligible table label → HasSegmentation table label
-  pub of_points : (table : TableValue) (label : List ℕ) → IsOfPoints table → HasSegmentation table label
+  pub of_points : (table : TableValue) (label : List ℕ) → HasSourcesOfPoints table → HasSegmentation table label
       → IsEligible table label
 
 -- a label has one longest-first cut: one source is the longest at a place, and the cut ends at one place, which is
@@ -84,7 +84,7 @@ TypelessAreClear =
 -- each source is one code point
 pub record AdmitsSources (table : TableValue) : Type 0 where
   pub cuts_alone : AsksCutsAlone table
-  pub cuts : (table.version ≢ Three) ⊎ IsOfPoints table
+  pub cuts : (table.version ≢ Three) ⊎ HasSourcesOfPoints table
 
 -- under such a table a label of one code point or more may be asked about where it is made of sources, so none is
 -- refused as not valid, and its disposition is valid. A table that asks nothing is such a table, and there a label is

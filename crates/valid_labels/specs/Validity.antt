@@ -56,8 +56,8 @@ pub record IsValid (table : TableValue) (label : List ℕ) : Type 0 where
   pub met : MeetsDemands table label
 
 -- each source is one code point
-abbrev pub IsOfPoints : TableValue → Type 0
-IsOfPoints table = AllByRecursion (λ e. length e.source ≡ 1) table.entries
+abbrev pub HasSourcesOfPoints : TableValue → Type 0
+HasSourcesOfPoints table = AllByRecursion (λ e. length e.source ≡ 1) table.entries
 
 -- each variant is made of sources
 abbrev pub HasVariantsOfSources : TableValue → Type 0
@@ -68,7 +68,7 @@ HasVariantsOfSources table =
 -- point and each variant is made of sources
 pub record AsksNothing (table : TableValue) : Type 0 where
   pub cuts_alone : AsksCutsAlone table
-  pub cuts : (table.version ≢ Three) ⊎ (IsOfPoints table × HasVariantsOfSources table)
+  pub cuts : (table.version ≢ Three) ⊎ (HasSourcesOfPoints table × HasVariantsOfSources table)
 
 -- a part of the label matches a pattern that no label may match, and that doesn't ask for the end of the label
 abbrev pub IsRefused : TableValue → List ℕ → Type 0

@@ -22,8 +22,8 @@ use std::alloc::{AllocError, Global};
 use variant_dispositions::VariantDisposition;
 use variant_table::Table;
 
-/// Why a label of at most 63 code points that is made of sources of a table may not be asked about, if it is cut longest
-/// first. `None` where it may. It is an `Err` only where memory was refused.
+/// Why a label of at most 63 code points that is made of sources of a table may not be asked about, if it is cut
+/// longest first. `None` where it may. It is an `Err` only where memory was refused.
 pub fn invalid_cause(
     alloc: Global,
     table: &Table,

@@ -21,7 +21,8 @@ impl SingleSteps {
     /// How many code points lead on at the start of a label, one after the other.
     pub fn run(self) -> usize
         requires { ¬ Has self.known 63 }
-        ensures { (place : ℕ) → place < result → Has self.known place × Has self.leading place }
+        ensures leads { (place : ℕ) → place < result → Has self.known place × Has self.leading place }
+        ensures ends { ¬ (Has self.known result × Has self.leading result) }
     {
         both(self.known, self.leading).trailing_ones() as usize
     }

@@ -1,5 +1,6 @@
 //! What is found of the sources of a ruleset once, so that its labels can be tested.
-ghost use Rattle.std.specs.Prelude.{◌≡◌, ◌≤◌, max, length, IfOk, MatchOption};
+ghost use Rattle.std.specs.Prelude.{◌≡◌, ◌≤◌, max, length, IfOk, MatchOption, Option};
+ghost use Rattle.label_patterns.specs.declared.condition.Condition.{Condition};
 ghost use Rattle.variant_table.specs.WellFormed.{IsWellFormed};
 ghost use Rattle.valid_labels.specs.Validity.{AsksNothing, IsSound};
 ghost use Rattle.valid_labels.specs.inner.Segments.{IsMost};
@@ -58,7 +59,8 @@ impl<'a> Segments<'a> {
 
     /// A code point as a source with which no other source begins, if it is one.
     pub(crate) fn single(&self, point: u32) -> Option<SinglePoint>
-        ensures { MatchOption result (Unit {0}) (λ s. (s.point ≡ point) × IsSingle self.now point s.condition) }
+        ensures { MatchOption result ((c : Option Condition) → ¬ IsSingle self.now point c)
+            (λ s. (s.point ≡ point) × IsSingle self.now point s.condition) }
     {
         // Only for the proof: the contract of `len` says that no two sources are equal.
         let _entries = self.table.len();

@@ -33,7 +33,8 @@ impl<'a> Model for SinglePoints<'a> {
 }
 
 impl<'a> SinglePoints<'a> {
-    ghost use Rattle.std.specs.Prelude.{◌≡◌, MatchOption};
+    ghost use Rattle.std.specs.Prelude.{◌≡◌, MatchOption, Option};
+    ghost use Rattle.label_patterns.specs.declared.condition.Condition.{Condition};
     ghost use Rattle.valid_labels.specs.inner.Singles.{IsSingle};
 
     /// Those of a table.
@@ -57,9 +58,10 @@ impl<'a> SinglePoints<'a> {
         self.segments
     }
 
-    /// What is known of a code point, if it is known to be single.
+    /// What is known of a code point, if it is single.
     pub fn find(&mut self, point: u32) -> Option<SinglePoint>
-        ensures single { MatchOption result (Unit {0}) (λ s. IsSingle self.old point s.condition) }
+        ensures single { MatchOption result ((c : Option Condition) → ¬ IsSingle self.old point c)
+            (λ s. IsSingle self.old point s.condition) }
         ensures same { self.new ≡ self.old }
     {
         let slot = point as usize % SLOTS;
@@ -67,10 +69,12 @@ impl<'a> SinglePoints<'a> {
         if point != NO_POINT && known.point == point {
             return Some(known);
         }
-        let found = self.segments.single(point);
-        if let Some(single) = found {
-            self.known[slot] = single;
+        match self.segments.single(point) {
+            Some(single) => {
+                self.known[slot] = single;
+                Some(single)
+            }
+            None => None,
         }
-        found
     }
 }

@@ -7,7 +7,7 @@ ghost use Rattle.variant_table.specs.WellFormed.{IsWellFormed};
 ghost use Rattle.valid_labels.specs.Furthest.{furthest as furthest_place};
 ghost use Rattle.variant_table.specs.Entries.{sequences_in};
 ghost use Rattle.variant_table.specs.Segmentations.{HasNoConditions, IsMadeOfSources};
-ghost use Rattle.valid_labels.specs.Validity.{AsksNothing, AsksTypesAlone, HasVariantsOfSources, IsOfPoints};
+ghost use Rattle.valid_labels.specs.Validity.{AsksNothing, AsksTypesAlone, HasVariantsOfSources, HasSourcesOfPoints};
 
 use crate::cutting::{NO_STEPS, reached};
 use crate::source_predicate::AnySource;
@@ -104,7 +104,7 @@ fn has_plain_sources(table: &Table) -> bool
 
 /// Whether each source is one code point, and each variant is made of sources.
 fn has_single_sources(table: &Table) -> bool
-    ensures { IsTrue result ↔ (IsOfPoints table.now × HasVariantsOfSources table.now) }
+    ensures { IsTrue result ↔ (HasSourcesOfPoints table.now × HasVariantsOfSources table.now) }
 {
     for number in 0..table.len() {
         let entry = table.entry(number);

@@ -3,10 +3,9 @@ use crate::label_rules::RulesOfLabel;
 use crate::segments::Segments;
 use crate::single_places::SinglePlaces;
 use crate::single_points::SinglePoints;
-use crate::sources::is_made_of_sources;
 use crate::valid::{admission, validity};
 use crate::validity::{Admission, Validity};
-use idn_class::CachedLabel;
+use idn_class::{CachedLabel, shared_len};
 use label_patterns::renew_masks;
 use std::alloc::{AllocError, Global};
 use std::marker::Model;
@@ -62,8 +61,8 @@ impl<'a> ValidityTest<'a> {
         })
     }
 
-    /// Whether a label of at most 63 code points may be asked about; the actions are those of the table. What is cached
-    /// of the label that was tested last stays as it is. It is an `Err` only where memory was refused.
+    /// Whether a label of at most 63 code points may be asked about; the actions are those of the table. It is then the
+    /// label that was tested last. It is an `Err` only where memory was refused.
     pub fn admission(
         &mut self,
         alloc: Global,
@@ -73,20 +72,14 @@ impl<'a> ValidityTest<'a> {
         requires short { length label.now ≤ 63 }
         requires actions { actions.now ≡ actions_of self.old.table.definitions }
         ensures admission { IfOk result (IsAdmission self.old.table label.now) }
-        ensures same { self.new ≡ self.old }
+        ensures kept { self.new.cached ≡ label.now }
+        ensures same_table { self.new.table ≡ self.old.table }
     {
+        let shared = shared_len(self.cached.as_slice(), label);
+        self.see(label, shared);
         let segments = self.points.segments();
-        segments.recall_soundness();
-        let table = segments.table();
-        if !is_made_of_sources(table, label) {
-            return Ok(Admission::NotCut);
-        }
-        let sets = table.definitions().sets();
-        renew_masks(sets, label, 0, &mut self.masks);
-        let admission = admission(alloc, table, actions, label, &self.masks);
-        // The masks are again those of the label that is cached.
-        renew_masks(sets, self.cached.as_slice(), 0, &mut self.masks);
-        admission
+        let masks: &[u64] = &self.masks;
+        admission(alloc, segments, actions, label, masks, &self.singles)
     }
 
     /// The rules of the table, asked of the label that was tested last.

@@ -6,48 +6,64 @@ ghost use Rattle.valid_labels.specs.Causes.{IsDisposed};
 ghost use Rattle.valid_labels.specs.Demands.{IsMet};
 ghost use Rattle.valid_labels.specs.Eligible.{IsEligible};
 ghost use Rattle.valid_labels.specs.Actions.{actions_of};
-ghost use Rattle.variant_table.specs.Segmentations.{IsMadeOfSources, seen_under};
+ghost use Rattle.variant_table.specs.Segmentations.{seen_under};
 ghost use Rattle.valid_labels.specs.Testing.{IsAdmission, IsValidity, admission_of};
-ghost use Rattle.valid_labels.specs.Validity.{AsksNothing, IsValid};
+ghost use Rattle.valid_labels.specs.Validity.{IsAdmitted, IsValid};
 ghost use Rattle.valid_labels.specs.inner.Singles.{AreSingles, HasRoom};
 
-use crate::cutting::NO_STEPS;
 use crate::dead_prefix::shortest_dead_prefix;
 use crate::demands::are_met;
 use crate::itself::{disposition_of_itself, is_invalid};
 use crate::label_rules::RulesOfLabel;
 use crate::longest::cut_end;
-use crate::segments::{Segments, recall_soundness};
+use crate::segments::Segments;
 use crate::single_places::SinglePlaces;
+use crate::sources::is_made_of_sources;
 use crate::validity::{Admission, Validity};
 use label_patterns::{PointSet, SeenLabel};
 use std::alloc::{AllocError, Global};
 use variant_dispositions::{Action, VariantDisposition};
 use variant_table::Table;
 
-/// Whether a label that is made of sources may be asked about, under a table that asks something. The actions are those
-/// of the table; `masks` has the places of each of its sets in the label. It is an `Err` only where memory was refused.
+/// Whether a label may be asked about, under a table that asks something. The actions are those of the table; `masks` has
+/// the places of each of its sets in the label, and `singles` places at which single points stand. It is an `Err` only
+/// where memory was refused.
 pub fn admission(
     alloc: Global,
-    table: &Table,
+    segments: &Segments<'_>,
     actions: &[Action],
     label: &[u32],
     masks: &[u64],
+    singles: &SinglePlaces,
 ) -> Result<Admission, AllocError>
-    requires asks { ¬ AsksNothing table.now }
     requires short { length label.now ≤ 63 }
-    requires made { IsMadeOfSources table.now label.now }
-    requires actions { actions.now ≡ actions_of table.now.definitions }
-    requires masks { AreMasks table.now.definitions.sets label.now masks.now }
-    ensures { IfOk result (IsAdmission table.now label.now) }
+    requires actions { actions.now ≡ actions_of segments.now.definitions }
+    requires masks { AreMasks segments.now.definitions.sets label.now masks.now }
+    requires room { HasRoom (length segments.now.definitions.rules) singles.now }
+    requires singles { AreSingles (length label.now) segments.now label.now singles.now }
+    ensures { IfOk result (IsAdmission segments.now label.now) }
 {
-    recall_soundness(table);
+    segments.recall_soundness();
+    let table = segments.table();
     let rules = RulesOfLabel::new(table, label, masks);
-    if !is_disposed(table, rules.seen(), label) {
-        return Ok(Admission::NotAdmitted);
+    if !is_disposed(segments, rules.seen(), label, singles) {
+        return Ok(refusal_of(table, label));
     }
     let told = disposition_of_itself(alloc, table, &rules, label, actions)?;
     Ok(admission_told(told))
+}
+
+/// Why a label may not be asked about that isn't admitted.
+fn refusal_of(table: &Table, label: &[u32]) -> Admission
+    requires short { length label.now ≤ 63 }
+    requires refused { ¬ IsAdmitted table.now label.now }
+    ensures { IsAdmission table.now label.now result }
+{
+    if is_made_of_sources(table, label) {
+        Admission::NotAdmitted
+    } else {
+        Admission::NotCut
+    }
 }
 
 /// Whether a label may be asked about of which nothing else is left to ask than what is told of itself.
@@ -103,27 +119,23 @@ fn is_valid(
     ensures { IsTrue result ↔ IsValid segments.now label.now }
 {
     segments.recall_soundness();
-    is_eligible(segments, seen, label, singles) && meets_demands(segments.table(), seen)
+    is_disposed(segments, seen, label, singles)
 }
 
 /// Whether a label is eligible, and meets the demands, so that its disposition counts.
-fn is_disposed(table: &Table, seen: &SeenLabel<'_>, label: &[u32]) -> bool
+fn is_disposed(
+    segments: &Segments<'_>,
+    seen: &SeenLabel<'_>,
+    label: &[u32],
+    singles: &SinglePlaces,
+) -> bool
     requires short { length label.now ≤ 63 }
-    requires seen { seen.now ≡ seen_under table.now label.now }
-    ensures { IsTrue result ↔ IsDisposed table.now label.now }
+    requires seen { seen.now ≡ seen_under segments.now label.now }
+    requires room { HasRoom (length segments.now.definitions.rules) singles.now }
+    requires singles { AreSingles (length label.now) segments.now label.now singles.now }
+    ensures { IsTrue result ↔ IsDisposed segments.now label.now }
 {
-    is_eligible_anew(table, seen, label) && meets_demands(table, seen)
-}
-
-/// Whether a label is eligible, of which nothing is kept.
-fn is_eligible_anew(table: &Table, seen: &SeenLabel<'_>, label: &[u32]) -> bool
-    requires short { length label.now ≤ 63 }
-    requires seen { seen.now ≡ seen_under table.now label.now }
-    ensures { IsTrue result ↔ IsEligible table.now label.now }
-{
-    // Only for the proof: the contract of `len` says that a table is well-formed.
-    let _entries = table.len();
-    cut_end(table, seen, label, NO_STEPS) == label.len()
+    is_eligible(segments, seen, label, singles) && meets_demands(segments.table(), seen)
 }
 
 /// Whether a label is eligible.

@@ -15,7 +15,8 @@ use Rattle.variant_list.specs.declared.substitutions.Cuts.{Cuts}
 use Rattle.variant_list.specs.declared.substitutions.Cuts.TheVariants.{Segmentations, Anyhow}
 use Rattle.variant_list.specs.Arising.{Arises, Gives, table_for, unasked, unasked_entry}
 use Rattle.variant_list.specs.Spelling.{Replaces, JoinsReplacements, Spells}
-use Rattle.variant_list.specs.Substitutions.{may_stand, substitutions_at, substitutions_of, substitutions_of_entry}
+use Rattle.variant_list.specs.Substitutions.{substitutions_at, substitutions_of, substitutions_of_entry}
+use Rattle.variant_table.specs.Staying.{may_stand}
 use Rattle.variant_list.specs.inner.Standing.{stands_by}
 use Rattle.variant_list.specs.Spelled.{spelled}
 use Rattle.variant_list.proofs.SpelledByLemmas.{spelled-Spells}

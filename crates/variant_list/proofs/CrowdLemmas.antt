@@ -1,5 +1,5 @@
 -- Where each sequence has few sources, none is crowded; and where one is, some entry is the first at which it is.
-use Rattle.std.proofs.Common.{◌≡◌, ◌≢◌, ◌⊎◌, ◌↔◌, inl, inr, ℕ, zero, suc, ◌+◌, ◌<◌, ◌≤◌, Bool, true, false, List, [], ◌∷◌, ◌++◌, All, Contains, Option, Some, None, length, map, take, get_or, refl, sym, ap, subst, ◌∙◌, arith, add-one, length-take, length-append}
+use Rattle.std.proofs.Common.{◌≡◌, ◌≢◌, ◌⊎◌, ◌↔◌, inl, inr, ℕ, zero, suc, ◌+◌, ◌<◌, ◌≤◌, true, false, List, [], ◌∷◌, ◌++◌, All, Contains, Some, length, map, take, get_or, refl, sym, ap, subst, ◌∙◌, arith, add-one, length-take}
 use Rattle.std.specs.Prelude.{bytes_eq, slice_get, AllPairs}
 use Rattle.std.specs.List.{flat_map, list_any}
 use Rattle.std.proofs.Math.Seq.{take-length}

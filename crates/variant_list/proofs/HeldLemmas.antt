@@ -9,7 +9,7 @@ use Rattle.label_patterns.specs.Conditions.{ConditionHolds}
 use Rattle.label_patterns.proofs.TestLemmas.{condition-agrees}
 use Rattle.variant_table.specs.Entries.{Entry, TableValue, Variant, source_of, whole, replacements}
 use Rattle.variant_table.specs.Segmentations.{seen_under}
-use Rattle.variant_list.specs.Substitutions.{holds_for}
+use Rattle.variant_table.specs.Staying.{holds_for}
 use Rattle.variant_list.proofs.ListMembers.{mapped-at}
 
 pub held_by : (table : TableValue) (label : List ℕ) (place : ℕ) (e : Entry) (condition : Option Condition) → place + length e.source ≤ length label

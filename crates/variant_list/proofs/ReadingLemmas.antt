@@ -23,7 +23,8 @@ use Rattle.variant_list.specs.ReadingLaws.{ReadingsAgree, RecordsByEntries, Reco
 use Rattle.variant_list.specs.Readings.{Mapping, entry_of, sequence_of, kind_of, kinds_of, MayBeMade, MayAllBeMade, IsReadingOf, IsClearVariant}
 use Rattle.variant_list.specs.Readings.Mapping.{Stays, Maps}
 use Rattle.variant_list.specs.Spelling.{JoinsReplacements, Spells}
-use Rattle.variant_list.specs.Substitutions.{staying, substitution_of, may_stand, may_replace, substitutions_of_entry, substitutions_at, substitutions_from, substitutions_of}
+use Rattle.variant_list.specs.Substitutions.{substitution_of, may_replace, substitutions_of_entry, substitutions_at, substitutions_from, substitutions_of}
+use Rattle.variant_table.specs.Staying.{staying, may_stand}
 use Rattle.variant_list.specs.inner.Places.{IsCutFrom}
 use Rattle.variant_list.proofs.HeldLemmas.{held_by}
 use Rattle.variant_list.proofs.ListMembers.{Contains-filter}

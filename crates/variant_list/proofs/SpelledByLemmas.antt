@@ -14,7 +14,8 @@ use Rattle.variant_list.specs.Spelling.{Spells}
 use Rattle.variant_list.specs.inner.LabelSets.{SomeGives}
 use Rattle.variant_list.specs.inner.Layouts.{SubstitutionSpells}
 use Rattle.reading_kinds.specs.Readings.{Substitution, IsSubstitution, AreSubstitutions, SubstitutionsSpell}
-use Rattle.variant_list.specs.Substitutions.{spelled_from_each, spelled_by, substitution_of, may_stand, may_replace, substitutions_of_entry, substitutions_at, substitutions_from, substitutions_of}
+use Rattle.variant_list.specs.Substitutions.{spelled_from_each, spelled_by, substitution_of, may_replace, substitutions_of_entry, substitutions_at, substitutions_from, substitutions_of}
+use Rattle.variant_table.specs.Staying.{may_stand}
 use Rattle.variant_list.proofs.ListMembers.{Contains-filter, filter-few}
 use Rattle.variant_list.proofs.SubstitutionLemmas.{nothing_spelled, SubstitutionsSpell-here, SubstitutionsSpell-label, IsSubstitutionOf-fits, substitutions_at-IsSubstitutionOf, length-substitutions_from}
 use Rattle.variant_list.proofs.SpellingLemmas.{Replaces-of_entry}

@@ -14,7 +14,8 @@ use Rattle.variant_list.specs.inner.LabelSets.{SomeGives}
 use Rattle.variant_list.specs.inner.Layouts.{SubstitutionSpells}
 use Rattle.variant_list.specs.inner.Places.{SpellsFrom}
 use Rattle.reading_kinds.specs.Readings.{Substitution, IsCut, points_of, SubstitutionsSpell}
-use Rattle.variant_list.specs.Substitutions.{staying, substitution_of, may_stand, may_replace, substitutions_of_entry, substitutions_at, substitutions_from, substitutions_of}
+use Rattle.variant_list.specs.Substitutions.{substitution_of, may_replace, substitutions_of_entry, substitutions_at, substitutions_from, substitutions_of}
+use Rattle.variant_table.specs.Staying.{staying, may_stand}
 use Rattle.variant_list.proofs.ListMembers.{Contains-filter}
 use Rattle.variant_list.proofs.HeldLemmas.{held_by}
 use Rattle.variant_list.proofs.SpellingLemmas.{FirstSegment, Spells-first, SpellsFrom-end, SpellsFrom-segment, SpellsFrom-cases, SpellsFrom-nothing, source_is_sequence}

@@ -9,7 +9,8 @@ use Rattle.variant_dispositions.specs.Kinds.{bit_of, kind_of_source, kind_of_var
 use Rattle.variant_table.specs.Entries.{Entry, TableValue, Variant, replacements, source_of, whole}
 use Rattle.reading_kinds.specs.Drafts.{Draft, with_substitutions}
 use Rattle.reading_kinds.specs.Readings.{Substitution}
-use Rattle.variant_list.specs.Substitutions.{staying, substitution_of, substitutions_at, substitutions_from}
+use Rattle.variant_list.specs.Substitutions.{substitution_of, substitutions_at, substitutions_from}
+use Rattle.variant_table.specs.Staying.{staying}
 use Rattle.variant_list.proofs.ListMembers.{filter-one, mapped-at, mapped-same}
 use Rattle.variant_table.proofs.MemberLemmas.{Contains-head}
 use Rattle.variant_table.proofs.ListLemmas.{take_next}

@@ -23,7 +23,7 @@ use Rattle.variant_list.proofs.RowBits.{same_or_not}
 use Rattle.reading_kinds.proofs.TakenLemmas.{some_same, slice_get-Contains}
 use Rattle.variant_list.proofs.PlanLemmas.{Contains-at}
 use Rattle.variant_list.specs.Reversed.{Group, IsReversed, IsCrowded, AreReversedOf, AreFew, sources_of}
-use Rattle.variant_list.specs.inner.Turned.{sequences_of, groups_of, AreOfFirst, AreSound, AreTurned, Adds, Puts, TurnsUpTo, Turns, SomeTurns, HasNoRoom}
+use Rattle.variant_list.specs.inner.Turned.{sequences_of, groups_of, AreOfFirst, AreSound, AreTurned, Adds, Puts, TurnsUpTo, Turns, HasNoRoom}
 
 abbrev Held : Type 0
 Held = Vec ℕ Global × Vec (Vec ℕ Global) Global

@@ -1,15 +1,13 @@
 -- The substitutions of a label under a table: what may stand in the place of which of its code points (RFC 7940,
 -- sections 5.2 and 5.3). The variant graph of a label is laid out from them.
-use Rattle.std.specs.Prelude.{ℕ, zero, suc, ◌+◌, ◌-◌, ◌^◌, Bool, Option, List, [], ◌∷◌, ◌++◌, length, map, filter}
+use Rattle.std.specs.Prelude.{ℕ, zero, suc, ◌+◌, ◌-◌, ◌^◌, Bool, List, [], ◌∷◌, ◌++◌, length, map, filter}
 use Rattle.std.specs.Prelude.{sum_by, slice_index_or}
 use Rattle.std.specs.List.{flat_map}
-use Rattle.label_patterns.specs.declared.condition.Condition.{Condition}
-use Rattle.label_patterns.specs.Tests.{condition_holds}
 use Rattle.variant_table.specs.Entries.{Entry, TableValue, Variant}
 use Rattle.variant_table.specs.Places.{entries_at}
-use Rattle.variant_table.specs.Segmentations.{seen_under}
+use Rattle.variant_table.specs.Staying.{staying, holds_for, may_stand}
 use Rattle.reading_kinds.specs.Readings.{Substitution}
-use Rattle.variant_dispositions.specs.Kinds.{bit_of, kind_of_source, kind_of_variant}
+use Rattle.variant_dispositions.specs.Kinds.{bit_of, kind_of_variant}
 
 -- what substitutions spell, as a list that computes: from each place on what they spell, and at the end the empty label
 abbrev pub spelled_from_each : List (List Substitution) → List (List (List ℕ))
@@ -39,25 +37,12 @@ substitution_places substitutions =
 
 -- ---- the substitutions of a label under a table
 
--- the source stays as it is
-abbrev pub staying : Entry → Substitution
-staying e = record { covers = length e.source; kinds = 2 ^ bit_of (kind_of_source e.type); points = e.source }
-
 -- a variant of the entry stands in the place of its source
 abbrev pub substitution_of : Entry → Variant → Substitution
 substitution_of e v =
     record { covers = length e.source; kinds = 2 ^ bit_of (kind_of_variant v.type); points = v.sequence }
 
--- whether a condition holds in the label for the source of the entry, from the place on
-abbrev pub holds_for : TableValue → List ℕ → ℕ → Entry → Option Condition → Bool
-holds_for table label place e condition =
-    condition_holds table.definitions.rules (seen_under table label) condition place (place + length e.source)
-
--- whether the entry may be in a segmentation of the label, with its source at the place
-abbrev pub may_stand : TableValue → List ℕ → ℕ → Entry → Bool
-may_stand table label place e = holds_for table label place e e.condition
-
--- whether the variant may then be put in the place of the source
+-- whether the variant may be put in the place of the source, which may stand at the place
 abbrev pub may_replace : TableValue → List ℕ → ℕ → Entry → Variant → Bool
 may_replace table label place e v = holds_for table label place e v.condition
 

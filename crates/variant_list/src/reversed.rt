@@ -60,8 +60,8 @@ impl From<AllocError> for ReversedFault {
 
 impl Reversed {
     /// The pairs of a table. `TooManySources` comes exactly where a sequence is a variant of more than 64 sources that
-    /// aren't variants of it, with the entry whose source is the first 65th, and `Memory` only where memory was refused:
-    /// none is taken for a table in which each pair has its reverse.
+    /// aren't variants of it, with the entry whose source is the first 65th, and `Memory` only where memory was
+    /// refused: none is taken for a table in which each pair has its reverse.
     pub fn of_table(alloc: Global, table: &Table) -> Result<Reversed, ReversedFault>
         ensures pairs { IfOk result (AreReversedOf table.now.entries) }
         ensures few { IfOk result AreFew }

@@ -1,5 +1,5 @@
 -- The line of an entry.
-use Rattle.std.proofs.Common.{◌≡◌, ◌⊎◌, inl, inr, ℕ, ◌+◌, ◌<◌, ◌≤◌, List, [], ◌∷◌, ◌++◌, length, Some, Ok, refl, sym, ap, subst, ◌∙◌, append_assoc, arith, length-append}
+use Rattle.std.proofs.Common.{◌≡◌, inl, inr, ℕ, ◌+◌, ◌<◌, ◌≤◌, List, [], ◌∷◌, ◌++◌, length, Some, Ok, refl, sym, ap, subst, ◌∙◌, append_assoc, arith, length-append}
 use Rattle.std.proofs.lemmas.Bool.{cases_lt}
 use Rattle.std.specs.Str.Lines.{strip_carriage_return}
 use Rattle.idn_class.specs.declared.properties.Properties.{Properties}
@@ -10,7 +10,7 @@ use Rattle.variant_table.specs.Entries.{TableValue, empty_table}
 use Rattle.variant_table.specs.Reading.{table_of_text, with_raw_line}
 use Rattle.variant_table.specs.Texts.{IsLineOfEntry, IsTextOf, LineAdds, LinesSpell}
 use Rattle.variant_table.specs.Versions.{body_of, head_of, version_of}
-use Rattle.variant_table.proofs.FaultlessLemmas.{WholeTable, IsSound, empty_sound, raw_line_step, text_read, whole_ok}
+use Rattle.variant_table.proofs.FaultlessLemmas.{IsSound, empty_sound, raw_line_step, text_read, whole_ok}
 
 -- ---- lines that are read one after the other
 

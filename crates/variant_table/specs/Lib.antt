@@ -23,5 +23,6 @@ pub mod Gaps
 pub mod Differences
 pub mod IdleTypes
 pub mod Segmentations
+pub mod Staying
 pub mod ExampleTables
 pub mod inner

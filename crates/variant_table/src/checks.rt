@@ -1,5 +1,6 @@
 //! What may be wrong with an entry by itself.
-ghost use Rattle.std.specs.Prelude.{◌≡◌, ◌&&◌, ◌+◌, ◌<◌, ◌≤◌, ◌^◌, bytes_eq, find, length, not, slice_get, take, Some, IfOk};
+ghost use Rattle.std.specs.Prelude.{◌≡◌, ◌&&◌, ◌+◌, ◌<◌, ◌≤◌, ◌^◌, bytes_eq, find, length, not, slice_get, take};
+ghost use Rattle.std.specs.Prelude.{Some, IfOk};
 ghost use Rattle.std.specs.List.{range_with_len};
 ghost use Rattle.ruleset_text.specs.Classes.{is_bad_point as is_bad};
 ghost use Rattle.variant_table.specs.Conditions as conditions;

@@ -11,14 +11,22 @@ from .. import unicode_data
 # The categories by their names, in lower case and without what stands between the words; a short name is its own.
 LETTERS, CASED = ("Lu", "Ll", "Lt", "Lm", "Lo"), ("Lu", "Ll", "Lt")
 MARKS, NUMBERS = ("Mn", "Mc", "Me"), ("Nd", "Nl", "No")
+PUNCTUATION, SYMBOLS = ("Pc", "Pd", "Ps", "Pe", "Pi", "Pf", "Po"), ("Sm", "Sc", "Sk", "So")
+SEPARATORS, OTHERS = ("Zs", "Zl", "Zp"), ("Cc", "Cf", "Cs", "Co", "Cn")
 CATEGORIES = {
     "l": LETTERS, "letter": LETTERS, "lc": CASED, "casedletter": CASED, "uppercaseletter": ("Lu",),
     "lowercaseletter": ("Ll",), "titlecaseletter": ("Lt",), "modifierletter": ("Lm",), "otherletter": ("Lo",),
     "m": MARKS, "mark": MARKS, "combiningmark": MARKS, "nonspacingmark": ("Mn",), "spacingmark": ("Mc",),
     "enclosingmark": ("Me",), "n": NUMBERS, "number": NUMBERS, "decimalnumber": ("Nd",), "digit": ("Nd",),
-    "letternumber": ("Nl",), "othernumber": ("No",),
+    "letternumber": ("Nl",), "othernumber": ("No",), "p": PUNCTUATION, "punctuation": PUNCTUATION, "punct": PUNCTUATION,
+    "connectorpunctuation": ("Pc",), "dashpunctuation": ("Pd",), "openpunctuation": ("Ps",), "closepunctuation": ("Pe",),
+    "initialpunctuation": ("Pi",), "finalpunctuation": ("Pf",), "otherpunctuation": ("Po",), "s": SYMBOLS, "symbol": SYMBOLS,
+    "mathsymbol": ("Sm",), "currencysymbol": ("Sc",), "modifiersymbol": ("Sk",), "othersymbol": ("So",), "z": SEPARATORS,
+    "separator": SEPARATORS, "spaceseparator": ("Zs",), "lineseparator": ("Zl",), "paragraphseparator": ("Zp",),
+    "c": OTHERS, "other": OTHERS, "control": ("Cc",), "cntrl": ("Cc",), "format": ("Cf",), "surrogate": ("Cs",),
+    "privateuse": ("Co",), "unassigned": ("Cn",),
 }
-SHORT_CATEGORY = re.compile(r"L[ulmto]|M[nce]|N[dlo]|P[cdseifo]|S[mcko]|Z[slp]|C[cfos]")
+SHORT_CATEGORY = re.compile(r"L[ulmto]|M[nce]|N[dlo]|P[cdseifo]|S[mcko]|Z[slp]|C[cfosn]")
 BIDI_CLASSES = ("L", "R", "AL", "EN", "ES", "ET", "AN", "CS", "NSM", "BN", "B", "S", "WS", "ON")
 
 CATEGORY, COMBINING_CLASS, BIDI_CLASS = ("gc", "generalcategory"), ("ccc", "canonicalcombiningclass"), ("bc", "bidiclass")

@@ -1,10 +1,10 @@
 -- What decides what two labels are to each other.
-use Rattle.std.specs.Prelude.{◌≡◌, ◌≤◌, ℕ, true, List, length, Option, Some, None, if◌then◌else◌}
+use Rattle.std.specs.Prelude.{◌≡◌, ◌≤◌, ℕ, true, List, length, Option, Some, None, IsSome, if◌then◌else◌}
 use Rattle.idn_class.specs.declared.properties.Properties.{Properties}
 use Rattle.idn_label.specs.FirstFault.{IsRegistrable}
 use Rattle.variant_table.specs.Entries.{TableValue}
 use Rattle.valid_labels.specs.Validity.{IsAdmitted, IsSound}
-use Rattle.valid_labels.specs.Testing.{IsAdmission}
+use Rattle.valid_labels.specs.Testing.{IsAdmission, Testing}
 use Rattle.valid_labels.specs.declared.validity.Admission.TheVariants.{Admitted}
 use Rattle.variant_list.specs.Spelled.{spelled}
 use Rattle.variant_list.specs.Substitutions.{substitutions_of}
@@ -19,7 +19,7 @@ use Rattle.idn2_cli.specs.declared.modes.dispositions.Appearance.{Appearance}
 use Rattle.idn2_cli.specs.declared.modes.dispositions.Appearance.TheVariants.{LeftOut}
 use Rattle.idn2_cli.specs.declared.modes.dispositions.Appearance.TheVariants as appearances
 use Rattle.idn2_cli.specs.inner.Dispositions.{AreOfTable, appearance}
-use Rattle.idn2_cli.specs.inner.Ruling.{passes, ruling_in, ruling_of}
+use Rattle.idn2_cli.specs.inner.Ruling.{Sees, passes, ruling_in, ruling_of}
 
 -- what a label is that appears so, if it is listed
 abbrev pub regard_of : Appearance → Option Regard
@@ -35,19 +35,26 @@ pub record IsListingOf (table : TableValue) (label : List ℕ) (listed : Listed)
   pub readings : listed.readings ≡ substitutions_of table label
   pub of_table : AreOfTable table listed.of_table.now
 
-abbrev pub IsListingIfMade : TableValue → List ℕ → Option Listed → Type 0
-IsListingIfMade table label None = Unit {0}
-IsListingIfMade table label (Some listed) = IsListingOf table label listed
+-- once another label is decided, that is made, and a test of the table
+abbrev pub TellsOthers : TableValue → List ℕ → Option Listed → Option Testing → Type 0
+TellsOthers table label None others = Unit {0}
+TellsOthers table label (Some listed) others = IsListingOf table label listed × (ruling_in others ≡ ruling_of table)
 
--- its parts are of its table and its label
+-- its parts are of its table and its label, and its first test has seen the label
 pub record Decides (d : Decisions) : Type 0 where
   pub sound : IsSound d.table.now
   pub of_table : AreOfTable d.table.now d.of_table.now
+  pub ruling : d.ruling.now ≡ ruling_of d.table.now
   pub some : 1 ≤ length d.label.now
   pub short : length d.label.now ≤ 63
   pub own : IsAdmission d.table.now d.label.now (Admitted d.own)
-  pub listed : IsListingIfMade d.table.now d.label.now d.listed
-  pub ruling : ruling_in d.validity ≡ ruling_of d.table.now
+  pub asked : ruling_in d.asked ≡ ruling_of d.table.now
+  pub sees : Sees d.label.now d.asked
+  pub others : TellsOthers d.table.now d.label.now d.listed d.others
+
+-- what tells of other labels is made
+abbrev pub IsMade : Decisions → Type 0
+IsMade d = IsSome d.listed
 
 -- and these are they
 pub record IsOfPair (table : TableValue) (label : List ℕ) (d : Decisions) : Type 0 where

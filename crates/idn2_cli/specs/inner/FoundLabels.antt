@@ -1,10 +1,10 @@
 -- The registered labels that were found to collide with a label, and their block.
-use Rattle.std.specs.Prelude.{◌≡◌, ◌<◌, ◌+◌, ◌-◌, ℕ, Bool, if◌then◌else◌, List, [], ◌∷◌, ◌++◌, All, length, map}
+use Rattle.std.specs.Prelude.{◌<◌, ◌+◌, ◌-◌, ℕ, if◌then◌else◌, List, [], ◌∷◌, ◌++◌, All, length, map}
 use Rattle.std.specs.Prelude.{Option, Some, None, slice_get, slice_index_or}
 use Rattle.std.specs.Option.{option_map}
 use Rattle.variant_table.specs.Entries.{TableValue}
 use Rattle.idn2_options.specs.Settings.{Settings}
-use Rattle.idn2_answers.specs.Collisions.{collision_by, is_found, named_if, regards_of}
+use Rattle.idn2_answers.specs.Collisions.{collision_by, named_if, regards_of}
 use Rattle.idn2_answers.specs.Listings.{is_registrable}
 use Rattle.idn2_answers.specs.Said.{Said, BlockEnd, said_text}
 use Rattle.idn2_answers.specs.Said as said

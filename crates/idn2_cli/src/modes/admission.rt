@@ -47,8 +47,8 @@ pub(crate) fn validity_test_by<'p>(
     }
 }
 
-/// Whether the table admits a label of 1 to 63 code points, and if not, why. What a test keeps stays as it is.
-/// Without a test no memory is taken.
+/// Whether the table admits a label of 1 to 63 code points, and if not, why. The test has then seen the label. Without a
+/// test no memory is taken.
 pub(crate) fn admission_by(
     alloc: Global,
     test: &mut Option<ValidityTest<'_>>,
@@ -62,7 +62,8 @@ pub(crate) fn admission_by(
     requires ruling { ruling_in test.old ≡ ruling_of table.now }
     requires actions { actions.now ≡ actions_of table.now.definitions }
     ensures admission { IfOk result (IsAdmission table.now label.now) }
-    ensures same { test.new ≡ test.old }
+    ensures sees { Sees label.now test.new }
+    ensures same { ruling_in test.new ≡ ruling_in test.old }
     ensures no_memory { test.old ≡ None → IsOk result }
 {
     match test {
@@ -212,6 +213,7 @@ pub(crate) fn is_valid_by(test: &mut Option<ValidityTest<'_>>, label: &[u32], sh
     requires kept { KeepsShared test.old shared label.now }
     ensures passes { result ≡ passes (ruling_in test.old) label.now }
     ensures kept { KeepsOf label.now test.new }
+    ensures sees { Sees label.now test.new }
     ensures same { ruling_in test.new ≡ ruling_in test.old }
 {
     matches!(validity_by(test, label, shared), Validity::Valid)

@@ -84,10 +84,7 @@ pub(crate) fn write_block<W: Sink, E: Sink>(
     'variants: loop {
         match cursor.seek(alloc, &mut judge, &mut tries, &mut steps)? {
             Outcome::Found => {}
-            Outcome::OutOfTries => {
-                return write_stop(asked, count, cursor.last(), &mut judge.line, console);
-            }
-            Outcome::OutOfSteps => {
+            Outcome::OutOfTries | Outcome::OutOfSteps => {
                 return write_stop(asked, count, cursor.last(), &mut judge.line, console);
             }
             Outcome::Ended => return write_end(asked, count, console),

@@ -1,6 +1,6 @@
 //! What two labels are to each other: whether they collide, and how (RFC 7940, sections 5.1 and 7.3).
 
-ghost use Rattle.std.specs.Prelude.{◌≡◌, ◌≢◌, ◌≤◌, ◌↔◌, true, length, IsTrue, IfOk, IsOk, None};
+ghost use Rattle.std.specs.Prelude.{◌≡◌, ◌≢◌, ◌≤◌, ◌↔◌, true, length, IsTrue, IfOk, IsOk, None, OnOk};
 ghost use Rattle.idn_class.specs.declared.properties.Properties.{Properties};
 ghost use Rattle.idn_label.specs.FirstFault.{IsRegistrable};
 ghost use Rattle.valid_labels.specs.Testing.{IsAdmission};
@@ -11,11 +11,11 @@ ghost use Rattle.variant_list.specs.Arising.{Arises};
 ghost use Rattle.idn2_options.specs.Settings.{Settings};
 ghost use Rattle.idn2_answers.specs.Listings.{is_registrable};
 ghost use Rattle.idn2_answers.specs.Collisions.{IsGood, barred_in, is_either, is_something, regard_of, regards_of};
-ghost use Rattle.idn2_cli.specs.inner.Decided.{Decides, IsListingOf, IsOfPair, IsStanding, listed_regard};
+ghost use Rattle.idn2_cli.specs.inner.Decided.{Decides, IsMade, IsOfPair, IsStanding, listed_regard};
 ghost use Rattle.idn2_cli.specs.inner.Dispositions.{AreOfTable};
-ghost use Rattle.idn2_cli.specs.inner.Ruling.{ruling_in, ruling_of};
+ghost use Rattle.idn2_cli.specs.inner.Ruling.{Sees, ruling_in, ruling_of};
 
-use crate::modes::admission::{admission_by, is_valid_by, validity_by};
+use crate::modes::admission::{admission_by, is_valid_by, validity_test_by};
 use crate::modes::dispositions::{DecidedBy, Dispositions};
 use crate::modes::listed::{Listed, regard_of};
 use crate::modes::matched_rules::MatchedRules;
@@ -25,7 +25,7 @@ use idn_label::test_label_by;
 use idn_text::Refusal;
 use reading_kinds::Readings;
 use std::alloc::{AllocError, Global};
-use valid_labels::{Admission, ValidityTest, is_made_of_sources};
+use valid_labels::{Admission, Segments, ValidityTest, is_made_of_sources};
 use variant_dispositions::Disposition;
 use variant_list::{Cuts, substitutions_of};
 use variant_table::Table;
@@ -46,40 +46,49 @@ enum Standing {
 pub(crate) struct Decisions<'l> {
     table: &'l Table,
     of_table: &'l Dispositions,
+    ruling: &'l Option<Segments<'l>>,
     label: &'l [u32],
     /// The disposition of the label itself.
     own: Disposition,
-    /// The whole listing of the label, once it is asked.
+    /// The test that has seen the label itself.
+    asked: Option<ValidityTest<'l>>,
+    /// The test of other labels.
+    others: Option<ValidityTest<'l>>,
+    /// The whole listing of the label, once another label is decided.
     listed: Option<Listed<'l>>,
-    validity: Option<ValidityTest<'l>>,
 }
 
 impl<'l> Decisions<'l> {
-    /// Of a label of 1 to 63 code points, which the table admits with this disposition, with what tests labels under
-    /// the table. Memory for its listing is taken when that is asked first.
+    /// Of a label of 1 to 63 code points, which the table admits with this disposition, with a test that has seen it.
+    /// Memory for its listing is taken when another label is decided first.
     pub fn of_label(
         table: &'l Table,
         of_table: &'l Dispositions,
+        ruling: &'l Option<Segments<'l>>,
         label: &'l [u32],
         own: Disposition,
-        validity: Option<ValidityTest<'l>>,
+        asked: Option<ValidityTest<'l>>,
     ) -> Decisions<'l>
         requires some { 1 ≤ length label.now }
         requires short { length label.now ≤ 63 }
         requires sound { IsSound table.now }
         requires of_table { AreOfTable table.now of_table.now }
+        requires ruling { ruling.now ≡ ruling_of table.now }
         requires own { IsAdmission table.now label.now (Admitted own) }
-        requires ruling { ruling_in validity ≡ ruling_of table.now }
+        requires asked { ruling_in asked ≡ ruling_of table.now }
+        requires sees { Sees label.now asked }
         ensures decides { Decides result }
         ensures pair { IsOfPair table.now label.now result }
     {
         Decisions {
             table,
             of_table,
+            ruling,
             label,
             own,
+            asked,
+            others: None,
             listed: None,
-            validity,
         }
     }
 
@@ -111,10 +120,25 @@ impl<'l> Decisions<'l> {
         if other == self.label {
             return Ok(self.own_regards());
         }
+        self.make_listing(alloc)?;
         let standing = self.standing_of(alloc, other, may_be_registered)?;
         let there = self.there(alloc, other, standing)?;
         let back = self.back(alloc, other, standing)?;
         Ok(Regards { there, back })
+    }
+
+    /// Makes the listing of the label and the test of other labels, unless they were made.
+    fn make_listing(&mut self, alloc: Global) -> Result<(), AllocError>
+        requires decides { Decides self.old }
+        ensures made { OnOk result (IsMade self.new) }
+        ensures decides { Decides self.new }
+        ensures pair { IsOfPair self.old.table.now self.old.label.now self.new }
+    {
+        if self.listed.is_none() {
+            self.others = validity_test_by(alloc, self.ruling)?;
+            self.listed = Some(Listed::of_label(alloc, self.table, self.of_table, self.label)?);
+        }
+        Ok(())
     }
 
     /// What the label is to itself, there and back.
@@ -130,8 +154,8 @@ impl<'l> Decisions<'l> {
         }
     }
 
-    /// What today's rules say of a label of at most 63 code points, by whether it may be registered. It takes no memory
-    /// where the table asks nothing of its labels.
+    /// What today's rules say of a label of at most 63 code points, by whether it may be registered. If it may, the test
+    /// of other labels has then seen it.
     fn standing_of(
         &mut self,
         alloc: Global,
@@ -139,24 +163,27 @@ impl<'l> Decisions<'l> {
         may_be_registered: bool,
     ) -> Result<Standing, AllocError>
         requires decides { Decides self.old }
+        requires made { IsMade self.old }
         requires some { may_be_registered ≡ true → 1 ≤ length other.now }
         requires short { length other.now ≤ 63 }
         ensures standing { IfOk result (λ standing. (properties : Properties) →
             (IsTrue may_be_registered ↔ IsRegistrable properties other.now) →
             IsStanding properties self.old.table.now other.now standing) }
+        ensures sees { IfOk result (λ standing. standing ≢ Standing.Refused → Sees other.now self.new.others) }
         ensures no_memory { ruling_of self.old.table.now ≡ None → IsOk result }
         ensures decides { Decides self.new }
+        ensures made { IsMade self.new }
         ensures pair { IsOfPair self.old.table.now self.old.label.now self.new }
     {
         if !may_be_registered {
             return Ok(Standing::Refused);
         }
         let actions = self.of_table.actions();
-        let admission = admission_by(alloc, &mut self.validity, actions, self.table, other)?;
+        let admission = admission_by(alloc, &mut self.others, actions, self.table, other)?;
         if let Admission::Admitted(_) = admission {
             return Ok(Standing::Good);
         }
-        if is_valid_by(&mut self.validity, other, 0) {
+        if is_valid_by(&mut self.others, other, other.len()) {
             Ok(Standing::VariantAlone)
         } else {
             Ok(Standing::Refused)
@@ -171,8 +198,10 @@ impl<'l> Decisions<'l> {
         standing: Standing,
     ) -> Result<Regard, AllocError>
         requires decides { Decides self.old }
+        requires made { IsMade self.old }
         requires short { length other.now ≤ 63 }
         requires another { other.now ≢ self.old.label.now }
+        requires sees { standing ≢ Standing.Refused → Sees other.now self.old.others }
         ensures regard { IfOk result (λ regard. (o : Settings) → IsGood o self.old.table.now self.old.label.now →
             IsStanding o.properties self.old.table.now other.now standing →
             regard ≡ regard_of (is_registrable o.properties) self.old.table.now self.old.label.now other.now) }
@@ -181,10 +210,10 @@ impl<'l> Decisions<'l> {
     {
         match standing {
             Standing::Good => {
-                let regard = self.regard_listed(alloc, other)?;
+                let regard = self.regard_listed(other);
                 Ok(regard.unwrap_or(Regard::NoVariant))
             }
-            Standing::VariantAlone => match self.regard_listed(alloc, other)? {
+            Standing::VariantAlone => match self.regard_listed(other) {
                 Some(regard) => Ok(regard),
                 None => self.barred(alloc, self.label, other),
             },
@@ -192,58 +221,39 @@ impl<'l> Decisions<'l> {
         }
     }
 
-    /// What another label is to the label by its listing, if that has it.
-    fn regard_listed(&mut self, alloc: Global, other: &[u32]) -> Result<Option<Regard>, AllocError>
+    /// What another label, which the test of other labels has seen, is to the label by its listing, if that has it.
+    fn regard_listed(&mut self, other: &[u32]) -> Option<Regard>
         requires decides { Decides self.old }
+        requires made { IsMade self.old }
         requires short { length other.now ≤ 63 }
         requires another { other.now ≢ self.old.label.now }
-        ensures regard { IfOk result (λ regard. regard ≡
-            listed_regard self.old.table.now self.old.label.now other.now) }
+        requires sees { Sees other.now self.old.others }
+        ensures regard { result ≡ listed_regard self.old.table.now self.old.label.now other.now }
         ensures decides { Decides self.new }
         ensures pair { IsOfPair self.old.table.now self.old.label.now self.new }
     {
-        let mut listed = self.listing(alloc)?;
-        let _validity = validity_by(&mut self.validity, other, 0);
-        let regard = listed.regard(other, &MatchedRules::of_test(&self.validity));
-        self.listed = Some(listed);
-        Ok(regard)
-    }
-
-    /// The listing of the label, which is made unless it was.
-    fn listing(&mut self, alloc: Global) -> Result<Listed<'l>, AllocError>
-        requires decides { Decides self.old }
-        ensures listing { IfOk result (IsListingOf self.old.table.now self.old.label.now) }
-        ensures decides { Decides self.new }
-        ensures pair { IsOfPair self.old.table.now self.old.label.now self.new }
-    {
-        match self.listed.take() {
-            Some(listed) => Ok(listed),
-            None => Listed::of_label(alloc, self.table, self.of_table, self.label),
-        }
+        let rules = MatchedRules::of_test(&self.others);
+        let Some(listed) = &mut self.listed else {
+            unreachable!()
+        };
+        listed.regard(other, &rules)
     }
 
     /// What this label is to the other one.
-    fn back(
-        &mut self,
-        alloc: Global,
-        other: &[u32],
-        standing: Standing,
-    ) -> Result<Regard, AllocError>
-        requires decides { Decides self.old }
+    fn back(&self, alloc: Global, other: &[u32], standing: Standing) -> Result<Regard, AllocError>
+        requires decides { Decides self.now }
         requires short { length other.now ≤ 63 }
-        requires another { other.now ≢ self.old.label.now }
-        ensures regard { IfOk result (λ regard. (o : Settings) → IsGood o self.old.table.now self.old.label.now →
-            IsStanding o.properties self.old.table.now other.now standing →
-            regard ≡ regard_of (is_registrable o.properties) self.old.table.now other.now self.old.label.now) }
-        ensures no_memory { standing ≢ Standing.Good → ¬ IsMadeOfSources self.old.table.now other.now → IsOk result }
-        ensures decides { Decides self.new }
-        ensures pair { IsOfPair self.old.table.now self.old.label.now self.new }
+        requires another { other.now ≢ self.now.label.now }
+        ensures regard { IfOk result (λ regard. (o : Settings) → IsGood o self.now.table.now self.now.label.now →
+            IsStanding o.properties self.now.table.now other.now standing →
+            regard ≡ regard_of (is_registrable o.properties) self.now.table.now other.now self.now.label.now) }
+        ensures no_memory { standing ≢ Standing.Good → ¬ IsMadeOfSources self.now.table.now other.now → IsOk result }
     {
         match standing {
             Standing::Good => {
                 let mut listed = Listed::of_label(alloc, self.table, self.of_table, other)?;
-                let _validity = validity_by(&mut self.validity, self.label, 0);
-                let regard = listed.regard(self.label, &MatchedRules::of_test(&self.validity));
+                let rules = MatchedRules::of_test(&self.asked);
+                let regard = listed.regard(self.label, &rules);
                 Ok(regard.unwrap_or(Regard::NoVariant))
             }
             _ => self.barred(alloc, other, self.label),

@@ -9,7 +9,7 @@ ghost use Rattle.valid_labels.specs.declared.validity.Admission.TheVariants.{Adm
 ghost use Rattle.variant_table.specs.Segmentations.{IsMadeOfSources};
 ghost use Rattle.variant_list.specs.Closure.{AreNear};
 ghost use Rattle.idn2_answers.specs.Answers.{IsRefusedAs};
-ghost use Rattle.idn2_cli.specs.inner.Ruling.{ruling_in, ruling_of};
+ghost use Rattle.idn2_cli.specs.inner.Ruling.{Sees, ruling_in, ruling_of};
 ghost use Rattle.idn2_cli.specs.inner.Searches.{IsNearOf, IsReady};
 
 use crate::modes::admission::{admission_by, validity_test_by};
@@ -78,11 +78,19 @@ impl<'t> Search<'t> {
         requires short { length label.now ≤ 63 }
         requires admitted { IsAdmission self.now.table.now label.now (Admitted own) }
         requires ruling { ruling_in validity ≡ ruling_of self.now.table.now }
+        requires sees { Sees label.now validity }
         ensures near { IfOk result (IsNearOf self.now.table.now label.now) }
         ensures memory { IfErr result (λ refusal. refusal ≡ refusals.Memory) }
     {
         let net = self.net(alloc, label)?;
-        let decisions = Decisions::of_label(self.table, self.dispositions, label, own, validity);
+        let decisions = Decisions::of_label(
+            self.table,
+            self.dispositions,
+            self.ruling,
+            label,
+            own,
+            validity,
+        );
         Ok(Near { net, decisions })
     }
 

@@ -1,9 +1,8 @@
 -- Results that tell a fault.
-use Rattle.std.specs.Prelude.{◌≡◌, Option, Some, None, Result, MatchResult, ◌⊎◌}
+use Rattle.std.specs.Prelude.{◌≡◌, Option, Some, None, Result, MatchResult}
 use Rattle.lgr_text.specs.declared.rule_error.RuleError.{RuleError}
 use Rattle.lgr_text.specs.declared.rule_error.RuleError.TheVariants.{Fault, Memory}
 use Rattle.lgr_text.specs.declared.rule_error.RuleFault.{RuleFault}
-use Rattle.lgr_text.specs.declared.rule_error.RuleFault.TheVariants.{Limit}
 
 -- the error tells this fault, or that memory was refused
 abbrev pub IsTold : Option RuleFault → RuleError → Type 0
@@ -13,12 +12,3 @@ IsTold fault Memory = Unit {0}
 -- there is no fault, or the error tells it
 abbrev pub IsFaultOf : {X : Type 0} → Option RuleFault → Result X RuleError → Type 0
 IsFaultOf fault result = MatchResult result (λ _. fault ≡ None) (IsTold fault)
-
--- memory was refused, or too many atoms were wanted
-abbrev pub IsLimit : RuleError → Type 0
-IsLimit (Fault told) = told ≡ Limit
-IsLimit Memory = Unit {0}
-
--- the same as IsFaultOf, but for too many atoms, which are told wherever they are
-abbrev pub IsPartFaultOf : {X : Type 0} → Option RuleFault → Result X RuleError → Type 0
-IsPartFaultOf fault result = MatchResult result (λ _. fault ≡ None) (λ e. IsTold fault e ⊎ IsLimit e)

@@ -1,10 +1,10 @@
 -- Items of a pattern, one after the other.
-use Rattle.std.specs.Prelude.{◌≡◌, ℕ, ◌+◌, ◌↔◌, List, [], ◌∷◌, ◌++◌, All, IsTrue, ◌&&◌, ◌≤◌, ◌<◌, ◌-◌, zero, suc}
+use Rattle.std.specs.Prelude.{◌≡◌, ℕ, ◌+◌, ◌↔◌, List, [], ◌∷◌, ◌++◌, ◌&&◌, ◌≤◌, ◌<◌, ◌-◌, zero, suc}
 use Rattle.std.specs.Prelude.{length, slice_index_or, Option, Some, None, Bool, true, false, if◌then◌else◌}
-use Rattle.std.specs.List.{list_all}
+use Rattle.std.specs.List.{AllByRecursion, list_all}
 use Rattle.label_patterns.specs.declared.span.Span.{Span}
 use Rattle.label_patterns.specs.Laws.{seen}
-use Rattle.label_patterns.specs.Matches.{Seen, Matches}
+use Rattle.label_patterns.specs.Matches.{HasItsSets, Seen, Matches}
 use Rattle.label_patterns.specs.Patterns.{Pattern, Point, Set, Any, Start, Anchor, Group, Optional, Many, Then, Either}
 use Rattle.label_patterns.specs.Rules.{is_anchor}
 use Rattle.label_patterns.specs.Sets.{is_in}
@@ -90,6 +90,10 @@ pub record HasShape (anchored : Bool) (items : List Pattern) : Type 0 where
   pub flat : list_all is_item items ≡ true
   pub one : anchors items ≡ (if anchored then 1 else 0)
 
+-- the sets of the items are among the first n
+abbrev pub HaveSets : ℕ → List Pattern → Type 0
+HaveSets n items = AllByRecursion (HasItsSets n) items
+
 -- items that match what R says of a label made of these code points, whatever sets follow these
 abbrev pub AreItemsFor : List Span → List (List Span) → List Pattern → (Seen → Option Place → ℕ → ℕ → Type 0) → Type 0
 AreItemsFor points sets items R =
@@ -103,6 +107,7 @@ pub record Appends (points : List Span) (anchored : Bool) (old_sets sets : List 
   pub added : List Pattern
   pub is : items ≡ old ++ added
   pub shape : HasShape anchored added
+  pub known : HaveSets (length sets) added
   pub match_them : AreItemsFor points sets added R
 
 -- the number of a set was appended, which has those of a class that are in labels

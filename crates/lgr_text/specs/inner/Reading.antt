@@ -1,12 +1,12 @@
 -- How elements are read from tokens.
-use Rattle.std.specs.Prelude.{◌≡◌, ℕ, ◌+◌, ◌-◌, Bool, true, false, ◌==◌, Option, Some, None, List, [], ◌∷◌, Result, Ok, Err, option_map}
-use Rattle.std.specs.Prelude.{if◌then◌else◌}
+use Rattle.std.specs.Prelude.{◌≡◌, ℕ, ◌+◌, ◌-◌, Bool, true, false, ◌==◌, Option, Some, None, List, [], ◌∷◌, Result, Ok}
+use Rattle.std.specs.Prelude.{Err, option_map, if◌then◌else◌}
 use Rattle.lgr_text.specs.declared.element.Element as held
 use Rattle.lgr_text.specs.declared.element.Elements as held_elements
 use Rattle.lgr_text.specs.declared.fault.ReadError.{ReadError}
 use Rattle.lgr_text.specs.declared.fault.ReadError.TheVariants.{Wrong, Memory}
 use Rattle.lgr_text.specs.Elements
-use Rattle.lgr_text.specs.Elements.{Content, Say, is_blank_text}
+use Rattle.lgr_text.specs.Elements.{Content, Node, Say, is_blank_text}
 use Rattle.xml_text.specs.Tokens
 use Rattle.xml_text.specs.Tokens.{Said}
 
@@ -24,6 +24,12 @@ is_open (Tokens.Open name attributes) = true
 is_open (Tokens.Text text) = false
 is_open Tokens.Close = false
 
+-- what stands between two tags
+abbrev pub is_text : Said → Bool
+is_text (Tokens.Open name attributes) = false
+is_text (Tokens.Text text) = true
+is_text Tokens.Close = false
+
 -- a text of blanks
 abbrev pub is_blank_said : Said → Bool
 is_blank_said (Tokens.Open name attributes) = false
@@ -40,6 +46,10 @@ after_blanks (Elements.Element name attributes within rest) = Elements.Element n
 -- the tokens that are left say this content
 abbrev pub AreOf : held_elements.Elements → Content → Type 0
 AreOf elements content = Say elements.prefix.now elements.tokens.now content
+
+-- the element with this content
+abbrev pub node : held.Element → Content → Node
+node element within = record { name = element.name.now; attributes = element.attributes.now; within = within }
 
 -- the element, and what follows it
 pub record IsFirst (element : held.Element) (rest : held_elements.Elements) (content : Content) : Type 0 where
@@ -61,14 +71,24 @@ NextIs rest content (Ok (Some element)) = IsFirst element rest content
 NextIs rest content (Err (Wrong line)) = BeginsWithText content
 NextIs rest content (Err Memory) = Unit {0}
 
+-- ---- what is read, and what is wrong
+
+-- nothing is said, unless memory was refused
+abbrev pub Fails : {X : Type 0} → Option X → ReadError → Type 0
+Fails said (Wrong line) = said ≡ None
+Fails said Memory = Unit {0}
+
 -- what is read is what is said, and something is wrong exactly where nothing is said
 abbrev pub Reads : {T X : Type 0} → (T → X) → Option X → Result T ReadError → Type 0
 Reads view said (Ok read) = said ≡ Some (view read)
-Reads view said (Err (Wrong line)) = said ≡ None
-Reads view said (Err Memory) = Unit {0}
+Reads view said (Err error) = Fails said error
+
+-- it isn't so, unless memory was refused
+abbrev pub IsNot : Bool → ReadError → Type 0
+IsNot is (Wrong line) = is ≡ false
+IsNot is Memory = Unit {0}
 
 -- something is wrong exactly where it isn't so
 abbrev pub Checks : {T : Type 0} → Bool → Result T ReadError → Type 0
 Checks is (Ok done) = is ≡ true
-Checks is (Err (Wrong line)) = is ≡ false
-Checks is (Err Memory) = Unit {0}
+Checks is (Err error) = IsNot is error

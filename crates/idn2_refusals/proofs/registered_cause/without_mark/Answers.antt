@@ -1,4 +1,4 @@
-use Rattle.std.proofs.Common.{◌≡◌, ◌≤◌, ◌-◌, Bool, cond, List, ℕ, length, ap, sym, ◌∙◌, arith, length-take}
+use Rattle.std.proofs.Common.{◌-◌, Bool, cond, List, ℕ, length, ap, sym, ◌∙◌, arith, length-take}
 use Rattle.idn_label.specs.OldNames.{before_mark, mark}
 use Rattle.idn2_refusals.proofs.registered_cause.without_mark.Goals as goal
 

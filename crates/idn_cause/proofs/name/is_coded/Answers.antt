@@ -1,4 +1,4 @@
-use Rattle.std.proofs.Common.{◌≡◌, ◌≢◌, ℕ, zero, suc, false, List, [], ◌∷◌, refl, sym, ap, ◌∙◌, arith}
+use Rattle.std.proofs.Common.{◌≡◌, ◌≢◌, ℕ, zero, suc, false, List, [], ◌∷◌, refl, sym, ap, ◌∙◌}
 use Rattle.idna.specs.Validity.{has_ace_prefix}
 use Rattle.idn_label.specs.Steps.{begins_with_prefix}
 use Rattle.idn_label.proofs.LabelsByPlace.{label_last}

@@ -1,7 +1,6 @@
-use Rattle.std.proofs.Common.{◌≡◌, List, map, take, subst, sym, ap, ◌∙◌}
+use Rattle.std.proofs.Common.{◌≡◌, map, subst, sym, ap, ◌∙◌}
 use Rattle.std.specs.List.{All}
 use Rattle.std.proofs.lemmas.List.{take_all}
-use Rattle.label_patterns.specs.declared.span.Span.{Span}
 use Rattle.lgr_text.specs.CodePoints.{IsSpan}
 use Rattle.lgr_text.specs.Known.{tagged}
 use Rattle.lgr_text.specs.Records.{entry}

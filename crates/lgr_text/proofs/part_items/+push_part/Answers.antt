@@ -1,26 +1,26 @@
-use Rattle.std.proofs.Common.{◌≡◌, ◌&&◌, false, [], map, sym, ap, subst, ◌∙◌}
+use Rattle.std.proofs.Common.{◌≡◌, ◌&&◌, false, [], map, refl, sym, ap, subst, ◌∙◌}
 use Rattle.std.proofs.lemmas.Result.{on_ok_weaker}
-use Rattle.label_patterns.specs.Patterns.{Pattern, Point}
 use Rattle.label_patterns.specs.Trees.{pattern}
 use Rattle.lgr_text.specs.Known.{known as known_of}
-use Rattle.lgr_text.specs.PartMatches.{has_anchor, IsUpTo, IsWellFormed}
-use Rattle.lgr_text.specs.Records.{class as class_of, part as part_of, Part, Literal, Of, Then, Choice, Times}
-use Rattle.lgr_text.proofs.PartLemmas.{choice-part, class-part, literal-part, then-part, times-part, AppendsPart}
+use Rattle.lgr_text.specs.PartMatches.{has_anchor, IsWellFormed}
+use Rattle.lgr_text.specs.Records.{class as class_of, part as part_of, Literal, Then, Choice, Times, OfRule}
+use Rattle.lgr_text.proofs.PartLemmas.{choice-part, class-part, literal-part, then-part, times-part, AppendsPart, anchor-part, any-part, end-part, start-part, rule-part}
+use Rattle.lgr_text.proofs.SetNumberLemmas.{sets-stay}
 use Rattle.lgr_text.proofs.part_items.+push_part.Goals as goal
 
 pub returns-in-Literal-clause-items : goal.returns-in-Literal-clause-items
 returns-in-Literal-clause-items t c =
     let is : part_of c.args.part.now ≡ Literal c.deref.result.now = ap part_of c.in-Literal.is ∙ ap Literal (sym c.deref.ensures.value) in
     on_ok_weaker c.push_literal.result
-    (λ e. literal-part (known_of c.args.known) c.args.made.now.sets.items c.push_literal.new.made.sets.items
+    (λ e. literal-part (known_of c.args.known) c.args.sets.now.items c.args.sets.now.items
     (map pattern c.args.items.now.items) (map pattern c.push_literal.new.items.items) c.deref.result.now (part_of c.args.part.now) is
-    (ap (λ v. v.items) c.push_literal.ensures.sets) e)
+    refl e)
     c.push_literal.ensures.items
 
 pub returns-in-Of-clause-items : goal.returns-in-Of-clause-items
 returns-in-Of-clause-items t c =
     on_ok_weaker c.push_class.result
-    (λ adds. class-part (known_of c.args.known) (class_of c.in-Of.class) c.args.made.now.sets.items c.push_class.new.made.sets.items
+    (λ adds. class-part (known_of c.args.known) (class_of c.in-Of.class) c.args.sets.now.items c.push_class.new.sets.items
     (map pattern c.args.items.now.items) (map pattern c.push_class.new.items.items) (part_of c.args.part.now) (ap part_of c.in-Of.is) adds)
     c.push_class.ensures.items
 
@@ -39,7 +39,7 @@ returns-in_ok-push_part-in-Then-clause-items t c =
     ∙ sym c.have_anchors.ensures ∙ c.if-have_anchors.false in
     on_ok_weaker c.push_part-in-Then.result
     (λ right. then-part (known_of c.args.known) (part_of first) (part_of rest) (part_of c.args.part.now)
-    c.args.made.now.sets.items c.push_part.new.made.sets.items c.push_part-in-Then.new.made.sets.items
+    c.args.sets.now.items c.push_part.new.sets.items c.push_part-in-Then.new.sets.items
     (map pattern c.args.items.now.items) (map pattern c.push_part.new.items.items) (map pattern c.push_part-in-Then.new.items.items)
     is apart c.in_ok-push_part-in-Then.ensures.items right)
     c.push_part-in-Then.ensures.items
@@ -60,17 +60,17 @@ returns-in_ok-push_part-in-Choice-2-clause-items t c =
     ap (λ q. has_anchor (part_of q)) (c.deref-in-Choice-3.ensures ∙ sym c.deref-else-has_anchor.ensures) ∙ sym c.has_anchor-else-has_anchor.ensures ∙ c.if-has_anchor-2.false in
     let left_items = map pattern c.push_part-in-Choice.new.items.items in
     let right_items = map pattern c.push_part-in-Choice-2.new.items.items in
-    let first = c.args.made.now.sets.items in
-    let middle = c.push_part-in-Choice.new.made.sets.items in
-    let last = c.push_part-in-Choice-2.new.made.sets.items in
+    let first = c.args.sets.now.items in
+    let middle = c.push_part-in-Choice.new.sets.items in
+    let last = c.push_part-in-Choice-2.new.sets.items in
     let made_left : AppendsPart known first middle [] left_items (part_of left) =
     subst (λ l. AppendsPart known first middle (map pattern l) left_items (part_of left)) c.new-left_items.ensures.items c.in_ok-push_part-in-Choice.ensures.items in
     let made_right : AppendsPart known middle last [] right_items (part_of right) =
     subst (λ l. AppendsPart known middle last (map pattern l) right_items (part_of right)) c.new-right_items.ensures.items c.in_ok-push_part-in-Choice-2.ensures.items in
     on_ok_weaker c.push_choice.result
-    (λ e. choice-part known (part_of left) (part_of right) (part_of c.args.part.now) first middle last c.push_choice.new.made.sets.items
+    (λ e. choice-part known (part_of left) (part_of right) (part_of c.args.part.now) first middle last last
     (map pattern c.args.items.now.items) (map pattern c.push_choice.new.items.items) left_items right_items is
-    (ap (λ v. v.items) c.push_choice.ensures.sets) no_left no_right made_left made_right e)
+    refl no_left no_right made_left made_right e)
     c.push_choice.ensures.items
 
 pub returns-in_ok-push_part-in-Times-clause-items :
@@ -84,12 +84,59 @@ returns-in_ok-push_part-in-Times-clause-items t c =
     ap (λ q. has_anchor (part_of q)) (c.deref-in-Times-2.ensures ∙ sym c.deref-in-Times.ensures) ∙ sym c.has_anchor-in-Times.ensures ∙ c.if-has_anchor-3.false in
     let well : IsWellFormed (Times c.in-Times.count (part_of inner)) = subst IsWellFormed is c.requires.part in
     let once = map pattern c.push_part-in-Times.new.items.items in
-    let first = c.args.made.now.sets.items in
-    let last = c.push_part-in-Times.new.made.sets.items in
+    let first = c.args.sets.now.items in
+    let last = c.push_part-in-Times.new.sets.items in
     let made : AppendsPart known first last [] once (part_of inner) =
     subst (λ l. AppendsPart known first last (map pattern l) once (part_of inner)) c.new-once.ensures.items c.in_ok-push_part-in-Times.ensures.items in
     on_ok_weaker c.push_times.result
-    (λ e. times-part known c.in-Times.count (part_of inner) (part_of c.args.part.now) first last c.push_times.new.made.sets.items
+    (λ e. times-part known c.in-Times.count (part_of inner) (part_of c.args.part.now) first last last
     (map pattern c.args.items.now.items) (map pattern c.push_times.new.items.items) once is
-    (ap (λ v. v.items) c.push_times.ensures.sets) none well.0 made e)
+    refl none well.0 made e)
     c.push_times.ensures.items
+
+pub returns-in-OfRule-clause-items : goal.returns-in-OfRule-clause-items
+returns-in-OfRule-clause-items t c =
+    let is : part_of c.args.part.now ≡ OfRule c.as_slice.result.now = ap part_of c.in-OfRule.is ∙ ap OfRule (sym c.as_slice.ensures) in
+    on_ok_weaker c.push_rule.result
+    (λ e. rule-part (known_of c.args.known) c.as_slice.result.now c.args.sets.now.items c.args.sets.now.items
+    (map pattern c.args.items.now.items) (map pattern c.push_rule.new.items.items) (part_of c.args.part.now) is
+    refl c.requires.rules e)
+    c.push_rule.ensures.items
+
+pub returns-in-Any-clause-items : goal.returns-in-Any-clause-items
+returns-in-Any-clause-items t c =
+    on_ok_weaker c.push.result
+    (λ e. any-part (known_of c.args.known) c.args.sets.now.items c.args.sets.now.items
+    (map pattern c.args.items.now.items) (map pattern c.push.new.items.items) (part_of c.args.part.now) (ap part_of c.in-Any.is)
+    refl e)
+    c.push.ensures.items
+
+pub returns-in-Start-clause-items : goal.returns-in-Start-clause-items
+returns-in-Start-clause-items t c =
+    on_ok_weaker c.push-in-Start.result
+    (λ e. start-part (known_of c.args.known) c.args.sets.now.items c.args.sets.now.items
+    (map pattern c.args.items.now.items) (map pattern c.push-in-Start.new.items.items) (part_of c.args.part.now) (ap part_of c.in-Start.is)
+    refl e)
+    c.push-in-Start.ensures.items
+
+pub returns-in-End-clause-items : goal.returns-in-End-clause-items
+returns-in-End-clause-items t c =
+    on_ok_weaker c.push-in-End.result
+    (λ e. end-part (known_of c.args.known) c.args.sets.now.items c.args.sets.now.items
+    (map pattern c.args.items.now.items) (map pattern c.push-in-End.new.items.items) (part_of c.args.part.now) (ap part_of c.in-End.is)
+    refl e)
+    c.push-in-End.ensures.items
+
+pub returns-in-Anchor-clause-items : goal.returns-in-Anchor-clause-items
+returns-in-Anchor-clause-items t c =
+    on_ok_weaker c.push-in-Anchor.result
+    (λ e. anchor-part (known_of c.args.known) c.args.sets.now.items c.args.sets.now.items
+    (map pattern c.args.items.now.items) (map pattern c.push-in-Anchor.new.items.items) (part_of c.args.part.now) (ap part_of c.in-Anchor.is)
+    refl e)
+    c.push-in-Anchor.ensures.items
+
+pub returns-in-Of-clause-rules : goal.returns-in-Of-clause-rules
+returns-in-Of-clause-rules t c =
+    on_ok_weaker c.push_class.result
+    (λ adds. sets-stay c.push_class.new.sets.items c.args.sets.now.items (map pattern c.args.known.rules.now) adds.kept c.requires.rules)
+    c.push_class.ensures.items

@@ -5,5 +5,4 @@ use Rattle.lgr_text.proofs.part_items.push_copies.Given as goal
 -- the copies so far
 abbrev pub invariant-loop-other : goal.invariant-loop-other
 invariant-loop-other l =
-    (map pattern l.items.items ≡ map pattern l.initial.items.items ++ map pattern (take l.other-index l.others))
-    × (l.made.sets ≡ l.initial.made.sets)
+    map pattern l.items.items ≡ map pattern l.initial.items.items ++ map pattern (take l.other-index l.others)

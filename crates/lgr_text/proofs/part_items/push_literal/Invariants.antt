@@ -6,5 +6,4 @@ use Rattle.lgr_text.proofs.part_items.push_literal.Given as goal
 -- the code points so far
 abbrev pub invariant-loop-point : goal.invariant-loop-point
 invariant-loop-point l =
-    (map pattern l.items.items ≡ map pattern l.initial.items.items ++ map Point (take l.point-index l.points))
-    × (l.made.sets ≡ l.initial.made.sets)
+    map pattern l.items.items ≡ map pattern l.initial.items.items ++ map Point (take l.point-index l.points)

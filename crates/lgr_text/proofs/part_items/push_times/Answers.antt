@@ -15,7 +15,7 @@ returns-clause-items c =
     let rest : c.loop-time-2._time ≡ more =
     omega (arith, c.loop-time-2-test.false, c.loop-time-2.auto._time-end, c.saturating_sub-time-end.ensures) in
     c.loop-time-2.invariant.0
-    ∙ ap (λ l. l ++ copies c.loop-time-2._time (Optional atom ∷ [])) c.loop-time.invariant.0
+    ∙ ap (λ l. l ++ copies c.loop-time-2._time (Optional atom ∷ [])) c.loop-time.invariant
     ∙ ap (λ n. (old ++ copies n once) ++ copies c.loop-time-2._time (Optional atom ∷ [])) all
     ∙ ap (λ n. (old ++ copies least once) ++ copies n (Optional atom ∷ [])) rest
     ∙ ap (λ p. (old ++ copies least once) ++ copies more (Optional p ∷ [])) c.in_ok-atom.ensures

@@ -7,11 +7,9 @@ use Rattle.lgr_text.proofs.part_items.push_times.Given as goal
 -- the copies so far
 abbrev pub invariant-loop-time : goal.invariant-loop-time
 invariant-loop-time l =
-    (map pattern l.items.items ≡ map pattern l.initial.items.items ++ copies l._time (map pattern l.once.items))
-    × (l.made.sets ≡ l.initial.made.sets)
+    map pattern l.items.items ≡ map pattern l.initial.items.items ++ copies l._time (map pattern l.once.items)
 
 abbrev pub invariant-loop-time-2 : goal.invariant-loop-time-2
 invariant-loop-time-2 l =
     (map pattern l.items.items ≡ map pattern l.initial.items.items ++ copies l._time (Optional (pattern l.initial.atom) ∷ []))
-    × (l.made.sets ≡ l.initial.made.sets)
     × (pattern l.atom ≡ pattern l.initial.atom)

@@ -3,7 +3,7 @@ use Rattle.std.specs.List.{Contains}
 use Rattle.variant_table.specs.Entries.{Entry}
 use Rattle.variant_table.specs.Places.{AreEntriesAt}
 use Rattle.variant_table.proofs.MemberLemmas.{Contains-head, Contains-later}
-use Rattle.valid_labels.specs.Staying.{may_stand}
+use Rattle.variant_table.specs.Staying.{may_stand}
 use Rattle.valid_labels.proofs.CauseLemmas.{at-inside}
 use Rattle.valid_labels.proofs.StayingLemmas.{added-source, skipped-source, staying-is}
 use Rattle.valid_labels.proofs.itself.add_sources.Goals as goal

@@ -2,7 +2,7 @@ use Rattle.std.proofs.Common.{◌≡◌, map}
 use Rattle.std.specs.List.{Contains, filter}
 use Rattle.reading_kinds.specs.Drafts.{with_substitutions}
 use Rattle.variant_table.specs.Entries.{Entry}
-use Rattle.valid_labels.specs.Staying.{may_stand, staying}
+use Rattle.variant_table.specs.Staying.{may_stand, staying}
 use Rattle.valid_labels.proofs.itself.add_sources.Given as goal
 
 -- with the entries that are left it has all that stand

@@ -24,7 +24,7 @@ run-place-requires c has =
 
 pub loop-init : goal.loop-init
 loop-init c =
-    let run = run-leads (LongestLeads c.args.table.now c.args.label.now) (length c.args.label.now) c.args.steps c.requires.steps c.run-place.result c.run-place.ensures in
+    let run = run-leads (LongestLeads c.args.table.now c.args.label.now) (length c.args.label.now) c.args.steps c.requires.steps c.run-place.result c.run-place.ensures.leads in
     record { reached = run.0; within = run.1; far = omega arith }
 
 pub next_place-requires-clause-place : goal.next_place-requires-clause-place

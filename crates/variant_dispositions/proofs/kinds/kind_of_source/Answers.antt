@@ -1,6 +1,6 @@
 use Rattle.std.proofs.Common.{◌≡◌, ◌+◌, ◌^◌, ◌<◌, ◌∷◌, [], ℕ, suc, refl, sym, ap, subst, ◌∙◌, arith}
 use Rattle.variant_dispositions.specs.Kinds as kinds
-use Rattle.variant_dispositions.specs.Kinds.{Kind, bit_of, kinds_in, IsTypeNumber}
+use Rattle.variant_dispositions.specs.Kinds.{IsTypeNumber}
 use Rattle.variant_dispositions.specs.Kinds.Kind.{Unmapped, Typed}
 use Rattle.variant_dispositions.proofs.OneKindLemmas.{kinds_in-one}
 use Rattle.variant_dispositions.proofs.kinds.kind_of_source.Goals as goal

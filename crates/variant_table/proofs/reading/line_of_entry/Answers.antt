@@ -1,4 +1,4 @@
-use Rattle.std.proofs.Common.{◌≡◌, rules, arith, ◌+◌, ◌≤◌, ◌<◌, ℕ, List, length, Some, None, sym, ap, subst, ◌∙◌}
+use Rattle.std.proofs.Common.{rules, arith, ◌+◌, ◌≤◌, ℕ, List, length, sym, ap, subst}
 use Rattle.idn_text.specs.Lines.{raw_lines}
 use Rattle.variant_table.specs.declared.version.Version.{Version}
 use Rattle.variant_table.specs.Entries.{TableValue}

@@ -1,4 +1,4 @@
-use Rattle.std.proofs.Common.{◌≡◌, List, ℕ, Some, ap, sym, subst}
+use Rattle.std.proofs.Common.{List, ℕ, Some, sym, subst}
 use Rattle.idn_label.proofs.RequirementLemmas.{MeetsRequirements-registrable}
 use Rattle.variant_table.specs.Entries.{TableValue}
 use Rattle.idn2_options.specs.Settings.{Settings, keeping}

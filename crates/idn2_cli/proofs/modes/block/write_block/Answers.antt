@@ -1,10 +1,9 @@
-use Rattle.std.proofs.Common.{◌≡◌, ◌+◌, ◌-◌, ◌∙◌, ℕ, List, Bool, Option, None, Some, Result, Ok, Err, All, ap, sym, subst, refl, inr, arith}
+use Rattle.std.proofs.Common.{◌≡◌, ◌+◌, ◌-◌, ◌∙◌, ℕ, List, Bool, Option, None, Some, Result, Ok, Err, All, ap, sym, subst, refl, inl, inr, arith}
 use Rattle.std.specs.declared.alloc.AllocError.{AllocError}
 use Rattle.idn_class.specs.declared.properties.Properties.{Properties}
 use Rattle.idn_class.specs.Known.{AreKnown}
 use Rattle.idn_class.proofs.KnownLemmas.{AreKnown-nil}
 use Rattle.idn_label.specs.FirstFault.{IsRegistrable}
-use Rattle.idn_label.proofs.RequirementLemmas.{MeetsRequirements-registrable}
 use Rattle.variant_list.specs.Steps.{IfDecided, IfFound, Decides, SeeksOver, moved_over}
 use Rattle.variant_list.specs.declared.cursor.Outcome.{Outcome}
 use Rattle.variant_list.specs.declared.cursor.Outcome.TheVariants as outcome
@@ -110,23 +109,23 @@ variants-init g c = record {
 
 pub write_stop-requires-clause-scalar_values : goal.write_stop-requires-clause-scalar_values
 write_stop-requires-clause-scalar_values g c =
-    (subst IsWritable (sym c.last.ensures.value)
-    (spent-writable c.args.options.now.properties (filter_for c.args.options.now.properties c.args.validity c.args.dispositions) (said_text c.args.asked.now.form (asked_line c.args.asked.now)) (field_in c.args.options.now c.args.dispositions) _ _ _ _ c.variants.cursor c.seek.new.self c.variants.count c.variants.tries c.seek.new.tries c.variants.steps c.seek.new.steps c.requires.spelled c.variants.invariant.listing (spent-from (filter_for c.args.options.now.properties c.args.validity c.args.dispositions) c.variants.cursor c.seek.new.self c.variants.tries c.seek.new.tries c.variants.steps c.seek.new.steps c.seek.result c.in_ok-seek.field-0 c.in_ok-seek.was (decided_by (filter_of_judge c.variants.judge) (filter_for c.args.options.now.properties c.args.validity c.args.dispositions) c.variants.cursor c.variants.tries c.seek.new.tries c.seek.result c.variants.invariant.same_filter c.seek.ensures.decided) (moves_by (filter_of_judge c.variants.judge) (filter_for c.args.options.now.properties c.args.validity c.args.dispositions) (c.variants.tries - c.seek.new.tries) c.seek.result c.variants.cursor c.seek.new.self c.variants.invariant.same_filter c.seek.ensures.moves) (steps_by (filter_of_judge c.variants.judge) (filter_for c.args.options.now.properties c.args.validity c.args.dispositions) c.variants.cursor c.seek.new.self c.variants.steps c.seek.new.steps c.seek.result c.variants.invariant.same_filter c.seek.ensures.steps) c.in-OutOfTries.is))).scalar_values
-
-pub write_stop-requires-in-OutOfSteps-clause-scalar_values : goal.write_stop-requires-in-OutOfSteps-clause-scalar_values
-write_stop-requires-in-OutOfSteps-clause-scalar_values g c =
-    (subst IsWritable (sym c.last-in-OutOfSteps.ensures.value)
-    (halted-writable c.args.options.now.properties (filter_for c.args.options.now.properties c.args.validity c.args.dispositions) (said_text c.args.asked.now.form (asked_line c.args.asked.now)) (field_in c.args.options.now c.args.dispositions) _ _ _ _ c.variants.cursor c.seek.new.self c.variants.count c.variants.tries c.seek.new.tries c.variants.steps c.seek.new.steps c.requires.spelled c.variants.invariant.listing (halted-from (filter_for c.args.options.now.properties c.args.validity c.args.dispositions) c.variants.cursor c.seek.new.self c.variants.tries c.seek.new.tries c.variants.steps c.seek.new.steps c.seek.result c.in_ok-seek.field-0 c.in_ok-seek.was (decided_by (filter_of_judge c.variants.judge) (filter_for c.args.options.now.properties c.args.validity c.args.dispositions) c.variants.cursor c.variants.tries c.seek.new.tries c.seek.result c.variants.invariant.same_filter c.seek.ensures.decided) (moves_by (filter_of_judge c.variants.judge) (filter_for c.args.options.now.properties c.args.validity c.args.dispositions) (c.variants.tries - c.seek.new.tries) c.seek.result c.variants.cursor c.seek.new.self c.variants.invariant.same_filter c.seek.ensures.moves) (steps_by (filter_of_judge c.variants.judge) (filter_for c.args.options.now.properties c.args.validity c.args.dispositions) c.variants.cursor c.seek.new.self c.variants.steps c.seek.new.steps c.seek.result c.variants.invariant.same_filter c.seek.ensures.steps) c.in-OutOfSteps.is))).scalar_values
+    let writable : IsWritable c.seek.new.self.last =
+    elim c.in-OutOfTries.is [
+      | inl spent ↦ spent-writable c.args.options.now.properties (filter_for c.args.options.now.properties c.args.validity c.args.dispositions) (said_text c.args.asked.now.form (asked_line c.args.asked.now)) (field_in c.args.options.now c.args.dispositions) _ _ _ _ c.variants.cursor c.seek.new.self c.variants.count c.variants.tries c.seek.new.tries c.variants.steps c.seek.new.steps c.requires.spelled c.variants.invariant.listing (spent-from (filter_for c.args.options.now.properties c.args.validity c.args.dispositions) c.variants.cursor c.seek.new.self c.variants.tries c.seek.new.tries c.variants.steps c.seek.new.steps c.seek.result c.in_ok-seek.field-0 c.in_ok-seek.was (decided_by (filter_of_judge c.variants.judge) (filter_for c.args.options.now.properties c.args.validity c.args.dispositions) c.variants.cursor c.variants.tries c.seek.new.tries c.seek.result c.variants.invariant.same_filter c.seek.ensures.decided) (moves_by (filter_of_judge c.variants.judge) (filter_for c.args.options.now.properties c.args.validity c.args.dispositions) (c.variants.tries - c.seek.new.tries) c.seek.result c.variants.cursor c.seek.new.self c.variants.invariant.same_filter c.seek.ensures.moves) (steps_by (filter_of_judge c.variants.judge) (filter_for c.args.options.now.properties c.args.validity c.args.dispositions) c.variants.cursor c.seek.new.self c.variants.steps c.seek.new.steps c.seek.result c.variants.invariant.same_filter c.seek.ensures.steps) spent)
+      | inr halted ↦ halted-writable c.args.options.now.properties (filter_for c.args.options.now.properties c.args.validity c.args.dispositions) (said_text c.args.asked.now.form (asked_line c.args.asked.now)) (field_in c.args.options.now c.args.dispositions) _ _ _ _ c.variants.cursor c.seek.new.self c.variants.count c.variants.tries c.seek.new.tries c.variants.steps c.seek.new.steps c.requires.spelled c.variants.invariant.listing (halted-from (filter_for c.args.options.now.properties c.args.validity c.args.dispositions) c.variants.cursor c.seek.new.self c.variants.tries c.seek.new.tries c.variants.steps c.seek.new.steps c.seek.result c.in_ok-seek.field-0 c.in_ok-seek.was (decided_by (filter_of_judge c.variants.judge) (filter_for c.args.options.now.properties c.args.validity c.args.dispositions) c.variants.cursor c.variants.tries c.seek.new.tries c.seek.result c.variants.invariant.same_filter c.seek.ensures.decided) (moves_by (filter_of_judge c.variants.judge) (filter_for c.args.options.now.properties c.args.validity c.args.dispositions) (c.variants.tries - c.seek.new.tries) c.seek.result c.variants.cursor c.seek.new.self c.variants.invariant.same_filter c.seek.ensures.moves) (steps_by (filter_of_judge c.variants.judge) (filter_for c.args.options.now.properties c.args.validity c.args.dispositions) c.variants.cursor c.seek.new.self c.variants.steps c.seek.new.steps c.seek.result c.variants.invariant.same_filter c.seek.ensures.steps) halted)
+    ] in
+    (subst IsWritable (sym c.last.ensures.value) writable).scalar_values
 
 pub returns-in-OutOfTries-clause-written : goal.returns-in-OutOfTries-clause-written
 returns-in-OutOfTries-clause-written g c =
-    let spent = spent-from (filter_for c.args.options.now.properties c.args.validity c.args.dispositions) c.variants.cursor c.seek.new.self c.variants.tries c.seek.new.tries c.variants.steps c.seek.new.steps c.seek.result c.in_ok-seek.field-0 c.in_ok-seek.was (decided_by (filter_of_judge c.variants.judge) (filter_for c.args.options.now.properties c.args.validity c.args.dispositions) c.variants.cursor c.variants.tries c.seek.new.tries c.seek.result c.variants.invariant.same_filter c.seek.ensures.decided) (moves_by (filter_of_judge c.variants.judge) (filter_for c.args.options.now.properties c.args.validity c.args.dispositions) (c.variants.tries - c.seek.new.tries) c.seek.result c.variants.cursor c.seek.new.self c.variants.invariant.same_filter c.seek.ensures.moves) (steps_by (filter_of_judge c.variants.judge) (filter_for c.args.options.now.properties c.args.validity c.args.dispositions) c.variants.cursor c.seek.new.self c.variants.steps c.seek.new.steps c.seek.result c.variants.invariant.same_filter c.seek.ensures.steps) c.in-OutOfTries.is in
-    listing-spent c.args.options.now.properties (filter_for c.args.options.now.properties c.args.validity c.args.dispositions) (said_text c.args.asked.now.form (asked_line c.args.asked.now)) (field_in c.args.options.now c.args.dispositions) _ _ _ _ _ c.variants.cursor c.seek.new.self c.variants.count c.variants.tries c.seek.new.tries c.variants.steps c.seek.new.steps c.last.result.now c.write_stop.result c.variants.invariant.listing spent c.last.ensures.value c.write_stop.ensures.written
-
-pub returns-in-OutOfSteps-clause-written : goal.returns-in-OutOfSteps-clause-written
-returns-in-OutOfSteps-clause-written g c =
-    let halted = halted-from (filter_for c.args.options.now.properties c.args.validity c.args.dispositions) c.variants.cursor c.seek.new.self c.variants.tries c.seek.new.tries c.variants.steps c.seek.new.steps c.seek.result c.in_ok-seek.field-0 c.in_ok-seek.was (decided_by (filter_of_judge c.variants.judge) (filter_for c.args.options.now.properties c.args.validity c.args.dispositions) c.variants.cursor c.variants.tries c.seek.new.tries c.seek.result c.variants.invariant.same_filter c.seek.ensures.decided) (moves_by (filter_of_judge c.variants.judge) (filter_for c.args.options.now.properties c.args.validity c.args.dispositions) (c.variants.tries - c.seek.new.tries) c.seek.result c.variants.cursor c.seek.new.self c.variants.invariant.same_filter c.seek.ensures.moves) (steps_by (filter_of_judge c.variants.judge) (filter_for c.args.options.now.properties c.args.validity c.args.dispositions) c.variants.cursor c.seek.new.self c.variants.steps c.seek.new.steps c.seek.result c.variants.invariant.same_filter c.seek.ensures.steps) c.in-OutOfSteps.is in
-    listing-halted c.args.options.now.properties (filter_for c.args.options.now.properties c.args.validity c.args.dispositions) (said_text c.args.asked.now.form (asked_line c.args.asked.now)) (field_in c.args.options.now c.args.dispositions) _ _ _ _ _ c.variants.cursor c.seek.new.self c.variants.count c.variants.tries c.seek.new.tries c.variants.steps c.seek.new.steps c.last-in-OutOfSteps.result.now c.write_stop-in-OutOfSteps.result c.variants.invariant.listing halted c.last-in-OutOfSteps.ensures.value c.write_stop-in-OutOfSteps.ensures.written
+    elim c.in-OutOfTries.is [
+      | inl spent ↦
+          let runs_out = spent-from (filter_for c.args.options.now.properties c.args.validity c.args.dispositions) c.variants.cursor c.seek.new.self c.variants.tries c.seek.new.tries c.variants.steps c.seek.new.steps c.seek.result c.in_ok-seek.field-0 c.in_ok-seek.was (decided_by (filter_of_judge c.variants.judge) (filter_for c.args.options.now.properties c.args.validity c.args.dispositions) c.variants.cursor c.variants.tries c.seek.new.tries c.seek.result c.variants.invariant.same_filter c.seek.ensures.decided) (moves_by (filter_of_judge c.variants.judge) (filter_for c.args.options.now.properties c.args.validity c.args.dispositions) (c.variants.tries - c.seek.new.tries) c.seek.result c.variants.cursor c.seek.new.self c.variants.invariant.same_filter c.seek.ensures.moves) (steps_by (filter_of_judge c.variants.judge) (filter_for c.args.options.now.properties c.args.validity c.args.dispositions) c.variants.cursor c.seek.new.self c.variants.steps c.seek.new.steps c.seek.result c.variants.invariant.same_filter c.seek.ensures.steps) spent in
+          listing-spent c.args.options.now.properties (filter_for c.args.options.now.properties c.args.validity c.args.dispositions) (said_text c.args.asked.now.form (asked_line c.args.asked.now)) (field_in c.args.options.now c.args.dispositions) _ _ _ _ _ c.variants.cursor c.seek.new.self c.variants.count c.variants.tries c.seek.new.tries c.variants.steps c.seek.new.steps c.last.result.now c.write_stop.result c.variants.invariant.listing runs_out c.last.ensures.value c.write_stop.ensures.written
+      | inr halted ↦
+          let halts = halted-from (filter_for c.args.options.now.properties c.args.validity c.args.dispositions) c.variants.cursor c.seek.new.self c.variants.tries c.seek.new.tries c.variants.steps c.seek.new.steps c.seek.result c.in_ok-seek.field-0 c.in_ok-seek.was (decided_by (filter_of_judge c.variants.judge) (filter_for c.args.options.now.properties c.args.validity c.args.dispositions) c.variants.cursor c.variants.tries c.seek.new.tries c.seek.result c.variants.invariant.same_filter c.seek.ensures.decided) (moves_by (filter_of_judge c.variants.judge) (filter_for c.args.options.now.properties c.args.validity c.args.dispositions) (c.variants.tries - c.seek.new.tries) c.seek.result c.variants.cursor c.seek.new.self c.variants.invariant.same_filter c.seek.ensures.moves) (steps_by (filter_of_judge c.variants.judge) (filter_for c.args.options.now.properties c.args.validity c.args.dispositions) c.variants.cursor c.seek.new.self c.variants.steps c.seek.new.steps c.seek.result c.variants.invariant.same_filter c.seek.ensures.steps) halted in
+          listing-halted c.args.options.now.properties (filter_for c.args.options.now.properties c.args.validity c.args.dispositions) (said_text c.args.asked.now.form (asked_line c.args.asked.now)) (field_in c.args.options.now c.args.dispositions) _ _ _ _ _ c.variants.cursor c.seek.new.self c.variants.count c.variants.tries c.seek.new.tries c.variants.steps c.seek.new.steps c.last.result.now c.write_stop.result c.variants.invariant.listing halts c.last.ensures.value c.write_stop.ensures.written
+    ]
 
 pub returns-in-Ended-clause-written : goal.returns-in-Ended-clause-written
 returns-in-Ended-clause-written g c =

@@ -1,4 +1,4 @@
-use Rattle.std.proofs.Common.{◌≡◌, ◌≤◌, ◌-◌, ◌∙◌, ℕ, List, [], Option, Some, None, Bool, length, ap, sym, arith, if◌then◌else◌}
+use Rattle.std.proofs.Common.{◌-◌, ◌∙◌, ℕ, List, [], Option, Some, None, Bool, length, ap, sym, arith, if◌then◌else◌}
 use Rattle.std.specs.Prelude.{slice_get}
 use Rattle.std.specs.Option.{option_map}
 use Rattle.std.proofs.lemmas.Option.{get_or_from_slice_get}

@@ -1,8 +1,8 @@
-use Rattle.std.proofs.Common.{◌≡◌, ◌+◌, ◌++◌, [], ◌∷◌, ◌∙◌, Err, List, ℕ, length, map, drop, get_or, refl, ap, sym, subst, append_assoc, arith, add-one, drop-cons}
+use Rattle.std.proofs.Common.{◌≡◌, ◌+◌, ◌++◌, [], ◌∷◌, ◌∙◌, Err, List, ℕ, map, drop, get_or, refl, ap, sym, append_assoc, add-one, drop-cons}
 use Rattle.answer_json.specs.declared.collision.Regard.TheVariants.{NoVariant}
 use Rattle.std.proofs.lemmas.Result.{err_from_is_err_and}
-use Rattle.idn2_answers.specs.Said.{Said, said_text}
-use Rattle.idn2_output.specs.OutputLines.{OutputLine, Output, outputs}
+use Rattle.idn2_answers.specs.Said.{Said}
+use Rattle.idn2_output.specs.OutputLines.{OutputLine}
 use Rattle.idn2_output.proofs.WrittenOutputLines.{writes_nothing, writes_join, stops_between}
 use Rattle.std.proofs.lemmas.List.{append-nil, drop_all}
 use Rattle.idn2_cli.specs.declared.modes.asked.Asked.{Asked}

@@ -1,4 +1,4 @@
-use Rattle.std.proofs.Common.{◌≡◌, List, ℕ, [], ◌∷◌, ap, subst}
+use Rattle.std.proofs.Common.{List, ℕ, [], ◌∷◌, subst}
 use Rattle.idn_label.proofs.RequirementLemmas.{MeetsRequirements-registrable}
 use Rattle.variant_table.specs.Entries.{TableValue}
 use Rattle.idn2_refusals.specs.Requests.{requested_label}

@@ -1,4 +1,4 @@
-use Rattle.std.proofs.Common.{Ok, Some, None, Option, List, ℕ, ap, chars, true, sym, ◌≡◌, ◌∙◌}
+use Rattle.std.proofs.Common.{Ok, Some, List, ℕ, ap, chars, ◌≡◌, ◌∙◌}
 use Rattle.std.specs.Option.{option_copied}
 use Rattle.idn_class.specs.declared.properties.Properties.{Properties}
 use Rattle.variant_table.specs.Entries.{TableValue}

@@ -1,4 +1,4 @@
-use Rattle.std.proofs.Common.{Ok, Some, None, Option, ap, sym, subst, refl, ◌∙◌}
+use Rattle.std.proofs.Common.{Ok, ap, sym, subst, ◌∙◌}
 use Rattle.std.specs.Option.{option_copied}
 use Rattle.variant_table.specs.Texts.{IsTextOf, IsToldOf}
 use Rattle.idn2_options.specs.Settings.{Settings, keeping, tells_causes}

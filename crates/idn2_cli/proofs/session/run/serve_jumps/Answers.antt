@@ -1,4 +1,4 @@
-use Rattle.std.proofs.Common.{Ok, ap, chars, true, ◌∙◌}
+use Rattle.std.proofs.Common.{Ok, ap, chars, ◌∙◌}
 use Rattle.std.specs.Option.{option_copied}
 use Rattle.idn_class.specs.declared.properties.Properties.{Properties}
 use Rattle.variant_table.specs.Entries.{TableValue}

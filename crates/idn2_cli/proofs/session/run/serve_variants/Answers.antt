@@ -1,4 +1,4 @@
-use Rattle.std.proofs.Common.{Err, Ok, Some, None, Option, List, ℕ, ap, chars, true, sym, ◌≡◌, ◌∙◌}
+use Rattle.std.proofs.Common.{Err, Ok, None, ap, chars, ◌≡◌, ◌∙◌}
 use Rattle.std.specs.Option.{option_copied}
 use Rattle.std.proofs.lemmas.Result.{err_from_is_err_and}
 use Rattle.idn_class.specs.declared.properties.Properties.{Properties}

@@ -9,7 +9,7 @@ use Rattle.label_patterns.specs.Patterns.{Pattern}
 use Rattle.ruleset_text.specs.Definitions.{Definitions}
 use Rattle.variant_table.specs.Entries.{Entry, TableValue, Variant, whole}
 use Rattle.variant_table.specs.Segmentations.{seen_under}
-use Rattle.variant_list.specs.Substitutions.{holds_for}
+use Rattle.variant_table.specs.Staying.{holds_for}
 use Rattle.variant_list.specs.inner.Asking.{CanAsk}
 use Rattle.variant_list.proofs.HeldLemmas.{at-of, held-free, held_by, same_by}
 use Rattle.variant_list.proofs.substitutions.Substitutions.holds_for.Goals as goal

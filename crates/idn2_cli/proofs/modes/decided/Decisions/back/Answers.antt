@@ -5,13 +5,7 @@ use Rattle.idn2_cli.specs.inner.Dispositions.{AreRulesOf}
 use Rattle.idn2_cli.specs.inner.Ruling.{matched_in}
 use Rattle.idn2_cli.proofs.AskedRules.{seen-rules}
 use Rattle.idn2_cli.proofs.DecisionLemmas.{back-barred, barred_to, is_good_by, not_good, of_good}
-use Rattle.idn2_cli.proofs.RulingLemmas.{new-kept}
 use Rattle.idn2_cli.proofs.modes.decided.Decisions.back.Goals as goal
-
-pub validity_by-validity-requires-clause-kept : goal.validity_by-validity-requires-clause-kept
-validity_by-validity-requires-clause-kept c =
-    let d = c.requires.decides in
-    new-kept c.args.self.now.validity c.args.self.now.table.now c.args.self.now.label.now d.ruling d.sound
 
 pub returns-in_ok-listed-in-Good-clause-regard : goal.returns-in_ok-listed-in-Good-clause-regard
 returns-in_ok-listed-in-Good-clause-regard c = λ o good stands.
@@ -19,7 +13,7 @@ returns-in_ok-listed-in-Good-clause-regard c = λ o good stands.
     let label = c.args.self.now.label.now in
     let other = c.args.other.now in
     let d = c.requires.decides in
-    let rules = subst (λ (t : Option Testing). AreRulesOf table label (matched_in t)) (sym c.of_test.ensures) (seen-rules c.validity_by-validity.new.test table label d.sound (c.validity_by-validity.ensures.same ∙ d.ruling) c.validity_by-validity.ensures.sees) in
+    let rules = subst (λ (t : Option Testing). AreRulesOf table label (matched_in t)) (sym c.of_test-rules.ensures) (seen-rules c.args.self.now.asked table label d.sound d.asked d.sees) in
     let told = c.regard-regard.ensures.regard table other d.sound c.in_ok-listed-in-Good.ensures rules (λ same. c.requires.another (sym same)) in
     c.unwrap_or.ensures ∙ of_good o table d.sound other label (is_good_by o table other c.args.standing c.in-Good.is stands) good c.regard-regard.result told
 

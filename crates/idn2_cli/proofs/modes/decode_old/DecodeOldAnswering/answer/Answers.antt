@@ -1,8 +1,7 @@
-use Rattle.std.proofs.Common.{◌≡◌, ◌∙◌, ℕ, List, Ok, Err, Result, None, take, ap, sym}
-use Rattle.idn_text.specs.declared.refusal.Refusal.{Refusal}
+use Rattle.std.proofs.Common.{◌∙◌, Err, ap, sym}
 use Rattle.idn_text.specs.declared.refusal.Refusal.TheVariants.{Empty}
-use Rattle.idn_label.specs.OldNames.{ZoneAnswer, zone_answer, zone_in_utf8, zone_utf8_answer}
-use Rattle.idn2_answers.specs.Answers.{LineAnswer, zone_line, zone_said}
+use Rattle.idn_label.specs.OldNames.{zone_answer, zone_in_utf8}
+use Rattle.idn2_answers.specs.Answers.{zone_line}
 use Rattle.idn2_cli.proofs.TextAnswers.{text_answer-none, text_answer-zone}
 use Rattle.idn2_cli.proofs.RefusedLines.{answered_none, emits_answered, kept_as_it_was, kept_if_answered, replies_refusal, refused_is, refused_without}
 use Rattle.idn2_cli.proofs.modes.decode_old.DecodeOldAnswering.answer.Goals as goal
