@@ -32,8 +32,9 @@ entry source condition variants =
 
 -- a with its reflexive variant, with a predefined type, without a type, and one that no label has
 abbrev pub letter : lgr.Entry
-letter = entry (Sequence (0x61 ∷ [])) None (var (0x61 ∷ []) (Some (codes "r-simp")) ∷ var (0x62 ∷ []) (Some (codes "blocked"))
-    ∷ var (0x62 ∷ 0x63 ∷ []) None ∷ var (0xE9 ∷ []) (Some (codes "simp")) ∷ [])
+letter = entry (Sequence (0x61 ∷ [])) None (var (0x61 ∷ []) (Some (codes "r-simp"))
+    ∷ var (0x62 ∷ []) (Some (codes "blocked")) ∷ var (0x62 ∷ 0x63 ∷ []) None
+    ∷ var (0xE9 ∷ []) (Some (codes "simp")) ∷ [])
 
 -- one that stays by a variant of no type
 abbrev pub untyped_letter : lgr.Entry

@@ -10,8 +10,8 @@ use crate::definition_form::has_rule;
 use crate::entry_form::Mapped;
 use crate::names::{Name, is_name};
 
-/// Whether they are: there is a source, and each is a sequence of scalar values, whose names are names, and which has one
-/// type at most.
+/// Whether they are: there is a source, and each is a sequence of scalar values, whose names are names, and which has
+/// one type at most.
 pub fn is_entry(mapped: &[Mapped]) -> bool
     ensures yes { result ≡ true → IsForm (map form_of mapped.now) None }
     ensures no { result ≡ false → ¬ IsForm (map form_of mapped.now) None }

@@ -1,5 +1,6 @@
 //! Whether a pattern in memory is one that lines may spell.
 ghost use Rattle.std.specs.Prelude.{◌≡◌};
+ghost use Rattle.label_patterns.specs.Rules.{is_anchor as is_anchor_pattern};
 ghost use Rattle.label_patterns.specs.Trees.{pattern};
 ghost use Rattle.ruleset_text.specs.Rules as rules;
 ghost use Rattle.ruleset_text.specs.inner.FormTests as tests;
@@ -117,7 +118,7 @@ fn is_context(tree: &PatternTree) -> bool
 }
 
 fn is_anchor(tree: &PatternTree) -> bool
-    ensures { result ≡ rules.is_anchor (pattern tree.now) }
+    ensures { result ≡ is_anchor_pattern (pattern tree.now) }
 {
     matches!(tree, PatternTree::Anchor)
 }

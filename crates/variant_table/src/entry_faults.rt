@@ -88,7 +88,8 @@ fn has_bad_points(
     properties: Properties,
     mapped: &[Mapped],
 ) -> Result<bool, AllocError>
-    ensures { IfOk result (λ bad. bad ≡ list_any (λ m. conditions.has_bad_point properties (form_of m).points) mapped.now) }
+    ensures { IfOk result (λ bad.
+        bad ≡ list_any (λ m. conditions.has_bad_point properties (form_of m).points) mapped.now) }
 {
     for one in mapped {
         if has_bad_point(alloc, properties, &one.points)? {

@@ -53,8 +53,8 @@ pub enum EntryFault {
     NoSuchName,
     /// A code point whose class is none of PVALID, CONTEXTJ and CONTEXTO.
     BadClass,
-    /// The variant of this number, from 1, is equal to one before it, unless each has a condition and the two conditions
-    /// differ; or to its source.
+    /// The variant of this number, from 1, is equal to one before it, unless each has a condition and the two
+    /// conditions differ; or to its source.
     SameVariant(usize),
     /// A source that an earlier entry has.
     SameSource,

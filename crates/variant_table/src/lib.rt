@@ -1,5 +1,5 @@
-//! Variant tables of a registry: their notation, rulesets that are made without a text, the entries that begin at a place
-//! of a label, the canonical text, the pairs that a table lacks, and the types that no action names.
+//! Variant tables of a registry: their notation, rulesets that are made without a text, the entries that begin at a
+//! place of a label, the canonical text, the pairs that a table lacks, and the types that no action names.
 #![tactic(auto)]
 
 mod canonical;

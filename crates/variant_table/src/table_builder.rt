@@ -58,8 +58,8 @@ impl TableBuilder {
         &self.draft.definitions
     }
 
-    /// Adds a definition, unless it has a fault: `Syntax` is told of one that no line spells, and else the first fault, as
-    /// of a line. An `Err` changes nothing.
+    /// Adds a definition, unless it has a fault: `Syntax` is told of one that no line spells, and else the first fault,
+    /// as of a line. An `Err` changes nothing.
     pub fn define(&mut self, definition: Definition) -> Result<(), DefinitionFault>
         ensures added { Adds (room_for_definitions self.old) self.old.definitions (trees.definition definition) result
             self.new.definitions }

@@ -21,8 +21,8 @@ use Rattle.ruleset_text.specs.Definition as definition
 use Rattle.ruleset_text.specs.Definition.{Definition}
 use Rattle.ruleset_text.specs.DefinitionPlaces.{Known, definition_faults, known_after, pattern_faults}
 use Rattle.ruleset_text.specs.Canonical.{definition_text}
-use Rattle.ruleset_text.specs.Definitions.{Definitions, definition_atoms, has_bad_class, has_known_names, has_most, has_same_name}
-use Rattle.ruleset_text.specs.Definitions.{is_line_over_limit, is_one_too_many, whole_names}
+use Rattle.ruleset_text.specs.Definitions.{Definitions, definition_atoms, has_bad_class, has_known_names, has_most}
+use Rattle.ruleset_text.specs.Definitions.{has_same_name, is_line_over_limit, is_one_too_many, whole_names}
 use Rattle.ruleset_text.specs.WellFormed.{AreDefinitions}
 use Rattle.ruleset_text.specs.DefinitionTrees as trees
 use Rattle.ruleset_text.specs.Limits.{atoms, groups, has_its_sets, stars}
@@ -102,8 +102,8 @@ abbrev pub Leaves : {X : Type 0} → Result X DefinitionRefusal → Definitions 
 Leaves (Ok x) new read = read ≡ Ok new
 Leaves (Err refusal) new read = Refuses refusal.fault read
 
--- the faults that were found of a definition are those that it has after these; that as many as may be are defined of its
--- kind is told apart
+-- the faults that were found of a definition are those that it has after these; that as many as may be are defined of
+-- its kind is told apart
 pub record AreFound (d : Definitions) (x : Definition) (found : FoundFaults) : Type 0 where
   pub limit : is_one_too_many d x ≡ (has_most d x || found.limit)
   pub name : has_known_names d x ≡ not found.name
