@@ -9,7 +9,7 @@ use Rattle.idn_class.specs.declared.properties.Properties.{Properties}
 use Rattle.ruleset_text.specs.declared.entry_form.Mapped as held
 use Rattle.ruleset_text.specs.declared.fault.FoundFaults.{FoundFaults}
 use Rattle.ruleset_text.specs.Definitions.{Definitions, canonical_size, with_definition}
-use Rattle.ruleset_text.specs.Entries.{EntryForm, Mapped}
+use Rattle.ruleset_text.specs.Entries.{Mapped}
 use Rattle.ruleset_text.specs.EntryForms.{mapped}
 use Rattle.ruleset_text.specs.EntryText.{IsForm}
 use Rattle.ruleset_text.specs.EntryParts.{is_within}
@@ -26,8 +26,8 @@ use Rattle.variant_table.specs.Building.{AddsEntry, form_of}
 use Rattle.variant_table.specs.Canonical.{canonical_text, head_text}
 use Rattle.variant_table.specs.Conditions.{has_bad_class, has_bad_point, is_too_large}
 use Rattle.variant_table.specs.DefinitionLines.{room_for_definitions}
-use Rattle.variant_table.specs.Entries.{Entry, TableValue, empty_table, replacements, sequences_in, table_of}
-use Rattle.variant_table.specs.Forms.{entry_of, has_form, knows_all, knows_names, sequences_of, source_mark, variant_by, variant_mark}
+use Rattle.variant_table.specs.Entries.{Entry, TableValue, empty_table, sequences_in, table_of}
+use Rattle.variant_table.specs.Forms.{entry_of, has_form, knows_names, variant_by, variant_mark}
 use Rattle.variant_table.specs.Limits.{text_limit}
 use Rattle.variant_table.specs.Reading.{with_form_of}
 use Rattle.variant_table.specs.WellFormed.{IsTable}

@@ -1,5 +1,5 @@
 -- What adding an entry makes of a table, where it isn't read from a line.
-use Rattle.std.specs.Prelude.{◌≡◌, ℕ, Option, Some, None, List, Result, Ok, Err}
+use Rattle.std.specs.Prelude.{◌≡◌, Some, None, List, Result, Ok, Err}
 use Rattle.ruleset_text.specs.Entries.{Mapped, EntryForm}
 use Rattle.ruleset_text.specs.EntryText.{IsForm}
 use Rattle.variant_table.specs.declared.fault.EntryFault.{EntryFault}

@@ -1,4 +1,4 @@
-use Rattle.std.proofs.Common.{◌≡◌, map, sym, subst}
+use Rattle.std.proofs.Common.{map, subst}
 use Rattle.ruleset_text.specs.EntryForms.{mapped}
 use Rattle.variant_table.specs.Building.{AddsEntry}
 use Rattle.variant_table.specs.Entries.{TableValue}

@@ -1,4 +1,4 @@
-use Rattle.std.proofs.Common.{◌≡◌, refl, map, None, sym, ap, ◌∙◌, arith}
+use Rattle.std.proofs.Common.{refl, map, None, sym, ap, ◌∙◌, arith}
 use Rattle.std.specs.Prelude.{is_some}
 use Rattle.ruleset_text.specs.EntryForms.{mapped}
 use Rattle.variant_table.specs.Conditions.{given_again}
