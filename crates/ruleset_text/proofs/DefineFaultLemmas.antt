@@ -3,6 +3,7 @@ use Rattle.std.proofs.Common.{◌≡◌, ℕ, ◌+◌, ◌-◌, ◌≤◌, nat_l
 use Rattle.std.specs.Prelude.{Option, is_some}
 use Rattle.std.specs.Result.{IsErr, IsErrAnd, result_ok}
 use Rattle.std.proofs.lemmas.Bool.Decides.{nat_tests}
+use Rattle.std.proofs.Math.Bool.{or-false}
 use Rattle.label_patterns.specs.Patterns.{Pattern}
 use Rattle.ruleset_text.specs.declared.definition.DemandKind.{DemandKind}
 use Rattle.ruleset_text.specs.declared.definition.DemandKind.TheVariants as demand
@@ -13,21 +14,25 @@ use Rattle.ruleset_text.specs.declared.fault.DefinitionFault.TheVariants as faul
 use Rattle.ruleset_text.specs.declared.fault.DefinitionRefusal.{DefinitionRefusal}
 use Rattle.ruleset_text.specs.declared.fault.FaultPlace.{FaultPlace}
 use Rattle.ruleset_text.specs.declared.fault.FaultPlace.TheVariants.{End}
+use Rattle.ruleset_text.specs.declared.fault.FoundFaults.{FoundFaults}
 use Rattle.ruleset_text.specs.declared.fault.LineFaults.{LineFaults}
 use Rattle.ruleset_text.specs.declared.fault.ReadError.{ReadError}
 use Rattle.ruleset_text.specs.declared.fault.ReadError.TheVariants as unread
 use Rattle.ruleset_text.specs.declared.keyword.Keyword.{Keyword}
 use Rattle.ruleset_text.specs.declared.keyword.Keyword.TheVariants as keyword
 use Rattle.ruleset_text.specs.declared.reading.Earlier.{Earlier}
+use Rattle.ruleset_text.specs.Actions.{knows_action}
 use Rattle.ruleset_text.specs.Canonical.{definition_text}
 use Rattle.ruleset_text.specs.Definition as definition
 use Rattle.ruleset_text.specs.Definition.{Definition, definition_of}
-use Rattle.ruleset_text.specs.DefinitionPlaces.{AreFaultsOf, definition_faults, faults_after, without_first}
+use Rattle.ruleset_text.specs.DefinitionPlaces.{AreFaultsOf, definition_faults, faults_after, known_after, without_first}
 use Rattle.ruleset_text.specs.DefinitionReading.{action_read, after_name, definition_read, named, pattern_read, rule_read, set_read, spans_read, type_read}
 use Rattle.ruleset_text.specs.Definitions.{Definitions, all_atoms, defined, definition_atoms, has_most, has_same_name, rule_lines, type_names, whole_rules}
-use Rattle.ruleset_text.specs.Definitions.{is_line_over_limit, is_pattern_over_limit, with_definition}
+use Rattle.ruleset_text.specs.Definitions.{has_bad_class, has_known_names, is_line_over_limit, is_one_too_many, is_pattern_over_limit}
+use Rattle.ruleset_text.specs.Definitions.{with_definition}
 use Rattle.ruleset_text.specs.DefinitionTrees as trees
-use Rattle.ruleset_text.specs.inner.DefinitionSteps.{HasForm, IsEarlier, IsReadDefinition, Leaves, Refuses}
+use Rattle.ruleset_text.specs.DefinitionForms.{Adds, HasForm, Refused}
+use Rattle.ruleset_text.specs.inner.DefinitionSteps.{AreFound, IsEarlier, IsReadDefinition, Leaves, Refuses, found_of}
 use Rattle.ruleset_text.specs.Limits.{atoms, groups, has_its_sets, stars}
 use Rattle.ruleset_text.specs.LineFaults.{first_unknown, lexeme_place}
 use Rattle.ruleset_text.specs.LineStops.{StopsAt, map_read, refusal_of}
@@ -38,7 +43,7 @@ use Rattle.ruleset_text.specs.WellFormed.{AreDefinitions}
 use Rattle.ruleset_text.proofs.ActionNameLemmas.{action_known}
 use Rattle.ruleset_text.proofs.ActionReadLemmas.{action_found}
 use Rattle.ruleset_text.proofs.DefinedLemmas.{form as form_of}
-use Rattle.ruleset_text.proofs.DefineLemmas.{by_tests, formless, told_by}
+use Rattle.ruleset_text.proofs.DefineLemmas.{by_tests, formed, formless, is_long, told_by}
 use Rattle.ruleset_text.proofs.DefinitionStopLemmas.{definition_as_read}
 use Rattle.ruleset_text.proofs.LineFaultLemmas.{bad_refused, span_refused, unknown_refused}
 use Rattle.ruleset_text.proofs.PatternLimitLemmas.{limit_refused}
@@ -190,19 +195,52 @@ read_after {e} {d} line {r} is given = record {
     faults : r.faults ≡ faults_after d x ws
     faults = given.faults ∙ ap (λ o. definition_faults o x ws) is.known
 
--- a definition is refused, or added, by what reading told of it
-module _ (limit : ℕ) {d : Definitions} {x : Definition} {faults : LineFaults} {len : ℕ} (told : AreFaultsOf d x faults)
+-- ---- what is found
+
+-- what reading told, without the places
+pub told_found : {d : Definitions} {x : Definition} {faults : LineFaults} {found : FoundFaults} → AreFaultsOf d x faults
+    → found ≡ record { limit = is_some faults.limit; name = is_some faults.name; class = is_some faults.class } → AreFound d x found
+told_found {d} {x} {faults} {found} told is =
+    subst (AreFound d x) (sym is) (record { limit = told.limit; name = told.name; class = told.class })
+
+not_not : (a : Bool) → a ≡ not (not a)
+not_not true = refl
+not_not false = refl
+
+module _ (d : Definitions) (are : AreDefinitions d) where
+  found_limit : (p : Pattern) → is_pattern_over_limit d p ≡ (nat_le 256 (rule_lines d)
+      || ((nat_lt 8 (groups p) || nat_lt 2 (stars p)) || nat_lt (4096 - all_atoms d) (atoms p)))
+  found_limit p =
+      let many = nat_le 256 (rule_lines d) in
+      ap (λ b. ((many || nat_lt 8 (groups p)) || nat_lt 2 (stars p)) || b) (fewer (all_atoms d) (atoms p) are.few_atoms)
+      ∙ regroup many (nat_lt 8 (groups p)) (nat_lt 2 (stars p)) (nat_lt (4096 - all_atoms d) (atoms p))
+
+  found_names : (p : Pattern) → has_its_sets (length d.sets) p ≡ not (not (has_its_sets (length d.set_names) p))
+  found_names p = ap (λ n. has_its_sets n p) (sym are.named_sets) ∙ not_not (has_its_sets (length d.set_names) p)
+
+  -- what is found of a definition is what is wrong with it
+  pub are_found : (x : Definition) → AreFound d x (found_of (known_after d) x)
+  are_found (definition.VariantType name) =
+      record { limit = sym (or-false (nat_le 57 (length d.types))); name = refl; class = refl }
+  are_found (definition.Set name spans) =
+      record { limit = sym (or-false (nat_le 256 (length d.sets))); name = refl; class = refl }
+  are_found (definition.Rule name p) = record { limit = found_limit p; name = found_names p; class = refl }
+  are_found (definition.Demand kind p) = record { limit = found_limit p; name = found_names p; class = refl }
+  are_found (definition.Action a) = record {
+    limit = sym (or-false (nat_le 256 (rule_lines d)));
+    name = not_not (knows_action (type_names d) (whole_rules d) a);
+    class = refl;
+  }
+
+-- a definition is refused, or added, by what was found of it
+module _ (limit : ℕ) {d : Definitions} {x : Definition} {found : FoundFaults} {len : ℕ} (told : AreFound d x found)
     (size : len ≡ length (definition_text d.set_names x)) where
-  pub checked : {most long same : Bool} {past unknown bad : Option FaultPlace} → has_most d x ≡ most
-      → faults.limit ≡ past
-      → faults.name ≡ unknown → is_line_over_limit limit d len ≡ long → faults.class ≡ bad → has_same_name d x ≡ same
-      → with_definition limit d (Some x) ≡ told_by d x (most || is_some past) (not (is_some unknown)) long
-      (is_some bad) same
+  pub checked : {most past unknown long bad same : Bool} → has_most d x ≡ most → found.limit ≡ past → found.name ≡ unknown
+      → is_line_over_limit limit d len ≡ long → found.class ≡ bad → has_same_name d x ≡ same
+      → with_definition limit d (Some x) ≡ told_by d x (most || past) (not unknown) long bad same
   checked {most} im ip iu il ib is =
-      by_tests limit d (Some x) x _ _ _ _ _ refl
-      (told.limit ∙ ap (λ b. b || is_some faults.limit) im ∙ ap (λ o. most || is_some o) ip)
-      (told.name ∙ ap (λ o. not (is_some o)) iu) (ap (is_line_over_limit limit d) (sym size) ∙ il)
-      (told.class ∙ ap is_some ib) is
+      by_tests limit d (Some x) x _ _ _ _ _ refl (told.limit ∙ ap (λ b. b || found.limit) im ∙ ap (λ b. most || b) ip)
+      (told.name ∙ ap not iu) (ap (is_line_over_limit limit d) (sym size) ∙ il) (told.class ∙ ib) is
 
 -- a line without the form
 fault_told : (limit : ℕ) (d : Definitions) (k : Keyword) (end : ℕ) (ws : List Placed) (error : ReadError) → StopsAt error (definition_read d.set_names k end ws) → Refuses (refusal_of error).fault (defined limit d k (unplaced ws))
@@ -225,7 +263,38 @@ refused_as fault.NoSuchName read e = e
 refused_as fault.BadClass read e = e
 refused_as fault.SameName read e = e
 
-pub check_told : {X : Type 0} (limit : ℕ) (d : Definitions) (k : Keyword) (ws : List Placed) (refusal : DefinitionRefusal) (result : Result X DefinitionRefusal)
-    → IsErr result → IsErrAnd result (λ r. r ≡ refusal) → defined limit d k (unplaced ws) ≡ Err refusal.fault → Leaves result d (defined limit d k (unplaced ws))
-check_told limit d k ws refusal (Ok x) err is e = absurd (let clash : false ≡ true = err in cc)
-check_told limit d k ws refusal (Err r) err is e = subst (λ r. Refuses r.fault (defined limit d k (unplaced ws))) (sym is) (refused_as refusal.fault (defined limit d k (unplaced ws)) e)
+-- a line that is refused after it was read
+pub check_told : (limit : ℕ) (d : Definitions) (k : Keyword) (words : List (List ℕ)) (f : DefinitionFault) (place : Option FaultPlace)
+    {r : DefinitionRefusal} → r ≡ record { fault = f; place = place } → defined limit d k words ≡ Err f
+    → Refuses r.fault (defined limit d k words)
+check_told limit d k words f place is e =
+    subst (λ r. Refuses r.fault (defined limit d k words)) (sym is) (refused_as f (defined limit d k words) e)
+
+-- what has its form is not refused for it
+no_syntax : (d : Definitions) (x : Definition) (m n l b s : Bool) → told_by d x m n l b s ≡ Err fault.Syntax → ⊥
+no_syntax d x true n l b s e = cc
+no_syntax d x false false l b s e = cc
+no_syntax d x false true true b s e = cc
+no_syntax d x false true false true s e = cc
+no_syntax d x false true false false true e = cc
+no_syntax d x false true false false false e = cc
+
+has_syntax : (limit : ℕ) (d : Definitions) (x : Definition) → with_definition limit d (Some x) ≡ Err fault.Syntax → ⊥
+has_syntax limit d x e =
+    no_syntax d x (is_one_too_many d x) (has_known_names d x) (is_long limit d x) (has_bad_class d.properties x) (has_same_name d x)
+    (sym (formed limit d (Some x) x refl) ∙ e)
+
+-- a definition that isn't read is refused
+pub push_told : (limit : ℕ) (d : Definitions) (x : Definition) (f : DefinitionFault) → HasForm x
+    → with_definition limit d (Some x) ≡ Err f → Refused limit d x f
+push_told limit d x fault.Memory form e = tt
+push_told limit d x fault.Syntax form e = absurd (has_syntax limit d x e)
+push_told limit d x fault.Limit form e = (form, e)
+push_told limit d x fault.NoSuchName form e = (form, e)
+push_told limit d x fault.BadClass form e = (form, e)
+push_told limit d x fault.SameName form e = (form, e)
+
+pub pushed_fails : {X : Type 0} (limit : ℕ) (d : Definitions) (x : Definition) (f : DefinitionFault) (result : Result X DefinitionFault)
+    → IsErr result → IsErrAnd result (λ r. r ≡ f) → HasForm x → with_definition limit d (Some x) ≡ Err f → Adds limit d x result d
+pushed_fails limit d x f (Ok y) err is form e = absurd (let clash : false ≡ true = err in cc)
+pushed_fails limit d x f (Err r) err is form e = subst (Refused limit d x) (sym is) (push_told limit d x f form e)

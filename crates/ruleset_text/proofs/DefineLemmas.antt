@@ -8,7 +8,8 @@ use Rattle.ruleset_text.specs.Canonical.{definition_text}
 use Rattle.ruleset_text.specs.Definition as definition
 use Rattle.ruleset_text.specs.Definition.{Definition}
 use Rattle.ruleset_text.specs.Definitions.{Definitions, all_names, canonical_size, is_line_over_limit, is_one_too_many, has_known_names, has_bad_class, has_same_name, added, with_definition}
-use Rattle.ruleset_text.specs.inner.DefinitionSteps.{HasForm, IsFaultless}
+use Rattle.ruleset_text.specs.DefinitionForms.{HasForm}
+use Rattle.ruleset_text.specs.inner.DefinitionSteps.{IsFaultless}
 use Rattle.ruleset_text.specs.WellFormed.{HasParts, IsDefinition, AreDefinitions}
 use Rattle.ruleset_text.proofs.KnownSetLemmas.{KnowsSets, known_from}
 use Rattle.ruleset_text.proofs.AddedLemmas.{HasNewName, new_from, room_for, room_for_pattern, are_added}

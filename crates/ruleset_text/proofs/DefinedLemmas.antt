@@ -15,7 +15,8 @@ use Rattle.ruleset_text.specs.Definition as definition
 use Rattle.ruleset_text.specs.ActionSteps.{action_in}
 use Rattle.ruleset_text.specs.Definition.{Definition, type_in, set_in, rule_in, whole_in, contexts_in, demand_in, definition_of}
 use Rattle.ruleset_text.specs.Definitions.{Definitions, canonical_size, is_one_too_many, has_known_names, has_bad_class, has_same_name, added, with_definition, defined}
-use Rattle.ruleset_text.specs.inner.DefinitionSteps.{HasForm, IsFaultless}
+use Rattle.ruleset_text.specs.DefinitionForms.{HasForm}
+use Rattle.ruleset_text.specs.inner.DefinitionSteps.{IsFaultless}
 use Rattle.ruleset_text.specs.Names.{is_name}
 use Rattle.ruleset_text.specs.Spans.{spans_in}
 use Rattle.ruleset_text.specs.WellFormed.{AreDefinitions}
@@ -118,16 +119,26 @@ pub record Grown (limit : ℕ) (d e : Definitions) : Type 0 where
   pub longer : canonical_size d ≤ canonical_size e
   pub room : canonical_size e ≤ limit
 
-pub defined_grows : (limit : ℕ) (d e : Definitions) (k : Keyword) (words : List (List ℕ)) → AreDefinitions d → defined limit d k words ≡ Ok e → Grown limit d e
-defined_grows limit d e k words are h =
-    let found = with_none limit d (definition_of d.set_names k words) e h in
-    let may = may_be_added limit d found.x are (form d.set_names k words found.x found.read) found.faultless in
+grows : (limit : ℕ) (d e : Definitions) (o : Option Definition) → AreDefinitions d → ((x : Definition) → o ≡ Some x → HasForm x)
+    → with_definition limit d o ≡ Ok e → Grown limit d e
+grows limit d e o are formed h =
+    let found = with_none limit d o e h in
+    let may = may_be_added limit d found.x are (formed found.x found.read) found.faultless in
     let size : canonical_size e ≡ canonical_size d + (length (definition_text d.set_names found.x) + 1) = ap canonical_size (sym found.is) ∙ canonical_size-added d found.x are in
     record {
       without_fault = subst AreDefinitions found.is may.without_fault;
       longer = omega (arith, size);
       room = omega (arith, size, may.room);
     }
+
+pub defined_grows : (limit : ℕ) (d e : Definitions) (k : Keyword) (words : List (List ℕ)) → AreDefinitions d → defined limit d k words ≡ Ok e → Grown limit d e
+defined_grows limit d e k words are h =
+    grows limit d e (definition_of d.set_names k words) are (λ x read. form d.set_names k words x read) h
+
+-- the same of a definition that isn't read
+pub pushed_grows : (limit : ℕ) (d e : Definitions) (x : Definition) → AreDefinitions d → HasForm x → with_definition limit d (Some x) ≡ Ok e → Grown limit d e
+pushed_grows limit d e x are formed h =
+    grows limit d e (Some x) are (λ y is. (let same : x ≡ y = cc in subst HasForm same formed)) h
 
 -- ---- demands come by their keywords alone
 
@@ -243,7 +254,10 @@ stays d (definition.Rule name contexts) = record { types = ([], sym (append-nil 
 stays d (definition.Demand kind p) = record { types = ([], sym (append-nil d.types)); rules = ([], sym (append-nil d.rule_names)); properties = refl }
 stays d (definition.Action a) = record { types = ([], sym (append-nil d.types)); rules = ([], sym (append-nil d.rule_names)); properties = refl }
 
-pub names_stay : (limit : ℕ) (d e : Definitions) (k : Keyword) (words : List (List ℕ)) → defined limit d k words ≡ Ok e → NamesStay d e
-names_stay limit d e k words h =
-    let found = with_none limit d (definition_of d.set_names k words) e h in
+pub names_stay_with : (limit : ℕ) (d e : Definitions) (o : Option Definition) → with_definition limit d o ≡ Ok e → NamesStay d e
+names_stay_with limit d e o h =
+    let found = with_none limit d o e h in
     subst (NamesStay d) found.is (stays d found.x)
+
+pub names_stay : (limit : ℕ) (d e : Definitions) (k : Keyword) (words : List (List ℕ)) → defined limit d k words ≡ Ok e → NamesStay d e
+names_stay limit d e k words h = names_stay_with limit d e (definition_of d.set_names k words) h

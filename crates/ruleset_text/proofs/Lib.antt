@@ -31,6 +31,7 @@ mod NameWordLemmas
 pub mod AddedLemmas
 pub mod FormLemmas
 mod DefineLemmas
+mod FormTestLemmas
 mod SpanBackLemmas
 mod LineBackLemmas
 pub mod DefinitionsBackLemmas

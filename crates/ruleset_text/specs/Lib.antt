@@ -29,6 +29,7 @@ pub mod Classes
 pub mod Canonical
 pub mod Definitions
 pub mod DefinitionOrder
+pub mod DefinitionForms
 pub mod DemandTrees
 pub mod DefinitionCodes
 pub mod WellFormed

@@ -223,7 +223,7 @@ fn listing(
 }
 
 /// Whether a whole-label rule has this name.
-fn is_whole_rule(earlier: Earlier<'_>, name: &[u8]) -> bool
+pub fn is_whole_rule(earlier: Earlier<'_>, name: &[u8]) -> bool
     ensures { result ≡
         is_among (whole_names earlier.entry.rule_names.now (map pattern earlier.entry.rules.now)) name.now }
 {

@@ -11,19 +11,22 @@ ghost use Rattle.ruleset_text.specs.Definitions as words;
 ghost use Rattle.ruleset_text.specs.Definitions.{added, all_atoms, canonical_size, defined, definition_atoms};
 ghost use Rattle.ruleset_text.specs.Definitions.{nothing_defined, with_definition};
 ghost use Rattle.ruleset_text.specs.Definitions.{rule_name as name_of_rule, with_words};
-ghost use Rattle.ruleset_text.specs.DefinitionPlaces.{AreFaultsOf, definition_place, place_of};
+ghost use Rattle.ruleset_text.specs.DefinitionForms.{Adds};
+ghost use Rattle.ruleset_text.specs.DefinitionPlaces.{definition_place, place_of};
 ghost use Rattle.ruleset_text.specs.DefinitionTrees as trees;
 ghost use Rattle.ruleset_text.specs.DemandTrees.{demand};
-ghost use Rattle.ruleset_text.specs.inner.DefinitionSteps.{IsEarlier, IsFaultless, Leaves};
+ghost use Rattle.ruleset_text.specs.inner.DefinitionSteps.{AreFound, IsEarlier, IsFaultless, Leaves};
 ghost use Rattle.ruleset_text.specs.Names.{is_one_of as is_among};
 ghost use Rattle.ruleset_text.specs.PlacedLexemes.{placed_lexemes, unplaced};
 ghost use Rattle.ruleset_text.specs.WellFormed.{AreDefinitions};
 
 use crate::action::NamedAction;
 use crate::definition::{Definition, DemandKind, canonical_len};
+use crate::definition_faults::{atoms_left_after, faults_of};
+use crate::definition_form::has_form;
 use crate::definition_line::DefinitionLine;
 use crate::definition_reading::{ReadDefinition, read_definition};
-use crate::fault::{DefinitionFault, DefinitionRefusal, FaultPlace};
+use crate::fault::{DefinitionFault, DefinitionRefusal, FaultPlace, FoundFaults};
 use crate::limits::{ATOM_LIMIT, DEFINITION_LIMIT, RULE_LIMIT, SET_LIMIT, TYPE_LIMIT};
 use crate::names::{
     Name, PREDEFINED_TYPES, is_one_of, is_type, number_of, predefined_number, predefined_type,
@@ -241,8 +244,32 @@ impl Definitions {
         let (key, name) = (line.place, line.after.first_place());
         let read = read_definition(alloc, self.earlier(), line)?;
         let len = canonical_len(alloc, self.set_names(), &read.definition)?;
-        self.check(limit, key, name, &read, len)?;
+        if let Err(fault) = self.check(limit, &read.definition, read.faults.found(), len) {
+            return Err(fault.at(self.place_of(fault, key, &read, name)));
+        }
         self.add(read.definition, read.atoms_left, len)?;
+        Ok(())
+    }
+
+    /// Adds a definition that isn't read from a line. `Syntax` is told of one that no line spells, and else the first
+    /// fault, as of a line. The canonical text of the definitions may have `limit` bytes. An `Err` changes nothing.
+    pub fn push(
+        &mut self,
+        alloc: Global,
+        limit: usize,
+        definition: Definition,
+    ) -> Result<(), DefinitionFault>
+        ensures added { Adds limit self.old (trees.definition definition) result self.new }
+        ensures err { OnErr result (self.new ≡ self.old) }
+    {
+        if !has_form(&definition) {
+            return Err(DefinitionFault::Syntax);
+        }
+        let found = faults_of(alloc, self.earlier(), &definition)?;
+        let len = canonical_len(alloc, self.set_names(), &definition)?;
+        self.check(limit, &definition, found, len)?;
+        let atoms_left = atoms_left_after(&definition, self.atoms_left);
+        self.add(definition, atoms_left, len)?;
         Ok(())
     }
 
@@ -278,43 +305,65 @@ impl Definitions {
         }
     }
 
-    /// Refuses what was read, if something is wrong with it. The first thing that is, in this order, is told by the
-    /// place of the keyword or of the name, or by what reading told. The canonical line has `len` bytes.
+    /// Refuses a definition, if something is wrong with it: the first thing that is, in this order, where these faults
+    /// were found. Its canonical line has `len` bytes.
     fn check(
         &self,
         limit: usize,
-        key: FaultPlace,
-        name: Option<FaultPlace>,
-        read: &ReadDefinition,
+        definition: &Definition,
+        found: FoundFaults,
         len: usize,
-    ) -> Result<(), DefinitionRefusal>
-        requires faults { AreFaultsOf self.now (trees.definition read.now.definition) read.now.faults }
-        requires len { len ≡ length (definition_text self.now.set_names (trees.definition read.now.definition)) }
-        ensures fault { MatchResult result
-            (λ _. IsFaultless limit self.now (trees.definition read.now.definition))
-            (λ r. with_definition limit self.now (Some (trees.definition read.now.definition)) ≡ Err r.fault) }
-        ensures place { IfErr result (λ r. r.place ≡
-            place_of self.now r.fault key (trees.definition read.now.definition) read.now.faults name) }
+    ) -> Result<(), DefinitionFault>
+        requires found { AreFound self.now (trees.definition definition.now) found }
+        requires len { len ≡ length (definition_text self.now.set_names (trees.definition definition.now)) }
+        ensures { MatchResult result
+            (λ _. IsFaultless limit self.now (trees.definition definition.now))
+            (λ fault. with_definition limit self.now (Some (trees.definition definition.now)) ≡ Err fault) }
     {
-        if self.has_most(&read.definition) {
-            return Err(DefinitionFault::Limit.at(Some(key)));
+        if self.has_most(definition) {
+            return Err(DefinitionFault::Limit);
         }
-        if let Some(place) = read.faults.limit {
-            return Err(DefinitionFault::Limit.at(Some(place)));
+        if found.limit {
+            return Err(DefinitionFault::Limit);
         }
-        if let Some(place) = read.faults.name {
-            return Err(DefinitionFault::NoSuchName.at(Some(place)));
+        if found.name {
+            return Err(DefinitionFault::NoSuchName);
         }
         if self.is_line_over_limit(limit, len) {
-            return Err(DefinitionFault::Limit.at(None));
+            return Err(DefinitionFault::Limit);
         }
-        if let Some(place) = read.faults.class {
-            return Err(DefinitionFault::BadClass.at(Some(place)));
+        if found.class {
+            return Err(DefinitionFault::BadClass);
         }
-        if self.has_same_name(&read.definition) {
-            return Err(DefinitionFault::SameName.at(name));
+        if self.has_same_name(definition) {
+            return Err(DefinitionFault::SameName);
         }
         Ok(())
+    }
+
+    /// Where a line has this fault: at its keyword or its name, or where reading told it.
+    fn place_of(
+        &self,
+        fault: DefinitionFault,
+        key: FaultPlace,
+        read: &ReadDefinition,
+        name: Option<FaultPlace>,
+    ) -> Option<FaultPlace>
+        ensures { result ≡ place_of self.now fault key (trees.definition read.now.definition) read.now.faults name }
+    {
+        match fault {
+            DefinitionFault::Limit => {
+                if self.has_most(&read.definition) {
+                    Some(key)
+                } else {
+                    read.faults.limit
+                }
+            }
+            DefinitionFault::NoSuchName => read.faults.name,
+            DefinitionFault::BadClass => read.faults.class,
+            DefinitionFault::SameName => name,
+            _ => None,
+        }
     }
 
     /// Whether a canonical line of so many bytes is too long, or goes past what the canonical text may have.

@@ -1,5 +1,5 @@
 //! Why a line is refused, and where.
-ghost use Rattle.std.specs.Prelude.{◌≡◌, None};
+ghost use Rattle.std.specs.Prelude.{◌≡◌, false, is_some, None};
 ghost use Rattle.ruleset_text.specs.declared.fault.DefinitionFault.TheVariants.{Memory};
 ghost use Rattle.ruleset_text.specs.declared.fault.ReadError.TheVariants.{Memory as NoMemory, Stop};
 ghost use Rattle.ruleset_text.specs.LineStops.{refusal_of};
@@ -40,6 +40,14 @@ impl DefinitionFault {
         ensures { result ≡ record { fault = self; place = place } }
     {
         DefinitionRefusal { fault: self, place }
+    }
+}
+
+impl From<AllocError> for DefinitionFault {
+    ghost from_gives = { λ _ fault. fault ≡ Memory };
+
+    fn from(_: AllocError) -> Self {
+        DefinitionFault::Memory
     }
 }
 
@@ -114,6 +122,40 @@ impl LineFaults {
             limit: None,
             name: None,
             class: None,
+        }
+    }
+
+    /// Of which kinds there are some.
+    pub fn found(self) -> FoundFaults
+        ensures { result ≡ record { limit = is_some self.limit; name = is_some self.name; class = is_some self.class } }
+    {
+        FoundFaults {
+            limit: self.limit.is_some(),
+            name: self.name.is_some(),
+            class: self.class.is_some(),
+        }
+    }
+}
+
+/// Which kinds of faults a definition has that its form doesn't show.
+#[derive(Clone, Copy, Debug, PartialEq, Eq)]
+pub struct FoundFaults {
+    /// Its pattern goes past a limit.
+    pub limit: bool,
+    /// It names what isn't defined.
+    pub name: bool,
+    /// It writes a code point that no label has.
+    pub class: bool,
+}
+
+impl FoundFaults {
+    pub fn none() -> Self
+        ensures { result ≡ record { limit = false; name = false; class = false } }
+    {
+        FoundFaults {
+            limit: false,
+            name: false,
+            class: false,
         }
     }
 }

@@ -6,6 +6,8 @@ mod action_reading;
 mod canonical;
 mod classes;
 mod definition;
+mod definition_faults;
+mod definition_form;
 mod definition_line;
 mod definition_reading;
 mod definitions;
@@ -15,6 +17,7 @@ mod entry_laws;
 mod entry_notes;
 mod entry_parts;
 mod entry_reading;
+mod entry_test;
 mod fault;
 mod keyword;
 mod laws;
@@ -22,6 +25,7 @@ mod lexemes;
 mod limits;
 mod named_condition;
 mod names;
+mod pattern_form;
 mod pieces;
 mod placed;
 mod reading;
@@ -41,7 +45,8 @@ pub use entry_laws::{canonical_entries_are_read_back, reading_an_entry_is_exact}
 pub use entry_notes::{EntryNotes, LinePoint, SEQUENCE_LIMIT};
 pub use entry_parts::EntryParts;
 pub use entry_reading::read_entry;
-pub use fault::{DefinitionFault, DefinitionRefusal, FaultPlace, ReadError};
+pub use entry_test::is_entry;
+pub use fault::{DefinitionFault, DefinitionRefusal, FaultPlace, FoundFaults, ReadError};
 pub use keyword::Keyword;
 pub use laws::{
     a_line_stops_where_no_definition_goes_on, canonical_lines_are_read_back,

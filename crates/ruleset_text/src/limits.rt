@@ -1,5 +1,5 @@
-//! The limits on what a ruleset defines, and those on a pattern.
-ghost use Rattle.std.specs.Prelude.{◌≡◌, ◌-◌, nat_le};
+//! The limits on what a ruleset defines, those on a pattern, and the tests of them.
+ghost use Rattle.std.specs.Prelude.{◌≡◌, ◌+◌, ◌-◌, ◌<◌, ◌||◌, nat_le, nat_lt, MatchOption};
 ghost use Rattle.std.specs.Option.{option_or};
 ghost use Rattle.label_patterns.specs.Trees.{pattern};
 ghost use Rattle.ruleset_text.specs.Limits as limits;
@@ -88,6 +88,68 @@ fn has_stars(tree: &PatternTree, count: u32) -> bool
         PatternTree::Many(part) => count == 0 || has_stars(part, count - 1),
         PatternTree::Then(first, second) => has_stars(first, count) || has_stars(second, count),
         PatternTree::Either(left, right) => has_stars(left, count) || has_stars(right, count),
+    }
+}
+
+/// Whether at least so many groups stand within each other.
+fn has_groups(tree: &PatternTree, count: u32) -> bool
+    ensures { result ≡ nat_le count (limits.groups (pattern tree.now)) }
+{
+    match tree {
+        PatternTree::Point(_) => count == 0,
+        PatternTree::Set(_) => count == 0,
+        PatternTree::Any => count == 0,
+        PatternTree::Start => count == 0,
+        PatternTree::End => count == 0,
+        PatternTree::Anchor => count == 0,
+        PatternTree::Group(part) => count == 0 || has_groups(part, count - 1),
+        PatternTree::Optional(part) => has_groups(part, count),
+        PatternTree::Many(part) => has_groups(part, count),
+        PatternTree::Then(first, second) => has_groups(first, count) || has_groups(second, count),
+        PatternTree::Either(left, right) => has_groups(left, count) || has_groups(right, count),
+    }
+}
+
+/// Whether a pattern goes past a limit, where it may have so many atoms.
+pub fn is_over_limit(tree: &PatternTree, atoms_left: usize) -> bool
+    ensures { result ≡ (nat_lt 8 (limits.groups (pattern tree.now)) || nat_lt 2 (limits.stars (pattern tree.now))
+        || nat_lt atoms_left (limits.atoms (pattern tree.now))) }
+{
+    has_groups(tree, 9) || has_stars(tree, 3) || atoms_after(tree, atoms_left).is_none()
+}
+
+/// How many of so many atoms are left after a pattern; none, if it has more.
+pub fn atoms_after(tree: &PatternTree, left: usize) -> Option<usize>
+    ensures { MatchOption result (left < limits.atoms (pattern tree.now))
+        (λ rest. limits.atoms (pattern tree.now) + rest ≡ left) }
+{
+    match tree {
+        PatternTree::Point(_) => left.checked_sub(1),
+        PatternTree::Set(_) => left.checked_sub(1),
+        PatternTree::Any => left.checked_sub(1),
+        PatternTree::Start => left.checked_sub(1),
+        PatternTree::End => left.checked_sub(1),
+        PatternTree::Anchor => Some(left),
+        PatternTree::Group(part) => atoms_after(part, left.checked_sub(1)?),
+        PatternTree::Optional(part) => atoms_after(part, left),
+        PatternTree::Many(part) => atoms_after(part, left),
+        PatternTree::Then(first, second) => atoms_after(second, atoms_after(first, left)?),
+        PatternTree::Either(first, second) => atoms_after(second, atoms_after(first, left)?),
+    }
+}
+
+/// Whether each set of a pattern is one of the first so many.
+pub fn has_its_sets(sets: usize, tree: &PatternTree) -> bool
+    ensures { result ≡ limits.has_its_sets sets (pattern tree.now) }
+{
+    match tree {
+        PatternTree::Set(number) => *number < sets,
+        PatternTree::Group(part) => has_its_sets(sets, part),
+        PatternTree::Optional(part) => has_its_sets(sets, part),
+        PatternTree::Many(part) => has_its_sets(sets, part),
+        PatternTree::Then(first, rest) => has_its_sets(sets, first) && has_its_sets(sets, rest),
+        PatternTree::Either(left, right) => has_its_sets(sets, left) && has_its_sets(sets, right),
+        _ => true,
     }
 }
 

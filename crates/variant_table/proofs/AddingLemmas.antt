@@ -11,8 +11,11 @@ use Rattle.ruleset_text.specs.Classes.{is_bad_point}
 use Rattle.ruleset_text.specs.Definitions.{Definitions}
 use Rattle.ruleset_text.specs.declared.entry_form.Mapped as held
 use Rattle.ruleset_text.specs.declared.fault.FaultPlace.{FaultPlace}
+use Rattle.ruleset_text.specs.declared.fault.FoundFaults.{FoundFaults}
 use Rattle.ruleset_text.specs.Entries.{Mapped, EntryForm}
+use Rattle.ruleset_text.specs.EntryFaults.{Notes, variant_place}
 use Rattle.ruleset_text.specs.EntryForms.{mapped}
+use Rattle.ruleset_text.specs.EntryText.{IsForm}
 use Rattle.variant_table.specs.declared.fault.LineRefusal.{LineRefusal}
 use Rattle.variant_table.specs.declared.version.Version.{Version}
 use Rattle.variant_table.specs.declared.version.Version.TheVariants.{One, Two, Three}
@@ -20,14 +23,19 @@ use Rattle.variant_table.specs.Faults.{LineFault, Limit, Syntax, NoSuchName, Bad
 use Rattle.variant_table.specs.Faults.{SameName, table_fault}
 use Rattle.variant_table.specs.Canonical.{table_text, written_text}
 use Rattle.variant_table.specs.Conditions.{is_too_large, is_text_too_long, is_over_limit, has_bad_class, has_repeat, has_source_in}
-use Rattle.variant_table.specs.Entries.{Variant, Entry, entry_from, source_of}
+use Rattle.variant_table.specs.Entries.{TableValue, Variant, Entry, entry_from, source_of}
 use Rattle.variant_table.specs.Forms.{with_point, written_out, knows_all, source_mark, variant_by, sequences_of, entry_of, entries_of}
 use Rattle.variant_table.specs.Limits.{text_limit, entry_limit}
 use Rattle.variant_table.specs.Ranges.{range_size}
 use Rattle.variant_table.specs.Reading.{◌>>=◌, with_entries, with_form, with_form_of}
 use Rattle.variant_table.specs.WellFormed.{IsNamed}
 use Rattle.variant_table.specs.inner.Held.{counted, IsCounted}
-use Rattle.variant_table.specs.inner.Readers.{IsNotedAs, ReadSoFar, form_with}
+use Rattle.variant_table.specs.Building.{RefusedEntry, form_of}
+use Rattle.variant_table.specs.LinePlaces.{form_place}
+use Rattle.variant_table.specs.declared.fault.EntryFault.{EntryFault}
+use Rattle.variant_table.specs.declared.fault.EntryFault.TheVariants as faults
+use Rattle.variant_table.specs.inner.Drafts.{DraftSoFar, HasFound, form_with}
+use Rattle.variant_table.specs.inner.Readers.{IsNotedAs, ReadSoFar, drafted, place_of, told_of}
 use Rattle.variant_table.specs.inner.ReadingSteps.{Fails, with_new_source, with_new_sources}
 use Rattle.variant_table.proofs.FormSteps.{IsRange, range_of}
 use Rattle.variant_table.proofs.ConditionLemmas.{IsKnown, known_form, named_form, points_are, text_with}
@@ -112,8 +120,41 @@ fails_with number kind {read} is e = subst (λ x. Fails number x.fault read) (sy
     by NoSuchName h = (refl, h)
     by SameName h = (refl, h)
 
--- r is what a reader has in its fields before a line, which is what was read so far
-module _ {r now : ReadSoFar} (is : r ≡ now) where
+-- an entry that is refused is told of its line, and where
+pub entry_fails : (number : ℕ) (t : TableValue) (ms : List Mapped) (f : EntryFault) → IsForm ms None → RefusedEntry t ms f
+    → Fails number (told_of number f) (with_form_of t (form_of ms))
+entry_fails number t ms faults.Syntax form told = absurd (told form)
+entry_fails number t ms faults.Limit form told = (refl, told.1)
+entry_fails number t ms faults.NoSuchName form told = (refl, told.1)
+entry_fails number t ms faults.BadClass form told = (refl, told.1)
+entry_fails number t ms (faults.SameVariant again) form told = (refl, told.0.1)
+entry_fails number t ms faults.SameSource form told = (refl, told.1)
+entry_fails number t ms faults.Memory form told = tt
+
+pub entry_placed : (number : ℕ) (t : TableValue) (ms : List Mapped) (notes : Notes) (f : EntryFault) → RefusedEntry t ms f
+    → place_of notes f ≡ form_place t.definitions (told_of number f) (form_of ms) notes
+entry_placed number t ms notes faults.Syntax told = refl
+entry_placed number t ms notes faults.Limit told = refl
+entry_placed number t ms notes faults.NoSuchName told = refl
+entry_placed number t ms notes faults.BadClass told = refl
+entry_placed number t ms notes (faults.SameVariant again) told = ap (variant_place notes.begins) (sym told.1)
+entry_placed number t ms notes faults.SameSource told = refl
+entry_placed number t ms notes faults.Memory told = refl
+
+-- what is noted of a line is found of it
+abbrev pub found_by : Notes → FoundFaults
+found_by n = record { limit = is_some n.faults.limit; name = is_some n.faults.name; class = is_some n.faults.class }
+
+pub noted_found : {form : EntryForm} {found : FoundFaults} {r : ReadSoFar} → IsNotedAs form r → found ≡ found_by r.notes → HasFound form found (drafted r)
+noted_found {form} {found} {r} h is =
+    subst (λ f. HasFound form f (drafted r)) (sym is) (record {
+      form = h.form;
+      faults = record { limit = h.faults.limit; name = h.faults.name; class = h.faults.class };
+      counted = h.counted;
+    })
+
+-- r is what is held in fields, which is what there is so far
+module _ {r now : DraftSoFar} (is : r ≡ now) where
   abbrev v : Version
   v = r.table.version
 
@@ -137,15 +178,15 @@ module _ {r now : ReadSoFar} (is : r ≡ now) where
 
   -- ---- an entry
 
-  module _ (items : List held.Mapped) (noted-now : IsNotedAs (form_with items None) now) where
+  module _ (items : List held.Mapped) (found : FoundFaults) (found-now : HasFound (form_with items None) found now) where
     abbrev ms : List Mapped
     ms = map mapped items
 
     abbrev entry_form : EntryForm
     entry_form = form_with items None
 
-    noted : IsNotedAs entry_form r
-    noted = subst (IsNotedAs entry_form) (sym is) noted-now
+    noted : HasFound entry_form found r
+    noted = subst (HasFound entry_form found) (sym is) found-now
 
     pub entry_too_many : entry_limit v ≤ length t → with_form_of now.table entry_form ≡ Err Limit
     entry_too_many l = told entry_form Limit (too_many v d t entry_form r.left noted.counted (omega (arith, l)))
@@ -153,32 +194,32 @@ module _ {r now : ReadSoFar} (is : r ≡ now) where
     pub entry_too_long : r.left < counted v (written_text (ms ∷ [])) → with_form_of now.table entry_form ≡ Err Limit
     entry_too_long l = told entry_form Limit (too_long v d t entry_form r.left noted.counted l)
 
-    pub entry_too_large : is_some r.notes.faults.limit ≡ true → with_form_of now.table entry_form ≡ Err Limit
+    pub entry_too_large : found.limit ≡ true → with_form_of now.table entry_form ≡ Err Limit
     entry_too_large h = told entry_form Limit
         (too_large v d t entry_form r.left noted.counted (sym noted.faults.limit ∙ h))
 
-    module _ (few : length t < entry_limit v) (small : is_some r.notes.faults.limit ≡ false) (rest : ℕ)
+    module _ (few : length t < entry_limit v) (small : found.limit ≡ false) (rest : ℕ)
         (rest-is : counted v (written_text (ms ∷ [])) + rest ≡ r.left) where
       fits : is_over_limit v d t (ms ∷ []) ≡ false
       fits = not_over v d t entry_form r.left noted.counted (omega (arith, few))
           (sym noted.faults.limit ∙ small) rest rest-is
 
-      pub entry_unnamed : is_some r.notes.faults.name ≡ true → with_form_of now.table entry_form ≡ Err NoSuchName
+      pub entry_unnamed : found.name ≡ true → with_form_of now.table entry_form ≡ Err NoSuchName
       entry_unnamed h = told entry_form NoSuchName
           (with_form-unnamed v d t entry_form fits (not-true (knows_all d ms) (sym noted.faults.name ∙ h)))
 
-      module _ (named : is_some r.notes.faults.name ≡ false) where
+      module _ (named : found.name ≡ false) where
         pub entry_known : knows_all d ms ≡ true
         entry_known = not-false (knows_all d ms) (sym noted.faults.name ∙ named)
 
         read : with_form v d t entry_form ≡ with_entries d.properties t (entry_of d ms ∷ [])
         read = with_form-entries v d t entry_form fits entry_known
 
-        pub entry_bad : is_some r.notes.faults.class ≡ true → with_form_of now.table entry_form ≡ Err BadClass
+        pub entry_bad : found.class ≡ true → with_form_of now.table entry_form ≡ Err BadClass
         entry_bad h = told entry_form BadClass (read
             ∙ entries-bad d.properties t (entry_of d ms ∷ []) (sym (noted.faults.class refl) ∙ h))
 
-        module _ (good : is_some r.notes.faults.class ≡ false) (ss : List Variant)
+        module _ (good : found.class ≡ false) (ss : List Variant)
             (are : ss ≡ sequences_of d ms) where
           abbrev e : Entry
           e = entry_from ss
@@ -221,10 +262,10 @@ module _ {r now : ReadSoFar} (is : r ≡ now) where
   -- ---- a range
 
   module _ (items : List held.Mapped) (x : held.Mapped) (first last : ℕ)
-      (noted-now : IsNotedAs (form_with items (Some last)) now) (at : x ≡ slice_index_or items 0 x)
+      (found : FoundFaults) (found-now : HasFound (form_with items (Some last)) found now) (at : x ≡ slice_index_or items 0 x)
       (begins : first ≡ slice_index_or x.points.items 0 first) where
     range : IsRange items x first last
-    range = range_of items x first last noted-now.form at begins
+    range = range_of items x first last found-now.form at begins
 
     abbrev count : ℕ
     count = last - first + 1
@@ -238,9 +279,10 @@ module _ {r now : ReadSoFar} (is : r ≡ now) where
     abbrev range_form : EntryForm
     range_form = record { mapped = m ∷ []; last = Some last }
 
-    range_noted : IsNotedAs range_form r
+    range_noted : HasFound range_form found r
     range_noted =
-        subst (λ xs. IsNotedAs (form_with xs (Some last)) r) range.one (subst (IsNotedAs given) (sym is) noted-now)
+        subst (λ xs. HasFound (form_with xs (Some last)) found r) range.one
+        (subst (HasFound given found) (sym is) found-now)
 
     lines : written_out range_form ≡ range_lines m first count
     lines =
@@ -277,13 +319,13 @@ module _ {r now : ReadSoFar} (is : r ≡ now) where
           not_over v d t range_form r.left range_noted.counted (omega (arith, few, length-lines))
           (ap (list_any is_too_large) lines ∙ range_small m (range_with_len first count)) rest text_left
 
-      pub range_unnamed : is_some r.notes.faults.name ≡ true → with_form_of now.table given ≡ Err NoSuchName
+      pub range_unnamed : found.name ≡ true → with_form_of now.table given ≡ Err NoSuchName
       range_unnamed h =
           range_told NoSuchName
           (with_form-unnamed v d t range_form range_fits
           (not-true (knows_all d (m ∷ [])) (sym range_noted.faults.name ∙ h)))
 
-      module _ (named : is_some r.notes.faults.name ≡ false) where
+      module _ (named : found.name ≡ false) where
         known : knows_all d (m ∷ []) ≡ true
         known = not-false (knows_all d (m ∷ [])) (sym range_noted.faults.name ∙ named)
 
@@ -303,14 +345,14 @@ module _ {r now : ReadSoFar} (is : r ≡ now) where
 
         -- the first code point that no table may hold, by the properties that the definitions have
         module _ {p : Properties} (p-is : p ≡ d.properties) (bad : Option ℕ)
-            (found : bad ≡ find (is_bad_point p) (range_with_len first count)) where
+            (bad-is : bad ≡ find (is_bad_point p) (range_with_len first count)) where
           class_in : list_any (has_bad_class d.properties) es ≡ is_some bad
           unfolding es
           class_in =
               sym (points_bad d.properties (variant_by source_mark d m) (range_with_len first count))
               ∙ sym (some_found (is_bad_point d.properties) (range_with_len first count))
               ∙ ap (λ q. is_some (find (is_bad_point q) (range_with_len first count))) (sym p-is)
-              ∙ ap is_some (sym found)
+              ∙ ap is_some (sym bad-is)
 
           pub range_bad : is_some bad ≡ true → with_form_of now.table given ≡ Err BadClass
           range_bad h = range_told BadClass (range_read ∙ entries-bad d.properties t es (class_in ∙ h))

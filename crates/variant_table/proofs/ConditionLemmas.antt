@@ -36,7 +36,7 @@ use Rattle.variant_table.specs.inner.Held.{HasNoEmptySequence}
 use Rattle.variant_table.specs.Limits.{entry_limit}
 use Rattle.variant_table.specs.Ranges.{entry_in_range, range_size}
 use Rattle.variant_table.specs.Conditions.{is_too_large, is_text_too_long, is_over_limit, has_bad_point, has_bad_class, has_repeat, has_source_in}
-use Rattle.variant_table.specs.Forms.{has_form, HasForm, with_point, written_to, written_out, knows_rule, knows_type, knows_names, knows_all, numbered, source_mark, variant_mark, type_by, variant_by, sequences_of, entry_of, entries_of, SpellsEntries, as_written, normal}
+use Rattle.variant_table.specs.Forms.{has_form, with_point, written_to, written_out, knows_rule, knows_type, knows_names, knows_all, numbered, source_mark, variant_mark, type_by, variant_by, sequences_of, entry_of, entries_of, SpellsEntries, as_written, normal}
 use Rattle.variant_table.proofs.VersionLemmas.{is_plain, is_bare, begins_marked, is_form, form_parts}
 use Rattle.variant_table.specs.Reading.{with_form}
 use Rattle.variant_table.specs.WellFormed.{HasItsRule, HasItsType, HasItsNames, IsNamed}
@@ -480,8 +480,8 @@ text_with v d t es h =
     ∙ ap (λ c. head_text v ++ c) (sym (append_assoc (definitions_text d) (canonical_text d t) (written_text es)))
     ∙ sym (append_assoc (head_text v) (definitions_text d ++ canonical_text d t) (written_text es))
 
-pub sound_spelled : (v : Version) (d : Definitions) (t t' : List Entry) (line : List ℕ) (form : EntryForm) → HasForm v line form → with_form v d t form ≡ Ok t' → Sound v d t t' form
-sound_spelled v d t t' line form h e = by_cases _ _ _ _ _ refl refl refl refl refl (sym (with_form-by v d t form _ _ _ _ _ refl refl refl refl refl) ∙ e)
+pub sound_form : (v : Version) (d : Definitions) (t t' : List Entry) (form : EntryForm) → IsForm form.mapped form.last → has_form v form ≡ true → with_form v d t form ≡ Ok t' → Sound v d t t' form
+sound_form v d t t' form is_one parts e = by_cases _ _ _ _ _ refl refl refl refl refl (sym (with_form-by v d t form _ _ _ _ _ refl refl refl refl refl) ∙ e)
   where
     by_cases : (o k b r s : Bool) → is_over_limit v d t (written_out form) ≡ o → knows_all d form.mapped ≡ k → list_any (has_bad_class d.properties) (entries_of d form) ≡ b → list_any has_repeat (entries_of d form) ≡ r
         → list_any (has_source_in t) (entries_of d form) ≡ s → told_by t (entries_of d form) o k b r s ≡ Ok t' → Sound v d t t' form
@@ -492,16 +492,16 @@ sound_spelled v d t t' line form h e = by_cases _ _ _ _ _ refl refl refl refl re
     by_cases false true false false true f n g i j is = absurd cc
     by_cases false true false false false f n g i j is =
         let es : List (List Mapped) = written_out form in
-        let known : AllByRecursion (IsKnown d) es = known_form d form.last form.mapped h.0.0 n in
+        let known : AllByRecursion (IsKnown d) es = known_form d form.last form.mapped is_one n in
         let p = or_parts (nat_lt (entry_limit v) (length t + length es) || list_any is_too_large es) (is_text_too_long v (table_text v d t ++ written_text es)) f in
         let q = or_parts (nat_lt (entry_limit v) (length t + length es)) (list_any is_too_large es) p.0 in
         record {
           is = cc;
           known = n;
-          sound = entries_from_tests d es (some_of d es known) (filled_form form.last form.mapped h.0.0) q.1 g i;
+          sound = entries_from_tests d es (some_of d es known) (filled_form form.last form.mapped is_one) q.1 g i;
           points = entries_by d.properties (entries_of d form) g;
-          of_version = version_form v d form.last form.mapped h.1;
-          named = named_form d form.last form.mapped h.0.0 n;
+          of_version = version_form v d form.last form.mapped parts;
+          named = named_form d form.last form.mapped is_one n;
           new = new_form d t form.last form.mapped j;
           few = omega (arith, ltb-false (entry_limit v) (length t + length es) q.0, length-map es (entry_of d));
           fits = ap (is_text_too_long v) (text_with v d t es known) ∙ p.1;

@@ -21,7 +21,7 @@ use Rattle.variant_table.proofs.FaultlessLemmas.{length-text}
 use Rattle.variant_table.proofs.GrownLemmas.{named_on, text_stays}
 
 -- the bytes of a ruleset's canonical text: its version line, its definitions, its entries
-counted_of : (v : Version) (d : Definitions) (t : List Entry) → v ≡ Three → counted v (table_text v d t) ≡ length (head_text v ++ canonical_text d t) + canonical_size d
+pub counted_of : (v : Version) (d : Definitions) (t : List Entry) → v ≡ Three → counted v (table_text v d t) ≡ length (head_text v ++ canonical_text d t) + canonical_size d
 counted_of One d t is = absurd cc
 counted_of Two d t is = absurd cc
 counted_of Three d t is = omega (arith, length-text Three d t, length-append (head_text Three) (canonical_text d t))

@@ -31,11 +31,11 @@ use Rattle.variant_table.specs.Limits.{line_limit, text_limit, entry_limit}
 use Rattle.variant_table.specs.Versions.{version_of, head_of, body_of, size_of, is_version_line}
 use Rattle.variant_table.specs.WellFormed.{AreOfVersion, HasPointsBy, IsEntry, IsNamed, IsTable}
 use Rattle.variant_table.specs.Conditions.{is_too_long, is_too_large, is_text_too_long, has_repeat, has_source_in}
-use Rattle.variant_table.specs.Forms.{HasForm, written_out, knows_all, entry_of, entries_of}
+use Rattle.variant_table.specs.Forms.{HasForm, has_form, written_out, knows_all, entry_of, entries_of}
 use Rattle.variant_table.specs.Texts.{LineSpells, LineAdds, LinesSpell, AreLinesOf, IsTextOf}
 use Rattle.variant_table.specs.Reading.{◌>>=◌, is_skipped, in_line, defining, with_definition, with_form, with_form_of, with_line, with_raw_line, with_lines, table_in, table_of_lines, table_of_text}
 use Rattle.variant_table.proofs.FormLemmas.{skipped, defines, of_entries, formless, form_of, with_line-skipped, with_line-defines, with_line-form, with_line-formless, skipped-no_definition, LineSpells-skipped, none, some, spelling_of}
-use Rattle.variant_table.proofs.ConditionLemmas.{entries_good, single_from_entry, small_entries, IsKnown, known_form, text_with, named_spelled, AreNewSources, distinct_sources, new_sources, no_sources, sound_spelled}
+use Rattle.variant_table.proofs.ConditionLemmas.{entries_good, single_from_entry, small_entries, IsKnown, known_form, text_with, named_spelled, AreNewSources, distinct_sources, new_sources, no_sources, sound_form}
 use Rattle.variant_table.proofs.GrownLemmas.{named_on, text_stays}
 use Rattle.variant_table.proofs.TestLemmas.{with_form-by}
 use Rattle.variant_table.proofs.LimitLemmas.{text_limit-least, entry_limit-most}
@@ -175,25 +175,28 @@ fits_defined Three d e es is fits g same =
     le-ltb 8388608 (length (table_text Three e es))
     (omega (arith, ltb-false 8388608 (length (table_text Three d es)) fits, length-text Three d es, length-text Three e es, g.room, length-append (head_text Three) (canonical_text d es), ap length same))
 
+-- a ruleset in which more is defined
+pub grown_sound : (t : TableValue) (d : Definitions) → t.version ≡ Three → IsSound t → Grown (room_for_definitions t) t.definitions d → NamesStay t.definitions d
+    → IsSound (record t { definitions = d })
+grown_sound t d three h g stay = record {
+  without_fault = g.without_fault;
+  defined = of_ruleset t.version d three;
+  of_version = h.of_version;
+  named = named_on t.definitions d t.entries stay h.named;
+  entries = record {
+    sound = h.entries.sound;
+    points = subst (λ p. AllByRecursion (HasPointsBy p) t.entries) (sym stay.properties) h.entries.points;
+    new = h.entries.new;
+    few = h.entries.few;
+    fits = fits_defined t.version t.definitions d t.entries three h.entries.fits g (text_stays t.definitions d t.entries stay h.named);
+  };
+}
+
 defined_sound : (t : TableValue) (k : Keyword) (words after : List (List ℕ)) (d : Definitions) → IsSound t → keyword_in t.version words ≡ Some (k, after)
     → defined (room_for_definitions t) t.definitions k after ≡ Ok d → IsSound (record t { definitions = d })
 defined_sound t k words after d h n e =
-    let three = of_three t.version words after k n in
-    let g : Grown (room_for_definitions t) t.definitions d = defined_grows (room_for_definitions t) t.definitions d k after h.without_fault e in
-    let stay : NamesStay t.definitions d = names_stay (room_for_definitions t) t.definitions d k after e in
-    record {
-      without_fault = g.without_fault;
-      defined = of_ruleset t.version d three;
-      of_version = h.of_version;
-      named = named_on t.definitions d t.entries stay h.named;
-      entries = record {
-        sound = h.entries.sound;
-        points = subst (λ p. AllByRecursion (HasPointsBy p) t.entries) (sym stay.properties) h.entries.points;
-        new = h.entries.new;
-        few = h.entries.few;
-        fits = fits_defined t.version t.definitions d t.entries three h.entries.fits g (text_stays t.definitions d t.entries stay h.named);
-      };
-    }
+    grown_sound t d (of_three t.version words after k n) h (defined_grows (room_for_definitions t) t.definitions d k after h.without_fault e)
+    (names_stay (room_for_definitions t) t.definitions d k after e)
 
 -- ---- one line, without a fault
 
@@ -234,6 +237,37 @@ pub ok_entries : (t u : TableValue) (r : Result (List Entry) LineFault)
 ok_entries t u (Ok all) e = (all, refl, cc)
 ok_entries t u (Err f) e = absurd cc
 
+-- what a form adds
+pub record FormAdds (t u : TableValue) (form : EntryForm) : Type 0 where
+  pub known : knows_all t.definitions form.mapped ≡ true
+  pub is : u ≡ record t { entries = t.entries ++ entries_of t.definitions form }
+  pub sound : IsSound u
+
+pub form_added : (t u : TableValue) (form : EntryForm) → IsSound t → IsForm form.mapped form.last → has_form t.version form ≡ true → with_form_of t form ≡ Ok u
+    → FormAdds t u form
+form_added t u form h is_one parts e =
+    let es : List Entry = entries_of t.definitions form in
+    let all = ok_entries t u (with_form t.version t.definitions t.entries form) e in
+    let r = sound_form t.version t.definitions t.entries all.0 form is_one parts all.1 in
+    let is : u ≡ record t { entries = t.entries ++ es } = all.2 ∙ ap (λ x. record t { entries = x }) r.is in
+    record {
+      known = r.known;
+      is = is;
+      sound = subst IsSound (sym is) (record {
+        without_fault = h.without_fault;
+        defined = h.defined;
+        of_version = all-join (IsOfVersion t.version) t.entries es h.of_version r.of_version;
+        named = all-join (IsNamed t.definitions) t.entries es h.named r.named;
+        entries = record {
+          sound = all-join IsEntry t.entries es h.entries.sound r.sound;
+          points = all-join (HasPointsBy t.definitions.properties) t.entries es h.entries.points r.points;
+          new = new-join [] t.entries es h.entries.new r.new;
+          few = omega (arith, length-append t.entries es, r.few);
+          fits = r.fits;
+        };
+      });
+    }
+
 module _ (bytes : ℕ) (t u : TableValue) (line : List ℕ) (h : IsSound t) (l : length line ≤ line_limit t.version) (m : bytes + length line + 1 ≤ text_limit t.version) where
   added_nothing : is_skipped (strip_carriage_return line) ≡ true → u ≡ t → Added bytes t line u
   added_nothing s is = record {
@@ -257,28 +291,13 @@ module _ (bytes : ℕ) (t u : TableValue) (line : List ℕ) (h : IsSound t) (l :
 
   added_entries : (form : EntryForm) → HasForm t.version (strip_carriage_return line) form → with_form_of t form ≡ Ok u → Added bytes t line u
   added_entries form s e =
-      let es : List Entry = entries_of t.definitions form in
-      let all = ok_entries t u (with_form t.version t.definitions t.entries form) e in
-      let r = sound_spelled t.version t.definitions t.entries all.0 (strip_carriage_return line) form s all.1 in
-      let is : u ≡ record t { entries = t.entries ++ es } = all.2 ∙ ap (λ x. record t { entries = x }) r.is in
+      let more = form_added t u form h s.0.0 s.1 e in
       record {
-        spelled = inl (es, inr (inr (form, s, r.known, refl)), is);
+        spelled = inl (entries_of t.definitions form, inr (inr (form, s, more.known, refl)), more.is);
         short = l;
         within = m;
-        version = ap (λ x. x.version) is;
-        sound = subst IsSound (sym is) (record {
-          without_fault = h.without_fault;
-          defined = h.defined;
-          of_version = all-join (IsOfVersion t.version) t.entries es h.of_version r.of_version;
-          named = all-join (IsNamed t.definitions) t.entries es h.named r.named;
-          entries = record {
-            sound = all-join IsEntry t.entries es h.entries.sound r.sound;
-            points = all-join (HasPointsBy t.definitions.properties) t.entries es h.entries.points r.points;
-            new = new-join [] t.entries es h.entries.new r.new;
-            few = omega (arith, length-append t.entries es, r.few);
-            fits = r.fits;
-          };
-        });
+        version = ap (λ x. x.version) more.is;
+        sound = more.sound;
       }
 
   line_step : with_line t (strip_carriage_return line) ≡ Ok u → Added bytes t line u
@@ -552,30 +571,32 @@ pub spells_properties : (lines : List (List ℕ)) (t u : TableValue) → LinesSp
 spells_properties [] t u is = ap (λ (x : TableValue). x.definitions.properties) is
 spells_properties (line ∷ lines) t u (m, adds, rest) = spells_properties lines m u rest ∙ adds_properties t m (strip_carriage_return line) adds
 
+pub table_of_sound : (u : TableValue) → IsSound u → length (table_text u.version u.definitions u.entries) ≤ text_limit u.version → IsTable u
+table_of_sound u h short = record {
+  without_fault = h.without_fault;
+  defined = h.defined;
+  well_formed = record {
+    entries = All-from_recursion IsEntry u.entries h.entries.sound;
+    sources = distinct_sources [] u.entries no_sources h.entries.new;
+    few = omega (arith, h.entries.few, entry_limit-most u.version);
+  };
+  points = All-from_recursion (HasPointsBy u.definitions.properties) u.entries h.entries.points;
+  of_version = All-from_recursion (IsOfVersion u.version) u.entries h.of_version;
+  named = All-from_recursion (IsNamed u.definitions) u.entries h.named;
+  few = h.entries.few;
+  short = short;
+}
+
 pub well_formed_lines : (properties : Properties) (v : Version) (head lines : List (List ℕ)) (u : TableValue) → size_of head ≤ text_limit v → AddedLines (size_of head) (empty_table properties v) lines u → AreLinesOf head lines u
 well_formed_lines properties v head lines u small h =
     let kept : u.definitions.properties ≡ properties = spells_properties lines (empty_table properties v) u h.spelled in
     let size : size_of head + size_of lines ≤ text_limit v = h.within small in
     let short : length (table_text u.version u.definitions u.entries) ≤ text_limit u.version = short_text properties v lines u h.version h.spelled (omega (arith, size)) h.sound in
-    let k = h.sound.entries in
     record {
       spelled = subst (λ w. LinesSpell (empty_table u.definitions.properties w) lines u) (sym h.version) (subst (λ p. LinesSpell (empty_table p v) lines u) (sym kept) h.spelled);
       short = subst (λ w. All (λ line. length line ≤ line_limit w) lines) (sym h.version) (All-from_recursion (λ line. length line ≤ line_limit v) lines h.short);
       size = subst (λ w. size_of head + size_of lines ≤ text_limit w) (sym h.version) size;
-      well_formed = record {
-        without_fault = h.sound.without_fault;
-        defined = h.sound.defined;
-        well_formed = record {
-          entries = All-from_recursion IsEntry u.entries k.sound;
-          sources = distinct_sources [] u.entries no_sources k.new;
-          few = omega (arith, k.few, entry_limit-most u.version);
-        };
-        points = All-from_recursion (HasPointsBy u.definitions.properties) u.entries k.points;
-        of_version = All-from_recursion (IsOfVersion u.version) u.entries h.sound.of_version;
-        named = All-from_recursion (IsNamed u.definitions) u.entries h.sound.named;
-        few = k.few;
-        short = short;
-      };
+      well_formed = table_of_sound u h.sound short;
     }
 
 sound_table : (table : TableValue) → IsTable table → HasSoundEntries table
@@ -586,6 +607,24 @@ sound_table table h = record {
   few = h.few;
   fits = fits_within table.version (table_text table.version table.definitions table.entries) h.short;
 }
+
+pub sound_of_table : (table : TableValue) → IsTable table → IsSound table
+sound_of_table table h = record {
+  without_fault = h.without_fault;
+  defined = h.defined;
+  of_version = recursion_from_All (IsOfVersion table.version) table.entries h.of_version;
+  named = recursion_from_All (IsNamed table.definitions) table.entries h.named;
+  entries = sound_table table h;
+}
+
+-- a ruleset is one where its entries are
+pub ruleset_of_sound : (u : TableValue) → u.version ≡ Three → IsSound u → IsTable u
+ruleset_of_sound u is h = table_of_sound u h (within u.version is h.entries.fits)
+  where
+    within : (w : Version) → w ≡ Three → is_text_too_long w (table_text w u.definitions u.entries) ≡ false → length (table_text w u.definitions u.entries) ≤ text_limit w
+    within One e f = absurd cc
+    within Two e f = absurd cc
+    within Three e f = ltb-false 8388608 (length (table_text Three u.definitions u.entries)) f
 
 -- faultless lines are read
 pub lines_read : (n : ℕ) (head lines after : List (List ℕ)) (table : TableValue) → AreLinesOf head lines table

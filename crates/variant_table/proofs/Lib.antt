@@ -79,3 +79,5 @@ pub mod AgainLemmas
 pub mod IdleLemmas
 -- The line of an entry.
 pub mod EntryLines
+-- What a builder makes of a ruleset.
+pub mod BuildingLemmas

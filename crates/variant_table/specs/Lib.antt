@@ -13,6 +13,7 @@ pub mod Texts
 pub mod Places
 pub mod Singles
 pub mod Reading
+pub mod Building
 pub mod Faults
 pub mod LinePlaces
 pub mod FaultyLines

@@ -2,5 +2,6 @@
 pub mod Held
 pub mod Order
 pub mod ReadingSteps
+pub mod Drafts
 pub mod Readers
 pub mod Examples

@@ -1,5 +1,6 @@
 //! Why a text is no table.
 ghost use Rattle.std.specs.Prelude.{◌≡◌, None};
+ghost use Rattle.variant_table.specs.declared.fault.EntryFault.TheVariants.{Memory as NoMemory};
 ghost use Rattle.variant_table.specs.declared.fault.TableFault.TheVariants.{Memory};
 
 use ruleset_text::FaultPlace;
@@ -37,6 +38,36 @@ pub enum TableFault {
     /// Memory was refused.
     #[error("out of memory")]
     Memory,
+}
+
+/// Why an entry that isn't read from a line isn't added.
+#[derive(Clone, Copy, Debug, PartialEq, Eq)]
+pub enum EntryFault {
+    /// No line spells it: it has no source, a sequence has no code point, or one that is no scalar value, or a name is
+    /// none.
+    Syntax,
+    /// It is one entry too many, it has more than 16 variants, a sequence has more than 8 code points, or the canonical
+    /// text is too long with it.
+    Limit,
+    /// A type or a rule is named that isn't defined.
+    NoSuchName,
+    /// A code point whose class is none of PVALID, CONTEXTJ and CONTEXTO.
+    BadClass,
+    /// The variant of this number, from 1, is equal to one before it, unless each has a condition and the two
+    /// conditions differ; or to its source.
+    SameVariant(usize),
+    /// A source that an earlier entry has.
+    SameSource,
+    /// Memory was refused.
+    Memory,
+}
+
+impl From<AllocError> for EntryFault {
+    ghost from_gives = { λ _ fault. fault ≡ NoMemory };
+
+    fn from(_: AllocError) -> Self {
+        EntryFault::Memory
+    }
 }
 
 /// Why a line is refused, and where, if a place is told.

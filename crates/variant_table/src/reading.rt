@@ -1,14 +1,11 @@
 //! Reading the definitions and entries of a text, line by line.
 ghost use Rattle.std.specs.Prelude.{◌≡◌, ◌+◌, ◌<◌, ◌≤◌, ◌^◌, [], Some, None, length, IfErr, IfOk, OnOk};
-ghost use Rattle.idn_class.specs.declared.properties.Properties.{Properties};
-ghost use Rattle.ruleset_text.specs.Definitions.{nothing_defined};
 ghost use Rattle.ruleset_text.specs.EntryForms.{entry_form};
 ghost use Rattle.ruleset_text.specs.Lexemes.{lexemes};
 ghost use Rattle.ruleset_text.specs.PlacedLexemes.{unplaced};
 ghost use Rattle.variant_table.specs.declared.version.Version.TheVariants.{Three};
 ghost use Rattle.variant_table.specs.Entries.{TableValue, empty_table, entry_from, source_of};
 ghost use Rattle.variant_table.specs.FaultyLines.{IsRefusalOf};
-ghost use Rattle.variant_table.specs.inner.Held.{IsCounted};
 ghost use Rattle.variant_table.specs.inner.ReadingSteps.{Leaves, Reads, if_new, with_points_of};
 ghost use Rattle.variant_table.specs.Limits.{text_limit};
 ghost use Rattle.variant_table.specs.LinePlaces.{body_place, definition_place, entry_place, read_place};
@@ -16,39 +13,32 @@ ghost use Rattle.variant_table.specs.Reading.{is_skipped as is_skipped_line, tab
 ghost use Rattle.variant_table.specs.Reading.{with_definition, with_form_of, with_line, with_raw_line, with_words};
 ghost use Rattle.variant_table.specs.Texts.{IsLineOfEntry, IsTextOf};
 
-use crate::checks::{first_bad, given_again};
+use crate::checks::first_bad;
 use crate::definition_lines::{definition_line, fault_in};
-use crate::fault::{LineRefusal, TableFault, TableRefusal};
+use crate::fault::{EntryFault, LineRefusal, TableFault, TableRefusal};
 use crate::forms::take_sequences;
-use crate::lengths::{left_after_entry, left_after_range};
+use crate::lengths::left_after_range;
 use crate::ordered_entries::OrderedEntries;
 use crate::sequences::Sequences;
+use crate::table_draft::TableDraft;
 use crate::version::{Notation, Version, head_of};
 use idn_class::Properties;
 use idn_text::without_carriage_return;
 use ruleset_text::{
-    DefinitionLine, Definitions, EntryForm, EntryNotes, FaultPlace, Mapped, ReadError, read_entry,
+    DefinitionLine, EntryForm, EntryNotes, FaultPlace, Mapped, ReadError, read_entry,
     without_blanks,
 };
 use std::alloc::{AllocError, Global};
 use std::marker::Model;
 
-/// What a text spells.
-#[derive(Drop)]
-pub struct ReadText {
-    pub version: Version,
-    pub definitions: Definitions,
-    pub entries: OrderedEntries,
-}
-
-/// The version of a text, the definitions and the entries that it spells.
+/// The table that a text spells.
 #[tactic(auto, unfolding(crate::specs::Reading::table_of_lines))]
 pub fn read_text<'a>(
     alloc: Global,
     notation: Notation,
     text: &'a [u8],
     properties: Properties,
-) -> Result<ReadText, TableRefusal<'a>>
+) -> Result<TableDraft, TableRefusal<'a>>
     ensures read { Reads result (table_of_text properties notation text.now) }
     ensures line { IfErr result (IsRefusalOf properties notation text.now) }
 {
@@ -73,11 +63,7 @@ pub fn read_text<'a>(
         }
         bytes += line.len() + 1;
     }
-    Ok(ReadText {
-        version: reader.version,
-        definitions: reader.definitions,
-        entries: reader.entries,
-    })
+    Ok(reader.draft)
 }
 
 /// The line, from 1, that has the entry of this number, in a text without a fault that has it.
@@ -104,7 +90,7 @@ pub fn line_of_entry(
             // The text has no fault, so memory was refused.
             return Err(AllocError);
         }
-        if reader.entries.len() > entry {
+        if reader.draft.entries.len() > entry {
             return Ok(number);
         }
         bytes += line.len() + 1;
@@ -116,22 +102,16 @@ pub fn line_of_entry(
 #[derive(Drop)]
 struct Reader {
     alloc: Global,
-    version: Version,
-    /// The sequences of the entry that is being added. Their memory is used again for each line.
-    sequences: Sequences,
-    /// What is noted of the line of an entry. Its memory is used again, too.
+    draft: TableDraft,
+    /// What is noted of the line of an entry. Its memory is used again for each line.
     notes: EntryNotes,
-    definitions: Definitions,
-    entries: OrderedEntries,
-    /// How many bytes the canonical text may have more, where the version limits them.
-    left: usize,
 }
 
 impl Model for Reader {
     ghost use Rattle.std.specs.Coded.{codes};
     ghost use Rattle.ruleset_text.specs.EntryForms.{notes as noted};
-    ghost use Rattle.variant_table.specs.Entries.{table_of};
     ghost use Rattle.variant_table.specs.TableCodes.{table_code};
+    ghost use Rattle.variant_table.specs.inner.Drafts.{draft_table};
     ghost use Rattle.variant_table.specs.inner.Readers.{ReadSoFar};
 
     ghost Value = { ReadSoFar };
@@ -139,14 +119,15 @@ impl Model for Reader {
     ghost coded = { Prim.hlevel (codes, table_code) };
 
     ghost view = { λ r. record {
-      table = table_of r.version r.definitions r.entries;
-      left = r.left;
+      table = draft_table r.draft;
+      left = r.draft.left;
       notes = noted r.notes;
     } };
 }
 
 impl Reader {
-    ghost use Rattle.variant_table.specs.inner.Readers.{IsCountedIn, IsNotedAs, form_with, noted_place};
+    ghost use Rattle.variant_table.specs.inner.Drafts.{form_with};
+    ghost use Rattle.variant_table.specs.inner.Readers.{IsCountedIn, IsNotedAs, noted_place, place_of, told_of};
 
     /// A reader that has read nothing yet, of a text of this version.
     fn new(alloc: Global, version: Version, properties: Properties) -> Self
@@ -155,12 +136,8 @@ impl Reader {
     {
         Reader {
             alloc,
-            version,
-            sequences: Sequences::new(alloc),
+            draft: TableDraft::new(alloc, version, properties),
             notes: EntryNotes::new(alloc),
-            definitions: Definitions::new(alloc, properties),
-            entries: OrderedEntries::new(alloc),
-            left: left_after_head(version),
         }
     }
 
@@ -175,7 +152,7 @@ impl Reader {
         ensures counted { OnOk result (IsCountedIn self.new) }
         ensures within { OnOk result (bytes + length line.now + 1 ≤ text_limit self.old.table.version) }
     {
-        let version = self.version;
+        let version = self.draft.version;
         if line.len() > version.line_limit() {
             let place = FaultPlace::Byte(version.line_limit());
             return Err(TableFault::Limit { line: number }.at(Some(place)));
@@ -198,7 +175,7 @@ impl Reader {
         if is_skipped(line) {
             return Ok(());
         }
-        if let Some(defining) = definition_line(self.version, line) {
+        if let Some(defining) = definition_line(self.draft.version, line) {
             return self.add_definition(number, defining);
         }
         self.add_entries(number, line)
@@ -216,10 +193,10 @@ impl Reader {
         ensures counted { OnOk result (IsCountedIn self.new) }
     {
         // The canonical text has a limit: what is left of it, and what the definitions already take.
-        let room = self.left + self.definitions.canonical_len();
-        match self.definitions.define(self.alloc, room, line) {
+        let room = self.draft.left + self.draft.definitions.canonical_len();
+        match self.draft.definitions.define(self.alloc, room, line) {
             Ok(()) => {
-                self.left = room - self.definitions.canonical_len();
+                self.draft.left = room - self.draft.definitions.canonical_len();
                 Ok(())
             }
             Err(refusal) => Err(fault_in(number, refusal.fault).at(refusal.place)),
@@ -234,8 +211,9 @@ impl Reader {
             IfErr result (λ r. r.place ≡ entry_place t.definitions r.fault t.version line.now) }
         ensures counted { OnOk result (IsCountedIn self.new) }
     {
-        let parts = self.version.entry_parts();
-        match read_entry(self.alloc, parts, &self.definitions, line, &mut self.notes) {
+        let parts = self.draft.version.entry_parts();
+        let definitions = &self.draft.definitions;
+        match read_entry(self.alloc, parts, definitions, line, &mut self.notes) {
             Ok(form) => self.add_form(number, &form),
             Err(ReadError::Stop(place)) => Err(TableFault::Syntax { line: number }.at(Some(place))),
             Err(ReadError::Memory) => Err(TableFault::Memory.at(None)),
@@ -262,29 +240,33 @@ impl Reader {
         ensures place { IfErr result (λ r. r.place ≡ noted_place self.old (form_with mapped.now None) r.fault) }
         ensures counted { OnOk result (IsCountedIn self.new) }
     {
+        let found = self.notes.faults.found();
+        match self.draft.add_entry(mapped, found) {
+            Ok(()) => Ok(()),
+            Err(fault) => Err(self.refusal(number, fault)),
+        }
+    }
+
+    /// Why the line of this number is refused, whose entry has this fault.
+    fn refusal(&self, number: u64, fault: EntryFault) -> LineRefusal
+        ensures fault { result.fault ≡ told_of number fault }
+        ensures place { result.place ≡ place_of self.now.notes fault }
+    {
+        let line = number;
         let faults = &self.notes.faults;
-        if self.entries.len() >= self.version.entry_limit() || faults.limit.is_some() {
-            return Err(TableFault::Limit { line: number }.at(faults.limit));
+        match fault {
+            EntryFault::Syntax => TableFault::Syntax { line }.at(None),
+            EntryFault::Limit => TableFault::Limit { line }.at(faults.limit),
+            EntryFault::NoSuchName => TableFault::NoSuchName { line }.at(faults.name),
+            EntryFault::BadClass => TableFault::BadClass { line }.at(faults.class),
+            EntryFault::SameVariant(again) => {
+                TableFault::SameVariant { line }.at(self.notes.variant_place(again))
+            }
+            EntryFault::SameSource => {
+                TableFault::SameSource { line }.at(self.notes.source_place())
+            }
+            EntryFault::Memory => TableFault::Memory.at(None),
         }
-        let Some(left) = left_after_entry(self.version, mapped, self.left) else {
-            return Err(TableFault::Limit { line: number }.at(faults.limit));
-        };
-        if faults.name.is_some() {
-            return Err(TableFault::NoSuchName { line: number }.at(faults.name));
-        }
-        if faults.class.is_some() {
-            return Err(TableFault::BadClass { line: number }.at(faults.class));
-        }
-        take_sequences(&mut self.sequences, &self.definitions, mapped)?;
-        if let Some(again) = given_again(&self.sequences) {
-            let place = self.notes.variant_place(again);
-            return Err(TableFault::SameVariant { line: number }.at(place));
-        }
-        if !self.entries.push(&self.sequences)? {
-            return Err(TableFault::SameSource { line: number }.at(self.notes.source_place()));
-        }
-        self.left = left;
-        Ok(())
     }
 
     /// Adds the entries of a range from its source, one code point, to the last code point, unless one has a fault.
@@ -298,34 +280,35 @@ impl Reader {
         let source = &mapped[0];
         let first = source.points[0];
         let count = (last - first) as usize + 1;
-        let limit = self.version.entry_limit();
+        let limit = self.draft.version.entry_limit();
         let faults = &self.notes.faults;
-        if count > limit || self.entries.len() > limit - count {
+        if count > limit || self.draft.entries.len() > limit - count {
             return Err(TableFault::Limit { line: number }.at(faults.limit));
         }
-        let Some(left) = left_after_range(self.version, source, first, count, self.left) else {
+        let Some(left) = left_after_range(self.draft.version, source, first, count, self.draft.left)
+        else {
             return Err(TableFault::Limit { line: number }.at(faults.limit));
         };
         if faults.name.is_some() {
             return Err(TableFault::NoSuchName { line: number }.at(faults.name));
         }
-        if let Some(bad) = first_bad(self.alloc, first, count, self.definitions.properties())? {
+        let properties = self.draft.definitions.properties();
+        if let Some(bad) = first_bad(self.alloc, first, count, properties)? {
             return Err(TableFault::BadClass { line: number }.at(self.notes.range_place(bad)));
         }
-        take_sequences(&mut self.sequences, &self.definitions, mapped)?;
-        if !push_points(self.alloc, &mut self.entries, &self.sequences, first, count)? {
+        take_sequences(&mut self.draft.sequences, &self.draft.definitions, mapped)?;
+        if !push_points(
+            self.alloc,
+            &mut self.draft.entries,
+            &self.draft.sequences,
+            first,
+            count,
+        )? {
             return Err(TableFault::SameSource { line: number }.at(self.notes.source_place()));
         }
-        self.left = left;
+        self.draft.left = left;
         Ok(())
     }
-}
-
-/// How many bytes a canonical text may have after its version line, where the version limits them.
-fn left_after_head(version: Version) -> usize
-    ensures { (properties : Properties) → IsCounted version (nothing_defined properties) result [] }
-{
-    version.text_limit() - version.head().len()
 }
 
 /// Adds the entries of `count` code points, from `first` on, with the type and the condition of the first of the

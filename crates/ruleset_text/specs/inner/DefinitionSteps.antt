@@ -1,7 +1,6 @@
 -- What each step of reading a definition gives.
-use Rattle.std.specs.Prelude.{◌≡◌, ℕ, ◌-◌, ◌<◌, ◌++◌, IsTrue, true, false, Result, Ok, Err, List, length, map}
+use Rattle.std.specs.Prelude.{◌≡◌, ℕ, ◌-◌, ◌++◌, ◌||◌, nat_lt, not, true, false, Result, Ok, Err, List, length, map}
 use Rattle.label_patterns.specs.Patterns.{Pattern}
-use Rattle.label_patterns.specs.Sets.{Rise}
 use Rattle.label_patterns.specs.Trees.{pattern}
 use Rattle.ruleset_text.specs.declared.definition_reading.ReadDefinition.{ReadDefinition}
 use Rattle.ruleset_text.specs.declared.reading.Earlier.{Earlier}
@@ -10,27 +9,26 @@ use Rattle.ruleset_text.specs.declared.fault.DefinitionFault.{DefinitionFault}
 use Rattle.ruleset_text.specs.declared.fault.DefinitionFault.TheVariants as fault
 use Rattle.ruleset_text.specs.declared.fault.DefinitionRefusal.{DefinitionRefusal}
 use Rattle.ruleset_text.specs.declared.fault.FaultPlace.{FaultPlace}
+use Rattle.ruleset_text.specs.declared.fault.FoundFaults.{FoundFaults}
 use Rattle.ruleset_text.specs.declared.fault.ReadError.{ReadError}
 use Rattle.ruleset_text.specs.declared.action_reading.ReadAction.{ReadAction}
 use Rattle.ruleset_text.specs.ActionForms.{action}
-use Rattle.ruleset_text.specs.Actions.{IsAction, NamedAction, action_marks}
+use Rattle.ruleset_text.specs.Actions.{NamedAction, action_marks, knows_action}
+use Rattle.ruleset_text.specs.Classes.{has_bad_end, has_bad_point}
 use Rattle.ruleset_text.specs.DefinitionReading.{action_read}
 use Rattle.ruleset_text.specs.PatternLimits.{first_marked}
-use Rattle.ruleset_text.specs.Signs as sign
 use Rattle.ruleset_text.specs.Definition as definition
 use Rattle.ruleset_text.specs.Definition.{Definition}
 use Rattle.ruleset_text.specs.DefinitionPlaces.{Known, definition_faults, known_after, pattern_faults}
 use Rattle.ruleset_text.specs.Canonical.{definition_text}
-use Rattle.ruleset_text.specs.Definitions.{Definitions, definition_atoms, has_bad_class, has_known_names, has_same_name}
-use Rattle.ruleset_text.specs.Definitions.{is_line_over_limit, is_one_too_many, whole_names}
+use Rattle.ruleset_text.specs.Definitions.{Definitions, definition_atoms, has_bad_class, has_known_names, has_most}
+use Rattle.ruleset_text.specs.Definitions.{has_same_name, is_line_over_limit, is_one_too_many, whole_names}
 use Rattle.ruleset_text.specs.WellFormed.{AreDefinitions}
 use Rattle.ruleset_text.specs.DefinitionTrees as trees
-use Rattle.ruleset_text.specs.Grammar.{Is, Whole}
-use Rattle.ruleset_text.specs.Limits.{atoms}
+use Rattle.ruleset_text.specs.Limits.{atoms, groups, has_its_sets, stars}
 use Rattle.ruleset_text.specs.LineStops.{StopsAt}
 use Rattle.ruleset_text.specs.PlacedLexemes.{Placed}
-use Rattle.ruleset_text.specs.Names.{is_name, predefined_types}
-use Rattle.ruleset_text.specs.Rules.{has, is_rule_or_whole}
+use Rattle.ruleset_text.specs.Names.{predefined_types}
 
 -- a pattern that was read, how many atoms may follow, and its faults
 pub record IsReadPattern (e : Earlier) (ws : List Placed) (r : ReadPattern)
@@ -104,10 +102,27 @@ abbrev pub Leaves : {X : Type 0} → Result X DefinitionRefusal → Definitions 
 Leaves (Ok x) new read = read ≡ Ok new
 Leaves (Err refusal) new read = Refuses refusal.fault read
 
--- what the form of a definition alone says of it
-abbrev pub HasForm : Definition → Type 0
-HasForm (definition.VariantType name) = IsTrue (is_name name)
-HasForm (definition.Set name spans) = IsTrue (is_name name) × (0 < length spans) × Rise spans
-HasForm (definition.Rule name p) = IsTrue (is_name name) × Is Whole p × IsTrue (is_rule_or_whole p)
-HasForm (definition.Demand kind p) = Is Whole p × (has sign.Anchor p ≡ false)
-HasForm (definition.Action a) = IsAction a
+-- the faults that were found of a definition are those that it has after these; that as many as may be are defined of
+-- its kind is told apart
+pub record AreFound (d : Definitions) (x : Definition) (found : FoundFaults) : Type 0 where
+  pub limit : is_one_too_many d x ≡ (has_most d x || found.limit)
+  pub name : has_known_names d x ≡ not found.name
+  pub class : has_bad_class d.properties x ≡ found.class
+
+abbrev pub nothing_found : FoundFaults
+nothing_found = record { limit = false; name = false; class = false }
+
+-- those of a pattern, and of a definition, by what is known before it
+abbrev pub found_of_pattern : Known → Pattern → FoundFaults
+found_of_pattern k p = record {
+  limit = nat_lt 8 (groups p) || nat_lt 2 (stars p) || nat_lt k.left (atoms p);
+  name = not (has_its_sets (length k.sets) p);
+  class = has_bad_point k.properties p;
+}
+
+abbrev pub found_of : Known → Definition → FoundFaults
+found_of k (definition.VariantType name) = nothing_found
+found_of k (definition.Set name spans) = record nothing_found { class = has_bad_end k.properties spans }
+found_of k (definition.Rule name p) = found_of_pattern k p
+found_of k (definition.Demand kind p) = found_of_pattern k p
+found_of k (definition.Action a) = record nothing_found { name = not (knows_action k.types k.whole_rules a) }

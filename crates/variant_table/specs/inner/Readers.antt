@@ -1,15 +1,16 @@
 -- What a reader has read of a text, and how it takes a line.
-use Rattle.std.specs.Prelude.{ℕ, Option, List, map}
-use Rattle.ruleset_text.specs.declared.entry_form.Mapped as held
+use Rattle.std.specs.Prelude.{ℕ, Option, Some, None}
 use Rattle.ruleset_text.specs.declared.fault.FaultPlace.{FaultPlace}
 use Rattle.ruleset_text.specs.Entries.{EntryForm}
-use Rattle.ruleset_text.specs.EntryFaults.{Notes}
-use Rattle.ruleset_text.specs.EntryForms.{mapped}
+use Rattle.ruleset_text.specs.EntryFaults.{Notes, source_place, variant_place}
 use Rattle.ruleset_text.specs.EntryText.{IsForm}
+use Rattle.variant_table.specs.declared.fault.EntryFault.{EntryFault}
+use Rattle.variant_table.specs.declared.fault.EntryFault.TheVariants as faults
 use Rattle.variant_table.specs.declared.fault.TableFault.{TableFault}
+use Rattle.variant_table.specs.declared.fault.TableFault.TheVariants as tables
 use Rattle.variant_table.specs.Entries.{TableValue}
 use Rattle.variant_table.specs.LinePlaces.{AreFaultsOf, form_place}
-use Rattle.variant_table.specs.inner.Held.{IsCounted}
+use Rattle.variant_table.specs.inner.Drafts.{DraftSoFar, IsCountedSoFar}
 
 -- a table, how many bytes its canonical text may have more, where the version limits them, and what is noted of the
 -- line that is read
@@ -18,9 +19,12 @@ pub record ReadSoFar : Type 0 where
   pub left : ℕ
   pub notes : Notes
 
--- what is left of the canonical text is counted
+-- the table as far as it is made
+abbrev pub drafted : ReadSoFar → DraftSoFar
+drafted r = record { table = r.table; left = r.left }
+
 abbrev pub IsCountedIn : ReadSoFar → Type 0
-IsCountedIn r = IsCounted r.table.version r.table.definitions r.left r.table.entries
+IsCountedIn r = IsCountedSoFar (drafted r)
 
 -- a line of this form may be added: its faults are noted, and what is left before it is counted
 pub record IsNotedAs (line : EntryForm) (r : ReadSoFar) : Type 0 where
@@ -32,6 +36,24 @@ pub record IsNotedAs (line : EntryForm) (r : ReadSoFar) : Type 0 where
 abbrev pub noted_place : ReadSoFar → EntryForm → TableFault → Option FaultPlace
 noted_place r form fault = form_place r.table.definitions fault form r.notes
 
--- the form of a source and its variants, and, if this is a range, its last code point
-abbrev pub form_with : List held.Mapped → Option ℕ → EntryForm
-form_with ms last = record { mapped = map mapped ms; last = last }
+-- ---- an entry that is refused
+
+-- the fault of the table, by the number of the line
+abbrev pub told_of : ℕ → EntryFault → TableFault
+told_of number faults.Syntax = tables.Syntax number
+told_of number faults.Limit = tables.Limit number
+told_of number faults.NoSuchName = tables.NoSuchName number
+told_of number faults.BadClass = tables.BadClass number
+told_of number (faults.SameVariant again) = tables.SameVariant number
+told_of number faults.SameSource = tables.SameSource number
+told_of number faults.Memory = tables.Memory
+
+-- where its line has it, by what is noted of the line
+abbrev pub place_of : Notes → EntryFault → Option FaultPlace
+place_of notes faults.Syntax = None
+place_of notes faults.Limit = notes.faults.limit
+place_of notes faults.NoSuchName = notes.faults.name
+place_of notes faults.BadClass = notes.faults.class
+place_of notes (faults.SameVariant again) = variant_place notes.begins (Some again)
+place_of notes faults.SameSource = source_place notes.begins
+place_of notes faults.Memory = None

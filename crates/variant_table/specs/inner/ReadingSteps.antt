@@ -9,8 +9,9 @@ use Rattle.variant_table.specs.declared.fault.TableFault.TheVariants as tables
 use Rattle.variant_table.specs.declared.fault.TableRefusal.{TableRefusal}
 use Rattle.variant_table.specs.Faults.{LineFault, Limit, Syntax, BadClass, SameVariant, SameSource, NoSuchName}
 use Rattle.variant_table.specs.Faults.{SameName, table_fault}
-use Rattle.variant_table.specs.declared.reading.ReadText.{ReadText}
-use Rattle.variant_table.specs.Entries.{Variant, Entry, TableValue, table_of}
+use Rattle.variant_table.specs.declared.table_draft.TableDraft.{TableDraft}
+use Rattle.variant_table.specs.inner.Drafts.{draft_table}
+use Rattle.variant_table.specs.Entries.{Variant, Entry, TableValue}
 use Rattle.variant_table.specs.Ranges.{entry_in_range}
 use Rattle.variant_table.specs.Conditions.{has_source_in}
 use Rattle.variant_table.specs.Reading.{◌>>=◌}
@@ -56,8 +57,8 @@ FailsIn {Y} fault read =
     ⊎ ((line : ℕ) × (kind : LineFault) × (fault ≡ table_fault line kind) × (read ≡ Err (line, kind)))
 
 -- the answer is that of the function, unless memory was refused
-abbrev pub Reads : Result ReadText TableRefusal → Result TableValue (ℕ × LineFault) → Type 0
-Reads (Ok s) read = read ≡ Ok (table_of s.version s.definitions s.entries)
+abbrev pub Reads : Result TableDraft TableRefusal → Result TableValue (ℕ × LineFault) → Type 0
+Reads (Ok draft) read = read ≡ Ok (draft_table draft)
 Reads (Err refusal) read = FailsIn refusal.fault read
 
 -- the fault of a table, by the number of its line and the fault of the definition on it

@@ -1,43 +1,34 @@
-use Rattle.std.proofs.Common.{Err, refl, sym, ap, ◌∙◌}
+use Rattle.std.proofs.Common.{sym, refl, ◌∙◌}
 use Rattle.ruleset_text.proofs.DefineFaultLemmas.{checked}
 use Rattle.ruleset_text.proofs.definitions.Definitions.check.Goals as goal
 
-pub returns-then-has_most-clause-fault : goal.returns-then-has_most-clause-fault
-returns-then-has_most-clause-fault c =
-    checked c.args.limit c.requires.faults c.requires.len
-    (sym c.has_most.ensures ∙ c.if-has_most.true) refl refl refl refl refl
-    ∙ ap (λ r. Err r.fault) (sym c.at.ensures)
+pub returns-then-has_most : goal.returns-then-has_most
+returns-then-has_most c =
+    checked c.args.limit c.requires.found c.requires.len (sym c.has_most.ensures ∙ c.if-has_most.true) refl refl refl refl
+    refl
 
-pub returns-in-Some-clause-fault : goal.returns-in-Some-clause-fault
-returns-in-Some-clause-fault c =
-    checked c.args.limit c.requires.faults c.requires.len
-    (sym c.has_most.ensures ∙ c.if-has_most.false) c.in-Some.is refl refl refl refl
-    ∙ ap (λ r. Err r.fault) (sym c.at-in-Some.ensures)
+pub returns-then-found : goal.returns-then-found
+returns-then-found c =
+    checked c.args.limit c.requires.found c.requires.len (sym c.has_most.ensures ∙ c.if-has_most.false) c.if-found.true refl
+    refl refl refl
 
-pub returns-in-Some-name-clause-fault : goal.returns-in-Some-name-clause-fault
-returns-in-Some-name-clause-fault c =
-    checked c.args.limit c.requires.faults c.requires.len
-    (sym c.has_most.ensures ∙ c.if-has_most.false) c.in_default.is c.in-Some-name.is refl refl refl
-    ∙ ap (λ r. Err r.fault) (sym c.at-in-Some-name.ensures)
+pub returns-then-found-2 : goal.returns-then-found-2
+returns-then-found-2 c =
+    checked c.args.limit c.requires.found c.requires.len (sym c.has_most.ensures ∙ c.if-has_most.false) c.if-found.false
+    c.if-found-2.true refl refl refl
 
-pub returns-then-is_line_over_limit-clause-fault : goal.returns-then-is_line_over_limit-clause-fault
-returns-then-is_line_over_limit-clause-fault c =
-    checked c.args.limit c.requires.faults c.requires.len
-    (sym c.has_most.ensures ∙ c.if-has_most.false) c.in_default.is c.in_default-name.is
-    (sym c.is_line_over_limit.ensures ∙ c.if-is_line_over_limit.true) refl refl
-    ∙ ap (λ r. Err r.fault) (sym c.at-then-is_line_over_limit.ensures)
+pub returns-then-is_line_over_limit : goal.returns-then-is_line_over_limit
+returns-then-is_line_over_limit c =
+    checked c.args.limit c.requires.found c.requires.len (sym c.has_most.ensures ∙ c.if-has_most.false) c.if-found.false
+    c.if-found-2.false (sym c.is_line_over_limit.ensures ∙ c.if-is_line_over_limit.true) refl refl
 
-pub returns-in-Some-class-clause-fault : goal.returns-in-Some-class-clause-fault
-returns-in-Some-class-clause-fault c =
-    checked c.args.limit c.requires.faults c.requires.len
-    (sym c.has_most.ensures ∙ c.if-has_most.false) c.in_default.is c.in_default-name.is
-    (sym c.is_line_over_limit.ensures ∙ c.if-is_line_over_limit.false) c.in-Some-class.is refl
-    ∙ ap (λ r. Err r.fault) (sym c.at-in-Some-class.ensures)
+pub returns-then-found-3 : goal.returns-then-found-3
+returns-then-found-3 c =
+    checked c.args.limit c.requires.found c.requires.len (sym c.has_most.ensures ∙ c.if-has_most.false) c.if-found.false
+    c.if-found-2.false (sym c.is_line_over_limit.ensures ∙ c.if-is_line_over_limit.false) c.if-found-3.true refl
 
-pub returns-then-has_same_name-clause-fault : goal.returns-then-has_same_name-clause-fault
-returns-then-has_same_name-clause-fault c =
-    checked c.args.limit c.requires.faults c.requires.len
-    (sym c.has_most.ensures ∙ c.if-has_most.false) c.in_default.is c.in_default-name.is
-    (sym c.is_line_over_limit.ensures ∙ c.if-is_line_over_limit.false) c.in_default-class.is
+pub returns-then-has_same_name : goal.returns-then-has_same_name
+returns-then-has_same_name c =
+    checked c.args.limit c.requires.found c.requires.len (sym c.has_most.ensures ∙ c.if-has_most.false) c.if-found.false
+    c.if-found-2.false (sym c.is_line_over_limit.ensures ∙ c.if-is_line_over_limit.false) c.if-found-3.false
     (sym c.has_same_name.ensures ∙ c.if-has_same_name.true)
-    ∙ ap (λ r. Err r.fault) (sym c.at-then-has_same_name.ensures)

@@ -14,8 +14,8 @@ pub overflow_add-room : goal.overflow_add-room
 overflow_add-room c =
     let within = room_within c.self.view_is c.canonical_len.result c.requires.ruleset c.requires.counted
     c.canonical_len.ensures.size in
-    let few : c.self.inside.left + c.canonical_len.result ≤ 8388608 = omega
-    (arith, within, text_limit-most c.self.inside.version) in
+    let few : c.self.inside.draft.left + c.canonical_len.result ≤ 8388608 = omega
+    (arith, within, text_limit-most c.self.inside.draft.version) in
     search rules
 
 pub overflow_sub-self : goal.overflow_sub-self
@@ -49,7 +49,7 @@ returns-in-Err-clause-read c =
 
 pub returns-in-Err-clause-place : goal.returns-in-Err-clause-place
 returns-in-Err-clause-place c =
-    let d = c.self.inside.definitions in
+    let d = c.self.inside.draft.definitions in
     subst (λ (x : ReadSoFar). c.at.result.place ≡ definition_place x.table.definitions c.at.result.fault c.args.line)
     c.self.view_is
     (subst (λ r. r.place ≡ definition_place d r.fault c.args.line) (sym c.at.ensures)

@@ -59,12 +59,12 @@ returns-in-Err-Stop-clause-place c =
 
 pub add_form-requires : goal.add_form-requires
 add_form-requires c =
-    let d = c.self.inside.definitions in
+    let d = c.self.inside.draft.definitions in
     let form = entry_form c.in-Ok.form in
     let line = c.args.line.now in
     let read = subst (λ q. entry_read q line ≡ Ok form) c.entry_parts-parts.ensures c.in-Ok.ensures.read in record {
       noted = record {
-        form = (read_as c.self.inside.version line form read).0.0;
+        form = (read_as c.self.inside.draft.version line form read).0.0;
         faults = subst (λ n. AreFaultsOf d form n.faults) (sym c.in-Ok.ensures.noted)
             (faults_are d line form (read_in c.entry_parts-parts.result line form c.in-Ok.ensures.read));
         counted = subst IsCountedIn (sym c.self.view_is) c.requires.counted;
@@ -75,7 +75,7 @@ pub returns-in-Ok-clause-read : goal.returns-in-Ok-clause-read
 returns-in-Ok-clause-read c =
     let form = entry_form c.in-Ok.form in
     let line = c.args.line.now in
-    let t : TableValue = table_of c.self.inside.version c.self.inside.definitions c.self.inside.entries in
+    let t : TableValue = table_of c.self.inside.draft.version c.self.inside.draft.definitions c.self.inside.draft.entries in
     let read = subst (λ q. entry_read q line ≡ Ok form) c.entry_parts-parts.ensures c.in-Ok.ensures.read in
     subst (λ (r : ReadSoFar). Leaves c.args.number c.add_form.result c.add_form.new.self.table
     (with_words r.table None (lexemes line))) c.self.view_is
@@ -84,7 +84,7 @@ returns-in-Ok-clause-read c =
 
 pub returns-in-Ok-clause-place : goal.returns-in-Ok-clause-place
 returns-in-Ok-clause-place c =
-    let d = c.self.inside.definitions in
+    let d = c.self.inside.draft.definitions in
     let form = entry_form c.in-Ok.form in
     let line = c.args.line.now in
     let read = subst (λ q. entry_read q line ≡ Ok form) c.entry_parts-parts.ensures c.in-Ok.ensures.read in

@@ -3,7 +3,8 @@ use Rattle.ruleset_text.specs.declared.entry_form.EntryForm as held
 use Rattle.ruleset_text.specs.declared.entry_form.Mapped as held_mapped
 use Rattle.ruleset_text.specs.EntryForms.{mapped, entry_form}
 use Rattle.variant_table.specs.Reading.{with_form_of}
-use Rattle.variant_table.specs.inner.Readers.{IsNotedAs, form_with}
+use Rattle.variant_table.specs.inner.Drafts.{form_with}
+use Rattle.variant_table.specs.inner.Readers.{IsNotedAs}
 use Rattle.variant_table.specs.inner.ReadingSteps.{Leaves}
 use Rattle.variant_table.proofs.reading.Reader.add_form.Goals as goal
 

@@ -1,0 +1,87 @@
+-- The entries of a table, by those of a file (RFC 7940, section 5).
+use Rattle.std.specs.Prelude.{◌≡◌, ℕ, ◌≤◌, ◌&&◌, Bool, not, Option, None, List, [], ◌∷◌, All, bytes_eq, filter, find}
+use Rattle.std.specs.Prelude.{is_some, length, map, option_and_then}
+use Rattle.std.specs.List.{flat_map, list_all, list_any, range_with_len}
+use Rattle.std.specs.Option.{option_map}
+use Rattle.lgr_text.specs.Records as lgr
+use Rattle.lgr_text.specs.Records.{Range, Sequence, Source}
+use Rattle.lgr_table.specs.Numbers.{Numbering, numbered_condition, type_number}
+use Rattle.variant_table.specs.Entries.{Entry, Variant}
+use Rattle.variant_table.specs.Ranges.{range_size}
+
+-- ---- its sources
+
+-- a range is an entry for each code point in it (5.1)
+abbrev pub sources : Source → List (List ℕ)
+sources (Sequence points) = points ∷ []
+sources (Range span) = map (λ c. c ∷ []) (range_with_len span.first (range_size span.first span.last))
+
+-- each code point is one that a table may hold. No label has another one, so what has is left out
+abbrev pub may_be : (ℕ → Bool) → List ℕ → Bool
+may_be may points = list_all may points
+
+abbrev pub kept_sources : (ℕ → Bool) → lgr.Entry → List (List ℕ)
+kept_sources may e = filter (may_be may) (sources e.source)
+
+-- ---- its variants
+
+-- a variant that is its source is reflexive: its type is that of the source (5.3.4)
+abbrev pub is_reflexive : List ℕ → lgr.Variant → Bool
+is_reflexive source v = bytes_eq v.points source
+
+-- the types and conditions go by their numbers
+abbrev pub variant_of : Numbering → lgr.Variant → Variant
+variant_of n v = record {
+  sequence = v.points;
+  type = type_number n v.type_name;
+  condition = option_map (numbered_condition n) v.condition;
+}
+
+abbrev pub variants_of : (ℕ → Bool) → Numbering → List ℕ → List lgr.Variant → List Variant
+variants_of may n source variants =
+    map (variant_of n) (filter (λ v. may_be may v.points && not (is_reflexive source v)) variants)
+
+abbrev pub reflexive_type : Numbering → List ℕ → List lgr.Variant → Option ℕ
+reflexive_type n source variants =
+    option_and_then (λ v. type_number n v.type_name) (find (is_reflexive source) variants)
+
+-- ---- the entries
+
+abbrev pub entry_with : (ℕ → Bool) → Numbering → lgr.Entry → List ℕ → Entry
+entry_with may n e source = record {
+  source = source;
+  type = reflexive_type n source e.variants;
+  condition = option_map (numbered_condition n) e.condition;
+  variants = variants_of may n source e.variants;
+}
+
+-- those of an entry of the file, and those of all entries, in their order
+abbrev pub entries_of : (ℕ → Bool) → Numbering → lgr.Entry → List Entry
+entries_of may n e = map (entry_with may n e) (kept_sources may e)
+
+abbrev pub all_entries : (ℕ → Bool) → Numbering → List lgr.Entry → List Entry
+all_entries may n entries = flat_map (entries_of may n) entries
+
+-- ---- what a table can't say
+
+-- a source has one reflexive variant at most, without a condition
+abbrev pub HasOneType : lgr.Entry → List ℕ → Type 0
+HasOneType e source =
+    (length (filter (is_reflexive source) e.variants) ≤ 1)
+    × All (λ v. v.condition ≡ None) (filter (is_reflexive source) e.variants)
+
+abbrev pub AreOfOneType : (ℕ → Bool) → List lgr.Entry → Type 0
+AreOfOneType may entries = All (λ e. All (HasOneType e) (kept_sources may e)) entries
+
+-- a source stays with and without a type: that makes a difference where some variant has a type
+abbrev pub stays_untyped : (ℕ → Bool) → List lgr.Entry → Bool
+stays_untyped may entries =
+    list_any (λ e. list_any (λ s. list_any (λ v. is_reflexive s v && not (is_some v.type_name)) e.variants)
+    (kept_sources may e)) entries
+
+abbrev pub has_types : List lgr.Entry → Bool
+has_types entries = list_any (λ e. list_any (λ v. is_some v.type_name) e.variants) entries
+
+-- so variants without a type need one of their own in the table
+abbrev pub needs_type : (ℕ → Bool) → List lgr.Entry → Bool
+needs_type may entries = has_types entries && stays_untyped may entries

@@ -1,0 +1,6 @@
+//! From what a ruleset in XML (RFC 7940) says to a table of version 3: which table it is, as definitions.
+#![tactic(auto)]
+
+mod laws;
+
+pub use laws::definitions_compute_the_examples;
