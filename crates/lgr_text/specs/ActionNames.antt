@@ -2,7 +2,7 @@
 -- and types. The default actions (section 7.6) follow those of each ruleset, and are not written.
 use Rattle.std.specs.Prelude.{◌≡◌, ℕ, Bool, List, [], length, map, slice_index_or, nat_lt, Option, Some, None, is_some, if◌then◌else◌}
 use Rattle.std.specs.Option.{option_map, option_or}
-use Rattle.ruleset_text.specs.Actions.{NamedAction, NamedTrigger, disposition_word}
+use Rattle.ruleset_text.specs.Actions.{NamedAction, NamedTrigger}
 use Rattle.std.specs.List.{list_all}
 use Rattle.ruleset_text.specs.ActionSteps.{disposition_of}
 use Rattle.ruleset_text.specs.declared.named_condition.NamedCondition.{NamedCondition}

@@ -4,7 +4,7 @@ use Rattle.label_patterns.specs.declared.condition.ConditionKind.TheVariants.{Wh
 use Rattle.ruleset_text.specs.declared.action.TriggerKind.TheVariants.{Any}
 use Rattle.xml_text.specs.Attributes.{Attribute}
 use Rattle.lgr_text.specs.Actions.{action_of}
-use Rattle.lgr_text.specs.Elements.{Content, Nothing, Text, Element, Node}
+use Rattle.lgr_text.specs.Elements.{Nothing, Text, Element}
 use Rattle.lgr_text.specs.Entries.{entry_of}
 use Rattle.lgr_text.specs.Records.{Sequence, Range}
 use Rattle.lgr_text.specs.Values.{spans, count}

@@ -1,8 +1,8 @@
-use Rattle.std.proofs.Common.{◌≡◌, ◌&&◌, Bool, true, false, cond, List, Some, None, Option, map, sym, ap, ◌∙◌, subst}
-use Rattle.std.specs.Prelude.{bytes_eq, codes, option_and_then}
+use Rattle.std.proofs.Common.{◌≡◌, true, cond, Some, None, Option, map, sym, ap, ◌∙◌, subst}
+use Rattle.std.specs.Prelude.{codes, option_and_then}
 use Rattle.std.proofs.lemmas.Result.{err_from_is_err_and}
 use Rattle.lgr_text.specs.Attributes.{are_among}
-use Rattle.lgr_text.specs.Elements.{each_element, if_plain, is_empty}
+use Rattle.lgr_text.specs.Elements.{each_element}
 use Rattle.lgr_text.specs.Entries.{char_of, char_with, variant_of}
 use Rattle.lgr_text.specs.Records as records
 use Rattle.lgr_text.specs.inner.Reading.{Reads, node}

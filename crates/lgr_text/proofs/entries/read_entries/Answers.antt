@@ -1,4 +1,4 @@
-use Rattle.std.proofs.Common.{◌≡◌, ◌∷◌, ◌++◌, [], List, Some, None, Ok, Option, map, sym, ap, ◌∙◌, subst, arith}
+use Rattle.std.proofs.Common.{◌≡◌, ◌∷◌, [], List, None, Ok, Option, map, sym, ap, ◌∙◌, subst, arith}
 use Rattle.std.proofs.lemmas.List.{map-append}
 use Rattle.std.proofs.lemmas.Result.{err_from_is_err_and}
 use Rattle.lgr_text.specs.declared.element.Element as held
@@ -6,7 +6,7 @@ use Rattle.lgr_text.specs.Elements
 use Rattle.lgr_text.specs.Elements.{each_element}
 use Rattle.lgr_text.specs.Entries.{entry_of}
 use Rattle.lgr_text.specs.Records as records
-use Rattle.lgr_text.specs.inner.Reading.{IsFirst, NextIs, Reads, after_blanks, node}
+use Rattle.lgr_text.specs.inner.Reading.{IsFirst, NextIs, after_blanks, node}
 use Rattle.lgr_text.proofs.LoopLemmas.{Left, left-init, left-first, left-none, left-text}
 use Rattle.lgr_text.proofs.PassLemmas.{next-fails, fails-fails}
 use Rattle.lgr_text.proofs.entries.read_entries.Goals as goal

@@ -1,4 +1,4 @@
-use Rattle.std.proofs.Common.{◌≡◌, map, length}
+use Rattle.std.proofs.Common.{map, length}
 use Rattle.lgr_text.specs.Elements.{Content}
 use Rattle.lgr_text.specs.Entries.{entry_of}
 use Rattle.lgr_text.specs.Records.{entry}
