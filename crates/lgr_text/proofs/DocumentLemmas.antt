@@ -1,7 +1,8 @@
 -- Documents, and what their roots say.
-use Rattle.std.proofs.Common.{◌≡◌, ℕ, suc, eqb, Bool, true, false, cond, List, [], ◌∷◌, ◌++◌, length, map, take, drop, Option, Some, None, Result, Ok, Err, refl, sym, ap, ◌∙◌, subst}
+use Rattle.std.proofs.Common.{◌≡◌, ℕ, suc, eqb, Bool, true, false, cond, List, [], ◌∷◌, ◌++◌, length, map, take, drop, Option, Some, None, Result, Ok, Err, refl, sym, ap, ◌∙◌, subst, arith}
 use Rattle.std.specs.Prelude.{bytes_eq, codes, option_and_then}
 use Rattle.std.proofs.lemmas.Bool.{false≢true}
+use Rattle.std.proofs.lemmas.Bool.Decides.{nat_tests}
 use Rattle.std.proofs.lemmas.Slice.Eq.{bytes_eq-Decides}
 use Rattle.xml_text.specs.Attributes.{Attribute}
 use Rattle.xml_text.specs.Tokens
@@ -81,11 +82,14 @@ last_says name attributes within Elements.Nothing r e =
     let both = named (bytes_eq name (codes "lgr")) refl e in
     ((bytes_eq-Decides name (codes "lgr")).0 both.0, refl, both.1)
 
+is_zero : (n : ℕ) → eqb n 0 ≡ true → n ≡ 0
+is_zero n e = grind (arith, nat_tests, e)
+
 -- the root, if nothing follows it, and else nothing
 module _ (name : List ℕ) (attributes : List Attribute) (within : Content) where
   pub root-alone : (p : List ℕ) (ts : List Token) (more : Content) → Say p ts more → eqb (length ts) 0 ≡ true → root_of (Elements.Element name attributes within more) ≡ cond (bytes_eq name (codes "lgr")) (option_and_then ruleset_by (each_element section_of within)) None
   root-alone p [] more say none = ap (λ m. root_of (Elements.Element name attributes within m)) (none-said p more say)
-  root-alone p (t ∷ ts) more say none = absurd cc
+  root-alone p (t ∷ ts) more say none = absurd (omega (arith, is_zero (length (t ∷ ts)) none))
 
   pub root-followed : (p : List ℕ) (ts : List Token) (more : Content) → Say p ts more → eqb (length ts) 0 ≡ false → root_of (Elements.Element name attributes within more) ≡ None
   root-followed p [] more say some = absurd cc

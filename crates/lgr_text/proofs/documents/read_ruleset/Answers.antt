@@ -16,10 +16,10 @@ pub returns-in_err-check_nesting : goal.returns-in_err-check_nesting
 returns-in_err-check_nesting c =
     let p = err_from_is_err_and c.from_residual-in_err-check_nesting.result c.from_residual-in_err-check_nesting.ensures.1 in
     let declared : option_and_then prefix_of (root_attributes c.args.tokens.now) ≡ Some c.in_ok-prefix.prefix.items = c.in_ok-prefix.ensures {u = tt} in
-    rw (p.1, p.2) (err-nesting c.args.tokens.now c.in_ok-prefix.prefix.items _ declared (rw c.deref.ensures.value at c.in_err-check_nesting.ensures {u = tt}))
+    rw (p.1, p.2) (err-nesting c.args.tokens.now c.in_ok-prefix.prefix.items _ declared (rw c.deref.ensures.value at (c.in_err-check_nesting.ensures {u = tt})))
 
 pub returns : goal.returns
 returns c =
     let declared : option_and_then prefix_of (root_attributes c.args.tokens.now) ≡ Some c.in_ok-prefix.prefix.items = c.in_ok-prefix.ensures {u = tt} in
-    let nested = nested-said c.in_ok-prefix.prefix.items c.args.tokens.now (rw c.deref.ensures.value at c.in_ok-check_nesting.ensures {u = tt}) in
+    let nested = nested-said c.in_ok-prefix.prefix.items c.args.tokens.now (rw c.deref.ensures.value at (c.in_ok-check_nesting.ensures {u = tt})) in
     root-read c.args.tokens.now c.in_ok-prefix.prefix.items nested.0 c.read_root.result declared nested.1 (c.read_root.ensures nested.0 (rw c.deref.ensures.value nested.1))

@@ -36,18 +36,18 @@ returns-in_err-section c = λ k say.
     (λ none. fold-none section_of with_section ruleset_from ruleset-steps (stage c.loop-sections.sections) c.loop-sections.elements c.next.new.self whole f e next none)
     (c.in_err-section.ensures {u = tt} next.within next.holds))
 
-pub returns-in_err-with : goal.returns-in_err-with
-returns-in_err-with c = λ k say.
+pub returns-in_err-sections : goal.returns-in_err-sections
+returns-in_err-sections c = λ k say.
     let whole = option_and_then ruleset_by (each_element section_of k) in
     let f = c.loop-sections.invariant k say in
     let e = c.in-Some.element in
     let next : IsFirst e c.next.new.self (after_blanks f.content) = subst (λ (o : Option held.Element). NextIs c.next.new.self (after_blanks f.content) (Ok o)) c.in-Some.is ((c.in_ok-element.ensures {u = tt}).next f.content f.say) in
     let x = section c.in_ok-section.section in
     let read : section_of (node e next.within) ≡ Some x = c.in_ok-section.ensures {u = tt} next.within next.holds in
-    let p = err_from_is_err_and c.from_residual-in_err-with.result c.from_residual-in_err-with.ensures.1 in
+    let p = err_from_is_err_and c.from_residual-in_err-sections.result c.from_residual-in_err-sections.ensures.1 in
     rw (p.1, p.2) (fails-fails (with_section (stage c.loop-sections.sections) x) whole _
     (λ none. fold-stops section_of with_section ruleset_from ruleset-steps (stage c.loop-sections.sections) c.loop-sections.elements c.next.new.self whole f e next x read none)
-    (c.in_err-with.ensures {u = tt}))
+    (c.in_err-sections.ensures {u = tt}))
 
 pub loop-sections-preserved : goal.loop-sections-preserved
 loop-sections-preserved c = λ k say.
@@ -57,7 +57,7 @@ loop-sections-preserved c = λ k say.
     let next : IsFirst e c.next.new.self (after_blanks f.content) = subst (λ (o : Option held.Element). NextIs c.next.new.self (after_blanks f.content) (Ok o)) c.in-Some.is ((c.in_ok-element.ensures {u = tt}).next f.content f.say) in
     let x = section c.in_ok-section.section in
     let read : section_of (node e next.within) ≡ Some x = c.in_ok-section.ensures {u = tt} next.within next.holds in
-    fold-first section_of with_section ruleset_from ruleset-steps (stage c.loop-sections.sections) c.loop-sections.elements c.next.new.self whole f e next x (stage c.in_ok-with.field-0) read (c.in_ok-with.ensures {u = tt})
+    fold-first section_of with_section ruleset_from ruleset-steps (stage c.loop-sections.sections) c.loop-sections.elements c.next.new.self whole f e next x (stage c.in_ok-sections.sections) read (c.in_ok-sections.ensures {u = tt})
 
 pub returns : goal.returns
 returns c = λ k say.
