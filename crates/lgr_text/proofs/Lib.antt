@@ -2,13 +2,16 @@
 pub mod ClassLemmas
 pub mod CombiningLemmas
 pub mod ContentLemmas
+pub mod DocumentLemmas
 pub mod EachLemmas
 pub mod ElementLemmas
+pub mod FoldLemmas
 pub mod ItemLemmas
 pub mod JoinLemmas
 pub mod LevelLemmas
 pub mod LoopLemmas
 pub mod NestedLemmas
+pub mod NestingLemmas
 pub mod NumberLemmas
 pub mod OneFormLemmas
 pub mod OrderLemmas
@@ -17,6 +20,7 @@ pub mod PassLemmas
 pub mod PropertyLemmas
 pub mod RepeatLemmas
 pub mod RuleLemmas
+pub mod SectionLemmas
 pub mod SetNumberLemmas
 pub mod SortedLemmas
 pub mod SpanLemmas

@@ -7,9 +7,11 @@ pub mod Classes
 pub mod CodePoints
 pub mod DefinitionOrder
 pub mod Definitions
+pub mod Documents
 pub mod Elements
 pub mod Entries
 pub mod Examples
+pub mod Facts
 pub mod Known
 pub mod Laws
 pub mod NamedParts
@@ -22,6 +24,8 @@ pub mod Properties
 pub mod PropertyNames
 pub mod Records
 pub mod RuleExamples
+pub mod Sections
+pub mod Statements
 pub mod Values
 pub mod Words
 pub mod inner

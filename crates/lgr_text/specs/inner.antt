@@ -2,6 +2,9 @@
 pub mod Counts
 pub mod Faults
 pub mod Items
+pub mod Nesting
 pub mod PropertySets
 pub mod Reading
+pub mod Roots
+pub mod Stages
 pub mod Stretches

@@ -1,12 +1,17 @@
 //! Laws of rulesets. The functions are empty, and their contracts are the laws.
 ghost use Rattle.lgr_text.specs.Examples.{AreCountExamples, AreNoSpans, IsActionExample, IsEntryExample, IsNoEntry};
 ghost use Rattle.lgr_text.specs.Examples.{IsRangeExample, IsSpansExample};
-ghost use Rattle.lgr_text.specs.Laws.{SetsHaveOneForm};
+ghost use Rattle.lgr_text.specs.Laws.{ADocumentSaysOneRuleset, SetsHaveOneForm};
 ghost use Rattle.lgr_text.specs.RuleExamples.{AreClasses, AreNoRules, AreNoSets, AreRules, AreSets, IsChoice};
 
 /// Two sets that have the same code points are held in the same form.
 pub fn sets_have_one_form()
     ensures { SetsHaveOneForm }
+{}
+
+/// The tokens of a document say one ruleset at most.
+pub fn a_document_says_one_ruleset()
+    ensures { ADocumentSaysOneRuleset }
 {}
 
 /// Elements as RFC 7940 has them in its sections 6.2 to 6.4 define what it says, and what it forbids defines nothing.
