@@ -1,5 +1,5 @@
 -- Elements that are read one after the other, each of which changes what was read before.
-use Rattle.std.proofs.Common.{◌≡◌, List, [], ◌∷◌, Option, Some, None, refl, sym, ap, ◌∙◌}
+use Rattle.std.proofs.Common.{◌≡◌, List, [], ◌∷◌, Option, Some, None, refl, ap, ◌∙◌}
 use Rattle.std.specs.Prelude.{option_map, option_and_then}
 use Rattle.lgr_text.specs.declared.element.Element as held
 use Rattle.lgr_text.specs.declared.element.Elements as held_elements

@@ -6,7 +6,7 @@ use Rattle.lgr_text.specs.Records.{Action, Definition, Ruleset}
 use Rattle.lgr_text.specs.Sections.{Section, Meta, Data, Rules, ruleset_by}
 use Rattle.lgr_text.specs.Statements as statements
 use Rattle.lgr_text.specs.Statements.{Statement, Defines, Acts, acting, defined, rules_of, with_statement}
-use Rattle.lgr_text.specs.inner.Stages.{Stage, AtStart, AfterMeta, AfterData, AtEnd, with_section, ruleset_at}
+use Rattle.lgr_text.specs.inner.Stages.{Stage, AtStart, with_section, ruleset_at}
 
 -- ---- sections
 

@@ -1,5 +1,5 @@
 -- What the elements below 'rules' say (RFC 7940, sections 6 and 7).
-use Rattle.std.specs.Prelude.{ℕ, Option, Some, None, List, [], ◌∷◌, ◌++◌, codes, bytes_eq, option_map, filter_map}
+use Rattle.std.specs.Prelude.{Option, Some, None, List, [], ◌∷◌, ◌++◌, codes, bytes_eq, option_map, filter_map}
 use Rattle.std.specs.Prelude.{map, if◌then◌else◌}
 use Rattle.lgr_text.specs.Actions.{action_of}
 use Rattle.lgr_text.specs.Definitions.{definition_of}

@@ -124,7 +124,7 @@ mod tests {
     use std::test::Fail;
     use xml_text::read_document;
 
-    fn read<R: Abort + Alloc>(rt: &R, text: &[u8]) -> Result<Ruleset, ReadError> {
+    fn read<R: Abort + AllocGlobal>(rt: &R, text: &[u8]) -> Result<Ruleset, ReadError> {
         let tokens = read_document(rt.alloc(), text).expect(rt, "a document");
         read_ruleset(rt.alloc(), &tokens)
     }
@@ -158,14 +158,19 @@ mod tests {
             <l:class name='letters' from-tag='letter'/>
             <l:action disp='invalid' any-variant='out-of-repertoire-var'/></l:rules></l:lgr>";
         let ruleset = read(&rt, text)?;
-        assert_eq!(rt; ruleset.entries[0].variants[0].line, 3);
+        assert_eq!(rt; ruleset.entries.len(), 1);
+        let entry = &ruleset.entries[0];
+        assert_eq!(rt; entry.variants.len(), 1);
+        assert_eq!(rt; entry.variants[0].line, 3);
+        assert_eq!(rt; ruleset.definitions.len(), 1);
         assert!(rt; matches!(&ruleset.definitions[0].meaning, Meaning::Class(_)));
+        assert_eq!(rt; ruleset.actions.len(), 1);
         assert_eq!(rt; ruleset.actions[0].line, 6);
         Ok(())
     }
 
     /// The line of what is wrong in a file: this text in the root, which begins on line 1.
-    fn wrong_line<R: Abort + Alloc>(rt: &R, within: &str) -> Option<usize> {
+    fn wrong_line<R: Abort + AllocGlobal>(rt: &R, within: &str) -> Option<usize> {
         let text = format!(in rt.alloc();
             "<lgr xmlns='urn:ietf:params:xml:ns:lgr-1.0'>\n{within}</lgr>"
         ).expect(rt, "memory");

@@ -47,7 +47,10 @@ pub use entries::read_entries;
 pub use fault::ReadError;
 pub use joins::SetOperation;
 pub use known::Known;
-pub use laws::{a_document_says_one_ruleset, definitions_give_the_examples, rule_examples_hold, sets_have_one_form};
+pub use laws::{
+    a_document_says_one_ruleset, definitions_give_the_examples, rule_examples_hold,
+    sets_have_one_form,
+};
 pub use names::NameKind;
 pub use order::definition_order;
 pub use order_error::OrderError;

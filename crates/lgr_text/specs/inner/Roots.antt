@@ -1,5 +1,5 @@
 -- The root element.
-use Rattle.std.specs.Prelude.{ℕ, Option, Some, None, List, [], ◌∷◌, codes, bytes_eq, option_and_then, if◌then◌else◌}
+use Rattle.std.specs.Prelude.{Option, Some, None, List, [], ◌∷◌, codes, bytes_eq, option_and_then, if◌then◌else◌}
 use Rattle.lgr_text.specs.Elements
 use Rattle.lgr_text.specs.Elements.{Content, each_element}
 use Rattle.lgr_text.specs.Records.{Ruleset}

@@ -1,4 +1,4 @@
-use Rattle.std.proofs.Common.{◌≡◌, ℕ, ◌<◌, ◌≤◌, IfOk, List, [], ◌∷◌, Option, length, get_or, refl, sym, ap, subst, arith}
+use Rattle.std.proofs.Common.{◌≡◌, ℕ, ◌<◌, ◌≤◌, IfOk, List, [], ◌∷◌, Option, length, get_or, sym, ap, subst, arith}
 use Rattle.std.specs.Prelude.{option_map}
 use Rattle.xml_text.specs.Attributes.{Attribute}
 use Rattle.lgr_text.specs.Documents as documents

@@ -1,4 +1,4 @@
-use Rattle.std.proofs.Common.{◌≡◌, cond, Option, None, sym, ap, ◌∙◌, subst}
+use Rattle.std.proofs.Common.{cond, Option, None, sym, ap, ◌∙◌, subst}
 use Rattle.std.specs.Prelude.{option_and_then}
 use Rattle.lgr_text.specs.Elements.{each_element}
 use Rattle.lgr_text.specs.Records.{Ruleset, file}

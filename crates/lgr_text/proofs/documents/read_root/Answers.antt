@@ -1,10 +1,10 @@
-use Rattle.std.proofs.Common.{◌≡◌, Some, None, Ok, Option, sym, ap, ◌∙◌, subst}
+use Rattle.std.proofs.Common.{◌≡◌, Ok, Option, sym, ap, subst}
 use Rattle.std.proofs.lemmas.Result.{err_from_is_err_and}
 use Rattle.lgr_text.specs.declared.element.Element as held
 use Rattle.lgr_text.specs.Elements
 use Rattle.lgr_text.specs.Elements.{Content}
 use Rattle.lgr_text.specs.Records.{Ruleset, file}
-use Rattle.lgr_text.specs.inner.Reading.{BeginsWithText, IsFirst, NextIs, Reads, after_blanks}
+use Rattle.lgr_text.specs.inner.Reading.{IsFirst, NextIs, Reads, after_blanks}
 use Rattle.lgr_text.specs.inner.Roots.{root_of}
 use Rattle.lgr_text.proofs.PassLemmas.{next-fails}
 use Rattle.lgr_text.proofs.documents.read_root.Goals as goal

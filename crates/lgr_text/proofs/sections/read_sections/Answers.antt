@@ -1,5 +1,5 @@
-use Rattle.std.proofs.Common.{◌≡◌, List, [], Some, None, Ok, Option, sym, ap, ◌∙◌, subst, arith}
-use Rattle.std.specs.Prelude.{option_map, option_and_then}
+use Rattle.std.proofs.Common.{◌≡◌, Some, None, Ok, Option, sym, subst, arith}
+use Rattle.std.specs.Prelude.{option_and_then}
 use Rattle.std.proofs.lemmas.Result.{err_from_is_err_and}
 use Rattle.lgr_text.specs.declared.element.Element as held
 use Rattle.lgr_text.specs.Elements
@@ -8,7 +8,7 @@ use Rattle.lgr_text.specs.Records.{Ruleset, file}
 use Rattle.lgr_text.specs.Sections.{ruleset_by, section_of}
 use Rattle.lgr_text.specs.inner.Reading.{IsFirst, NextIs, Reads, after_blanks, node}
 use Rattle.lgr_text.specs.inner.Stages.{section, stage, with_section}
-use Rattle.lgr_text.proofs.FoldLemmas.{Folded, fold-none, fold-first, fold-stops, fold-end, fold-text, mapped, unmapped}
+use Rattle.lgr_text.proofs.FoldLemmas.{fold-none, fold-first, fold-stops, fold-end, fold-text}
 use Rattle.lgr_text.proofs.PassLemmas.{next-fails, fails-fails}
 use Rattle.lgr_text.proofs.SectionLemmas.{ruleset_from, ruleset-steps, sections-all}
 use Rattle.lgr_text.proofs.sections.read_sections.Goals as goal

@@ -1,4 +1,4 @@
-use Rattle.std.proofs.Common.{◌≡◌, List, Some, None, Ok, Option, sym, ap, ◌∙◌, subst, arith}
+use Rattle.std.proofs.Common.{◌≡◌, Some, None, Ok, Option, sym, ap, ◌∙◌, subst, arith}
 use Rattle.std.specs.Prelude.{option_map, option_and_then}
 use Rattle.std.proofs.lemmas.Result.{err_from_is_err_and}
 use Rattle.lgr_text.specs.declared.element.Element as held
@@ -7,7 +7,7 @@ use Rattle.lgr_text.specs.Elements.{each_element}
 use Rattle.lgr_text.specs.Statements as statements
 use Rattle.lgr_text.specs.Statements.{Statement, rules, rules_of, statement_of, with_statement}
 use Rattle.lgr_text.specs.inner.Reading.{IsFirst, NextIs, after_blanks, node}
-use Rattle.lgr_text.proofs.FoldLemmas.{Folded, fold-none, fold-first, fold-end, fold-text, mapped, unmapped}
+use Rattle.lgr_text.proofs.FoldLemmas.{fold-none, fold-first, fold-end, fold-text, mapped, unmapped}
 use Rattle.lgr_text.proofs.PassLemmas.{next-fails, fails-fails}
 use Rattle.lgr_text.proofs.SectionLemmas.{rules_from, rules-all, rules-steps}
 use Rattle.lgr_text.proofs.statements.read_rules.Goals as goal
