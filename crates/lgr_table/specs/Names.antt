@@ -12,10 +12,7 @@ classes_in (lgr.Listed spans) = []
 classes_in (lgr.OfTag tag) = []
 classes_in (lgr.OfProperty property) = []
 classes_in (lgr.OfClass name) = name ∷ []
-classes_in (lgr.Union k l) = classes_in k ++ classes_in l
-classes_in (lgr.Intersection k l) = classes_in k ++ classes_in l
-classes_in (lgr.Difference k l) = classes_in k ++ classes_in l
-classes_in (lgr.SymmetricDifference k l) = classes_in k ++ classes_in l
+classes_in (lgr.Joined operation k l) = classes_in k ++ classes_in l
 classes_in (lgr.Complement k) = classes_in k
 
 -- the classes that a part of a rule has, and the rules that it names
