@@ -1,6 +1,7 @@
 -- Actions of a file as a ruleset has them (RFC 7940, section 7): each with the names that the ruleset gives to rules
 -- and types. The default actions (section 7.6) follow those of each ruleset, and are not written.
-use Rattle.std.specs.Prelude.{◌≡◌, ℕ, Bool, List, [], length, map, slice_index_or, nat_lt, Option, Some, None, is_some, if◌then◌else◌}
+use Rattle.std.specs.Prelude.{◌≡◌, ℕ, Bool, List, [], length, map, slice_index_or, nat_lt}
+use Rattle.std.specs.Prelude.{Option, Some, None, is_some, if◌then◌else◌}
 use Rattle.std.specs.Option.{option_map, option_or}
 use Rattle.ruleset_text.specs.Actions.{NamedAction, NamedTrigger}
 use Rattle.std.specs.List.{list_all}

@@ -15,7 +15,8 @@ has name value = record { name = name; value = value }
 -- the code points and ranges of a class (section 6.2.4)
 abbrev pub IsSpansExample : Type 0
 IsSpansExample =
-    spans (codes "0061 0063-0070") ≡ Some (record { first = 0x61; last = 0x61 } ∷ record { first = 0x63; last = 0x70 } ∷ [])
+    spans (codes "0061 0063-0070")
+    ≡ Some (record { first = 0x61; last = 0x61 } ∷ record { first = 0x63; last = 0x70 } ∷ [])
 
 -- a range that is cut, one that ends before it begins, and digits in lower case
 abbrev pub AreNoSpans : Type 0
@@ -55,7 +56,12 @@ IsRangeExample =
       attributes = has (codes "first-cp") (codes "0030") ∷ has (codes "last-cp") (codes "0039") ∷ [];
       within = Nothing;
     })
-    ≡ Some (record { source = Range (record { first = 0x30; last = 0x39 }); condition = None; tags = []; variants = [] })
+    ≡ Some (record {
+      source = Range (record { first = 0x30; last = 0x39 });
+      condition = None;
+      tags = [];
+      variants = [];
+    })
 
 -- a sequence has no tag
 abbrev pub IsNoEntry : Type 0

@@ -1,5 +1,6 @@
 //! The elements of a document, one after the other.
-ghost use Rattle.std.specs.Prelude.{◌≡◌, ◌+◌, ◌<◌, ◌≤◌, List, ℕ, bytes_eq, false, length, map, IfOk, IfSome, MatchOption};
+ghost use Rattle.std.specs.Prelude.{◌≡◌, ◌+◌, ◌<◌, ◌≤◌, List, ℕ, bytes_eq, false, length, map};
+ghost use Rattle.std.specs.Prelude.{IfOk, IfSome, MatchOption};
 ghost use Rattle.std.specs.List.{list_all};
 ghost use Rattle.lgr_text.specs.Elements.{Content, Say, text_of};
 ghost use Rattle.lgr_text.specs.Elements as contents;
@@ -34,7 +35,8 @@ impl<'a> Elements<'a> {
     pub fn next(&mut self) -> Result<Option<Element<'a>>, ReadError>
         ensures next { (c : Content) → AreOf self.old c → NextIs self.new (after_blanks c) result }
         ensures prefix { self.new.prefix ≡ self.old.prefix }
-        ensures shorter { IfOk result (λ found. IfSome found (λ e. length self.new.tokens.now < length self.old.tokens.now)) }
+        ensures shorter { IfOk result (λ found.
+            IfSome found (λ e. length self.new.tokens.now < length self.old.tokens.now)) }
     {
         let Some((first, others)) = without_blank_texts(self.tokens).split_first() else {
             return Ok(None);

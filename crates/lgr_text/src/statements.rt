@@ -45,8 +45,8 @@ impl Rules {
     /// Appends what an element says.
     fn push(&mut self, alloc: Global, element: &Element<'_>) -> Result<(), ReadError>
         ensures { (c : Content) → AreOf element.now.within c →
-            Reads (λ _. rules self.new) (option_map (with_statement (rules self.old)) (statement_of (node element.now c)))
-            result }
+            Reads (λ _. rules self.new)
+            (option_map (with_statement (rules self.old)) (statement_of (node element.now c))) result }
     {
         if element.is_named(b"action") {
             self.actions.push(read_action(alloc, element)?)?;
