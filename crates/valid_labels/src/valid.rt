@@ -25,9 +25,9 @@ use std::alloc::{AllocError, Global};
 use variant_dispositions::{Action, VariantDisposition};
 use variant_table::Table;
 
-/// Whether a label may be asked about, under a table that asks something. The actions are those of the table; `masks` has
-/// the places of each of its sets in the label, and `singles` places at which single points stand. It is an `Err` only
-/// where memory was refused.
+/// Whether a label may be asked about, under a table that asks something. The actions are those of the table; `masks`
+/// has the places of each of its sets in the label, and `singles` places at which single points stand. It is an `Err`
+/// only where memory was refused.
 pub fn admission(
     alloc: Global,
     segments: &Segments<'_>,

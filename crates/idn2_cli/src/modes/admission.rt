@@ -47,8 +47,8 @@ pub(crate) fn validity_test_by<'p>(
     }
 }
 
-/// Whether the table admits a label of 1 to 63 code points, and if not, why. The test has then seen the label. Without a
-/// test no memory is taken.
+/// Whether the table admits a label of 1 to 63 code points, and if not, why. The test has then seen the label. Without
+/// a test no memory is taken.
 pub(crate) fn admission_by(
     alloc: Global,
     test: &mut Option<ValidityTest<'_>>,

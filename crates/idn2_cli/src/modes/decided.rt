@@ -154,8 +154,8 @@ impl<'l> Decisions<'l> {
         }
     }
 
-    /// What today's rules say of a label of at most 63 code points, by whether it may be registered. If it may, the test
-    /// of other labels has then seen it.
+    /// What today's rules say of a label of at most 63 code points, by whether it may be registered. If it may, the
+    /// test of other labels has then seen it.
     fn standing_of(
         &mut self,
         alloc: Global,
