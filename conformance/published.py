@@ -9,11 +9,13 @@ of tests/. What is published has to read back to the same table, or is refused b
     to the letter    the canonical text of what is read back is that of the table, wherever its definitions stand
     the same         else: what is read back is published to the letter but for names of types, and the program lists the same
                      under both, of labels that are drawn from the XML; sets lose what no label has, and what nothing names goes.
-                     Where nothing matches a pattern of what is read back, that isn't published, since XML has no such rule
+                     Where XML can't say what is read back, as a pattern that nothing matches or a count over the end of a label,
+                     that isn't published again
 
 The counts are printed, and of the refusals those by each reason. Status 1 where anything else comes out."""
 
 import collections
+import contextlib
 import dataclasses
 import functools
 import itertools
@@ -34,7 +36,7 @@ from rich_ruleset import RichRuleset
 
 from idn2_registry.faults import Unsayable, Unusable
 from idn2_registry.form import Form
-from idn2_registry.lgr import command, definitions, expressions
+from idn2_registry.lgr import command
 from idn2_registry.lgr.program import Asked
 from idn2_registry.lgr.ruleset import Fault
 from idn2_registry.notation import canonical
@@ -51,8 +53,6 @@ META = 'version = "1"\ndate = 2026-11-28\nlanguage = "und"\nscope = "example"\n'
 WHOLE = '<lgr xmlns="urn:ietf:params:xml:ns:lgr-1.0"><data>{}</data><rules>{}</rules></lgr>'
 ALPHABETS = ("abcd", "sß", "abß-", "qa\u0301", "\u05d0\u05d1", "中国國", "lа·l", "\u0915\u094d\u200d", "\u0627\u200c\u0647")
 LETTER, SAME = "to the letter", "the same"
-# The end of a line that defines a pattern which nothing matches.
-NOTHING = f" {definitions.WHOLE[expressions.NOTHING]}\n".encode()
 
 
 class Drawn:
@@ -151,7 +151,7 @@ class Publishing:
         back = self.back(xml, parsed)
         if is_letter(parsed.ruleset, back.ruleset):
             return LETTER
-        if NOTHING not in back.table.data:
+        with contextlib.suppress(Unsayable):
             again = publish(Table("drawn", self.path, back.table.data), Form.XML, None, self.program)
             assert is_letter(*map(with_types_by_use, (back.ruleset, self.back(again, back).ruleset))), (text, back.table.data)
         labels = [label for label in DrawnLabels(reader.read(xml)).labels() if label[2:4] != "--" and "\n" not in label]
