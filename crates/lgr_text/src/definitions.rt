@@ -44,3 +44,76 @@ fn read_meaning(alloc: Global, element: &Element<'_>) -> Result<Meaning, ReadErr
         Ok(Meaning::Class(class))
     }
 }
+
+#[cfg(test)]
+mod tests {
+    use super::*;
+    use crate::element::Elements;
+    use std::process::Abort;
+    use xml_text::read_document;
+
+    /// Whether the root of a document is a definition.
+    fn is_defined<R: Abort + Alloc>(rt: &R, text: &[u8]) -> bool {
+        let tokens = read_document(rt.alloc(), text).expect(rt, "a document");
+        let mut elements = Elements {
+            prefix: b"",
+            tokens: &tokens,
+        };
+        match elements.next() {
+            Ok(Some(element)) => read_definition(rt.alloc(), &element).is_ok(),
+            Ok(None) | Err(_) => false,
+        }
+    }
+
+    #[test]
+    fn reads_classes_and_sets(rt: HostRuntime) {
+        assert!(rt; is_defined(&rt, b"<class name='c'>0061 0063-0070</class>"));
+        assert!(rt; is_defined(&rt, b"<class name='c' property='gc:Mn' comment='marks'/>"));
+        assert!(rt;
+            is_defined(
+                &rt,
+                b"<union name='u'><class from-tag='t'/> <class by-ref='c'/> <class>0061</class></union>"
+            )
+        );
+        assert!(rt;
+            is_defined(
+                &rt,
+                b"<complement name='k'><difference><class by-ref='a'/><class by-ref='b'/></difference></complement>"
+            )
+        );
+        assert!(rt; !is_defined(&rt, b"<class name='c' by-ref='k'/>"));
+        assert!(rt; !is_defined(&rt, b"<class>0061</class>"));
+        assert!(rt; !is_defined(&rt, b"<union name='u'><class>0061</class></union>"));
+    }
+
+    #[test]
+    fn reads_rules(rt: HostRuntime) {
+        assert!(rt;
+            is_defined(
+                &rt,
+                b"<rule name='r'><start/><choice count='1+'><class by-ref='a'/><char cp='002D'/></choice><end/></rule>"
+            )
+        );
+        assert!(rt;
+            is_defined(
+                &rt,
+                b"<rule name='r'><look-behind><rule by-ref='s' count='2'/></look-behind><anchor/>
+                <look-ahead><any/></look-ahead></rule>"
+            )
+        );
+        assert!(rt;
+            is_defined(
+                &rt,
+                b"<rule name='r'><rule><any count='0:1'/></rule></rule>"
+            )
+        );
+        assert!(rt; !is_defined(&rt, b"<rule name='r'/>"));
+        assert!(rt;
+            !is_defined(
+                &rt,
+                b"<rule name='r'><anchor/><look-behind><any/></look-behind></rule>"
+            )
+        );
+        assert!(rt; !is_defined(&rt, b"<rule name='r'><start count='1'/></rule>"));
+    }
+}
