@@ -239,7 +239,8 @@ fn is_whole_rule(earlier: Earlier<'_>, name: &[u8]) -> bool
     false
 }
 
-fn disposition_of(word: &[u8]) -> Option<Disposition>
+/// The disposition of this name (RFC 7940, section 7.3).
+pub fn disposition_of(word: &[u8]) -> Option<Disposition>
     ensures { result ≡ steps.disposition_of word.now }
 {
     match word {
