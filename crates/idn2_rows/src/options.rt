@@ -55,8 +55,11 @@ fn summary_of(alloc: Global, line: &str) -> Result<String, AllocError> {
                 Properties::Profile => "",
                 Properties::Unicode => "Unicode ",
             };
+            let asked = format!(in alloc;
+                "{form}{properties}{mode:?} {std3} {explain} {file:?} {notation:?}"
+            )?;
             format!(in alloc;
-                "{form}{properties}{mode:?} {std3} {explain} {file:?} {notation:?} {after:?} {limit:?} {tries} {steps:?} {among:?}{others} {input:?}"
+                "{asked} {after:?} {limit:?} {tries} {steps:?} {among:?}{others} {input:?}"
             )
         }
         Err(Usage::Bad) => String::from_str(alloc, "bad"),
