@@ -9,6 +9,7 @@ pub mod DocumentHeld
 pub mod DocumentLive
 pub mod DocumentReads
 pub mod DocumentRuns
+pub mod DocumentTaken
 pub mod FileLemmas
 pub mod LineEndLemmas
 pub mod ListLemmas
@@ -19,4 +20,6 @@ pub mod TagLive
 pub mod TagReached
 pub mod TagReads
 pub mod TagRuns
+pub mod TagTaken
+pub mod TakenLemmas
 pub mod Words

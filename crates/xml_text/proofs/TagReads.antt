@@ -8,10 +8,11 @@ use Rattle.xml_text.specs.declared.state.Phase.{Phase}
 use Rattle.xml_text.specs.declared.state.Phase.TheVariants as phase
 use Rattle.xml_text.specs.Tags.{Tag, IsTag}
 use Rattle.xml_text.specs.TagStops.{IsATag, IsTagStop}
-use Rattle.xml_text.specs.inner.TagSteps.{State, start, taken_as, step, step_by, kind_of, tag_of}
+use Rattle.xml_text.specs.inner.TagSteps.{State, start, step, step_by, kind_of, tag_of}
 use Rattle.xml_text.proofs.TagReached.{ReachedBy, Reached, kept, begun}
 use Rattle.xml_text.proofs.TagRuns.{ends}
 use Rattle.xml_text.proofs.TagLive.{live_by}
+use Rattle.xml_text.proofs.TakenLemmas.{not_empty_is}
 
 no_state : {A : Type 0} (s : State) → (let o : Option State = None in o) ≡ Some s → A
 no_state s e = absurd (cc)
@@ -152,21 +153,11 @@ one_tag t u front rest other more e is too = elim (cut front rest other more e) 
 
 -- ---- at a place of a text
 
-one_more : (text : List ℕ) (i : ℕ) (s : State) → i < length text → run step (Some start) (take i text) ≡ Some s → run step (Some start) (take (i + 1) text) ≡ step s (get_or text i 0)
-one_more text i s l e = ap (run step (Some start)) (take_more text i 0 l) ∙ run_one step (take i text) (get_or text i 0) start s e
-
-pub more_read : (text : List ℕ) (i : ℕ) (s u : State) (taken : Bool) → i < length text → run step (Some start) (take i text) ≡ Some s
-    → step s (get_or text i 0) ≡ taken_as taken u → taken ≡ true → run step (Some start) (take (i + 1) text) ≡ Some u
-more_read text i s u taken l e stepped is = one_more text i s l e ∙ stepped ∙ ap (λ (b : Bool). taken_as b u) is
-
-pub stops_here : (text : List ℕ) (i : ℕ) (s u : State) (taken : Bool) → i < length text → run step (Some start) (take i text) ≡ Some s → kind_of s.phase ≡ None
-    → step s (get_or text i 0) ≡ taken_as taken u → taken ≡ false → IsTagStop (take i text) (drop i text)
-stops_here text i s u taken l e open_ stepped is =
-    subst (λ (after : List ℕ). IsTagStop (take i text) after) (sym (drop_here text i l))
-    (stops_at (take i text) (get_or text i 0) (drop (i + 1) text) s e open_ (stepped ∙ ap (λ (b : Bool). taken_as b u) is))
-  where
-    drop_here : (xs : List ℕ) (i : ℕ) → i < length xs → drop i xs ≡ get_or xs i 0 ∷ drop (i + 1) xs
-    drop_here xs i l = rw (add-one, drop-cons xs i 0)
+pub stops_here : (text rest : List ℕ) (i : ℕ) (s : State) → rest ≡ drop i text → 0 < length rest → run step (Some start) (take i text) ≡ Some s → kind_of s.phase ≡ None
+    → step s (get_or rest 0 0) ≡ None → IsTagStop (take i text) (drop i text)
+stops_here text rest i s same some e open_ none =
+    subst (λ (after : List ℕ). IsTagStop (take i text) after) (sym (not_empty_is rest some) ∙ same)
+    (stops_at (take i text) (get_or rest 0 0) (drop 1 rest) s e open_ none)
 
 pub stops_past : (text : List ℕ) (i : ℕ) (s : State) → length text ≤ i → run step (Some start) (take i text) ≡ Some s → kind_of s.phase ≡ None
     → IsTagStop (take (length text) text) (drop (length text) text)

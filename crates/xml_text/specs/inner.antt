@@ -1,3 +1,4 @@
 -- The definitions that inner functions and private fields cite.
 pub mod DocumentSteps
+pub mod Runs
 pub mod TagSteps

@@ -17,9 +17,12 @@ pub fn read_body(alloc: Global, text: &[u8], line: usize) -> Result<Vec<Token>, 
     ensures stop { IfErr result (StopsBody line text.now) }
 {
     let mut state = DocumentState::new(alloc, line);
-    for (place, byte) in text.iter().enumerate() {
-        if !state.read(alloc, *byte)? {
-            return Err(ReadError::Stop(place));
+    let mut place = 0;
+    while place < text.len() {
+        let (_, rest) = text.split_at(place);
+        match state.read(alloc, rest)? {
+            Some(taken) => place += taken,
+            None => return Err(ReadError::Stop(place)),
         }
     }
     if state.is_complete() {

@@ -1,9 +1,10 @@
-//! Reading a document byte by byte: what was read of it, and which byte may follow.
+//! Reading a document by runs: what was read of it, and which byte may follow.
 ghost use Rattle.std.specs.Prelude.{◌≡◌, ◌==◌, ◌+◌, ◌<◌, ◌≤◌, ◌^◌, [], ◌∷◌, false, IfOk, OnOk, Some};
-ghost use Rattle.ruleset_text.specs.Stops.{run};
-ghost use Rattle.xml_text.specs.LineEnds.{line_feeds_after};
+ghost use Rattle.std.specs.Prelude.{length, slice_index};
+ghost use Rattle.xml_text.specs.declared.document_state.Part.TheVariants as parts;
 ghost use Rattle.xml_text.specs.inner.DocumentSteps as steps;
-ghost use Rattle.xml_text.specs.inner.DocumentSteps.{state, taken_as};
+ghost use Rattle.xml_text.specs.inner.DocumentSteps.{state, Goes, Reads};
+ghost use Rattle.xml_text.specs.inner.Runs.{taken_as, Takes};
 ghost use Rattle.xml_text.specs.inner.TagSteps.{tag_of};
 ghost use Rattle.xml_text.specs.Pieces.{is_xml as is_xml_name};
 ghost use Rattle.xml_text.specs.References.{referenced as referenced_by};
@@ -13,6 +14,7 @@ use crate::bytes::{is_blank, is_name_byte, is_name_start, is_reference_byte};
 use crate::names::Names;
 use crate::reference::referenced;
 use crate::repeats::Repeats;
+use crate::run::{Run, one};
 use crate::state::TagState;
 use crate::token::{Said, Token};
 use std::alloc::{AllocError, Global};
@@ -81,8 +83,9 @@ pub struct DocumentState {
     part: Part,
 }
 
-/// Each step answers whether its byte may stand there. If it may not, or memory was refused, the state is of no use any
-/// more.
+/// What reads one byte answers whether it may stand there. What reads a run answers how many of the bytes that follow
+/// it took, or `None` if the first may not stand there. After that, and if memory was refused, the state is of no use
+/// any more.
 impl DocumentState {
     /// Nothing was read before this line.
     pub fn new(alloc: Global, line: usize) -> Self
@@ -103,62 +106,66 @@ impl DocumentState {
         }
     }
 
-    /// Reads a byte of a text whose lines end in CR LF, LF or CR.
-    // Always inline, as what it calls for each byte: reading wants no call for a byte.
+    /// Reads a run of a text whose lines end in CR LF, LF or CR.
+    // Always inline, as what it calls for each run: reading wants no call for a run.
     #[inline(always)]
-    pub fn read(&mut self, alloc: Global, byte: u8) -> Result<bool, AllocError>
-        requires { self.old.line + 1 < 2 ^ 64 }
-        ensures taken { IfOk result (λ taken.
-            run steps.step (Some (state self.old)) (line_feeds_after self.old.is_after_return (byte ∷ [])) ≡
-            taken_as taken (state self.new)) }
+    pub fn read(&mut self, alloc: Global, rest: &[u8]) -> Result<Option<usize>, AllocError>
+        requires some { 0 < length rest.now }
+        requires line { self.old.line + 1 < 2 ^ 64 }
+        ensures taken { IfOk result (λ taken. Reads self.old rest.now taken self.new) }
         ensures line { OnOk result (self.new.line ≤ self.old.line + 1) }
-        ensures after { OnOk result (self.new.is_after_return ≡ (byte == 13)) }
     {
-        let is_taken = match byte {
-            b'\r' => self.step(alloc, b'\n')?,
-            b'\n' if self.is_after_return => true,
-            _ => self.step(alloc, byte)?,
+        let byte = rest[0];
+        let taken = match byte {
+            b'\r' => self.step(alloc, b"\n")?,
+            b'\n' if self.is_after_return => Some(1),
+            _ => self.step(alloc, rest)?,
         };
         self.is_after_return = byte == b'\r';
-        Ok(is_taken)
+        Ok(taken)
     }
 
+    /// Reads a run, and counts lines.
     #[inline(always)]
-    fn step(&mut self, alloc: Global, byte: u8) -> Result<bool, AllocError>
-        requires { self.old.line + 1 < 2 ^ 64 }
-        ensures taken { IfOk result (λ taken. steps.step (state self.old) byte ≡ taken_as taken (state self.new)) }
+    fn step(&mut self, alloc: Global, rest: &[u8]) -> Result<Option<usize>, AllocError>
+        requires some { 0 < length rest.now }
+        requires line { self.old.line + 1 < 2 ^ 64 }
+        ensures taken { IfOk result (λ taken.
+            Takes steps.step (steps.step (state self.old) (slice_index rest.now 0)) rest.now taken (state self.new)) }
         ensures line { OnOk result (self.new.line ≤ self.old.line + 1) }
     {
-        let line = if byte == b'\n' {
+        let line = if rest[0] == b'\n' {
             self.line + 1
         } else {
             self.line
         };
-        let is_taken = self.take(alloc, byte)?;
+        let taken = self.take(alloc, rest)?;
         self.line = line;
-        Ok(is_taken)
+        Ok(taken)
     }
 
     #[inline(always)]
-    fn take(&mut self, alloc: Global, byte: u8) -> Result<bool, AllocError>
-        ensures { IfOk result (λ taken. steps.take (state self.old) byte ≡ taken_as taken (state self.new)) }
+    fn take(&mut self, alloc: Global, rest: &[u8]) -> Result<Option<usize>, AllocError>
+        requires { 0 < length rest.now }
+        ensures { IfOk result (λ taken. Goes steps.take (state self.old) rest.now taken (state self.new)) }
     {
+        let byte = rest[0];
         match self.part {
-            Part::Content(brackets) => self.content(brackets, byte),
-            Part::Reference => self.reference(byte),
-            Part::Markup => self.markup(alloc, byte),
-            Part::Tag => self.tag(alloc, byte),
-            Part::EndName(at) => self.end_name(alloc, at, byte),
-            Part::EndBlank => self.end_blank(alloc, byte),
-            Part::Exclamation => Ok(self.exclamation(byte)),
-            Part::CommentBegin => Ok(byte == b'-' && self.go_on(Part::Comment(Repeats::Zero))),
-            Part::Comment(dashes) => Ok(self.comment(dashes, byte)),
-            Part::SectionBegin(at) => Ok(self.section_begin(at, byte)),
-            Part::Section(brackets) => self.section(brackets, byte),
-            Part::Question => self.question(byte),
-            Part::Target => self.target(byte),
-            Part::TargetEnd => Ok(byte == b'>' && self.go_on(Part::Content(Repeats::Zero))),
-            Part::Instruction(is_mark) => Ok(self.instruction(is_mark, byte)),
+            Part::Content(brackets) => self.content(brackets, rest),
+            Part::Reference => Ok(one(self.reference(byte)?)),
+            Part::Markup => self.markup(alloc, rest),
+            Part::Tag => self.tag(alloc, rest),
+            Part::EndName(at) => Ok(one(self.end_name(alloc, at, byte)?)),
+            Part::EndBlank => Ok(one(self.end_blank(alloc, byte)?)),
+            Part::Exclamation => Ok(one(self.exclamation(byte))),
+            Part::CommentBegin => Ok(one(self.comment_begin(byte))),
+            Part::Comment(dashes) => Ok(self.comment(dashes, rest)),
+            Part::SectionBegin(at) => Ok(one(self.section_begin(at, byte))),
+            Part::Section(brackets) => self.section(brackets, rest),
+            Part::Question => Ok(one(self.question(byte)?)),
+            Part::Target => Ok(one(self.target(byte)?)),
+            Part::TargetEnd => Ok(one(self.target_end(byte))),
+            Part::Instruction(is_mark) => Ok(self.instruction(is_mark, rest)),
         }
     }
 
@@ -171,28 +178,44 @@ impl DocumentState {
     }
 
     #[inline(always)]
-    fn content(&mut self, brackets: Repeats, byte: u8) -> Result<bool, AllocError>
-        ensures { IfOk result (λ taken. steps.content_step brackets (state self.old) byte ≡
-            taken_as taken (state self.new)) }
+    fn content(&mut self, brackets: Repeats, rest: &[u8]) -> Result<Option<usize>, AllocError>
+        requires { 0 < length rest.now }
+        ensures { IfOk result (λ taken. Goes (steps.content_step brackets) (state self.old) rest.now taken
+            (state self.new)) }
     {
+        let byte = rest[0];
         if byte == b'<' {
             self.begun = self.line;
-            return Ok(self.go_on(Part::Markup));
+            return Ok(one(self.go_on(Part::Markup)));
         }
         if self.names.is_empty() {
-            return Ok(is_blank(byte) && self.go_on(Part::Content(Repeats::Zero)));
+            return Ok(one(is_blank(byte) && self.go_on(Part::Content(Repeats::Zero))));
         }
         match byte {
             b'&' => {
                 self.word.clear();
-                Ok(self.go_on(Part::Reference))
+                Ok(one(self.go_on(Part::Reference)))
             }
-            b'>' if brackets.is_two() => Ok(false),
-            _ => {
+            b']' => {
                 self.said.push(byte)?;
-                Ok(self.go_on(Part::Content(brackets.after(byte == b']'))))
+                Ok(one(self.go_on(Part::Content(brackets.after(true)))))
             }
+            b'>' if brackets.is_two() => Ok(None),
+            _ => self.text_run(rest),
         }
+    }
+
+    /// Reads bytes of text between tags, of which the first is one.
+    #[inline(always)]
+    fn text_run(&mut self, rest: &[u8]) -> Result<Option<usize>, AllocError>
+        requires some { 0 < length rest.now }
+        requires inside { steps.has_none self.old.names ≡ false }
+        ensures { IfOk result (λ taken. Goes steps.spoken_step (state self.old) rest.now taken (state self.new)) }
+    {
+        let len = Run::Text.len(rest);
+        self.said.extend_from_slice(&rest[..len])?;
+        self.part = Part::Content(Repeats::Zero);
+        Ok(Some(len))
     }
 
     fn reference(&mut self, byte: u8) -> Result<bool, AllocError>
@@ -222,14 +245,15 @@ impl DocumentState {
         Ok(self.go_on(Part::Content(Repeats::Zero)))
     }
 
-    fn markup(&mut self, alloc: Global, byte: u8) -> Result<bool, AllocError>
-        ensures { IfOk result (λ taken. steps.markup_step (state self.old) byte ≡ taken_as taken (state self.new)) }
+    fn markup(&mut self, alloc: Global, rest: &[u8]) -> Result<Option<usize>, AllocError>
+        requires { 0 < length rest.now }
+        ensures { IfOk result (λ taken. Goes steps.markup_step (state self.old) rest.now taken (state self.new)) }
     {
-        match byte {
-            b'!' => Ok(self.go_on(Part::Exclamation)),
-            b'?' => Ok(self.go_on(Part::Question)),
-            b'/' => Ok(!self.names.is_empty() && self.go_on(Part::EndName(0))),
-            _ => self.begin_tag(alloc, byte),
+        match rest[0] {
+            b'!' => Ok(one(self.go_on(Part::Exclamation))),
+            b'?' => Ok(one(self.go_on(Part::Question))),
+            b'/' => Ok(one(!self.names.is_empty() && self.go_on(Part::EndName(0)))),
+            _ => self.begin_tag(alloc, rest),
         }
     }
 
@@ -244,33 +268,36 @@ impl DocumentState {
         }
     }
 
-    fn begin_tag(&mut self, alloc: Global, byte: u8) -> Result<bool, AllocError>
-        ensures { IfOk result (λ taken. steps.begin_tag_step (state self.old) byte ≡ taken_as taken (state self.new)) }
+    fn begin_tag(&mut self, alloc: Global, rest: &[u8]) -> Result<Option<usize>, AllocError>
+        requires { 0 < length rest.now }
+        ensures { IfOk result (λ taken. Goes steps.begin_tag_step (state self.old) rest.now taken (state self.new)) }
     {
         if !self.may_open() {
-            return Ok(false);
+            return Ok(None);
         }
         self.tag = TagState::begun(alloc);
-        Ok(self.tag.step(alloc, byte)? && self.go_on(Part::Tag))
+        self.part = Part::Tag;
+        self.tag(alloc, rest)
     }
 
     #[inline(always)]
-    fn tag(&mut self, alloc: Global, byte: u8) -> Result<bool, AllocError>
-        ensures { IfOk result (λ taken. steps.tag_step (state self.old) byte ≡ taken_as taken (state self.new)) }
+    fn tag(&mut self, alloc: Global, rest: &[u8]) -> Result<Option<usize>, AllocError>
+        requires some { 0 < length rest.now }
+        requires part { self.old.part ≡ parts.Tag }
+        ensures { IfOk result (λ taken. Goes steps.tag_step (state self.old) rest.now taken (state self.new)) }
     {
-        if !self.tag.step(alloc, byte)? {
-            return Ok(false);
+        let Some(len) = self.tag.read(alloc, rest)? else {
+            return Ok(None);
+        };
+        if let Some(kind) = self.tag.kind() {
+            self.open(alloc, kind)?;
         }
-        match self.tag.kind() {
-            Some(kind) => self.open(alloc, kind),
-            None => Ok(true),
-        }
+        Ok(Some(len))
     }
 
     /// Opens the element of a tag that is complete.
-    fn open(&mut self, alloc: Global, kind: TagKind) -> Result<bool, AllocError>
-        ensures { IfOk result (λ taken. Some (steps.opened (state self.old) (tag_of (state self.old).tag kind)) ≡
-            taken_as taken (state self.new)) }
+    fn open(&mut self, alloc: Global, kind: TagKind) -> Result<(), AllocError>
+        ensures { OnOk result (state self.new ≡ steps.opened (state self.old) (tag_of (state self.old).tag kind)) }
     {
         self.end_text(alloc)?;
         let Tag {
@@ -278,12 +305,13 @@ impl DocumentState {
             attributes,
             ..
         } = replace(&mut self.tag, TagState::new(alloc)).into_tag(kind);
-        self.names.open(kind, &name)?;
+        self.names.open(alloc, kind, &name)?;
         self.tokens
             .push(Token::new(Said::Open(name, attributes), self.begun))?;
         self.end_empty(kind)?;
         self.is_rooted = true;
-        Ok(self.go_on(Part::Content(Repeats::Zero)))
+        self.part = Part::Content(Repeats::Zero);
+        Ok(())
     }
 
     /// Closes an element that is empty.
@@ -349,13 +377,25 @@ impl DocumentState {
         }
     }
 
-    fn comment(&mut self, dashes: Repeats, byte: u8) -> bool
-        ensures { steps.comment_step dashes (state self.old) byte ≡ taken_as result (state self.new) }
+    fn comment_begin(&mut self, byte: u8) -> bool
+        ensures { steps.comment_begin_step (state self.old) byte ≡ taken_as result (state self.new) }
     {
+        byte == b'-' && self.go_on(Part::Comment(Repeats::Zero))
+    }
+
+    fn comment(&mut self, dashes: Repeats, rest: &[u8]) -> Option<usize>
+        requires { 0 < length rest.now }
+        ensures { Goes (steps.comment_step dashes) (state self.old) rest.now result (state self.new) }
+    {
+        let byte = rest[0];
         if dashes.is_two() {
-            return byte == b'>' && self.go_on(Part::Content(Repeats::Zero));
+            return one(byte == b'>' && self.go_on(Part::Content(Repeats::Zero)));
         }
-        self.go_on(Part::Comment(dashes.after(byte == b'-')))
+        if byte == b'-' {
+            return one(self.go_on(Part::Comment(dashes.after(true))));
+        }
+        self.part = Part::Comment(Repeats::Zero);
+        Some(Run::Comment.len(rest))
     }
 
     fn section_begin(&mut self, at: usize, byte: u8) -> bool
@@ -372,26 +412,23 @@ impl DocumentState {
         })
     }
 
-    fn section(&mut self, brackets: Repeats, byte: u8) -> Result<bool, AllocError>
-        ensures { IfOk result (λ taken. steps.section_step brackets (state self.old) byte ≡
-            taken_as taken (state self.new)) }
+    fn section(&mut self, brackets: Repeats, rest: &[u8]) -> Result<Option<usize>, AllocError>
+        requires { 0 < length rest.now }
+        ensures { IfOk result (λ taken. Goes (steps.section_step brackets) (state self.old) rest.now taken
+            (state self.new)) }
     {
+        let byte = rest[0];
         if byte == b']' {
-            return self.section_bracket(brackets);
+            return Ok(one(self.section_bracket(brackets)?));
         }
         if brackets.is_two() && byte == b'>' {
-            return Ok(self.go_on(Part::Content(Repeats::Zero)));
+            return Ok(one(self.go_on(Part::Content(Repeats::Zero))));
         }
-        match brackets {
-            Repeats::Zero => {}
-            Repeats::One => self.said.push(b']')?,
-            Repeats::Two => {
-                self.said.push(b']')?;
-                self.said.push(b']')?;
-            }
-        }
-        self.said.push(byte)?;
-        Ok(self.go_on(Part::Section(Repeats::Zero)))
+        let len = Run::Section.len(rest);
+        self.said.extend_from_slice(brackets.brackets())?;
+        self.said.extend_from_slice(&rest[..len])?;
+        self.part = Part::Section(Repeats::Zero);
+        Ok(Some(len))
     }
 
     /// Reads a bracket in a section: the last two may end it.
@@ -432,13 +469,25 @@ impl DocumentState {
         Ok(is_blank(byte) && self.go_on(Part::Instruction(false)))
     }
 
-    fn instruction(&mut self, is_mark: bool, byte: u8) -> bool
-        ensures { steps.instruction_step is_mark (state self.old) byte ≡ taken_as result (state self.new) }
+    fn target_end(&mut self, byte: u8) -> bool
+        ensures { steps.last_step (state self.old) byte ≡ taken_as result (state self.new) }
     {
+        byte == b'>' && self.go_on(Part::Content(Repeats::Zero))
+    }
+
+    fn instruction(&mut self, is_mark: bool, rest: &[u8]) -> Option<usize>
+        requires { 0 < length rest.now }
+        ensures { Goes (steps.instruction_step is_mark) (state self.old) rest.now result (state self.new) }
+    {
+        let byte = rest[0];
         if is_mark && byte == b'>' {
-            return self.go_on(Part::Content(Repeats::Zero));
+            return one(self.go_on(Part::Content(Repeats::Zero)));
         }
-        self.go_on(Part::Instruction(byte == b'?'))
+        if byte == b'?' {
+            return one(self.go_on(Part::Instruction(true)));
+        }
+        self.part = Part::Instruction(false);
+        Some(Run::Instruction.len(rest))
     }
 
     /// Whether what was read is a document.

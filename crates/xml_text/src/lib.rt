@@ -15,6 +15,7 @@ mod names;
 mod quote;
 mod reference;
 mod repeats;
+mod run;
 mod state;
 mod tag;
 mod token;

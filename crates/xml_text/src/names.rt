@@ -56,11 +56,11 @@ impl Names {
     }
 
     /// Opens the element of a tag, unless it is empty.
-    pub fn open(&mut self, kind: TagKind, name: &Vec<u8>) -> Result<(), AllocError>
-        ensures { OnOk result (self.new ≡ names_with name.now.items self.old kind) }
+    pub fn open(&mut self, alloc: Global, kind: TagKind, name: &[u8]) -> Result<(), AllocError>
+        ensures { OnOk result (self.new ≡ names_with name.now self.old kind) }
     {
         match kind {
-            TagKind::Start => self.push(name.clone()?),
+            TagKind::Start => self.push(Vec::from_slice(alloc, name)?),
             TagKind::Empty => Ok(()),
         }
     }

@@ -22,6 +22,17 @@ impl Repeats {
         }
     }
 
+    /// So many brackets.
+    pub fn brackets(self) -> &'static [u8]
+        ensures { result.now ≡ steps.times self 93 }
+    {
+        match self {
+            Repeats::Zero => b"",
+            Repeats::One => b"]",
+            Repeats::Two => b"]]",
+        }
+    }
+
     /// Whether there were two, or more.
     pub fn is_two(self) -> bool
         ensures { result ≡ steps.is_two self }

@@ -1,14 +1,17 @@
-//! Reading a tag byte by byte: what was read of it, and which byte may follow.
-ghost use Rattle.std.specs.Prelude.{◌≡◌, Some, IfOk};
+//! Reading a tag by runs: what was read of it, and which byte may follow.
+ghost use Rattle.std.specs.Prelude.{◌≡◌, ◌<◌, [], ◌∷◌, Some, length, IfOk};
 ghost use Rattle.xml_text.specs.References.{referenced};
 ghost use Rattle.xml_text.specs.Tags.{tag};
+ghost use Rattle.xml_text.specs.declared.state.Phase.TheVariants as phases;
+ghost use Rattle.xml_text.specs.inner.Runs.{taken_as};
 ghost use Rattle.xml_text.specs.inner.TagSteps as steps;
-ghost use Rattle.xml_text.specs.inner.TagSteps.{state, taken_as};
+ghost use Rattle.xml_text.specs.inner.TagSteps.{state, Goes};
 
 use crate::attribute::{Attribute, Tag, TagKind, is_one_named};
 use crate::bytes::{is_blank, is_name_byte, is_name_start, is_reference_byte};
 use crate::quote::Quote;
 use crate::reference::referenced;
+use crate::run::{Run, one};
 use std::alloc::{AllocError, Global};
 use std::mem::replace;
 
@@ -55,8 +58,9 @@ pub struct TagState {
     phase: Phase,
 }
 
-/// Each step answers whether its byte may stand there. If it may not, or memory was refused, the state is of no use any
-/// more.
+/// What reads one byte answers whether it may stand there. What reads a run answers how many of the bytes that follow
+/// it took, or `None` if the first may not stand there. After that, and if memory was refused, the state is of no use
+/// any more.
 impl TagState {
     /// Nothing was read.
     pub fn new(alloc: Global) -> Self
@@ -82,23 +86,26 @@ impl TagState {
         }
     }
 
+    /// Reads a run.
     #[inline(always)]
-    pub fn step(&mut self, alloc: Global, byte: u8) -> Result<bool, AllocError>
-        ensures { IfOk result (λ taken. steps.step (state self.old) byte ≡ taken_as taken (state self.new)) }
+    pub fn read(&mut self, alloc: Global, rest: &[u8]) -> Result<Option<usize>, AllocError>
+        requires { 0 < length rest.now }
+        ensures { IfOk result (λ taken. Goes steps.step (state self.old) rest.now taken (state self.new)) }
     {
+        let byte = rest[0];
         match self.phase {
-            Phase::Open => Ok(self.open(byte)),
-            Phase::Begin => self.begin(byte),
-            Phase::Name => self.name(byte),
-            Phase::After => Ok(self.after(byte)),
-            Phase::Blank => self.blank(byte),
-            Phase::Attribute => self.attribute(byte),
-            Phase::BeforeEquals => Ok(self.equals(byte)),
-            Phase::AfterEquals => Ok(self.quote(byte)),
-            Phase::Value(quote) => self.value(alloc, quote, byte),
-            Phase::Reference(quote) => self.reference(quote, byte),
-            Phase::Slash => Ok(self.slash(byte)),
-            Phase::Ended(_) => Ok(false),
+            Phase::Open => Ok(one(self.open(byte))),
+            Phase::Begin => self.begin(rest),
+            Phase::Name => self.name(rest),
+            Phase::After => Ok(one(self.after(byte))),
+            Phase::Blank => self.blank(rest),
+            Phase::Attribute => self.attribute(rest),
+            Phase::BeforeEquals => Ok(one(self.equals(byte))),
+            Phase::AfterEquals => Ok(one(self.quote(byte))),
+            Phase::Value(quote) => self.value(alloc, quote, rest),
+            Phase::Reference(quote) => Ok(one(self.reference(quote, byte)?)),
+            Phase::Slash => Ok(one(self.slash(byte))),
+            Phase::Ended(_) => Ok(None),
         }
     }
 
@@ -116,25 +123,39 @@ impl TagState {
         byte == b'<' && self.go_on(Phase::Begin)
     }
 
-    fn begin(&mut self, byte: u8) -> Result<bool, AllocError>
-        ensures { IfOk result (λ taken. steps.begin_step (state self.old) byte ≡ taken_as taken (state self.new)) }
+    fn begin(&mut self, rest: &[u8]) -> Result<Option<usize>, AllocError>
+        requires { 0 < length rest.now }
+        ensures { IfOk result (λ taken. Goes steps.begin_step (state self.old) rest.now taken (state self.new)) }
     {
-        if !is_name_start(byte) {
-            return Ok(false);
+        if !is_name_start(rest[0]) {
+            return Ok(None);
         }
-        self.name.push(byte)?;
-        Ok(self.go_on(Phase::Name))
+        self.name_run(rest)
     }
 
     #[inline(always)]
-    fn name(&mut self, byte: u8) -> Result<bool, AllocError>
-        ensures { IfOk result (λ taken. steps.name_step (state self.old) byte ≡ taken_as taken (state self.new)) }
+    fn name(&mut self, rest: &[u8]) -> Result<Option<usize>, AllocError>
+        requires { 0 < length rest.now }
+        ensures { IfOk result (λ taken. Goes steps.name_step (state self.old) rest.now taken (state self.new)) }
     {
+        let byte = rest[0];
         if !is_name_byte(byte) {
-            return Ok(self.after(byte));
+            return Ok(one(self.after(byte)));
         }
-        self.name.push(byte)?;
-        Ok(self.go_on(Phase::Name))
+        self.name_run(rest)
+    }
+
+    /// Reads bytes of the tag's name, of which the first is one.
+    #[inline(always)]
+    fn name_run(&mut self, rest: &[u8]) -> Result<Option<usize>, AllocError>
+        requires { 0 < length rest.now }
+        ensures { IfOk result (λ taken. Goes (λ s b. Some (steps.named s b)) (state self.old) rest.now taken
+            (state self.new)) }
+    {
+        let len = Run::Name.len(rest);
+        self.name.extend_from_slice(&rest[..len])?;
+        self.phase = Phase::Name;
+        Ok(Some(len))
     }
 
     fn after(&mut self, byte: u8) -> bool
@@ -150,27 +171,45 @@ impl TagState {
         }
     }
 
-    fn blank(&mut self, byte: u8) -> Result<bool, AllocError>
-        ensures { IfOk result (λ taken. steps.blank_step (state self.old) byte ≡ taken_as taken (state self.new)) }
+    fn blank(&mut self, rest: &[u8]) -> Result<Option<usize>, AllocError>
+        requires { 0 < length rest.now }
+        ensures { IfOk result (λ taken. Goes steps.blank_step (state self.old) rest.now taken (state self.new)) }
     {
+        let byte = rest[0];
         if !is_name_start(byte) {
-            return Ok(self.after(byte));
+            return Ok(one(self.after(byte)));
         }
         self.attribute.clear();
         self.value.clear();
-        self.attribute.push(byte)?;
-        Ok(self.go_on(Phase::Attribute))
+        self.phase = Phase::Attribute;
+        self.attribute_run(rest)
     }
 
     #[inline(always)]
-    fn attribute(&mut self, byte: u8) -> Result<bool, AllocError>
-        ensures { IfOk result (λ taken. steps.attribute_step (state self.old) byte ≡ taken_as taken (state self.new)) }
+    fn attribute(&mut self, rest: &[u8]) -> Result<Option<usize>, AllocError>
+        requires some { 0 < length rest.now }
+        requires phase { self.old.phase ≡ phases.Attribute }
+        ensures { IfOk result (λ taken. Goes steps.attribute_step (state self.old) rest.now taken (state self.new)) }
     {
+        let byte = rest[0];
         if !is_name_byte(byte) {
-            return Ok(!is_one_named(&self.attributes, &self.attribute) && self.equals(byte));
+            let is_new = !is_one_named(&self.attributes, &self.attribute);
+            return Ok(one(is_new && self.equals(byte)));
         }
-        self.attribute.push(byte)?;
-        Ok(true)
+        self.attribute_run(rest)
+    }
+
+    /// Reads bytes of an attribute's name, of which the first is one.
+    #[inline(always)]
+    fn attribute_run(&mut self, rest: &[u8]) -> Result<Option<usize>, AllocError>
+        requires some { 0 < length rest.now }
+        requires phase { self.old.phase ≡ phases.Attribute }
+        ensures { IfOk result (λ taken. Goes (λ s b. Some (steps.with_attribute_byte s b)) (state self.old) rest.now
+            taken (state self.new)) }
+    {
+        let len = Run::Name.len(rest);
+        self.attribute.extend_from_slice(&rest[..len])?;
+        Ok(Some(len))
     }
 
     fn equals(&mut self, byte: u8) -> bool
@@ -193,28 +232,56 @@ impl TagState {
     }
 
     #[inline(always)]
-    fn value(&mut self, alloc: Global, quote: Quote, byte: u8) -> Result<bool, AllocError>
-        ensures { IfOk result (λ taken. steps.value_step quote (state self.old) byte ≡
-            taken_as taken (state self.new)) }
+    fn value(
+        &mut self,
+        alloc: Global,
+        quote: Quote,
+        rest: &[u8],
+    ) -> Result<Option<usize>, AllocError>
+        requires some { 0 < length rest.now }
+        requires phase { self.old.phase ≡ phases.Value quote }
+        ensures { IfOk result (λ taken. Goes (steps.value_step quote) (state self.old) rest.now taken
+            (state self.new)) }
     {
+        let byte = rest[0];
         if byte == quote.byte() {
-            let name = replace(&mut self.attribute, Vec::new(alloc));
-            let value = replace(&mut self.value, Vec::new(alloc));
-            self.attributes.push(Attribute::new(name, value))?;
-            return Ok(self.go_on(Phase::After));
+            return Ok(one(self.end_value(alloc)?));
         }
         match byte {
-            b'<' => Ok(false),
+            b'<' => Ok(None),
             b'&' => {
                 self.reference.clear();
-                Ok(self.go_on(Phase::Reference(quote)))
+                Ok(one(self.go_on(Phase::Reference(quote))))
             }
-            _ => {
-                let byte = if is_blank(byte) { b' ' } else { byte };
-                self.value.push(byte)?;
-                Ok(true)
+            b'\t' | b'\n' | b'\r' => {
+                self.value.push(b' ')?;
+                Ok(Some(1))
             }
+            _ => self.value_run(quote, rest),
         }
+    }
+
+    /// Ends a value, and its attribute.
+    fn end_value(&mut self, alloc: Global) -> Result<bool, AllocError>
+        ensures { IfOk result (λ taken. Some (steps.closed (state self.old)) ≡ taken_as taken (state self.new)) }
+    {
+        let name = replace(&mut self.attribute, Vec::new(alloc));
+        let value = replace(&mut self.value, Vec::new(alloc));
+        self.attributes.push(Attribute::new(name, value))?;
+        Ok(self.go_on(Phase::After))
+    }
+
+    /// Reads bytes of a value that stand for themselves, of which the first is one.
+    #[inline(always)]
+    fn value_run(&mut self, quote: Quote, rest: &[u8]) -> Result<Option<usize>, AllocError>
+        requires some { 0 < length rest.now }
+        requires phase { self.old.phase ≡ phases.Value quote }
+        ensures { IfOk result (λ taken. Goes (λ s b. Some (steps.with_value s (b ∷ []))) (state self.old) rest.now
+            taken (state self.new)) }
+    {
+        let len = Run::Value(quote).len(rest);
+        self.value.extend_from_slice(&rest[..len])?;
+        Ok(Some(len))
     }
 
     fn reference(&mut self, quote: Quote, byte: u8) -> Result<bool, AllocError>

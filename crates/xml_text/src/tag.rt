@@ -16,12 +16,15 @@ pub fn read_tag(alloc: Global, text: &[u8]) -> Result<(Tag, usize), ReadError>
     ensures stop { IfErr result (StopsAt text.now) }
 {
     let mut state = TagState::new(alloc);
-    for (place, byte) in text.iter().enumerate() {
-        if !state.step(alloc, *byte)? {
+    let mut place = 0;
+    while place < text.len() {
+        let (_, rest) = text.split_at(place);
+        let Some(taken) = state.read(alloc, rest)? else {
             return Err(ReadError::Stop(place));
-        }
+        };
+        place += taken;
         if let Some(kind) = state.kind() {
-            return Ok((state.into_tag(kind), place + 1));
+            return Ok((state.into_tag(kind), place));
         }
     }
     Err(ReadError::Stop(text.len()))

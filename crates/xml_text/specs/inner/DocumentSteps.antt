@@ -1,7 +1,9 @@
--- Reading a document, byte by byte.
-use Rattle.std.specs.Prelude.{ℕ, ◌+◌, Bool, true, false, ◌==◌, ◌&&◌, not, nat_lt, Option, Some, None}
-use Rattle.std.specs.Prelude.{List, [], ◌∷◌, ◌++◌, length, slice_get, codes, encode_utf8, if◌then◌else◌}
+-- Reading a document: what each byte changes.
+use Rattle.std.specs.Prelude.{◌≡◌, ℕ, ◌+◌, ◌<◌, ◌≤◌, Bool, true, false, ◌==◌, ◌&&◌, not, nat_lt, Option, Some, None}
+use Rattle.std.specs.Prelude.{List, [], ◌∷◌, ◌++◌, length, take as front, slice_get, slice_index, codes}
+use Rattle.std.specs.Prelude.{encode_utf8, if◌then◌else◌}
 use Rattle.std.specs.Option.{option_map}
+use Rattle.ruleset_text.specs.Stops.{run}
 use Rattle.xml_text.specs.declared.attribute.TagKind.{TagKind}
 use Rattle.xml_text.specs.declared.attribute.TagKind.TheVariants.{Start, Empty}
 use Rattle.xml_text.specs.declared.document_state.DocumentState as reading
@@ -10,7 +12,7 @@ use Rattle.xml_text.specs.declared.document_state.Part.TheVariants as part
 use Rattle.xml_text.specs.declared.repeats.Repeats.{Repeats}
 use Rattle.xml_text.specs.declared.repeats.Repeats.TheVariants as repeats
 use Rattle.xml_text.specs.Documents.{text_token, closing}
-use Rattle.xml_text.specs.LineEnds.{next_line}
+use Rattle.xml_text.specs.LineEnds.{line_feeds_after, next_line, return_after}
 use Rattle.xml_text.specs.Names.{is_blank, is_name_start, is_name_byte, is_reference_byte}
 use Rattle.xml_text.specs.Pieces.{is_xml}
 use Rattle.xml_text.specs.References.{referenced}
@@ -18,6 +20,7 @@ use Rattle.xml_text.specs.Tags.{Tag}
 use Rattle.xml_text.specs.Tokens
 use Rattle.xml_text.specs.Tokens.{Token}
 use Rattle.xml_text.specs.declared.state.Phase.TheVariants as phase
+use Rattle.xml_text.specs.inner.Runs.{Takes}
 use Rattle.xml_text.specs.inner.TagSteps as tag
 
 pub record State : Type 0 where
@@ -57,11 +60,6 @@ start line = record {
   word = [];
   part = part.Content repeats.Zero;
 }
-
--- the state after a byte that may stand there
-abbrev pub taken_as : Bool → State → Option State
-taken_as true s = Some s
-taken_as false s = None
 
 abbrev pub moved : State → Part → Option State
 moved s p = Some (record s { part = p })
@@ -103,6 +101,10 @@ content_step k s b =
     if has_none s.names then (if is_blank b then moved s content else None) else
     if b == 38 then moved (record s { word = [] }) part.Reference else
     if is_two k && b == 62 then None else moved (with_said s (b ∷ [])) (part.Content (after (b == 93) k))
+
+-- text that says itself
+abbrev pub spoken_step : State → ℕ → Option State
+spoken_step s b = moved (with_said s (b ∷ [])) content
 
 abbrev pub resolved : State → Option ℕ → Option State
 resolved s None = None
@@ -283,6 +285,29 @@ on_line line s = record s { line = line }
 
 abbrev pub step : State → ℕ → Option State
 step s b = option_map (on_line (next_line s.line b)) (take s b)
+
+-- the line after the first byte
+abbrev pub line_next : State → List ℕ → ℕ
+line_next s bytes = next_line s.line (slice_index bytes 0)
+
+-- a run is taken, of which the first byte is read so
+abbrev pub Goes : (State → ℕ → Option State) → State → List ℕ → Option ℕ → State → Type 0
+Goes read s bytes taken t =
+    let line = line_next s bytes in
+    Takes step (option_map (on_line line) (read s (slice_index bytes 0))) bytes taken (on_line line t)
+
+-- so many bytes of a text whose lines may end in CR lead from a state to another
+pub record IsRead (s : reading.DocumentState) (bytes : List ℕ) (n : ℕ) (t : reading.DocumentState) : Type 0 where
+  pub some : 0 < n
+  pub within : n ≤ length bytes
+  pub leads : run step (Some (state s)) (line_feeds_after s.is_after_return (front n bytes)) ≡ Some (state t)
+  pub after : t.is_after_return ≡ return_after s.is_after_return (front n bytes)
+
+-- so many bytes are read; or none, since the first may not stand there
+abbrev pub Reads : reading.DocumentState → List ℕ → Option ℕ → reading.DocumentState → Type 0
+Reads s bytes (Some n) t = IsRead s bytes n t
+Reads s bytes None t =
+    run step (Some (state s)) (line_feeds_after s.is_after_return (slice_index bytes 0 ∷ [])) ≡ None
 
 -- ---- the end
 

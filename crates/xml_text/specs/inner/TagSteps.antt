@@ -1,6 +1,6 @@
--- Reading a tag, byte by byte.
+-- Reading a tag: what each byte changes.
 use Rattle.std.specs.Prelude.{ℕ, Bool, true, false, ◌==◌, Option, Some, None, List, [], ◌∷◌, ◌++◌, if◌then◌else◌}
-use Rattle.std.specs.Prelude.{encode_utf8}
+use Rattle.std.specs.Prelude.{encode_utf8, slice_index}
 use Rattle.std.specs.Option.{option_map}
 use Rattle.xml_text.specs.declared.attribute.TagKind.{TagKind}
 use Rattle.xml_text.specs.declared.attribute.TagKind.TheVariants.{Start, Empty}
@@ -12,6 +12,7 @@ use Rattle.xml_text.specs.declared.state.TagState as reading
 use Rattle.xml_text.specs.Attributes.{Attribute, is_named}
 use Rattle.xml_text.specs.Names.{is_blank, is_name_start, is_name_byte, is_reference_byte}
 use Rattle.xml_text.specs.References.{referenced}
+use Rattle.xml_text.specs.inner.Runs.{Takes}
 use Rattle.xml_text.specs.Tags.{Tag, quote_byte, spaced}
 
 -- what was read: the name of the tag and its attributes; of the attribute that isn't complete its name and its value,
@@ -37,11 +38,6 @@ state s = record {
 
 abbrev pub start : State
 start = record { name = []; attributes = []; attribute = []; value = []; reference = []; phase = phase.Open }
-
--- the state after a byte that may stand there
-abbrev pub taken_as : Bool → State → Option State
-taken_as true s = Some s
-taken_as false s = None
 
 abbrev pub with_phase : State → Phase → State
 with_phase s p = record s { phase = p }
@@ -143,6 +139,10 @@ step_by (phase.Ended kind) s b = None
 
 abbrev pub step : State → ℕ → Option State
 step s b = step_by s.phase s b
+
+-- a run is taken, of which the first byte is read so
+abbrev pub Goes : (State → ℕ → Option State) → State → List ℕ → Option ℕ → State → Type 0
+Goes read s bytes taken t = Takes step (read s (slice_index bytes 0)) bytes taken t
 
 -- how the tag ended, once it is complete
 abbrev pub kind_of : Phase → Option TagKind

@@ -1,35 +1,36 @@
-use Rattle.std.proofs.Common.{rules, ◌≡◌, true, false, Some, List, sym, ap, ◌∙◌, subst, arith}
+use Rattle.std.proofs.Common.{rules, ◌≡◌, ℕ, ◌<◌, true, false, Option, Some, None, List, length, sym, subst, arith}
 use Rattle.xml_text.specs.Documents.{IsBody}
 use Rattle.xml_text.specs.LineEnds.{line_feeds}
 use Rattle.xml_text.specs.Tokens.{Token}
-use Rattle.xml_text.specs.inner.DocumentSteps.{State, state, is_complete}
-use Rattle.xml_text.proofs.BodyLemmas.{body_more, stops_here, stops_past, whole_body}
-use Rattle.xml_text.proofs.LineEndLemmas.{return_more}
+use Rattle.xml_text.specs.inner.DocumentSteps.{state, is_complete, IsRead, Reads}
+use Rattle.xml_text.proofs.BodyLemmas.{body_more, after_more, stops_here, stops_past, whole_body}
 use Rattle.xml_text.proofs.body.read_body.Goals as goal
-
-pub loop-place-init : goal.loop-place-init
-loop-place-init c =
-    let line : c.new-state.result.line ≡ c.args.line = ap (λ (s : State). s.line) c.new-state.ensures.start in
-    record { read = ap (λ (s : State). Some s) (sym c.new-state.ensures.start); after = c.new-state.ensures.after; line = omega arith }
 
 pub loop-place-preserved : goal.loop-place-preserved
 loop-place-preserved c =
-    let taken : c.in_ok-read.field-0 ≡ true = search rules in
     let text = c.args.text.now in
+    let rest = c.split_at.result.1.now in
     let i = c.loop-place.place in
+    let s = c.loop-place.state in
+    let u = c.read.new.self in
+    let back = c.split_at.ensures.back in
+    let is : IsRead s rest c.in-Some.taken u = subst (λ (r : Option ℕ). Reads s rest r u) c.in-Some.is c.in_ok-taken.ensures.taken in
     record {
-      read = body_more c.args.line text i (state c.loop-place.state) (state c.read.new.self) c.loop-place.state.is_after_return c.in_ok-read.field-0 c.loop-place-test.true c.loop-place.invariant.read c.loop-place.invariant.after c.in_ok-read.ensures.taken taken;
-      after = c.in_ok-read.ensures.after ∙ sym (return_more text i c.loop-place-test.true);
-      line = omega (arith, c.in_ok-read.ensures.line);
+      within = omega (arith, is.within, c.split_at.ensures.back_len);
+      read = body_more c.args.line text rest i c.in-Some.taken s u back c.loop-place.invariant.read c.loop-place.invariant.after is;
+      after = after_more text rest i c.in-Some.taken s u back c.loop-place.invariant.after is;
+      line = omega (arith, c.in_ok-taken.ensures.line, is.some);
     }
 
-pub returns-then-not-branch-clause-stop : goal.returns-then-not-branch-clause-stop
-returns-then-not-branch-clause-stop c =
-    let taken : c.in_ok-read.field-0 ≡ false = search rules in (
-      omega arith,
-      stops_here c.args.line c.args.text.now c.loop-place.place (state c.loop-place.state) (state c.read.new.self) c.loop-place.state.is_after_return c.in_ok-read.field-0 c.loop-place-test.true c.loop-place.invariant.read c.loop-place.invariant.after
-          c.in_ok-read.ensures.taken taken,
-    )
+pub returns-in-None-clause-stop : goal.returns-in-None-clause-stop
+returns-in-None-clause-stop c =
+    let text = c.args.text.now in
+    let rest = c.split_at.result.1.now in
+    let s = c.loop-place.state in
+    let u = c.read.new.self in
+    let some : 0 < length rest = omega (arith, c.split_at.ensures.back_len) in
+    let none : Reads s rest None u = subst (λ (r : Option ℕ). Reads s rest r u) c.in-None.is c.in_ok-taken.ensures.taken in
+    (omega arith, stops_here c.args.line text rest c.loop-place.place s u c.split_at.ensures.back some c.loop-place.invariant.read c.loop-place.invariant.after none)
 
 pub returns-then-is_complete-clause-read : goal.returns-then-is_complete-clause-read
 returns-then-is_complete-clause-read c =

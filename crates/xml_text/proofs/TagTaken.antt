@@ -1,0 +1,126 @@
+-- Runs of a tag.
+use Rattle.std.proofs.Common.{◌≡◌, ℕ, ◌<◌, ◌≤◌, Bool, true, false, ◌==◌, ◌&&◌, not, Option, Some, None, List, [], ◌∷◌, ◌++◌, length, take, drop, get_or, cond, refl, sym, ap, ◌∙◌, append_assoc, append-nil, arith}
+use Rattle.std.specs.List.{list_all}
+use Rattle.std.proofs.lemmas.Bool.Decides.{nat_tests}
+use Rattle.ruleset_text.specs.Stops.{run}
+use Rattle.xml_text.specs.declared.quote.Quote.{Quote}
+use Rattle.xml_text.specs.declared.run.Run.{Run}
+use Rattle.xml_text.specs.declared.run.Run.TheVariants as runs
+use Rattle.xml_text.specs.declared.state.Phase.TheVariants as phase
+use Rattle.xml_text.specs.Attributes.{is_named}
+use Rattle.xml_text.specs.Names.{is_name_byte, is_name_start}
+use Rattle.xml_text.specs.Tags.{quote_byte, spaced}
+use Rattle.xml_text.specs.inner.Runs.{goes_on, is_in_line, Takes}
+use Rattle.xml_text.specs.inner.TagSteps.{State, step, step_by, named, after_step, equals_step, with_attribute_byte, with_value, closed, moved, Goes}
+use Rattle.xml_text.proofs.ListLemmas.{and_both}
+use Rattle.xml_text.proofs.Runs.{first, yes, no}
+use Rattle.xml_text.proofs.TagRuns.{not_false}
+use Rattle.xml_text.proofs.TakenLemmas.{first_of, run_taken}
+
+-- ---- on one line
+
+pub in_line : (r : Run) (b : ℕ) → goes_on r b ≡ true → is_in_line b ≡ true
+in_line runs.Name b is = grind (arith, nat_tests)
+in_line (runs.Value q) b is = (and_both (not (b == quote_byte q) && not (b == 60) && not (b == 38) && not (b == 9)) (is_in_line b) is).1
+in_line runs.Text b is = (and_both (not (b == 60) && not (b == 38) && not (b == 62) && not (b == 93)) (is_in_line b) is).1
+in_line runs.Section b is = (and_both (not (b == 93)) (is_in_line b) is).1
+in_line runs.Comment b is = (and_both (not (b == 45)) (is_in_line b) is).1
+in_line runs.Instruction b is = (and_both (not (b == 63)) (is_in_line b) is).1
+
+pub all_in_line : (r : Run) (bs : List ℕ) → list_all (goes_on r) bs ≡ true → list_all is_in_line bs ≡ true
+all_in_line r [] are = refl
+all_in_line r (b ∷ bs) are =
+    let both = and_both (goes_on r b) (list_all (goes_on r) bs) are in
+    ap (λ (x : Bool). x && list_all is_in_line bs) (in_line r b both.0) ∙ all_in_line r bs both.1
+
+-- ---- names
+
+named_run : (s : State) (bs : List ℕ) → list_all (goes_on runs.Name) bs ≡ true → run step (Some (record s { phase = phase.Name })) bs ≡ Some (record s { name = s.name ++ bs; phase = phase.Name })
+named_run s [] are = ap (λ (n : List ℕ). Some (record s { name = n; phase = phase.Name })) (sym (append-nil s.name))
+named_run s (b ∷ bs) are =
+    let both = and_both (is_name_byte b) (list_all (goes_on runs.Name) bs) are in
+    let u = record s { phase = phase.Name } in
+    first step u (named s b) (record s { name = s.name ++ b ∷ bs; phase = phase.Name }) b bs (yes (is_name_byte b) (Some (named u b)) (after_step u b) both.0)
+    (named_run (record s { name = s.name ++ b ∷ [] }) bs both.1 ∙ ap (λ (n : List ℕ). Some (record s { name = n; phase = phase.Name })) (append_assoc s.name (b ∷ []) bs))
+
+pub name_goes : (s : State) (bytes : List ℕ) (n : ℕ) (name : List ℕ) → 0 < n → n ≤ length bytes → list_all (goes_on runs.Name) (drop 1 (take n bytes)) ≡ true → name ≡ s.name ++ take n bytes
+    → Goes (λ s b. Some (named s b)) s bytes (Some n) (record s { name = name; phase = phase.Name })
+name_goes s bytes n name some within are is =
+    let b = get_or bytes 0 0 in
+    let bs = drop 1 (take n bytes) in
+    run_taken step (Some (named s b)) bytes n (named s b) (record s { name = name; phase = phase.Name }) some within (all_in_line runs.Name bs are) refl
+    (named_run (record s { name = s.name ++ b ∷ [] }) bs are
+    ∙ ap (λ (x : List ℕ). Some (record s { name = x; phase = phase.Name })) (append_assoc s.name (b ∷ []) bs ∙ ap (λ (x : List ℕ). s.name ++ x) (sym (first_of bytes n some within)) ∙ sym is))
+
+-- ---- names of attributes
+
+attribute_run : (s : State) (bs : List ℕ) → s.phase ≡ phase.Attribute → list_all (goes_on runs.Name) bs ≡ true → run step (Some s) bs ≡ Some (record s { attribute = s.attribute ++ bs })
+attribute_run s [] here are = ap (λ (n : List ℕ). Some (record s { attribute = n })) (sym (append-nil s.attribute))
+attribute_run s (b ∷ bs) here are =
+    let both = and_both (is_name_byte b) (list_all (goes_on runs.Name) bs) are in
+    first step s (with_attribute_byte s b) (record s { attribute = s.attribute ++ b ∷ bs }) b bs
+    (ap (λ p. step_by p s b) here ∙ yes (is_name_byte b) (Some (with_attribute_byte s b)) (cond (is_named s.attributes s.attribute) None (equals_step s b)) both.0)
+    (attribute_run (with_attribute_byte s b) bs here both.1 ∙ ap (λ (n : List ℕ). Some (record s { attribute = n })) (append_assoc s.attribute (b ∷ []) bs))
+
+pub attribute_goes : (s : State) (bytes : List ℕ) (n : ℕ) (name : List ℕ) → s.phase ≡ phase.Attribute → 0 < n → n ≤ length bytes → list_all (goes_on runs.Name) (drop 1 (take n bytes)) ≡ true → name ≡ s.attribute ++ take n bytes
+    → Goes (λ s b. Some (with_attribute_byte s b)) s bytes (Some n) (record s { attribute = name })
+attribute_goes s bytes n name here some within are is =
+    let b = get_or bytes 0 0 in
+    let bs = drop 1 (take n bytes) in
+    run_taken step (Some (with_attribute_byte s b)) bytes n (with_attribute_byte s b) (record s { attribute = name }) some within (all_in_line runs.Name bs are) refl
+    (attribute_run (with_attribute_byte s b) bs here are
+    ∙ ap (λ (x : List ℕ). Some (record s { attribute = x })) (append_assoc s.attribute (b ∷ []) bs ∙ ap (λ (x : List ℕ). s.attribute ++ x) (sym (first_of bytes n some within)) ∙ sym is))
+
+-- ---- values
+
+spaced_is : (b : ℕ) → (b == 9) ≡ false → (b == 10) ≡ false → (b == 13) ≡ false → spaced b ≡ b
+spaced_is b tab feed return_ = grind (arith, nat_tests)
+
+-- what a byte of a value is not
+record Itself (q : Quote) (b : ℕ) : Type 0 where
+  quote : (b == quote_byte q) ≡ false
+  open_ : (b == 60) ≡ false
+  reference : (b == 38) ≡ false
+  tab : (b == 9) ≡ false
+  feed : (b == 10) ≡ false
+  return_ : (b == 13) ≡ false
+
+itself : (q : Quote) (b : ℕ) → goes_on (runs.Value q) b ≡ true → Itself q b
+itself q b is =
+    let four = and_both (not (b == quote_byte q) && not (b == 60) && not (b == 38) && not (b == 9)) (is_in_line b) is in
+    let three = and_both (not (b == quote_byte q) && not (b == 60) && not (b == 38)) (not (b == 9)) four.0 in
+    let two = and_both (not (b == quote_byte q) && not (b == 60)) (not (b == 38)) three.0 in
+    let one = and_both (not (b == quote_byte q)) (not (b == 60)) two.0 in
+    let five = and_both (not (b == 10)) (not (b == 13)) four.1 in
+    record {
+      quote = not_false (b == quote_byte q) one.0;
+      open_ = not_false (b == 60) one.1;
+      reference = not_false (b == 38) two.1;
+      tab = not_false (b == 9) three.1;
+      feed = not_false (b == 10) five.0;
+      return_ = not_false (b == 13) five.1;
+    }
+
+value_byte : (q : Quote) (s : State) (b : ℕ) → s.phase ≡ phase.Value q → Itself q b → step s b ≡ Some (with_value s (b ∷ []))
+value_byte q s b here is =
+    let spoken = cond (b == 60) None (cond (b == 38) (moved (record s { reference = [] }) (phase.Reference q)) (Some (with_value s (spaced b ∷ [])))) in
+    ap (λ p. step_by p s b) here ∙ no (b == quote_byte q) (Some (closed s)) spoken is.quote
+    ∙ no (b == 60) None (cond (b == 38) (moved (record s { reference = [] }) (phase.Reference q)) (Some (with_value s (spaced b ∷ [])))) is.open_
+    ∙ no (b == 38) (moved (record s { reference = [] }) (phase.Reference q)) (Some (with_value s (spaced b ∷ []))) is.reference
+    ∙ ap (λ (x : ℕ). Some (with_value s (x ∷ []))) (spaced_is b is.tab is.feed is.return_)
+
+value_run : (q : Quote) (s : State) (bs : List ℕ) → s.phase ≡ phase.Value q → list_all (goes_on (runs.Value q)) bs ≡ true → run step (Some s) bs ≡ Some (with_value s bs)
+value_run q s [] here are = ap (λ (n : List ℕ). Some (record s { value = n })) (sym (append-nil s.value))
+value_run q s (b ∷ bs) here are =
+    let both = and_both (goes_on (runs.Value q) b) (list_all (goes_on (runs.Value q)) bs) are in
+    first step s (with_value s (b ∷ [])) (with_value s (b ∷ bs)) b bs (value_byte q s b here (itself q b both.0))
+    (value_run q (with_value s (b ∷ [])) bs here both.1 ∙ ap (λ (n : List ℕ). Some (record s { value = n })) (append_assoc s.value (b ∷ []) bs))
+
+pub value_goes : (q : Quote) (s : State) (bytes : List ℕ) (n : ℕ) (value : List ℕ) → s.phase ≡ phase.Value q → 0 < n → n ≤ length bytes → list_all (goes_on (runs.Value q)) (drop 1 (take n bytes)) ≡ true → value ≡ s.value ++ take n bytes
+    → Goes (λ s b. Some (with_value s (b ∷ []))) s bytes (Some n) (record s { value = value })
+value_goes q s bytes n value here some within are is =
+    let b = get_or bytes 0 0 in
+    let bs = drop 1 (take n bytes) in
+    run_taken step (Some (with_value s (b ∷ []))) bytes n (with_value s (b ∷ [])) (record s { value = value }) some within (all_in_line (runs.Value q) bs are) refl
+    (value_run q (with_value s (b ∷ [])) bs here are
+    ∙ ap (λ (x : List ℕ). Some (record s { value = x })) (append_assoc s.value (b ∷ []) bs ∙ ap (λ (x : List ℕ). s.value ++ x) (sym (first_of bytes n some within)) ∙ sym is))

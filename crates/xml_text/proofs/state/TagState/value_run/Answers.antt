@@ -1,0 +1,10 @@
+use Rattle.std.proofs.Common.{rules, ◌≡◌, ◌++◌, take}
+use Rattle.xml_text.specs.inner.TagSteps.{state}
+use Rattle.xml_text.proofs.TagTaken.{value_goes}
+use Rattle.xml_text.proofs.state.TagState.value_run.Goals as goal
+
+pub returns : goal.returns
+returns c =
+    let len = c.len-len in
+    let is : c.extend_from_slice.new.self.items ≡ c.args.self.now.value.items ++ take len.result c.args.rest.now = search rules in
+    value_goes c.args.quote (state c.args.self.now) c.args.rest.now len.result c.extend_from_slice.new.self.items c.requires.phase len.ensures.some len.ensures.within len.ensures.run is
