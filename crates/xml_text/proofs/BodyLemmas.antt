@@ -1,5 +1,5 @@
 -- What follows a declaration, run after run.
-use Rattle.std.proofs.Common.{◌≡◌, ℕ, zero, suc, ◌+◌, ◌<◌, ◌≤◌, Bool, true, false, ◌==◌, ◌&&◌, not, Option, Some, None, List, [], ◌∷◌, ◌++◌, length, take, drop, get_or, cond, refl, sym, ap, ◌∙◌, subst, append-nil, add-one, drop-cons, take_all, arith}
+use Rattle.std.proofs.Common.{◌≡◌, ℕ, zero, suc, ◌+◌, ◌<◌, ◌≤◌, Bool, true, false, ◌==◌, ◌&&◌, not, Option, Some, None, List, [], ◌∷◌, ◌++◌, length, take, drop, get_or, cond, refl, sym, ap, ◌∙◌, subst, append-nil, take_all, arith}
 use Rattle.std.proofs.lemmas.Bool.Decides.{nat_tests}
 use Rattle.std.proofs.lemmas.List.{drop_all}
 use Rattle.ruleset_text.specs.Stops.{run, Begins}
@@ -10,7 +10,7 @@ use Rattle.xml_text.specs.Documents.{IsBody}
 use Rattle.xml_text.specs.Files.{IsABody, IsStopOf}
 use Rattle.xml_text.specs.LineEnds.{line_feeds, line_feeds_after, return_after}
 use Rattle.xml_text.specs.TagStops.{IsStuck}
-use Rattle.xml_text.specs.inner.Runs.{IsTaken, Takes, is_in_line}
+use Rattle.xml_text.specs.inner.Runs.{Takes, is_in_line}
 use Rattle.xml_text.specs.inner.DocumentSteps.{State, start, step, state, is_complete, IsRead, Reads}
 use Rattle.xml_text.proofs.DocumentBodies.{body_read, no_body, open_body}
 use Rattle.xml_text.proofs.DocumentLive.{live}

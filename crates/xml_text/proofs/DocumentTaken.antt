@@ -1,16 +1,14 @@
 -- Runs of a document.
-use Rattle.std.proofs.Common.{◌≡◌, inl, inr, ℕ, ◌+◌, ◌<◌, ◌≤◌, Bool, true, false, ◌==◌, ◌&&◌, not, Option, Some, None, List, [], ◌∷◌, ◌++◌, length, take, drop, get_or, cond, refl, sym, ap, ◌∙◌, subst, append_assoc, append-nil, arith}
+use Rattle.std.proofs.Common.{◌≡◌, ℕ, ◌+◌, ◌<◌, ◌≤◌, Bool, true, false, ◌==◌, ◌&&◌, not, Option, Some, None, List, [], ◌∷◌, ◌++◌, length, take, drop, get_or, cond, refl, sym, ap, ◌∙◌, subst, append_assoc, append-nil, arith}
 use Rattle.std.specs.List.{list_all}
 use Rattle.std.specs.Option.{option_map}
 use Rattle.std.proofs.lemmas.Bool.Decides.{nat_tests}
 use Rattle.ruleset_text.specs.Stops.{run}
 use Rattle.ruleset_text.proofs.StopLemmas.{run_none}
 use Rattle.xml_text.specs.declared.attribute.TagKind.{TagKind}
-use Rattle.xml_text.specs.declared.document_state.Part.{Part}
 use Rattle.xml_text.specs.declared.document_state.Part.TheVariants as part
 use Rattle.xml_text.specs.declared.repeats.Repeats.{Repeats}
 use Rattle.xml_text.specs.declared.repeats.Repeats.TheVariants as repeats
-use Rattle.xml_text.specs.declared.run.Run.{Run}
 use Rattle.xml_text.specs.declared.run.Run.TheVariants as runs
 use Rattle.xml_text.specs.declared.state.Phase.TheVariants as phase
 use Rattle.xml_text.specs.LineEnds.{next_line}
@@ -18,13 +16,13 @@ use Rattle.xml_text.specs.Names.{is_blank, is_name_start}
 use Rattle.xml_text.specs.Tags.{Tag}
 use Rattle.xml_text.specs.inner.DocumentSteps
 use Rattle.xml_text.specs.inner.DocumentSteps.{State, step, content, after, is_two, times, with_said, spoken_step, tag_step, tag_moved, ended_tag, opened, with_tag, begin_tag_step, may_open, comment_step, section_step, instruction_step, on_line, line_next, Goes}
-use Rattle.xml_text.specs.inner.Runs.{goes_on, is_in_line, IsTaken, Takes, taken_as}
+use Rattle.xml_text.specs.inner.Runs.{goes_on, is_in_line, Takes, taken_as}
 use Rattle.xml_text.specs.inner.TagSteps as tag
 use Rattle.xml_text.proofs.ListLemmas.{and_both}
 use Rattle.xml_text.proofs.Runs.{first, yes, no, stepped}
 use Rattle.xml_text.proofs.TagReads.{ended_phase, ended_takes_none}
 use Rattle.xml_text.proofs.TagRuns.{not_false}
-use Rattle.xml_text.proofs.TagTaken.{in_line, all_in_line}
+use Rattle.xml_text.proofs.TagTaken.{all_in_line}
 use Rattle.xml_text.proofs.TakenLemmas.{first_of, one_is, run_taken}
 
 -- ---- one byte

@@ -1,5 +1,5 @@
 -- Runs of a tag.
-use Rattle.std.proofs.Common.{◌≡◌, ℕ, ◌<◌, ◌≤◌, Bool, true, false, ◌==◌, ◌&&◌, not, Option, Some, None, List, [], ◌∷◌, ◌++◌, length, take, drop, get_or, cond, refl, sym, ap, ◌∙◌, append_assoc, append-nil, arith}
+use Rattle.std.proofs.Common.{◌≡◌, ℕ, ◌<◌, ◌≤◌, Bool, true, false, ◌==◌, ◌&&◌, not, Some, None, List, [], ◌∷◌, ◌++◌, length, take, drop, get_or, cond, refl, sym, ap, ◌∙◌, append_assoc, append-nil, arith}
 use Rattle.std.specs.List.{list_all}
 use Rattle.std.proofs.lemmas.Bool.Decides.{nat_tests}
 use Rattle.ruleset_text.specs.Stops.{run}
@@ -8,9 +8,9 @@ use Rattle.xml_text.specs.declared.run.Run.{Run}
 use Rattle.xml_text.specs.declared.run.Run.TheVariants as runs
 use Rattle.xml_text.specs.declared.state.Phase.TheVariants as phase
 use Rattle.xml_text.specs.Attributes.{is_named}
-use Rattle.xml_text.specs.Names.{is_name_byte, is_name_start}
+use Rattle.xml_text.specs.Names.{is_name_byte}
 use Rattle.xml_text.specs.Tags.{quote_byte, spaced}
-use Rattle.xml_text.specs.inner.Runs.{goes_on, is_in_line, Takes}
+use Rattle.xml_text.specs.inner.Runs.{goes_on, is_in_line}
 use Rattle.xml_text.specs.inner.TagSteps.{State, step, step_by, named, after_step, equals_step, with_attribute_byte, with_value, closed, moved, Goes}
 use Rattle.xml_text.proofs.ListLemmas.{and_both}
 use Rattle.xml_text.proofs.Runs.{first, yes, no}

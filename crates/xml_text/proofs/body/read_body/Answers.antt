@@ -1,4 +1,4 @@
-use Rattle.std.proofs.Common.{rules, ◌≡◌, ℕ, ◌<◌, true, false, Option, Some, None, List, length, sym, subst, arith}
+use Rattle.std.proofs.Common.{rules, ◌≡◌, ℕ, ◌<◌, true, false, Option, None, List, length, sym, subst, arith}
 use Rattle.xml_text.specs.Documents.{IsBody}
 use Rattle.xml_text.specs.LineEnds.{line_feeds}
 use Rattle.xml_text.specs.Tokens.{Token}

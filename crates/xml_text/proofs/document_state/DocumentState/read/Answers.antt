@@ -1,4 +1,4 @@
-use Rattle.std.proofs.Common.{rules, ◌≡◌, ◌==◌, ◌&&◌, Bool, true, false, Some, [], ◌∷◌, get_or, ap, arith}
+use Rattle.std.proofs.Common.{◌≡◌, ◌==◌, ◌&&◌, Bool, false, [], ◌∷◌, get_or, ap, arith}
 use Rattle.xml_text.specs.inner.DocumentSteps.{state, step}
 use Rattle.xml_text.specs.inner.Runs.{Takes}
 use Rattle.xml_text.proofs.BodyLemmas.{read_return, read_skipped, read_other, not_byte, no_skip}
