@@ -2,15 +2,16 @@
 """Times idn2-registry with a register of labels like German words: python3 bench/registry.py
 
     check       one label after the other against all registered ones, by the clock: in milliseconds the middle of all, and the
-                slowest; of each label the least of some rounds, since the clock counts what else the machine does
+                slowest; and the slowest of those that nothing else kept from a processor, since the clock counts that, too
     audit       of all of them: how often it takes the processor time of the run of the program alone that it stands on, which is
-                --among with --others; each the least of some rounds, on one processor, since several slow each other down
+                --among with --others; each the least of some rounds
 
 The register is a file of SQLite, and then, where Debian's packages of it are installed, a database of PostgreSQL.
 """
 
 import gc
 import os
+import pathlib
 import random
 import resource
 import statistics
@@ -21,7 +22,7 @@ import time
 import registered
 from bench import HERE
 from inputs import SEED
-from runs import Failed, before_others, measured, words_of
+from runs import Failed, before_others, children, lost, measured, words_of
 
 sys.path += [str(HERE.parent / folder) for folder in ("registry", "tests")]
 
@@ -45,8 +46,8 @@ def processor_time(words, folder, source=os.devnull):
     return after.ru_utime + after.ru_stime - before.ru_utime - before.ru_stime
 
 
-def checks(options, folder, labels):
-    """Milliseconds of each check, the least of the rounds."""
+def checks(options, folder, labels, server_process):
+    """Milliseconds of each check, and of those during which the processors did nothing else."""
     from idn2_registry import Zone
 
     chance = random.Random(f"{SEED} checks")
@@ -55,17 +56,17 @@ def checks(options, folder, labels):
     gc.freeze()
     with before_others(), Zone.open(folder / "registry.toml", options.ours) as zone:
         zone.check("erste")
-        rounds = [[check_time(zone, label) for label in asked] for _ in range(options.rounds)]
-    return [min(times) for times in zip(*rounds)]
-
-
-def check_time(zone, label):
-    start = time.perf_counter()
-    answer = zone.check(label)
-    taken = (time.perf_counter() - start) * 1000
-    if answer.reason:
-        raise Failed(f"no answer for {label}")
-    return taken
+        processes = [os.getpid(), *children(os.getpid()), *(children(server_process) if server_process else ())]
+        times, undisturbed = [], []
+        for label in asked:
+            before, start = lost(processes), time.perf_counter()
+            answer = zone.check(label)
+            times.append((time.perf_counter() - start) * 1000)
+            if lost(processes) - before < 1:
+                undisturbed.append(times[-1])
+            if answer.reason:
+                raise Failed(f"no answer for {label}")
+    return times, undisturbed
 
 
 def measure(options, folder):
@@ -76,19 +77,20 @@ def measure(options, folder):
     measure_register(options, folder, labels, alone, "sqlite:register.db")
     with before_others(), server() as (environment, _):
         if environment:
-            measure_register(options, folder, labels, alone, uri_of(environment))
+            [process, *_] = (pathlib.Path(environment["PGHOST"]) / "data" / "postmaster.pid").read_text("ascii").split()
+            measure_register(options, folder, labels, alone, uri_of(environment), int(process))
 
 
-def measure_register(options, folder, labels, alone, register):
+def measure_register(options, folder, labels, alone, register, server_process=None):
     """A register with the labels, of which an audit by the program alone takes so many seconds."""
     command = [sys.executable, "-m", "idn2_registry"]
-    (folder / "registry.toml").write_text(f'register = "{register}"\nprocesses = 1\n[tables]\nde = "{registered.GERMAN}"\n', "utf-8")
+    (folder / "registry.toml").write_text(f'register = "{register}"\n[tables]\nde = "{registered.GERMAN}"\n', "utf-8")
     load = processor_time([*command, "load", "--idn2", options.ours, "labels.txt"], folder)
-    times = checks(options, folder, labels)
+    times, undisturbed = checks(options, folder, labels, server_process)
     audit = min(processor_time([*command, "audit", "--idn2", options.ours], folder) for _ in range(options.rounds))
     print(f"{register.partition(':')[0]}: load {load:.1f} s; check {statistics.median(times):.2f} ms ({CHECK_WANTED} wanted), at "
-          f"worst {max(times):.2f} ms ({WORST_WANTED} wanted); audit {audit / alone:.2f} times the program's own {alone:.1f} s "
-          f"({AUDIT_WANTED} wanted)", flush=True)
+          f"worst {max(times):.2f} ms ({WORST_WANTED} wanted), and {max(undisturbed):.2f} ms of {len(undisturbed):,} undisturbed "
+          f"ones; audit {audit / alone:.2f} times the program's own {alone:.1f} s ({AUDIT_WANTED} wanted)", flush=True)
 
 
 if __name__ == "__main__":

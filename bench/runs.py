@@ -116,6 +116,14 @@ def children(process):
     return found
 
 
+def lost(processes):
+    """For how many milliseconds processes, each of one thread, were ready and had no processor; and for how many the processors of
+    a virtual machine were its host's."""
+    waited = sum(int(pathlib.Path(f"/proc/{process}/schedstat").read_text("ascii").split()[1]) for process in processes)
+    stolen = pathlib.Path("/proc/stat").read_text("ascii").split(None, 9)[8]
+    return waited / 1e6 + int(stolen) * 1000 / os.sysconf("SC_CLK_TCK")
+
+
 def found(program):
     return shutil.which(program, path="/usr/bin:/bin:/usr/local/bin")
 
