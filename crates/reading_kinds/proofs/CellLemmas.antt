@@ -5,9 +5,10 @@ use Rattle.std.proofs.lemmas.Bool.Decides.{nat_tests}
 use Rattle.std.proofs.Math.Pow.{pow_pos}
 use Rattle.std.specs.Int.{bit_at, bit_not, w64}
 use Rattle.std.proofs.lemmas.Bool.{cases_order}
-use Rattle.std.proofs.lemmas.Nat.{and_le_l, pow_below, same_from_place}
+use Rattle.std.proofs.lemmas.Nat.{and_le_l, mul-add-lt, pow_below, same_from_place}
 use Rattle.std.proofs.lemmas.Nat.Bits.{bit_at_set_same, bit_at_set_other, bit_at_and, same_from_bits_below, bit_at_not, and_pow, bit_at-zero, bit_at_or}
-use Rattle.reading_kinds.specs.inner.Cells.{Cells, Mark, InWords, Tells}
+use Rattle.reading_kinds.specs.inner.Cells.{Cells, Mark, InWords, Tells, words_at}
+use Rattle.reading_kinds.specs.declared.board.Words.{Words}
 use Rattle.reading_kinds.specs.inner.Columns.{TellsAfter, Clears, Adds, AddsAfter}
 use Rattle.reading_kinds.specs.inner.Cells.Mark.{Reached, Has, Lacks}
 
@@ -33,7 +34,7 @@ bit_test word k l =
     )
 
 -- the test of a cell that it is reached
-pub Tells-by_test : (cells : Cells) (column place word : ℕ) → column < 64 → place < 64 → word ≡ get_or cells.reached column 0 → IsTrue (not (nat_eq (bit_and word (1 * 2 ^ place % 2 ^ 64)) 0)) ↔ Tells cells column place Reached
+pub Tells-by_test : (cells : Cells) (column place word : ℕ) → column < cells.size.columns → place < 64 → word ≡ get_or cells.reached column 0 → IsTrue (not (nat_eq (bit_and word (1 * 2 ^ place % 2 ^ 64)) 0)) ↔ Tells cells column place Reached
 Tells-by_test cells column place word cl pl read =
     let t = bit_test word place pl in (
       λ h. record { column_in_range = cl; place_in_range = pl; reached = ap (λ w. bit_at w place) (sym read) ∙ t.0 h; words = tt },
@@ -50,23 +51,27 @@ bit_of_or a b k = let e = bit_at_or a b k in (
   λ h. elim h [ inl x ↦ omega (arith, e, x) | inr y ↦ omega (arith, e, y) ],
 )
 
-pub InWords-or : (a b c d : ℕ) (m : Mark) → InWords (bit_or a b) (bit_or c d) m ↔ (InWords a c m ⊎ InWords b d m)
-InWords-or a b c d Reached = (λ h. inl tt, λ h. tt)
-InWords-or a b c d (Has k) = let e = bit_of_or a b k in (
+-- what either of two words says
+abbrev pub both : Words → Words → Words
+both a b = record { has = bit_or a.has b.has; lacks = bit_or a.lacks b.lacks }
+
+pub InWords-both : (a b : Words) (m : Mark) → InWords (both a b) m ↔ (InWords a m ⊎ InWords b m)
+InWords-both a b Reached = (λ h. inl tt, λ h. tt)
+InWords-both a b (Has k) = let e = bit_of_or a.has b.has k in (
   λ h. elim (e.0 h.1) [ inl x ↦ inl (h.0, x) | inr y ↦ inr (h.0, y) ],
   λ h. elim h [ inl x ↦ (x.0, e.1 (inl x.1)) | inr y ↦ (y.0, e.1 (inr y.1)) ],
 )
-InWords-or a b c d (Lacks k) = let e = bit_of_or c d k in (
+InWords-both a b (Lacks k) = let e = bit_of_or a.lacks b.lacks k in (
   λ h. elim (e.0 h.1) [ inl x ↦ inl (h.0, x) | inr y ↦ inr (h.0, y) ],
   λ h. elim h [ inl x ↦ (x.0, e.1 (inl x.1)) | inr y ↦ (y.0, e.1 (inr y.1)) ],
 )
 
 -- a column is cleared
-pub Clears-set : (cells : Cells) (column : ℕ) → column < 64 → length cells.reached ≡ 64 → Clears cells (record cells { reached = set cells.reached column 0 }) column
-Clears-set cells column cl sized c p m = (
+pub Clears-set : (cells : Cells) (column : ℕ) → column < length cells.reached → Clears cells (record cells { reached = set cells.reached column 0 }) column
+Clears-set cells column cl c p m = (
   λ h. elim (same_or_not c column) [
     | inl same ↦ absurd (
-        let z : get_or (set cells.reached column 0) c 0 ≡ 0 = ap (λ i. get_or (set cells.reached column 0) i 0) same ∙ get_or-set_same cells.reached column 0 0 (omega arith) in
+        let z : get_or (set cells.reached column 0) c 0 ≡ 0 = ap (λ i. get_or (set cells.reached column 0) i 0) same ∙ get_or-set_same cells.reached column 0 0 cl in
         let b : bit_at (get_or (set cells.reached column 0) c 0) p ≡ 0 = ap (λ w. bit_at w p) z ∙ bit_at-zero p in
         omega (arith, b, h.reached))
     | inr other ↦ (
@@ -88,120 +93,115 @@ Clears-set cells column cl sized c p m = (
 )
 
 -- where the words of a cell stand
-abbrev pub cell_of : ℕ → ℕ → ℕ
-cell_of column place = place * 64 + column
+abbrev pub cell_of : Cells → ℕ → ℕ → ℕ
+cell_of cells column place = place * cells.size.columns + column
 
-pub cell_below : (column place room : ℕ) → column < 64 → (place + 1) * 64 ≤ room → cell_of column place < room
-cell_below column place room cl enough = omega (arith, cl, enough)
+abbrev pub nothing : Words
+nothing = record { has = 0; lacks = 0 }
+
+pub cell_below : (cells : Cells) (column place : ℕ) → length cells.words ≡ cells.size.columns * cells.size.places → column < cells.size.columns → place < cells.size.places → cell_of cells column place < length cells.words
+cell_below cells column place sized cl pl = omega (arith, mul-add-lt place cells.size.columns column cells.size.places pl cl, sized)
 
 -- another cell has its words elsewhere
-pub other_cell : (c p column place : ℕ) → c < 64 → column < 64 → ((c ≡ column) × (p ≡ place) → ⊥) → cell_of c p ≢ cell_of column place
-other_cell c p column place l cl differ e = let same = same_from_place p c place column 64 l cl e in differ (same.1, same.0)
+pub other_cell : (cells : Cells) (c p column place : ℕ) → c < cells.size.columns → column < cells.size.columns → ((c ≡ column) × (p ≡ place) → ⊥) → cell_of cells c p ≢ cell_of cells column place
+other_cell cells c p column place l cl differ e = let same = same_from_place p c place column cells.size.columns l cl e in differ (same.1, same.0)
 
 -- new is old with these words added to a cell
-pub record IsAdded (old new : Cells) (column place has lacks : ℕ) : Type 0 where
+pub record IsAdded (old new : Cells) (column place : ℕ) (words : Words) : Type 0 where
+  pub size : new.size ≡ old.size
   pub others_reached : (c p : ℕ) → p < 64 → ((c ≡ column) × (p ≡ place) → ⊥) → bit_at (get_or new.reached c 0) p ≡ bit_at (get_or old.reached c 0) p
-  pub others_has : (c p : ℕ) → c < 64 → ((c ≡ column) × (p ≡ place) → ⊥) → get_or new.has (cell_of c p) 0 ≡ get_or old.has (cell_of c p) 0
-  pub others_lacks : (c p : ℕ) → c < 64 → ((c ≡ column) × (p ≡ place) → ⊥) → get_or new.lacks (cell_of c p) 0 ≡ get_or old.lacks (cell_of c p) 0
+  pub others_words : (c p : ℕ) → c < old.size.columns → ((c ≡ column) × (p ≡ place) → ⊥) → words_at new c p ≡ words_at old c p
   pub reached : bit_at (get_or new.reached column 0) place ≡ 1
-  pub here : (m : Mark) → InWords (get_or new.has (cell_of column place) 0) (get_or new.lacks (cell_of column place) 0) m ↔ (Tells old column place m ⊎ InWords has lacks m)
+  pub here : (m : Mark) → InWords (words_at new column place) m ↔ (Tells old column place m ⊎ InWords words m)
 
-InWords-same : (a b c d : ℕ) (m : Mark) → a ≡ b → c ≡ d → InWords a c m → InWords b d m
-InWords-same a b c d m e f h = subst (λ x. InWords x d m) e (subst (λ x. InWords a x m) f h)
+module _ (old new : Cells) (column place : ℕ) (words : Words) (cl : column < old.size.columns) (pl : place < 64) (is : IsAdded old new column place words) where
+  same_columns : new.size.columns ≡ old.size.columns
+  same_columns = ap (λ s. s.columns) is.size
 
-module _ (old new : Cells) (column place has lacks : ℕ) (cl : column < 64) (pl : place < 64) (is : IsAdded old new column place has lacks) where
-  AddsAt : ℕ → ℕ → Mark → Type 0
-  AddsAt c p m = Tells new c p m ↔ (Tells old c p m ⊎ ((c ≡ column) × (p ≡ place) × InWords has lacks m))
-
-  here_adds : (m : Mark) → Tells new column place m ↔ (Tells old column place m ⊎ ((column ≡ column) × (place ≡ place) × InWords has lacks m))
+  here_adds : (m : Mark) → Tells new column place m ↔ (Tells old column place m ⊎ ((column ≡ column) × (place ≡ place) × InWords words m))
   here_adds m = (
     λ h. elim ((is.here m).0 h.words) [ inl o ↦ inl o | inr w ↦ inr (refl, refl, w) ],
     λ h. record {
-      column_in_range = cl;
+      column_in_range = omega (arith, cl, same_columns);
       place_in_range = pl;
       reached = is.reached;
       words = elim h [ inl o ↦ (is.here m).1 (inl o) | inr w ↦ (is.here m).1 (inr w.2) ];
     },
   )
 
-  other_adds : (c p : ℕ) (m : Mark) → ((c ≡ column) × (p ≡ place) → ⊥) → Tells new c p m ↔ (Tells old c p m ⊎ ((c ≡ column) × (p ≡ place) × InWords has lacks m))
+  other_adds : (c p : ℕ) (m : Mark) → ((c ≡ column) × (p ≡ place) → ⊥) → Tells new c p m ↔ (Tells old c p m ⊎ ((c ≡ column) × (p ≡ place) × InWords words m))
   other_adds c p m differ = (
-    λ h. inl (record {
-      column_in_range = h.column_in_range;
-      place_in_range = h.place_in_range;
-      reached = sym (is.others_reached c p h.place_in_range differ) ∙ h.reached;
-      words = InWords-same _ _ _ _ m (is.others_has c p h.column_in_range differ) (is.others_lacks c p h.column_in_range differ) h.words;
-    }),
+    λ h.
+        let range : c < old.size.columns = omega (arith, h.column_in_range, same_columns) in
+        inl (record {
+          column_in_range = range;
+          place_in_range = h.place_in_range;
+          reached = sym (is.others_reached c p h.place_in_range differ) ∙ h.reached;
+          words = subst (λ x. InWords x m) (is.others_words c p range differ) h.words;
+        }),
     λ h. elim h [
       | inl o ↦ record {
-        column_in_range = o.column_in_range;
+        column_in_range = omega (arith, o.column_in_range, same_columns);
         place_in_range = o.place_in_range;
         reached = is.others_reached c p o.place_in_range differ ∙ o.reached;
-        words = InWords-same _ _ _ _ m (sym (is.others_has c p o.column_in_range differ)) (sym (is.others_lacks c p o.column_in_range differ)) o.words;
+        words = subst (λ x. InWords x m) (sym (is.others_words c p o.column_in_range differ)) o.words;
       }
       | inr w ↦ absurd (differ (w.0, w.1))
     ],
   )
 
-  pub Adds-by : Adds old new column place has lacks
+  pub Adds-by : Adds old new column place words
   Adds-by c p m = elim (same_or_not c column) [
     | inl ec ↦ elim (same_or_not p place) [
-      | inl ep ↦ subst (λ x. Tells new x p m ↔ (Tells old x p m ⊎ ((x ≡ column) × (p ≡ place) × InWords has lacks m))) (sym ec)
-          (subst (λ y. Tells new column y m ↔ (Tells old column y m ⊎ ((column ≡ column) × (y ≡ place) × InWords has lacks m))) (sym ep) (here_adds m))
+      | inl ep ↦ subst (λ x. Tells new x p m ↔ (Tells old x p m ⊎ ((x ≡ column) × (p ≡ place) × InWords words m))) (sym ec)
+          (subst (λ y. Tells new column y m ↔ (Tells old column y m ⊎ ((column ≡ column) × (y ≡ place) × InWords words m))) (sym ep) (here_adds m))
       | inr np ↦ other_adds c p m (λ e. np e.1)
     ]
     | inr nc ↦ other_adds c p m (λ e. nc e.0)
   ]
 
-module _ (old : Cells) (column place has lacks bits : ℕ) (cl : column < 64) (pl : place < 64) (enough : (place + 1) * 64 ≤ length old.has) (sized_lacks : length old.lacks ≡ length old.has) (sized_reached : length old.reached ≡ 64) (read : bits ≡ get_or old.reached column 0) where
+module _ (old : Cells) (column place : ℕ) (words : Words) (bits : ℕ) (cl : column < old.size.columns) (pl : place < 64) (below : cell_of old column place < length old.words) (read : bits ≡ get_or old.reached column 0) where
   -- the cell was reached
-  pub Adds-more : (was_has was_lacks : ℕ) → was_has ≡ get_or old.has (cell_of column place) 0 → was_lacks ≡ get_or old.lacks (cell_of column place) 0 → IsTrue (not (nat_eq (bit_and bits (1 * 2 ^ place % 2 ^ 64)) 0)) → Adds old (record { has = set old.has (cell_of column place) (bit_or was_has has); lacks = set old.lacks (cell_of column place) (bit_or was_lacks lacks); reached = old.reached }) column place has lacks
-  Adds-more was_has was_lacks read_has read_lacks test =
-      let new : Cells = record { has = set old.has (cell_of column place) (bit_or was_has has); lacks = set old.lacks (cell_of column place) (bit_or was_lacks lacks); reached = old.reached } in
+  pub Adds-more : IsTrue (not (nat_eq (bit_and bits (1 * 2 ^ place % 2 ^ 64)) 0)) → Adds old (record old { words = set old.words (cell_of old column place) (both (words_at old column place) words) }) column place words
+  Adds-more test =
+      let new : Cells = record old { words = set old.words (cell_of old column place) (both (words_at old column place) words) } in
       let at : bit_at (get_or old.reached column 0) place ≡ 1 = ap (λ w. bit_at w place) (sym read) ∙ (bit_test bits place pl).0 test in
-      let below = cell_below column place (length old.has) cl enough in
-      let is_has : get_or new.has (cell_of column place) 0 ≡ bit_or was_has has = get_or-set_same old.has (cell_of column place) _ 0 below in
-      let is_lacks : get_or new.lacks (cell_of column place) 0 ≡ bit_or was_lacks lacks = get_or-set_same old.lacks (cell_of column place) _ 0 (omega (arith, below, sized_lacks)) in
-      Adds-by old new column place has lacks cl pl (record {
+      let is_words : words_at new column place ≡ both (words_at old column place) words = get_or-set_same old.words (cell_of old column place) _ nothing below in
+      Adds-by old new column place words cl pl (record {
+        size = refl;
         others_reached = λ c p l differ. refl;
-        others_has = λ c p l differ. get_or-set_other old.has (cell_of column place) (cell_of c p) _ 0 (other_cell c p column place l cl differ);
-        others_lacks = λ c p l differ. get_or-set_other old.lacks (cell_of column place) (cell_of c p) _ 0 (other_cell c p column place l cl differ);
+        others_words = λ c p l differ. get_or-set_other old.words (cell_of old column place) (cell_of old c p) _ nothing (other_cell old c p column place l cl differ);
         reached = at;
         here = λ m. (
-          λ h. elim ((InWords-or was_has has was_lacks lacks m).0 (InWords-same _ _ _ _ m is_has is_lacks h)) [
-            | inl o ↦ inl (record { column_in_range = cl; place_in_range = pl; reached = at; words = InWords-same _ _ _ _ m read_has read_lacks o })
+          λ h. elim ((InWords-both (words_at old column place) words m).0 (subst (λ x. InWords x m) is_words h)) [
+            | inl o ↦ inl (record { column_in_range = cl; place_in_range = pl; reached = at; words = o })
             | inr w ↦ inr w
           ],
-          λ h. InWords-same _ _ _ _ m (sym is_has) (sym is_lacks) ((InWords-or was_has has was_lacks lacks m).1 (elim h [
-            | inl o ↦ inl (InWords-same _ _ _ _ m (sym read_has) (sym read_lacks) o.words)
-            | inr w ↦ inr w
-          ])),
+          λ h. subst (λ x. InWords x m) (sym is_words) ((InWords-both (words_at old column place) words m).1 (elim h [ inl o ↦ inl o.words | inr w ↦ inr w ])),
         );
       })
 
   -- it was not
-  pub Adds-first : (IsTrue (not (nat_eq (bit_and bits (1 * 2 ^ place % 2 ^ 64)) 0)) → ⊥) → Adds old (record { has = set old.has (cell_of column place) has; lacks = set old.lacks (cell_of column place) lacks; reached = set old.reached column (bit_or bits (1 * 2 ^ place % 2 ^ 64)) }) column place has lacks
-  Adds-first test =
-      let new : Cells = record { has = set old.has (cell_of column place) has; lacks = set old.lacks (cell_of column place) lacks; reached = set old.reached column (bit_or bits (1 * 2 ^ place % 2 ^ 64)) } in
-      let below = cell_below column place (length old.has) cl enough in
-      let is_has : get_or new.has (cell_of column place) 0 ≡ has = get_or-set_same old.has (cell_of column place) _ 0 below in
-      let is_lacks : get_or new.lacks (cell_of column place) 0 ≡ lacks = get_or-set_same old.lacks (cell_of column place) _ 0 (omega (arith, below, sized_lacks)) in
-      let is_reached : get_or new.reached column 0 ≡ bit_or bits (1 * 2 ^ place % 2 ^ 64) = get_or-set_same old.reached column _ 0 (omega arith) in
-      Adds-by old new column place has lacks cl pl (record {
+  pub Adds-first : column < length old.reached → (IsTrue (not (nat_eq (bit_and bits (1 * 2 ^ place % 2 ^ 64)) 0)) → ⊥) → Adds old (record old { words = set old.words (cell_of old column place) words; reached = set old.reached column (bit_or bits (1 * 2 ^ place % 2 ^ 64)) }) column place words
+  Adds-first inside test =
+      let new : Cells = record old { words = set old.words (cell_of old column place) words; reached = set old.reached column (bit_or bits (1 * 2 ^ place % 2 ^ 64)) } in
+      let is_words : words_at new column place ≡ words = get_or-set_same old.words (cell_of old column place) _ nothing below in
+      let is_reached : get_or new.reached column 0 ≡ bit_or bits (1 * 2 ^ place % 2 ^ 64) = get_or-set_same old.reached column _ 0 inside in
+      Adds-by old new column place words cl pl (record {
+        size = refl;
         others_reached = λ c p l differ. elim (same_or_not c column) [
           | inl ec ↦
               ap (λ x. bit_at (get_or new.reached x 0) p) ec ∙ ap (λ w. bit_at w p) is_reached ∙ bit_at_set_other w64 bits place pl p (λ ep. differ (ec, ep))
               ∙ ap (λ w. bit_at w p) read ∙ ap (λ x. bit_at (get_or old.reached x 0) p) (sym ec)
           | inr nc ↦ ap (λ w. bit_at w p) (get_or-set_other old.reached column c _ 0 nc)
         ];
-        others_has = λ c p l differ. get_or-set_other old.has (cell_of column place) (cell_of c p) _ 0 (other_cell c p column place l cl differ);
-        others_lacks = λ c p l differ. get_or-set_other old.lacks (cell_of column place) (cell_of c p) _ 0 (other_cell c p column place l cl differ);
+        others_words = λ c p l differ. get_or-set_other old.words (cell_of old column place) (cell_of old c p) _ nothing (other_cell old c p column place l cl differ);
         reached = ap (λ w. bit_at w place) is_reached ∙ bit_at_set_same w64 bits place pl;
         here = λ m. (
-          λ h. inr (InWords-same _ _ _ _ m is_has is_lacks h),
+          λ h. inr (subst (λ x. InWords x m) is_words h),
           λ h. elim h [
             | inl o ↦ absurd (test ((bit_test bits place pl).1 (ap (λ w. bit_at w place) read ∙ o.reached)))
-            | inr w ↦ InWords-same _ _ _ _ m (sym is_has) (sym is_lacks) w
+            | inr w ↦ subst (λ x. InWords x m) (sym is_words) w
           ],
         );
       })
@@ -214,10 +214,13 @@ bit_of_without a b k fits l = let e = bit_at_and a (bit_not w64 b) k in let f = 
 )
 
 -- the words after a substitution of these kinds, from a cell that is reached
-pub InWords-after : (cells : Cells) (column place kinds : ℕ) → kinds < 2 ^ 64 → Tells cells column place Reached → (m : Mark) → InWords (bit_or (get_or cells.has (cell_of column place) 0) kinds) (bit_and (get_or cells.lacks (cell_of column place) 0) (bit_not w64 kinds)) m ↔ TellsAfter cells column place kinds m
+abbrev pub words_after : Words → ℕ → Words
+words_after words kinds = record { has = bit_or words.has kinds; lacks = bit_and words.lacks (bit_not w64 kinds) }
+
+pub InWords-after : (cells : Cells) (column place kinds : ℕ) → kinds < 2 ^ 64 → Tells cells column place Reached → (m : Mark) → InWords (words_after (words_at cells column place) kinds) m ↔ TellsAfter cells column place kinds m
 InWords-after cells column place kinds fits at Reached = (λ h. tt, λ h. tt)
 InWords-after cells column place kinds fits at (Has k) =
-    let e = bit_of_or (get_or cells.has (cell_of column place) 0) kinds k in (
+    let e = bit_of_or (words_at cells column place).has kinds k in (
       λ h. (
         h.0,
         elim (e.0 h.1) [
@@ -228,19 +231,17 @@ InWords-after cells column place kinds fits at (Has k) =
       λ h. (h.0, e.1 (elim h.1 [ inl one ↦ inr one | inr t ↦ inl (t.words).1 ])),
     )
 InWords-after cells column place kinds fits at (Lacks k) = (
-  λ h. let e = (bit_of_without (get_or cells.lacks (cell_of column place) 0) kinds k fits h.0).0 h.1 in
+  λ h. let e = (bit_of_without (words_at cells column place).lacks kinds k fits h.0).0 h.1 in
       (e.0, record { column_in_range = at.column_in_range; place_in_range = at.place_in_range; reached = at.reached; words = (h.0, e.1) }),
   λ h. let within : k < 64 = ((h.1).words).0 in
-      (within, (bit_of_without (get_or cells.lacks (cell_of column place) 0) kinds k fits within).1 (h.0, ((h.1).words).1)),
+      (within, (bit_of_without (words_at cells column place).lacks kinds k fits within).1 (h.0, ((h.1).words).1)),
 )
 
 -- a cell with the words after a substitution
-pub AddsAfter-words : (old new : Cells) (from_column from_place kinds column place has lacks : ℕ) → kinds < 2 ^ 64 → Tells old from_column from_place Reached → has ≡ get_or old.has (cell_of from_column from_place) 0 → lacks ≡ get_or old.lacks (cell_of from_column from_place) 0 → Adds old new column place (bit_or has kinds) (bit_and lacks (bit_not w64 kinds)) → AddsAfter old new from_column from_place kinds column place
-AddsAfter-words old new from_column from_place kinds column place has lacks fits at has_is lacks_is adds c p m =
-    let same : InWords (bit_or has kinds) (bit_and lacks (bit_not w64 kinds)) m ↔ TellsAfter old from_column from_place kinds m =
-    subst (λ x. InWords (bit_or x kinds) (bit_and lacks (bit_not w64 kinds)) m ↔ TellsAfter old from_column from_place kinds m) (sym has_is)
-    (subst (λ y. InWords (bit_or (get_or old.has (cell_of from_column from_place) 0) kinds) (bit_and y (bit_not w64 kinds)) m ↔ TellsAfter old from_column from_place kinds m) (sym lacks_is)
-    (InWords-after old from_column from_place kinds fits at m)) in (
+pub AddsAfter-words : (old new : Cells) (from_column from_place kinds column place : ℕ) (words : Words) → kinds < 2 ^ 64 → Tells old from_column from_place Reached → words ≡ words_at old from_column from_place → Adds old new column place (words_after words kinds) → AddsAfter old new from_column from_place kinds column place
+AddsAfter-words old new from_column from_place kinds column place words fits at is adds c p m =
+    let same : InWords (words_after words kinds) m ↔ TellsAfter old from_column from_place kinds m =
+    subst (λ x. InWords (words_after x kinds) m ↔ TellsAfter old from_column from_place kinds m) (sym is) (InWords-after old from_column from_place kinds fits at m) in (
       λ h. elim ((adds c p m).0 h) [ inl o ↦ inl o | inr a ↦ inr (a.0, a.1, same.0 a.2) ],
       λ h. (adds c p m).1 (elim h [ inl o ↦ inl o | inr a ↦ inr (a.0, a.1, same.1 a.2) ]),
     )

@@ -99,11 +99,11 @@ HasTaken-grows w old new column place u some grows taken ends at m after =
     grows.more (place + u.covers) m (taken ends ((same Reached).0 at) m (TellsAfter-same new old (column - length u.points) place u.kinds (λ n h. (same n).0 h) m after))
 
 pub Grows-refl : (cells : Cells) (column : ℕ) → Grows cells cells column
-Grows-refl cells column = record { others = λ c other p m. (λ h. h, λ h. h); more = λ p m h. h; room = refl }
+Grows-refl cells column = record { others = λ c other p m. (λ h. h, λ h. h); more = λ p m h. h; size = refl }
 
 pub Grows-trans : (a b d : Cells) (column : ℕ) → Grows a b column → Grows b d column → Grows a d column
 Grows-trans a b d column f g = record {
   others = λ c other p m. (λ h. (f.others c other p m).0 ((g.others c other p m).0 h), λ h. (g.others c other p m).1 ((f.others c other p m).1 h));
   more = λ p m h. g.more p m (f.more p m h);
-  room = g.room ∙ f.room;
+  size = g.size ∙ f.size;
 }

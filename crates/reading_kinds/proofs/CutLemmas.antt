@@ -1,10 +1,12 @@
 -- Cuts of a label, along the list of its substitutions and by the numbers of its places.
-use Rattle.std.proofs.Common.{◌≡◌, ℕ, zero, suc, ◌+◌, ◌-◌, ◌≤◌, ◌↔◌, List, [], ◌∷◌, length, get_or, drop, sym, ap, ◌∙◌, subst, refl, arith}
-use Rattle.std.specs.Prelude.{Contains}
+use Rattle.std.proofs.Common.{◌≡◌, ℕ, zero, suc, ◌+◌, ◌-◌, ◌*◌, ◌^◌, ◌≤◌, ◌↔◌, List, [], ◌∷◌, length, get_or, drop, sym, ap, ◌∙◌, subst, refl, arith, length-append}
+use Rattle.std.specs.Prelude.{Contains, min}
+use Rattle.std.proofs.Math.Nat.{mul-le-mul_right, suc-mul}
 use Rattle.std.proofs.Math.ListN.{get_or-eq_default}
 use Rattle.std.proofs.lemmas.List.{length-drop, get_or-drop, drop-drop}
 use Rattle.std.proofs.lemmas.List.Elements.{All-contains}
-use Rattle.reading_kinds.specs.Readings.{Substitution, substitutions_at, IsCut, IsSubstitution, AreSubstitutions}
+use Rattle.reading_kinds.specs.Readings.{Substitution, substitutions_at, IsCut, IsSubstitution, AreSubstitutions, SubstitutionsSpell, points_of}
+use Rattle.reading_kinds.specs.inner.Cells.{HasColumns}
 use Rattle.reading_kinds.specs.inner.Cuts.{IsCutFrom, AllFit}
 use Rattle.reading_kinds.proofs.ListMembers.{Contains-none}
 
@@ -38,3 +40,20 @@ IsCut-from substitutions are (u ∷ cut) (here ∷ later) place e l =
 
 pub IsCut-by_place : (substitutions : List (List Substitution)) → AllFit substitutions → (cut : List Substitution) → IsCut substitutions cut ↔ IsCutFrom substitutions 0 cut
 IsCut-by_place substitutions are cut = IsCut-from substitutions are cut substitutions 0 refl (omega arith)
+
+-- no label that is spelled has more code points than the longest substitution at each place
+module _ (substitutions : List (List Substitution)) (are : AllFit substitutions) (longest : ℕ) (long : (place : ℕ) (u : Substitution) → Contains (substitutions_at substitutions place) u → length u.points ≤ longest) where
+  short_from : (cut : List Substitution) (place : ℕ) → IsCutFrom substitutions place cut → place * longest + length (points_of cut) ≤ length substitutions * longest
+  short_from [] place h = omega (arith, ap (λ n. n * longest) h)
+  short_from (u ∷ cut) place h =
+      let is = are place u h.0 in
+      let next : suc place * longest ≤ (place + u.covers) * longest = mul-le-mul_right longest (omega (arith, is.covers)) in
+      let here : suc place * longest ≡ place * longest + longest = suc-mul place longest in
+      omega (arith, short_from cut (place + u.covers) h.1, next, here, long place u h.0, length-append u.points (points_of cut))
+
+  pub length-spelled : (v : List ℕ) → SubstitutionsSpell substitutions v → length v ≤ length substitutions * longest
+  length-spelled v h = omega (arith, short_from h.0 0 ((IsCut-by_place substitutions are h.0).0 h.1), ap length h.2)
+
+  -- so a board of so many columns has one for each of them
+  pub HasColumns-by : (places most columns : ℕ) → places ≡ length substitutions → most ≡ min (places * longest) (2 ^ 64 - 1) → columns ≡ min most 63 + 1 → HasColumns substitutions columns
+  HasColumns-by places most columns counted is are_so_many v spelled short = omega (arith, length-spelled v spelled, ap (λ n. n * longest) counted, is, are_so_many, short)

@@ -29,17 +29,17 @@ pub slice_get-Contains : {X : Type 0} → (xs : List X) (x : X) → (h : Contain
 slice_get-Contains xs x h = slice_get-get_or xs h.0 x h.1 ∙ ap Some h.2
 
 -- what a substitution adds is more
-pub Grows-after : (old new : Cells) (from_column from_place kinds column place : ℕ) → AddsAfter old new from_column from_place kinds column place → length new.has ≡ length old.has → Grows old new column
-Grows-after old new from_column from_place kinds column place adds room = record {
+pub Grows-after : (old new : Cells) (from_column from_place kinds column place : ℕ) → AddsAfter old new from_column from_place kinds column place → new.size ≡ old.size → Grows old new column
+Grows-after old new from_column from_place kinds column place adds size = record {
   others = λ c other p m. (
     λ h. elim ((adds c p m).0 h) [ inl o ↦ o | inr a ↦ absurd (other a.0) ],
     λ h. (adds c p m).1 (inl h),
   );
   more = λ p m h. (adds column p m).1 (inl h);
-  room = room;
+  size = size;
 }
 
-module _ (substitutions : List (List Substitution)) (w : List ℕ) (now new : Cells) (column place : ℕ) (u : Substitution) (there : Contains (substitutions_at substitutions place) u) (some : 1 ≤ length u.points) (ends : EndsWith w column u.points) (adds : AddsAfter now new (column - length u.points) place u.kinds column (place + u.covers)) (room : length new.has ≡ length now.has) where
+module _ (substitutions : List (List Substitution)) (w : List ℕ) (now new : Cells) (column place : ℕ) (u : Substitution) (there : Contains (substitutions_at substitutions place) u) (some : 1 ≤ length u.points) (ends : EndsWith w column u.points) (adds : AddsAfter now new (column - length u.points) place u.kinds column (place + u.covers)) (size : new.size ≡ now.size) where
   pub IsSoundAt-after : IsRight substitutions w now (column - 1) → Tells now (column - length u.points) place Reached → IsSoundAt substitutions w now column → IsSoundAt substitutions w new column
   IsSoundAt-after right at sound p m h = elim ((adds column p m).0 h) [
     | inl o ↦ sound p m o
@@ -52,7 +52,7 @@ module _ (substitutions : List (List Substitution)) (w : List ℕ) (now new : Ce
   pub HasTaken-after : HasTaken w new column place u
   HasTaken-after again at m after =
       let apart : column - length u.points ≢ column = λ e. omega (arith, some, ends.0, e) in
-      let grows = Grows-after now new (column - length u.points) place u.kinds column (place + u.covers) adds room in
+      let grows = Grows-after now new (column - length u.points) place u.kinds column (place + u.covers) adds size in
       (adds column (place + u.covers) m).1 (inr (refl, refl, TellsAfter-same new now (column - length u.points) place u.kinds (λ n h. (grows.others (column - length u.points) apart place n).0 h) m after))
 
 -- the substitutions before this number at the place have been taken, as far as they have so many code points
@@ -71,20 +71,20 @@ module _ (substitutions : List (List Substitution)) (w : List ℕ) (first : Cell
       ((so_far.grows).others (column - count) apart place Reached).1 at
 
   -- the next substitution is taken
-  pub TakenUpTo-add : (now new : Cells) (number : ℕ) (u : Substitution) → slice_get (substitutions_at substitutions place) number ≡ Some u → length u.points ≡ count → EndsWith w column u.points → AddsAfter now new (column - count) place u.kinds column (place + u.covers) → length new.has ≡ length now.has → TakenUpTo substitutions w first now column count place number → TakenUpTo substitutions w first new column count place (number + 1)
-  TakenUpTo-add now new number u is counted ends adds room so_far =
+  pub TakenUpTo-add : (now new : Cells) (number : ℕ) (u : Substitution) → slice_get (substitutions_at substitutions place) number ≡ Some u → length u.points ≡ count → EndsWith w column u.points → AddsAfter now new (column - count) place u.kinds column (place + u.covers) → new.size ≡ now.size → TakenUpTo substitutions w first now column count place number → TakenUpTo substitutions w first new column count place (number + 1)
+  TakenUpTo-add now new number u is counted ends adds size so_far =
       let adds_same : AddsAfter now new (column - length u.points) place u.kinds column (place + u.covers) = subst (λ n. AddsAfter now new (column - n) place u.kinds column (place + u.covers)) (sym counted) adds in
       let reached : Tells now (column - length u.points) place Reached = subst (λ n. Tells now (column - n) place Reached) (sym counted) (TakenUpTo-reached now number so_far) in
       let filled : 1 ≤ length u.points = omega (arith, some, counted) in
       let there : Contains (substitutions_at substitutions place) u = Contains-slice_get (substitutions_at substitutions place) number u is in
-      let grows : Grows now new column = Grows-after now new (column - length u.points) place u.kinds column (place + u.covers) adds_same room in
+      let grows : Grows now new column = Grows-after now new (column - length u.points) place u.kinds column (place + u.covers) adds_same size in
       record {
         grows = Grows-trans first now new column so_far.grows grows;
-        sound = IsSoundAt-after substitutions w now new column place u there filled ends adds_same room (IsRight-grows substitutions w first now column (omega (arith, some, enough)) so_far.grows right) reached so_far.sound;
+        sound = IsSoundAt-after substitutions w now new column place u there filled ends adds_same size (IsRight-grows substitutions w first now column (omega (arith, some, enough)) so_far.grows right) reached so_far.sound;
         taken = λ k v l is_v counted_v. elim (same_or_not k number) [
           | inl same ↦
               let one : v ≡ u = some_same v u (sym is_v ∙ ap (slice_get (substitutions_at substitutions place)) same ∙ is) in
-              subst (λ x. HasTaken w new column place x) (sym one) (HasTaken-after substitutions w now new column place u there filled ends adds_same room)
+              subst (λ x. HasTaken w new column place x) (sym one) (HasTaken-after substitutions w now new column place u there filled ends adds_same size)
           | inr other ↦ HasTaken-grows w now new column place v (omega (arith, some, counted_v)) grows (so_far.taken k v (omega (arith, l, other)) is_v counted_v)
         ];
       }
@@ -130,7 +130,7 @@ pub record PlacesTaken (substitutions : List (List Substitution)) (w : List ℕ)
   pub ahead : (p : ℕ) → p < 64 → bit_at left p ≡ 1 → Tells now (column - count) p Reached
   pub taken : (p : ℕ) (u : Substitution) → Contains (substitutions_at substitutions p) u → length u.points ≡ count → (bit_at left p ≡ 1) ⊎ HasTaken w now column p u
 
-module _ (substitutions : List (List Substitution)) (w : List ℕ) (first : Cells) (column count : ℕ) (some : 1 ≤ count) (enough : count ≤ column) (small : column ≤ 63) (are : AllFit substitutions) (wide : length substitutions ≤ 63) where
+module _ (substitutions : List (List Substitution)) (w : List ℕ) (first : Cells) (column count : ℕ) (some : 1 ≤ count) (enough : count ≤ column) (small : column < first.size.columns) (are : AllFit substitutions) (wide : length substitutions ≤ 63) where
   pub PlacesTaken-start : (left : ℕ) → left ≡ get_or first.reached (column - count) 0 → IsSoundAt substitutions w first column → PlacesTaken substitutions w first first column count left
   PlacesTaken-start left read sound = record {
     grows = Grows-refl first column;

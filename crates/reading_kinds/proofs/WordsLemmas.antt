@@ -5,19 +5,23 @@ use Rattle.std.proofs.lemmas.List.{length-take, take-take}
 use Rattle.std.proofs.Math.Seq.{take-length, take-append_seam}
 use Rattle.std.proofs.lemmas.Nat.Bits.{bit_at_ones, bit_at-zero}
 use Rattle.reading_kinds.specs.Readings.{Substitution, IsReading, SubstitutionsSpell, SomeHas, SomeLacks}
-use Rattle.reading_kinds.specs.inner.Cells.{Cells, Mark, InWords, Tells, Shows, LeadsTo, SomeLeads, IsRightAt, IsRight}
+use Rattle.reading_kinds.specs.inner.Cells.{Cells, Mark, InWords, Tells, Shows, LeadsTo, SomeLeads, IsRightAt, IsRight, words_at}
+use Rattle.reading_kinds.specs.declared.board.Words.{Words}
 use Rattle.reading_kinds.specs.inner.Cuts.{AllFit}
 use Rattle.reading_kinds.specs.inner.Columns.{Clears, Adds}
 use Rattle.reading_kinds.specs.inner.Cells.Mark.{Reached, Has, Lacks}
 use Rattle.reading_kinds.proofs.ReadingLemmas.{SomeLeads-whole}
 
 -- the words that say of no kind that it is there
-InWords-first : (m : Mark) → InWords 0 18446744073709551615 m ↔ Shows [] m
+abbrev pub first_words : Words
+first_words = record { has = 0; lacks = 18446744073709551615 }
+
+InWords-first : (m : Mark) → InWords first_words m ↔ Shows [] m
 InWords-first Reached = (λ h. tt, λ h. tt)
 InWords-first (Has k) = (λ h. absurd (omega (arith, h.1, bit_at-zero k)), λ h. absurd h.1)
 InWords-first (Lacks k) = (λ h. (h.0, λ x. x), λ h. (h.0, bit_at_ones 64 k h.0))
 
-pub IsRight-begin : (old cleared new : Cells) → Clears old cleared 0 → Adds cleared new 0 0 0 18446744073709551615 → (substitutions : List (List Substitution)) (label : List ℕ) → AllFit substitutions → IsRight substitutions label new 0
+pub IsRight-begin : (old cleared new : Cells) → Clears old cleared 0 → Adds cleared new 0 0 first_words → (substitutions : List (List Substitution)) (label : List ℕ) → AllFit substitutions → IsRight substitutions label new 0
 IsRight-begin old cleared new clears adds substitutions label are c l =
     subst (λ x. IsRightAt substitutions label new x) (zero_is c l) (λ p m. (
       λ h. elim ((adds 0 p m).0 h) [
@@ -30,7 +34,7 @@ IsRight-begin old cleared new clears adds substitutions label are c l =
     zero_is : (x : ℕ) → x ≤ 0 → 0 ≡ x
     zero_is x le = omega (arith, le)
 
-    nothing_yet : (cut : List Substitution) (p : ℕ) (m : Mark) → LeadsTo substitutions p [] cut → Shows cut m → (p ≡ 0) × InWords 0 18446744073709551615 m
+    nothing_yet : (cut : List Substitution) (p : ℕ) (m : Mark) → LeadsTo substitutions p [] cut → Shows cut m → (p ≡ 0) × InWords first_words m
     nothing_yet [] p m leads shows = (leads.0, (InWords-first m).1 shows)
     nothing_yet (u ∷ before) p m leads shows = absurd (
         let some = (are leads.0 u leads.2).some in
@@ -52,20 +56,20 @@ module _ (substitutions : List (List Substitution)) (are : AllFit substitutions)
   )
 
   module _ (at : Tells cells (length w) (length substitutions) Reached) where
-    pub SomeHas-last : (word k : ℕ) → word ≡ get_or cells.has (length substitutions * 64 + length w) 0 → k < 64 → (bit_at word k ≡ 1) ↔ SomeHas substitutions w k
-    SomeHas-last word k e l = (
+    pub SomeHas-last : (words : Words) (k : ℕ) → words ≡ words_at cells (length w) (length substitutions) → k < 64 → (bit_at words.has k ≡ 1) ↔ SomeHas substitutions w k
+    SomeHas-last words k e l = (
       λ h.
-          let r = (last_tells (Has k)).0 (record { column_in_range = at.column_in_range; place_in_range = at.place_in_range; reached = at.reached; words = (l, ap (λ x. bit_at x k) (sym e) ∙ h) }) in
+          let r = (last_tells (Has k)).0 (record { column_in_range = at.column_in_range; place_in_range = at.place_in_range; reached = at.reached; words = (l, ap (λ x. bit_at x.has k) (sym e) ∙ h) }) in
           (r.0, r.1, (r.2).1),
-      λ h. ap (λ x. bit_at x k) e ∙ (((last_tells (Has k)).1 (h.0, h.1, (l, h.2))).words).1,
+      λ h. ap (λ x. bit_at x.has k) e ∙ (((last_tells (Has k)).1 (h.0, h.1, (l, h.2))).words).1,
     )
 
-    pub SomeLacks-last : (word k : ℕ) → word ≡ get_or cells.lacks (length substitutions * 64 + length w) 0 → k < 64 → (bit_at word k ≡ 1) ↔ SomeLacks substitutions w k
-    SomeLacks-last word k e l = (
+    pub SomeLacks-last : (words : Words) (k : ℕ) → words ≡ words_at cells (length w) (length substitutions) → k < 64 → (bit_at words.lacks k ≡ 1) ↔ SomeLacks substitutions w k
+    SomeLacks-last words k e l = (
       λ h.
-          let r = (last_tells (Lacks k)).0 (record { column_in_range = at.column_in_range; place_in_range = at.place_in_range; reached = at.reached; words = (l, ap (λ x. bit_at x k) (sym e) ∙ h) }) in
+          let r = (last_tells (Lacks k)).0 (record { column_in_range = at.column_in_range; place_in_range = at.place_in_range; reached = at.reached; words = (l, ap (λ x. bit_at x.lacks k) (sym e) ∙ h) }) in
           (r.0, r.1, (r.2).1),
-      λ h. ap (λ x. bit_at x k) e ∙ (((last_tells (Lacks k)).1 (h.0, h.1, (l, h.2))).words).1,
+      λ h. ap (λ x. bit_at x.lacks k) e ∙ (((last_tells (Lacks k)).1 (h.0, h.1, (l, h.2))).words).1,
     )
 
 -- the columns of what both labels begin with stay right

@@ -1,15 +1,19 @@
 //! The cells of a board: what is kept of the beginnings of readings.
-ghost use Rattle.std.specs.Prelude.{◌≡◌, ◌+◌, ◌*◌, ◌<◌, ◌≤◌, ◌↔◌, length, slice_index, vec_len, IsTrue, IfOk};
+ghost use Rattle.std.specs.Prelude.{◌≡◌, ◌*◌, ◌<◌, ◌≤◌, ◌↔◌, slice_index, vec_len, IsTrue, IfOk};
 ghost use Rattle.std.specs.Int.{bit_at};
-ghost use Rattle.reading_kinds.specs.inner.Cells.{Cells, Tells};
+ghost use Rattle.reading_kinds.specs.inner.Cells.{Cells, Tells, words_at};
 ghost use Rattle.reading_kinds.specs.inner.Cells.Mark.{Reached};
 ghost use Rattle.reading_kinds.specs.inner.Columns.{Clears, Adds};
 
 use std::alloc::{AllocError, Global};
 use std::marker::Model;
 
-/// How many columns there are: one for each length of a label, from none on.
-pub(crate) const COLUMNS: usize = 64;
+/// How many columns a board has, and how many cells each of them.
+#[derive(Clone, Copy, Debug)]
+pub(crate) struct Size {
+    pub(crate) columns: usize,
+    pub(crate) places: usize,
+}
 
 /// Which kinds some reading has, and which some reading lacks: bit k tells of kind k.
 #[derive(Clone, Copy, Debug)]
@@ -31,8 +35,9 @@ impl Words {
 /// A column for each length of what is spelled, with a cell for each place of the label.
 #[derive(Drop)]
 pub(crate) struct Board {
-    has: Vec<u64>,
-    lacks: Vec<u64>,
+    size: Size,
+    /// The words of the cells, place by place.
+    words: Vec<Words>,
     /// Of each column the cells that are reached. The words of the others count for nothing.
     reached: Vec<u64>,
 }
@@ -41,30 +46,40 @@ impl Model for Board {
     ghost Value = { Cells };
 
     ghost view = { λ board. record {
-      has = board.has.items;
-      lacks = board.lacks.items;
+      size = board.size;
+      words = board.words.items;
       reached = board.reached.items;
     } };
 
-    ghost invariant = { λ board. (vec_len board.lacks ≡ vec_len board.has) × (vec_len board.reached ≡ 64) };
+    ghost invariant = { λ board. (vec_len board.words ≡ board.size.columns * board.size.places)
+        × (vec_len board.reached ≡ board.size.columns) };
 }
 
 impl Board {
-    /// Room for so many places in all columns, which is taken once for all labels.
-    pub(crate) fn new(alloc: Global, places: usize) -> Result<Board, AllocError>
-        requires { places ≤ 64 }
-        ensures { IfOk result (λ board. length board.has ≡ places * 64) }
+    /// Room for all cells, which is taken once for all labels.
+    pub(crate) fn new(alloc: Global, size: Size) -> Result<Board, AllocError>
+        requires columns { size.columns ≤ 64 }
+        requires places { size.places ≤ 64 }
+        ensures { IfOk result (λ board. board.size ≡ size) }
     {
+        let unread = Words { has: 0, lacks: 0 };
         Ok(Board {
-            has: vec![in alloc; 0; places * COLUMNS]?,
-            lacks: vec![in alloc; 0; places * COLUMNS]?,
-            reached: vec![in alloc; 0; COLUMNS]?,
+            size,
+            words: vec![in alloc; unread; size.columns * size.places]?,
+            reached: vec![in alloc; 0; size.columns]?,
         })
+    }
+
+    /// How many columns there are.
+    pub(crate) fn columns(&self) -> usize
+        ensures { result ≡ self.now.size.columns }
+    {
+        self.size.columns
     }
 
     /// Whether the cell is reached.
     pub(crate) fn reaches(&self, column: usize, place: usize) -> bool
-        requires column { column < 64 }
+        requires column { column < self.now.size.columns }
         requires place { place < 64 }
         ensures { IsTrue result ↔ Tells self.now column place Reached }
     {
@@ -73,7 +88,7 @@ impl Board {
 
     /// Which cells of a column are reached: a bit for each place.
     pub(crate) fn reached_in(&self, column: usize) -> u64
-        requires { column < 64 }
+        requires { column < self.now.size.columns }
         ensures { result ≡ slice_index self.now.reached column }
     {
         self.reached[column]
@@ -81,45 +96,41 @@ impl Board {
 
     /// The words of a cell.
     pub(crate) fn words_at(&self, column: usize, place: usize) -> Words
-        requires column { column < 64 }
-        requires place { place < 64 }
-        requires room { (place + 1) * 64 ≤ length self.now.has }
-        ensures has { result.has ≡ slice_index self.now.has (place * 64 + column) }
-        ensures lacks { result.lacks ≡ slice_index self.now.lacks (place * 64 + column) }
+        requires column { column < self.now.size.columns }
+        requires place { place < self.now.size.places }
+        ensures { result ≡ words_at self.now column place }
     {
-        let index = place * COLUMNS + column;
-        Words {
-            has: self.has[index],
-            lacks: self.lacks[index],
-        }
+        self.words[place * self.size.columns + column]
     }
 
     /// Makes all cells of a column unreached.
     pub(crate) fn clear(&mut self, column: usize)
-        requires { column < 64 }
+        requires { column < self.old.size.columns }
         ensures clears { Clears self.old self.new column }
-        ensures room { length self.new.has ≡ length self.old.has }
+        ensures size { self.new.size ≡ self.old.size }
     {
         self.reached[column] = 0;
     }
 
     /// Adds words to a cell, which is reached then.
     pub(crate) fn add(&mut self, column: usize, place: usize, words: Words)
-        requires column { column < 64 }
-        requires place { place < 64 }
-        requires room { (place + 1) * 64 ≤ length self.old.has }
-        ensures adds { Adds self.old self.new column place words.has words.lacks }
-        ensures room { length self.new.has ≡ length self.old.has }
+        requires column { column < self.old.size.columns }
+        requires bit { place < 64 }
+        requires place { place < self.old.size.places }
+        ensures adds { Adds self.old self.new column place words }
+        ensures size { self.new.size ≡ self.old.size }
     {
-        let index = place * COLUMNS + column;
+        let index = place * self.size.columns + column;
         let bits = self.reached[column];
         if bits & (1 << place) != 0 {
-            self.has[index] |= words.has;
-            self.lacks[index] |= words.lacks;
+            let before = self.words[index];
+            self.words[index] = Words {
+                has: before.has | words.has,
+                lacks: before.lacks | words.lacks,
+            };
         } else {
             self.reached[column] = bits | 1 << place;
-            self.has[index] = words.has;
-            self.lacks[index] = words.lacks;
+            self.words[index] = words;
         }
     }
 }

@@ -20,13 +20,13 @@ struct Cell {
 impl Board {
     /// Adds to a cell what a cell of a column before tells, after a substitution of these kinds.
     fn add_after(&mut self, from: Cell, to: Cell, kinds: u64)
-        requires column { to.column < 64 }
-        requires place { to.place < 64 }
-        requires from { (from.place + 1) * 64 ≤ length self.old.has }
-        requires to { (to.place + 1) * 64 ≤ length self.old.has }
+        requires column { to.column < self.old.size.columns }
+        requires bit { to.place < 64 }
+        requires from { from.place < self.old.size.places }
+        requires to { to.place < self.old.size.places }
         requires reached { Tells self.old from.column from.place Reached }
         ensures adds { AddsAfter self.old self.new from.column from.place kinds to.column to.place }
-        ensures room { length self.new.has ≡ length self.old.has }
+        ensures size { self.new.size ≡ self.old.size }
     {
         let before = self.words_at(from.column, from.place);
         let words = Words {
@@ -47,8 +47,8 @@ impl Board {
     )
         requires substitutions { AllFit substitutions.now }
         requires wide { length substitutions.now ≤ 63 }
-        requires room { length self.old.has ≡ (length substitutions.now + 1) * 64 }
-        requires column { column ≤ 63 }
+        requires places { self.old.size.places ≡ length substitutions.now + 1 }
+        requires column { column < self.old.size.columns }
         requires within { column ≤ length label.now }
         requires some { 1 ≤ count }
         requires count { count ≤ column }
@@ -88,8 +88,8 @@ impl Board {
     )
         requires substitutions { AllFit substitutions.now }
         requires wide { length substitutions.now ≤ 63 }
-        requires room { length self.old.has ≡ (length substitutions.now + 1) * 64 }
-        requires column { column ≤ 63 }
+        requires places { self.old.size.places ≡ length substitutions.now + 1 }
+        requires column { column < self.old.size.columns }
         requires within { column ≤ length label.now }
         requires some { 1 ≤ count }
         requires count { count ≤ column }
@@ -121,15 +121,15 @@ impl Board {
     )
         requires substitutions { AllFit substitutions.now }
         requires wide { length substitutions.now ≤ 63 }
-        requires room { length self.old.has ≡ (length substitutions.now + 1) * 64 }
+        requires places { self.old.size.places ≡ length substitutions.now + 1 }
         requires longest { (p : ℕ) (u : Substitution) → Contains (substitutions_at substitutions.now p) u →
             length u.points ≤ longest }
-        requires column { column ≤ 63 }
+        requires column { column < self.old.size.columns }
         requires within { column ≤ length label.now }
         requires some { 1 ≤ column }
         requires right { IsRight substitutions.now label.now self.old (column - 1) }
         ensures right { IsRight substitutions.now label.now self.new column }
-        ensures room { length self.new.has ≡ length self.old.has }
+        ensures size { self.new.size ≡ self.old.size }
     {
         self.clear(column);
         for count in 1..longest.min(column) + 1 {
@@ -147,14 +147,14 @@ impl Board {
     )
         requires substitutions { AllFit substitutions.now }
         requires wide { length substitutions.now ≤ 63 }
-        requires room { length self.old.has ≡ (length substitutions.now + 1) * 64 }
+        requires places { self.old.size.places ≡ length substitutions.now + 1 }
         requires longest { (p : ℕ) (u : Substitution) → Contains (substitutions_at substitutions.now p) u →
             length u.points ≤ longest }
-        requires long { length label.now ≤ 63 }
+        requires long { length label.now < self.old.size.columns }
         requires kept { kept ≤ length label.now }
         requires right { IsRight substitutions.now label.now self.old kept }
         ensures right { IsRight substitutions.now label.now self.new (length label.now) }
-        ensures room { length self.new.has ≡ length self.old.has }
+        ensures size { self.new.size ≡ self.old.size }
     {
         for column in kept + 1..label.len() + 1 {
             self.fill_column(substitutions, label, column, longest);
@@ -164,10 +164,11 @@ impl Board {
     /// Fills the first column: nothing is spelled yet, and no kind is there. The board is of the empty label then, for
     /// any substitutions.
     pub(crate) fn begin(&mut self)
-        requires { 64 ≤ length self.old.has }
+        requires columns { 1 ≤ self.old.size.columns }
+        requires places { 1 ≤ self.old.size.places }
         ensures right { (substitutions : List (List Substitution)) (label : List ℕ) → AllFit substitutions →
             IsRight substitutions label self.new 0 }
-        ensures room { length self.new.has ≡ length self.old.has }
+        ensures size { self.new.size ≡ self.old.size }
     {
         self.clear(0);
         let words = Words {
@@ -181,8 +182,8 @@ impl Board {
     pub(crate) fn words(&self, substitutions: &LabelSubstitutions, label: &[u32]) -> Option<Words>
         requires substitutions { AllFit substitutions.now }
         requires wide { length substitutions.now ≤ 63 }
-        requires long { length label.now ≤ 63 }
-        requires room { length self.now.has ≡ (length substitutions.now + 1) * 64 }
+        requires long { length label.now < self.now.size.columns }
+        requires places { self.now.size.places ≡ length substitutions.now + 1 }
         requires right { IsRight substitutions.now label.now self.now (length label.now) }
         ensures spelled { IsSome result ↔ SubstitutionsSpell substitutions.now label.now }
         ensures has { IfSome result (λ words. (k : ℕ) → k < 64 →

@@ -3,7 +3,7 @@ ghost use Rattle.std.specs.Prelude.{◌≡◌, ◌≤◌, ◌<◌, ◌↔◌, �
 ghost use Rattle.std.specs.Int.{bit_at};
 ghost use Rattle.reading_kinds.specs.Readings.{AreSubstitutions, SubstitutionsSpell, SomeHas, SomeLacks};
 
-use crate::board::{Board, Words};
+use crate::board::{Board, Size, Words};
 use crate::label_substitutions::LabelSubstitutions;
 use std::alloc::{AllocError, Global};
 use std::marker::Model;
@@ -23,9 +23,9 @@ pub struct Readings {
 }
 
 impl Model for Readings {
-    ghost use Rattle.std.specs.Prelude.{◌≡◌, ◌+◌, ◌*◌, ◌≤◌, List, length, take};
+    ghost use Rattle.std.specs.Prelude.{◌≡◌, ◌+◌, ◌<◌, ◌≤◌, List, length, take};
     ghost use Rattle.reading_kinds.specs.Readings.{Substitution, AreSubstitutions};
-    ghost use Rattle.reading_kinds.specs.inner.Cells.{IsRight};
+    ghost use Rattle.reading_kinds.specs.inner.Cells.{HasColumns, IsRight};
 
     ghost Value = { List (List Substitution) };
 
@@ -33,7 +33,8 @@ impl Model for Readings {
 
     ghost invariant = { λ r. AreSubstitutions r.substitutions × (length r.substitutions ≤ 63) × (r.count ≤ 63) ×
         IsRight r.substitutions (take r.count r.label) r.board r.count ×
-        (length r.board.has ≡ (length r.substitutions + 1) * 64) };
+        HasColumns r.substitutions r.board.size.columns ×
+        (r.board.size.places ≡ length r.substitutions + 1) };
 }
 
 impl Readings {
@@ -44,7 +45,14 @@ impl Readings {
         requires short { length substitutions ≤ 63 }
         ensures { IfOk result (λ readings. readings ≡ substitutions) }
     {
-        let mut board = Board::new(alloc, substitutions.len() + 1)?;
+        let places = substitutions.len();
+        // What a place spells is no longer than the longest substitution.
+        let longest = places.saturating_mul(substitutions.longest());
+        let size = Size {
+            columns: longest.min(MAX_LABEL_LEN) + 1,
+            places: places + 1,
+        };
+        let mut board = Board::new(alloc, size)?;
         board.begin();
         Ok(Readings {
             substitutions,
@@ -64,6 +72,9 @@ impl Readings {
         ensures lacks { IfSome result (λ words. (k : ℕ) → k < 64 →
             (bit_at words.lacks k ≡ 1) ↔ SomeLacks self.old label.now k) }
     {
+        if label.len() >= self.board.columns() {
+            return None;
+        }
         let kept = shared_len(&self.label[..self.count], label);
         self.board.fill(
             &self.substitutions,

@@ -2,6 +2,7 @@
 use Rattle.std.specs.Prelude.{◌≡◌, ◌≢◌, ℕ, ◌+◌, ◌-◌, ◌<◌, ◌≤◌, ◌⊎◌, ◌↔◌, List, length, take, drop}
 use Rattle.std.specs.Int.{bit_at}
 use Rattle.reading_kinds.specs.Readings.{Substitution}
+use Rattle.reading_kinds.specs.declared.board.Words.{Words}
 use Rattle.reading_kinds.specs.inner.Cells.{Cells, Mark, InWords, Tells, SomeLeads}
 use Rattle.reading_kinds.specs.inner.Cells.Mark.{Reached, Has, Lacks}
 
@@ -10,9 +11,9 @@ abbrev pub Clears : Cells → Cells → ℕ → Type 0
 Clears old new column = (c p : ℕ) (m : Mark) → Tells new c p m ↔ ((c ≢ column) × Tells old c p m)
 
 -- old with these words added to a cell
-abbrev pub Adds : Cells → Cells → ℕ → ℕ → ℕ → ℕ → Type 0
-Adds old new column place has lacks =
-    (c p : ℕ) (m : Mark) → Tells new c p m ↔ (Tells old c p m ⊎ ((c ≡ column) × (p ≡ place) × InWords has lacks m))
+abbrev pub Adds : Cells → Cells → ℕ → ℕ → Words → Type 0
+Adds old new column place words =
+    (c p : ℕ) (m : Mark) → Tells new c p m ↔ (Tells old c p m ⊎ ((c ≡ column) × (p ≡ place) × InWords words m))
 
 -- a column tells nothing that no beginning shows
 abbrev pub IsSoundAt : List (List Substitution) → List ℕ → Cells → ℕ → Type 0
@@ -23,7 +24,7 @@ IsSoundAt substitutions w cells column =
 pub record Grows (old new : Cells) (column : ℕ) : Type 0 where
   pub others : (c : ℕ) → c ≢ column → (p : ℕ) (m : Mark) → Tells new c p m ↔ Tells old c p m
   pub more : (p : ℕ) (m : Mark) → Tells old column p m → Tells new column p m
-  pub room : length new.has ≡ length old.has
+  pub size : new.size ≡ old.size
 
 -- what a cell tells after a substitution from this cell
 abbrev pub TellsAfter : Cells → ℕ → ℕ → ℕ → Mark → Type 0

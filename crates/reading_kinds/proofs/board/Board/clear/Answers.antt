@@ -7,6 +7,6 @@ use Rattle.reading_kinds.proofs.board.Board.clear.Goals as goal
 
 pub returns-clause-clears : goal.returns-clause-clears
 returns-clause-clears c =
-    let cells : Cells = record { has = c.self.inside.has.items; lacks = c.self.inside.lacks.items; reached = c.self.inside.reached.items } in
+    let cells : Cells = record { size = c.self.inside.size; words = c.self.inside.words.items; reached = c.self.inside.reached.items } in
     subst (λ v. Clears v (record cells { reached = set cells.reached c.args.column 0 }) c.args.column) c.self.view_is
-    (Clears-set cells c.args.column c.requires (search rules))
+    (Clears-set cells c.args.column (search rules))

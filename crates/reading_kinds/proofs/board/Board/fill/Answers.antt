@@ -1,4 +1,4 @@
-use Rattle.std.proofs.Common.{◌≡◌, ◌+◌, ◌-◌, arith, subst, refl, ◌∙◌, length}
+use Rattle.std.proofs.Common.{◌≡◌, ◌+◌, ◌-◌, arith, subst, refl, ap, ◌∙◌, length}
 use Rattle.reading_kinds.specs.inner.Cells.{IsRight}
 use Rattle.reading_kinds.proofs.board.Board.fill.Goals as goal
 
@@ -10,10 +10,10 @@ loop-column-init c =
 pub loop-column-preserved : goal.loop-column-preserved
 loop-column-preserved c =
     let same : c.loop-column.column ≡ c.loop-column.column + 1 - 1 = omega arith in
-    (subst (λ n. IsRight c.args.substitutions.now c.args.label.now c.fill_column.new.self n) same c.fill_column.ensures.right, c.fill_column.ensures.room ∙ c.loop-column.invariant.1)
+    (subst (λ n. IsRight c.args.substitutions.now c.args.label.now c.fill_column.new.self n) same c.fill_column.ensures.right, c.fill_column.ensures.size ∙ c.loop-column.invariant.1)
 
-pub fill_column-requires-clause-room : goal.fill_column-requires-clause-room
-fill_column-requires-clause-room c = c.loop-column.invariant.1 ∙ c.requires.room
+pub fill_column-requires-clause-places : goal.fill_column-requires-clause-places
+fill_column-requires-clause-places c = ap (λ s. s.places) c.loop-column.invariant.1 ∙ c.requires.places
 
 pub fill_column-requires-clause-right : goal.fill_column-requires-clause-right
 fill_column-requires-clause-right c = c.loop-column.invariant.0

@@ -1,4 +1,4 @@
-use Rattle.std.proofs.Common.{◌≡◌, ◌+◌, ◌∙◌, arith}
+use Rattle.std.proofs.Common.{◌≡◌, ◌+◌, ap, ◌∙◌, arith}
 use Rattle.std.specs.Prelude.{min}
 use Rattle.reading_kinds.proofs.ColumnLemmas.{IsRight-grows, IsRight-step}
 use Rattle.reading_kinds.proofs.TakenLemmas.{CountsTaken-start, CountsTaken-count, CountsTaken-all, IsSoundAt-cleared, IsRight-cleared}
@@ -19,11 +19,11 @@ loop-count-preserved c =
     CountsTaken-count c.args.substitutions.now c.args.label.now c.clear.new.self c.args.column c.requires.substitutions c.loop-count.self c.take_count.new.self c.loop-count.count
     c.take_count.ensures.grows c.take_count.ensures.sound c.take_count.ensures.taken c.loop-count.invariant
 
-pub take_count-requires-clause-room : goal.take_count-requires-clause-room
-take_count-requires-clause-room c = c.loop-count.invariant.grows.room ∙ c.clear.ensures.room ∙ c.requires.room
+pub take_count-requires-clause-places : goal.take_count-requires-clause-places
+take_count-requires-clause-places c = ap (λ s. s.places) (c.loop-count.invariant.grows.size ∙ c.clear.ensures.size) ∙ c.requires.places
 
-pub returns-clause-room : goal.returns-clause-room
-returns-clause-room c = c.loop-count.invariant.grows.room ∙ c.clear.ensures.room
+pub returns-clause-size : goal.returns-clause-size
+returns-clause-size c = c.loop-count.invariant.grows.size ∙ c.clear.ensures.size
 
 pub returns-clause-right : goal.returns-clause-right
 returns-clause-right c =

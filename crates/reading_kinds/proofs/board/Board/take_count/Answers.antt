@@ -1,4 +1,4 @@
-use Rattle.std.proofs.Common.{rules, arith, ◌∙◌}
+use Rattle.std.proofs.Common.{rules, arith, ap, ◌∙◌}
 use Rattle.reading_kinds.proofs.ColumnLemmas.{IsRight-grows}
 use Rattle.reading_kinds.proofs.TakenLemmas.{PlacesTaken-place, PlacesTaken-skip, lowest_is, rest_less}
 use Rattle.reading_kinds.proofs.board.Board.take_count.Goals as goal
@@ -8,8 +8,8 @@ take_place-requires-clause-reached c =
     let is = lowest_is c.args.substitutions.now c.args.label.now c.args.self.now c.args.column c.args.count c.requires.some c.requires.count c.requires.column c.requires.substitutions c.requires.wide c.loop-left.left (omega (arith, c.loop-left-test.true)) (search rules) in
     c.loop-left.invariant.ahead _ is.0 is.1
 
-pub take_place-requires-clause-room : goal.take_place-requires-clause-room
-take_place-requires-clause-room c = c.loop-left.invariant.grows.room ∙ c.requires.room
+pub take_place-requires-clause-places : goal.take_place-requires-clause-places
+take_place-requires-clause-places c = ap (λ s. s.places) c.loop-left.invariant.grows.size ∙ c.requires.places
 
 pub take_place-requires-clause-right : goal.take_place-requires-clause-right
 take_place-requires-clause-right c =

@@ -1,5 +1,5 @@
 use Rattle.std.proofs.Common.{rules, ◌+◌, ◌*◌, ◌∙◌, subst, sym, ap, refl, length, get_or}
-use Rattle.reading_kinds.specs.inner.Cells.{Tells}
+use Rattle.reading_kinds.specs.inner.Cells.{Tells, words_at}
 use Rattle.reading_kinds.specs.inner.Cells.Mark.{Reached}
 use Rattle.reading_kinds.proofs.WordsLemmas.{SubstitutionsSpell-last, SomeHas-last, SomeLacks-last}
 use Rattle.reading_kinds.proofs.board.Board.words.Goals as goal
@@ -21,11 +21,11 @@ returns-clause-spelled c =
 pub returns-clause-has : goal.returns-clause-has
 returns-clause-has c k l =
     let at : Tells c.args.self.now (length c.args.label.now) (length c.args.substitutions.now) Reached = subst (λ n. Tells c.args.self.now (length c.args.label.now) n Reached) c.len.ensures (c.if-not-reaches.ensures.0 (search rules)) in
-    SomeHas-last c.args.substitutions.now c.requires.substitutions c.args.label.now c.args.self.now c.requires.right at c.words_at.result.has k
-    (c.words_at.ensures.has ∙ ap (λ n. get_or c.args.self.now.has (n * 64 + length c.args.label.now) 0) c.len-2.ensures) l
+    SomeHas-last c.args.substitutions.now c.requires.substitutions c.args.label.now c.args.self.now c.requires.right at c.words_at.result k
+    (c.words_at.ensures ∙ ap (λ n. words_at c.args.self.now (length c.args.label.now) n) c.len-2.ensures) l
 
 pub returns-clause-lacks : goal.returns-clause-lacks
 returns-clause-lacks c k l =
     let at : Tells c.args.self.now (length c.args.label.now) (length c.args.substitutions.now) Reached = subst (λ n. Tells c.args.self.now (length c.args.label.now) n Reached) c.len.ensures (c.if-not-reaches.ensures.0 (search rules)) in
-    SomeLacks-last c.args.substitutions.now c.requires.substitutions c.args.label.now c.args.self.now c.requires.right at c.words_at.result.lacks k
-    (c.words_at.ensures.lacks ∙ ap (λ n. get_or c.args.self.now.lacks (n * 64 + length c.args.label.now) 0) c.len-2.ensures) l
+    SomeLacks-last c.args.substitutions.now c.requires.substitutions c.args.label.now c.args.self.now c.requires.right at c.words_at.result k
+    (c.words_at.ensures ∙ ap (λ n. words_at c.args.self.now (length c.args.label.now) n) c.len-2.ensures) l

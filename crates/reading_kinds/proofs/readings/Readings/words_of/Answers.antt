@@ -1,5 +1,6 @@
-use Rattle.std.proofs.Common.{rules, ◌≡◌, ◌≤◌, length, take, arith, ◌∙◌}
+use Rattle.std.proofs.Common.{rules, ◌≡◌, ◌≤◌, length, take, arith, sym, ap, subst, ◌∙◌}
 use Rattle.std.proofs.lemmas.Grind.{common_steps}
+use Rattle.reading_kinds.specs.inner.Cells.{HasColumns}
 use Rattle.reading_kinds.proofs.CutLemmas.{AllFit-of}
 use Rattle.reading_kinds.proofs.WordsLemmas.{IsRight-kept, IsRight-stored}
 use Rattle.reading_kinds.proofs.readings.Readings.words_of.Goals as goal
@@ -17,4 +18,4 @@ fill-requires-clause-right c =
     IsRight-kept c.self.inside.substitutions c.self.inside.label c.args.label.now c.self.inside.board c.self.inside.count c.shared_len-kept.result c.self.invariant.3 within same
 
 pub invariant_of-self : goal.invariant_of-self
-invariant_of-self c = (c.self.invariant.0, c.self.invariant.1, c.requires, IsRight-stored c.self.inside.substitutions c.args.label.now c.copy_from_slice.new.self _ c.fill.new.self (search rules) c.fill.ensures.right, c.fill.ensures.room ∙ c.self.invariant.4)
+invariant_of-self c = (c.self.invariant.0, c.self.invariant.1, c.requires, IsRight-stored c.self.inside.substitutions c.args.label.now c.copy_from_slice.new.self _ c.fill.new.self (search rules) c.fill.ensures.right, subst (λ s. HasColumns c.self.inside.substitutions s.columns) (sym c.fill.ensures.size) c.self.invariant.4, ap (λ s. s.places) c.fill.ensures.size ∙ c.self.invariant.5)
