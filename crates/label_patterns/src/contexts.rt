@@ -58,7 +58,8 @@ pub fn places_after(context: &PatternTree, seen: &SeenLabel) -> u64
     }
 }
 
-pub(crate) fn is_anchor(tree: &PatternTree) -> bool
+/// Whether the pattern is `_` alone, which stands for the place that a context rule is about.
+pub fn is_anchor(tree: &PatternTree) -> bool
     ensures { result ≡ is_anchor_pattern (pattern tree.now) }
 {
     matches!(tree, PatternTree::Anchor)

@@ -19,7 +19,9 @@ mod starts;
 pub use asking::{condition_holds, is_barred};
 pub use barring::ignores_end;
 pub use condition::{Condition, ConditionKind};
-pub use contexts::{holding_points, holds, is_context_rule, places_after, places_before};
+pub use contexts::{
+    holding_points, holds, is_anchor, is_context_rule, places_after, places_before,
+};
 pub use demands::{first_end, occurs};
 pub use laws::{
     barred_for_good, barring_stays, before_stays, matches_are_parts, matches_stay, tests_agree,

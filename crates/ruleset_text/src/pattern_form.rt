@@ -1,11 +1,10 @@
 //! Whether a pattern in memory is one that lines may spell.
 ghost use Rattle.std.specs.Prelude.{◌≡◌};
-ghost use Rattle.label_patterns.specs.Rules.{is_anchor as is_anchor_pattern};
 ghost use Rattle.label_patterns.specs.Trees.{pattern};
 ghost use Rattle.ruleset_text.specs.Rules as rules;
 ghost use Rattle.ruleset_text.specs.inner.FormTests as tests;
 
-use label_patterns::PatternTree;
+use label_patterns::{PatternTree, is_anchor};
 
 /// What the grammar may call a pattern. Each is also the next.
 #[derive(Clone, Copy, Debug, PartialEq, Eq)]
@@ -115,12 +114,6 @@ fn is_context(tree: &PatternTree) -> bool
         }
         _ => false,
     }
-}
-
-fn is_anchor(tree: &PatternTree) -> bool
-    ensures { result ≡ is_anchor_pattern (pattern tree.now) }
-{
-    matches!(tree, PatternTree::Anchor)
 }
 
 /// Whether it may stand before `_`.
