@@ -8,14 +8,15 @@ use Rattle.xml_text.specs.Attributes.{Attribute}
 use Rattle.xml_text.specs.Tokens
 use Rattle.xml_text.specs.Tokens.{Said, Token}
 use Rattle.lgr_text.specs.declared.fault.ReadError.{ReadError}
-use Rattle.lgr_text.specs.declared.fault.ReadError.TheVariants.{Wrong, Memory}
+use Rattle.lgr_text.specs.declared.fault.ReadError.TheVariants.{Wrong, Limit, Memory}
 use Rattle.lgr_text.specs.declared.records.Ruleset as held
 use Rattle.lgr_text.specs.Documents.{IsSaidBy, Says, prefix_of}
 use Rattle.lgr_text.specs.Elements
 use Rattle.lgr_text.specs.Elements.{Content, Say, each_element, said_by}
 use Rattle.lgr_text.specs.Records.{Ruleset, file}
 use Rattle.lgr_text.specs.Sections.{section_of, ruleset_by}
-use Rattle.lgr_text.specs.inner.Reading.{Fails, IsNot, Reads, after_blanks, closes}
+use Rattle.lgr_text.specs.Sizes.{exceeds}
+use Rattle.lgr_text.specs.inner.Reading.{Fails, IsNot, IsWithinLimit, Reads, after_blanks, closes}
 use Rattle.lgr_text.specs.inner.Nesting.{nests}
 use Rattle.lgr_text.specs.inner.Roots.{attributes_of, root_attributes, root_of}
 use Rattle.lgr_text.proofs.ContentLemmas.{closes-here, drop-front, drop-past, none-said, take-front}
@@ -141,6 +142,7 @@ module _ (tokens : List Token) (r : Ruleset) (s : Says tokens r) where
 
 pub err-prefix : (tokens : List Token) (e : ReadError) → Fails (option_and_then prefix_of (root_attributes tokens)) e → IsSaidBy tokens (Err e)
 err-prefix tokens (Wrong line) f = λ r s. let both : Some s.prefix ≡ None = sym (prefix-said tokens r s) ∙ f in absurd cc
+err-prefix tokens (Limit line) f = absurd f
 err-prefix tokens Memory f = tt
 
 pub err-nesting : (tokens : List Token) (p : List ℕ) (e : ReadError) → option_and_then prefix_of (root_attributes tokens) ≡ Some p → IsNot (nests p 0 (map (λ t. t.said) tokens)) e → IsSaidBy tokens (Err e)
@@ -149,11 +151,18 @@ err-nesting tokens p (Wrong line) declared f = λ r s.
     let nest : nests p 0 (map (λ t. t.said) tokens) ≡ true =
     subst (λ (q : List ℕ). nests q 0 (map (λ t. t.said) tokens) ≡ true) same (said-nests s.prefix tokens (Elements.Element (codes "lgr") s.attributes s.within Elements.Nothing) s.root) in
     absurd (false≢true (sym f ∙ nest))
+err-nesting tokens p (Limit line) declared f = absurd f
 err-nesting tokens p Memory declared f = tt
+
+pub err-sizes : (tokens : List Token) (e : ReadError) → IsWithinLimit {T = Unit {0}} (exceeds 0 0 (map (λ t. t.said) tokens)) (Err e) → IsSaidBy tokens (Err e)
+err-sizes tokens (Wrong line) f = absurd f
+err-sizes tokens (Limit line) f = f
+err-sizes tokens Memory f = tt
 
 pub root-read : (tokens : List Token) (p : List ℕ) (c : Content) (result : Result held.Ruleset ReadError) → option_and_then prefix_of (root_attributes tokens) ≡ Some p → Say p tokens c → Reads file (root_of (after_blanks c)) result → IsSaidBy tokens result
 root-read tokens p c (Ok r) declared say is = says-root p tokens c (file r) declared say is
 root-read tokens p c (Err (Wrong line)) declared say is = λ r s. let both : None ≡ Some r = sym is ∙ root-said tokens r s p c declared say in absurd cc
+root-read tokens p c (Err (Limit line)) declared say is = absurd is
 root-read tokens p c (Err Memory) declared say is = tt
 
 pub one-ruleset : (tokens : List Token) (r q : Ruleset) → Says tokens r → Says tokens q → r ≡ q

@@ -25,4 +25,5 @@ pub mod SetNumberLemmas
 pub mod SortedLemmas
 pub mod SpanLemmas
 pub mod TextLemmas
+pub mod WellFormedLemmas
 pub mod WordLemmas

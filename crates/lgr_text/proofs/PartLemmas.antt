@@ -1,5 +1,5 @@
 -- Parts of rules and the items that match the same.
-use Rattle.std.proofs.Common.{◌≡◌, ℕ, zero, suc, ◌+◌, ◌-◌, ◌<◌, inl, inr, Bool, true, false, ◌||◌, ◌&&◌, List, [], ◌∷◌, ◌++◌, length, drop, get_or, map, Option, Some, None, refl, ap, sym, subst, ◌∙◌, append_assoc, if◌then◌else◌, arith}
+use Rattle.std.proofs.Common.{◌≡◌, ℕ, zero, suc, ◌+◌, ◌-◌, ◌<◌, ◌≤◌, inl, inr, Bool, true, false, ◌||◌, ◌&&◌, not, List, [], ◌∷◌, ◌++◌, length, drop, get_or, map, Option, Some, None, refl, ap, sym, subst, ◌∙◌, append_assoc, if◌then◌else◌, arith}
 use Rattle.std.specs.Prelude.{◌↔◌, slice_index}
 use Rattle.std.specs.List.{list_all}
 use Rattle.std.proofs.lemmas.List.Folds.{list_all-append}
@@ -16,10 +16,12 @@ use Rattle.label_patterns.specs.Sets.{is_in}
 use Rattle.ruleset_text.specs.Names.{number_of}
 use Rattle.lgr_text.specs.ClassMembers.{has}
 use Rattle.lgr_text.specs.Known.{Known}
-use Rattle.lgr_text.specs.PartMatches.{BeginsWith, has_anchor, rule_named, Matching, PartMatches, Place, Repeats, IsUpTo, StandThere}
+use Rattle.lgr_text.specs.LabelEnds.{begins_label, ends_label}
+use Rattle.lgr_text.specs.declared.rule_error.RuleFault.TheVariants.{Misplaced, NotSupported}
+use Rattle.lgr_text.specs.PartMatches.{BeginsWith, IsOf, parts_label, then_fault, times_fault, has_anchor, rule_named, Matching, PartMatches, Place, Repeats, IsUpTo, StandThere}
 use Rattle.lgr_text.specs.Records.{Class, Part, Literal, Any, Of, Start, End, Anchor, OfRule, Then, Choice, Times}
 use Rattle.lgr_text.specs.declared.records.Count.{Count}
-use Rattle.lgr_text.specs.inner.Items.{anchors, as_atom, further_up_to, is_item, HasShape, choice_of, copies, further, AddsClass, Appends, ItemsMatch, HaveSets, ItemMatches}
+use Rattle.lgr_text.specs.inner.Items.{AddsSet, is_member, literal_items, never, anchors, as_atom, further_up_to, is_item, HasShape, choice_of, copies, further, AddsClass, Appends, ItemsMatch, HaveSets, ItemMatches}
 use Rattle.lgr_text.proofs.ItemLemmas.{choice-is, copies-are, further-are, items-join, items-split, one-item}
 use Rattle.lgr_text.proofs.SetNumberLemmas.{begins-length, choice-has, have-join, have-more, points-have, rule-has, times-have}
 use Rattle.lgr_text.proofs.RepeatLemmas.{repeats-join, repeats-map, repeats-split}
@@ -107,9 +109,9 @@ literal-is s at (c ∷ points) i j = (
       (i + 1, ((less, eq-eqb (get_or s.label i 0) c here), refl), (literal-is s at points (i + 1) j).1 ((h.0.0, next), omega (arith, h.1))),
 )
 
-pub literal-appends : (known : Known) (sets : List (List Span)) (old items : List Pattern) (points : List ℕ)
+points-append : (known : Known) (sets : List (List Span)) (old items : List Pattern) (points : List ℕ)
     → items ≡ old ++ map Point points → AppendsPart known sets sets old items (Literal points)
-literal-appends known sets old items points e = record {
+points-append known sets old items points e = record {
   kept = begins-so sets;
   added = map Point points;
   is = e;
@@ -117,6 +119,41 @@ literal-appends known sets old items points e = record {
   known = points-have points (length sets);
   match_them = λ all label at i j begins of. literal-is (seen all label) at points i j;
 }
+
+-- nothing matches a code point before the start
+not-never : (s : Seen) (at : Option Place) (i j : ℕ) → ItemsMatch s at (Group never ∷ []) i j → ⊥
+not-never s at i j h = let one = (one-item s at (Group never) i j).0 h in omega (arith, one.1.1, one.2.0)
+
+-- what stands in a label of these code points is made of them
+points-of-label : (points : List Span) (s : Seen) (at : Option Place) (literal : List ℕ) (i j : ℕ) → IsOf points s.label
+    → ItemsMatch s at (map Point literal) i j → list_all (is_in points) literal ≡ true
+points-of-label points s at [] i j of h = refl
+points-of-label points s at (c ∷ literal) i j of h =
+    let here : get_or s.label i 0 ≡ c = eqb-true (get_or s.label i 0) c h.1.0.1 in
+    let is : is_in points c ≡ true = ap (is_in points) (sym here) ∙ (of i 0 h.1.0.0).0 in
+    ap (λ b. b && list_all (is_in points) literal) is ∙ points-of-label points s at literal h.0 j of h.2
+
+pub literal-appends : (known : Known) (sets : List (List Span)) (old items : List Pattern) (points : List ℕ)
+    → items ≡ old ++ literal_items known.points points → AppendsPart known sets sets old items (Literal points)
+literal-appends known sets old items points = by-cases (list_all (is_in known.points) points) refl
+  where
+    by-cases : (b : Bool) → list_all (is_in known.points) points ≡ b → items ≡ old ++ (if b then map Point points else Group never ∷ [])
+        → AppendsPart known sets sets old items (Literal points)
+    by-cases true all_in e = points-append known sets old items points e
+    by-cases false some_out e = record {
+      kept = begins-so sets;
+      added = Group never ∷ [];
+      is = e;
+      shape = record { flat = refl; one = refl };
+      known = ((tt, tt), tt);
+      match_them = λ all label at i j begins of. (
+        λ h. absurd (not-never (seen all label) at i j h),
+        λ h.
+            let s = seen all label in
+            let all_in = points-of-label known.points s at points i j of ((literal-is s at points i j).1 h) in
+            absurd (let both : true ≡ false = sym all_in ∙ some_out in cc),
+      );
+    }
 
 -- ---- one item
 
@@ -155,9 +192,9 @@ anchor-appends known sets old items e =
 
 -- ---- a class
 
-pub class-appends : (known : Known) (class : Class) (old_sets sets : List (List Span)) (old items : List Pattern)
-    → AddsClass known class old_sets sets old items → AppendsPart known old_sets sets old items (Of class)
-class-appends known class old_sets sets old items adds = record {
+set-appends : (known : Known) (class : Class) (old_sets sets : List (List Span)) (old items : List Pattern)
+    → AddsSet known class old_sets sets old items → AppendsPart known old_sets sets old items (Of class)
+set-appends known class old_sets sets old items adds = record {
   kept = adds.kept;
   added = Set adds.number ∷ [];
   is = adds.is;
@@ -177,6 +214,42 @@ class-appends known class old_sets sets old items adds = record {
       );
 }
 
+-- none of a class is in labels
+never-appends : (known : Known) (class : Class) (sets : List (List Span)) (old items : List Pattern)
+    → items ≡ old ++ Group never ∷ [] → ((c : ℕ) → c ≤ 0x10FFFF → is_member known class c ≡ false)
+    → AppendsPart known sets sets old items (Of class)
+never-appends known class sets old items e none = record {
+  kept = begins-so sets;
+  added = Group never ∷ [];
+  is = e;
+  shape = record { flat = refl; one = refl };
+  known = ((tt, tt), tt);
+  match_them = λ all label at i j begins of. (
+    λ h. absurd (not-never (seen all label) at i j h),
+    λ h.
+        let c = slice_index label i in
+        let here = of i 0 h.0.0 in
+        let is : is_member known class c ≡ true = ap (λ b. b && is_in known.points c) h.0.1 ∙ here.0 in
+        absurd (let both : true ≡ false = sym is ∙ none c here.1 in cc),
+  );
+}
+
+pub class-appends : (known : Known) (class : Class) (old_sets sets : List (List Span)) (old items : List Pattern)
+    → AddsClass known class old_sets sets old items → AppendsPart known old_sets sets old items (Of class)
+class-appends known class old_sets sets old items adds = elim adds [
+  | inl adds_set ↦ set-appends known class old_sets sets old items adds_set
+  | inr adds_never ↦
+      subst (λ all. AppendsPart known old_sets all old items (Of class)) (sym adds_never.same)
+      (never-appends known class old_sets old items adds_never.is adds_never.members)
+]
+
+pub class-kept : (known : Known) (class : Class) (old_sets sets : List (List Span)) (old items : List Pattern)
+    → AddsClass known class old_sets sets old items → BeginsWith sets old_sets
+class-kept known class old_sets sets old items adds = elim adds [
+  | inl adds_set ↦ adds_set.kept
+  | inr adds_never ↦ subst (λ all. BeginsWith all old_sets) (sym adds_never.same) (begins-so old_sets)
+]
+
 -- ---- a rule that is named
 
 pub rule-appends : (known : Known) (sets : List (List Span)) (old items : List Pattern) (name : List ℕ)
@@ -192,6 +265,22 @@ rule-appends known sets old items name rules e = record {
 }
 
 -- ---- one after the other
+
+-- what is right has one anchor at most
+pub then-apart : (known : Known) (p q : Part) → then_fault known p q ≡ None → (has_anchor p && has_anchor q) ≡ false
+then-apart known p q = by-test (has_anchor p && has_anchor q)
+  where
+    by-test : (b : Bool) → (if b then Some NotSupported else if not (parts_label known p q) then None else if has_anchor p || has_anchor q then Some NotSupported else Some Misplaced) ≡ None → b ≡ false
+    by-test true e = absurd cc
+    by-test false e = refl
+
+-- and none where it is counted
+pub times-unanchored : (known : Known) (p : Part) → times_fault known p ≡ None → has_anchor p ≡ false
+times-unanchored known p = by-test (has_anchor p)
+  where
+    by-test : (b : Bool) → (if b then Some NotSupported else if begins_label (rule_named known) p || ends_label (rule_named known) p then Some Misplaced else None) ≡ None → b ≡ false
+    by-test true e = absurd cc
+    by-test false e = refl
 
 pub then-appends : (known : Known) (p q : Part) (first middle last : List (List Span)) (old between items : List Pattern)
     → (has_anchor p && has_anchor q) ≡ false → AppendsPart known first middle old between p → AppendsPart known middle last between items q
@@ -321,7 +410,7 @@ times-appends known count p first last old items once none fits appends e = reco
 -- ---- the same of a part that is one of these
 
 pub literal-part : (known : Known) (old_sets sets : List (List Span)) (old items : List Pattern) (points : List ℕ) (p : Part)
-    → p ≡ Literal points → sets ≡ old_sets → items ≡ old ++ map Point points → AppendsPart known old_sets sets old items p
+    → p ≡ Literal points → sets ≡ old_sets → items ≡ old ++ literal_items known.points points → AppendsPart known old_sets sets old items p
 literal-part known old_sets sets old items points p is same e =
     subst (AppendsPart known old_sets sets old items) (sym is)
     (subst (λ all. AppendsPart known old_sets all old items (Literal points)) (sym same) (literal-appends known old_sets old items points e))

@@ -8,7 +8,7 @@ use Rattle.label_patterns.specs.Matches.{Matches, Rounds, Seen, no_round, one_mo
 use Rattle.label_patterns.specs.Patterns.{Pattern, Point, Set, Any, Start, End, Anchor, Group, Optional, Many, Then, Either}
 use Rattle.label_patterns.specs.Rules.{branches, is_anchor, is_context, is_context_rule, After, Before, Holds, HoldsAs, HoldsInOne}
 use Rattle.lgr_text.specs.Known.{Known}
-use Rattle.lgr_text.specs.PartMatches.{has_anchor, Place, SaysRule}
+use Rattle.lgr_text.specs.PartMatches.{has_anchor, MatchesAsPart, Place, SaysRule}
 use Rattle.lgr_text.specs.Records.{Part}
 use Rattle.lgr_text.specs.inner.Items.{anchors, in_sequence, is_item, HasShape, ItemMatches, ItemsMatch}
 use Rattle.lgr_text.proofs.ItemLemmas.{item-is, sequence-is}
@@ -296,4 +296,12 @@ says-rule known rule old_sets sets items appends = λ all label i j begins of i_
         h.2,
         subst (λ ps. ItemsMatch s (place i j) ps h.0 h.1) (sym appends.is) ((appends.match_them all label (place i j) h.0 h.1 begins of).1 h.3),
       ),
+    )
+
+pub matches-as-part : (known : Known) (rule : Part) (old_sets sets : List (List Span)) (items : List Pattern) → AppendsPart known old_sets sets [] items rule
+    → MatchesAsPart known sets (in_sequence items) rule
+matches-as-part known rule old_sets sets items appends = λ all label k l begins of.
+    let s = seen all label in (
+      λ h. (appends.match_them all label None k l begins of).0 (subst (λ ps. ItemsMatch s None ps k l) appends.is ((sequence-is s items k l).0 h)),
+      λ h. (sequence-is s items k l).1 (subst (λ ps. ItemsMatch s None ps k l) (sym appends.is) ((appends.match_them all label None k l begins of).1 h)),
     )

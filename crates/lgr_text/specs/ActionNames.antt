@@ -1,13 +1,13 @@
 -- Actions of a file as a ruleset has them (RFC 7940, section 7): each with the names that the ruleset gives to rules
 -- and types. The default actions (section 7.6) follow those of each ruleset, and are not written.
-use Rattle.std.specs.Prelude.{◌≡◌, ℕ, Bool, List, [], length, map, slice_index_or, nat_lt}
+use Rattle.std.specs.Prelude.{◌≡◌, ℕ, Bool, List, [], ◌∷◌, ◌++◌, fold, length, map, slice_index_or, nat_lt}
 use Rattle.std.specs.Prelude.{Option, Some, None, is_some, if◌then◌else◌}
 use Rattle.std.specs.Option.{option_map, option_or}
 use Rattle.ruleset_text.specs.Actions.{NamedAction, NamedTrigger}
 use Rattle.std.specs.List.{list_all}
 use Rattle.ruleset_text.specs.ActionSteps.{disposition_of}
 use Rattle.ruleset_text.specs.declared.named_condition.NamedCondition.{NamedCondition}
-use Rattle.ruleset_text.specs.Names.{number_of}
+use Rattle.ruleset_text.specs.Names.{is_one_of, number_of}
 use Rattle.lgr_text.specs.Records.{Action, Condition, Trigger}
 use Rattle.lgr_text.specs.declared.actions.Renamed.{Renamed}
 use Rattle.lgr_text.specs.declared.rule_error.RuleFault.{RuleFault}
@@ -23,8 +23,17 @@ is_called names name = nat_lt (number_of names.names.now name) (length names.wri
 abbrev pub condition_called : Renamed → Condition → NamedCondition
 condition_called rules c = record { kind = c.kind; rule = called rules c.rule }
 
+-- names with one more, if it isn't one of them
+abbrev pub with_name : List (List ℕ) → List ℕ → List (List ℕ)
+with_name names name = if is_one_of names name then names else names ++ name ∷ []
+
+-- each of the names once, where it comes first
+abbrev pub each_once : List (List ℕ) → List (List ℕ)
+each_once names = fold with_name [] names
+
+-- a type that is given twice says no more than one that is given once
 abbrev pub trigger_called : Renamed → Trigger → NamedTrigger
-trigger_called types t = record { kind = t.kind; types = map (called types) t.types }
+trigger_called types t = record { kind = t.kind; types = each_once (map (called types) t.types) }
 
 -- the action of the ruleset says the same as that of the file
 pub record SaysAction (rules types : Renamed) (action : Action) (named : NamedAction) : Type 0 where

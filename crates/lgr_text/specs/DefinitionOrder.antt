@@ -1,12 +1,12 @@
 -- The order of the definitions of a ruleset, by their numbers in the file: each after those that it names.
-use Rattle.std.specs.Prelude.{◌≡◌, ℕ, ◌<◌, ◌==◌, Bool, true, false, ◌&&◌, not, nat_le, List, [], take, length, map}
-use Rattle.std.specs.Prelude.{Option, Some, None, bytes_eq, find, slice_index, slice_index_or, Contains}
+use Rattle.std.specs.Prelude.{◌≡◌, ℕ, ◌<◌, ◌≤◌, ◌==◌, Bool, true, false, ◌&&◌, not, nat_le, List, [], take, length}
+use Rattle.std.specs.Prelude.{map, Option, Some, None, bytes_eq, find, slice_index, slice_index_or, Contains}
 use Rattle.std.specs.List.{flat_map, list_all, list_any}
 use Rattle.std.specs.Option.{option_map}
 use Rattle.lgr_text.specs.NamedParts.{parts}
 use Rattle.lgr_text.specs.declared.named_parts.NamedPart.{NamedPart}
 use Rattle.lgr_text.specs.declared.order_error.OrderError.{OrderError}
-use Rattle.lgr_text.specs.declared.order_error.OrderError.TheVariants.{Repeated, Undefined, Circular, Memory}
+use Rattle.lgr_text.specs.declared.order_error.OrderError.TheVariants.{Limit, Repeated, Undefined, Circular, Memory}
 use Rattle.lgr_text.specs.declared.records.Definition.{Definition}
 
 -- the first number below n of which the test is true; or it is true of none
@@ -53,8 +53,13 @@ pub record IsOrdered (all : List (List NamedPart)) (order : List ℕ) : Type 0 w
   pub each : (p : ℕ) → p < length order
       → (slice_index order p < length all) × (is_next all (take p order) (slice_index order p) ≡ true)
 
+-- how many definitions a ruleset may have
+abbrev pub max_definitions : ℕ
+max_definitions = 1024
+
 -- an order of all definitions, which have different names
 pub record IsOrder (ds : List Definition) (order : List ℕ) : Type 0 where
+  pub limit : length ds ≤ max_definitions
   pub apart : (k : ℕ) → k < length ds → is_repeated ds k ≡ false
   pub ordered : IsOrdered (parts ds) order
   pub whole : (k : ℕ) → k < length ds → is_left order k ≡ false
@@ -74,9 +79,10 @@ pub record IsFirstEndless (ds : List Definition) (line : ℕ) : Type 0 where
   pub first : (j : ℕ) → j < number → ¬ IsEndless (parts ds) j
   pub is : line ≡ line_at ds number
 
--- the first one with the name of an earlier one; else the first name that nothing defines; else the first definition
--- from which names lead on without an end
+-- the first of too many; or the first one with the name of an earlier one; else the first name that nothing defines;
+-- else the first definition from which names lead on without an end
 abbrev pub IsOrderFault : List Definition → OrderError → Type 0
+IsOrderFault ds (Limit line) = (max_definitions < length ds) × (line ≡ line_at ds max_definitions)
 IsOrderFault ds (Repeated line) =
     (k : ℕ) × IsFirstBelow (length ds) (is_repeated ds) (Some k) × (line ≡ line_at ds k)
 IsOrderFault ds (Undefined line) =

@@ -1,15 +1,16 @@
 -- What a document says (RFC 7940, section 3).
-use Rattle.std.specs.Prelude.{◌≡◌, ℕ, Bool, not, ◌&&◌, ◌||◌, Option, Some, None, List, [], ◌∷◌, ◌++◌, codes, bytes_eq}
-use Rattle.std.specs.Prelude.{Result, Ok, Err, drop, take, option_and_then, if◌then◌else◌}
+use Rattle.std.specs.Prelude.{◌≡◌, ℕ, Bool, true, not, ◌&&◌, ◌||◌, Option, Some, None, List, [], ◌∷◌, ◌++◌, codes}
+use Rattle.std.specs.Prelude.{bytes_eq, map, Result, Ok, Err, drop, take, option_and_then, if◌then◌else◌}
 use Rattle.xml_text.specs.Attributes.{Attribute}
 use Rattle.xml_text.specs.Tokens.{Token}
 use Rattle.lgr_text.specs.Elements
 use Rattle.lgr_text.specs.Elements.{Content, Say, each_element}
 use Rattle.lgr_text.specs.Records.{Ruleset, file}
 use Rattle.lgr_text.specs.Sections.{section_of, ruleset_by}
+use Rattle.lgr_text.specs.Sizes.{exceeds}
 use Rattle.lgr_text.specs.Values.{is_name}
 use Rattle.lgr_text.specs.declared.fault.ReadError.{ReadError}
-use Rattle.lgr_text.specs.declared.fault.ReadError.TheVariants.{Wrong, Memory}
+use Rattle.lgr_text.specs.declared.fault.ReadError.TheVariants.{Wrong, Limit, Memory}
 use Rattle.lgr_text.specs.declared.records.Ruleset as held
 
 abbrev pub namespace : List ℕ
@@ -44,8 +45,9 @@ pub record Says (tokens : List Token) (ruleset_ : Ruleset) : Type 0 where
   pub declared : prefix_of attributes ≡ Some prefix
   pub says : option_and_then ruleset_by (each_element section_of within) ≡ Some ruleset_
 
--- the ruleset that they say; or something is wrong, and they say none; or memory was refused
+-- the ruleset that they say; or something is wrong, and they say none; or there is too much; or memory was refused
 abbrev pub IsSaidBy : List Token → Result held.Ruleset ReadError → Type 0
 IsSaidBy tokens (Ok ruleset_) = Says tokens (file ruleset_)
 IsSaidBy tokens (Err (Wrong line)) = (ruleset_ : Ruleset) → Says tokens ruleset_ → ⊥
+IsSaidBy tokens (Err (Limit line)) = exceeds 0 0 (map (λ t. t.said) tokens) ≡ true
 IsSaidBy tokens (Err Memory) = Unit {0}

@@ -13,6 +13,7 @@ pub mod Entries
 pub mod Examples
 pub mod Facts
 pub mod Known
+pub mod LabelEnds
 pub mod Laws
 pub mod NamedParts
 pub mod Nested
@@ -25,7 +26,9 @@ pub mod PropertyNames
 pub mod Records
 pub mod RuleExamples
 pub mod Sections
+pub mod Sizes
 pub mod Statements
 pub mod Values
+pub mod WellFormed
 pub mod Words
 pub mod inner

@@ -1,4 +1,5 @@
 -- How many atoms a rule takes where it is written out: one for each code point, class and sign, and one for each group.
+-- What no label has is counted like what labels have, though the pattern that matches nothing has three.
 use Rattle.std.specs.Prelude.{ℕ, ◌+◌, ◌*◌, max, nat_lt, length, Option, Some, None, if◌then◌else◌}
 use Rattle.ruleset_text.specs.Limits.{atoms}
 use Rattle.lgr_text.specs.Known.{Known}

@@ -12,11 +12,12 @@ use Rattle.label_patterns.specs.Sets.{is_in}
 use Rattle.label_patterns.specs.declared.span.Span.{Span}
 use Rattle.ruleset_text.specs.Names.{number_of}
 use Rattle.lgr_text.specs.declared.rule_error.RuleFault.{RuleFault}
-use Rattle.lgr_text.specs.declared.rule_error.RuleFault.TheVariants.{Undefined, NotSupported}
+use Rattle.lgr_text.specs.declared.rule_error.RuleFault.TheVariants.{Undefined, Misplaced, NotSupported}
 use Rattle.label_patterns.specs.Places.{StandsAt}
 use Rattle.lgr_text.specs.Records.{Class, Part, Literal, Any, Of, Start, End, Anchor, OfRule, Then, Choice, Times}
 use Rattle.lgr_text.specs.ClassMembers.{class_fault, has, HasSpans}
 use Rattle.lgr_text.specs.Known.{Known}
+use Rattle.lgr_text.specs.LabelEnds.{begins_label, ends_label}
 use Rattle.lgr_text.specs.declared.records.Count.{Count}
 
 -- the part of a label that a condition is about, by the places where it begins and ends
@@ -95,6 +96,13 @@ SaysRule known sets p rule =
     → i ≤ length label → j ≤ length label
     → Holds (seen all label) p i j ↔ RuleHolds known rule (seen all label) i j
 
+-- the pattern matches the same parts of each label made of the known code points as the rule, where the anchor stands
+-- for nothing, whatever sets follow these
+abbrev pub MatchesAsPart : Known → List (List Span) → Pattern → Part → Type 0
+MatchesAsPart known sets p rule =
+    (all : List (List Span)) (label : List ℕ) (k l : ℕ) → BeginsWith all sets → IsOf known.points label
+    → Matches (seen all label) p k l ↔ Matching known rule (seen all label) None k l
+
 -- the anchor stands in it
 abbrev pub has_anchor : Part → Bool
 has_anchor Anchor = true
@@ -114,15 +122,34 @@ rule_fault known name =
     if not (nat_lt (number_of known.rule_names name) (length known.rules)) then Some Undefined else
     if is_context_rule (rule_named known name) then Some NotSupported else None
 
--- the first thing that it names and that isn't there; or a second anchor, or one in a choice or in what is counted
+-- the end of a label in the first of two parts, or its start in the second
+abbrev pub parts_label : Known → Part → Part → Bool
+parts_label known p q = ends_label (rule_named known) p || begins_label (rule_named known) q
+
+-- two parts one after the other: a second anchor; the end of a label before the anchor, or its start after that,
+-- which no label has; and else either of these where it isn't the last, or the first
+abbrev pub then_fault : Known → Part → Part → Option RuleFault
+then_fault known p q =
+    if has_anchor p && has_anchor q then Some NotSupported else
+    if not (parts_label known p q) then None else
+    if has_anchor p || has_anchor q then Some NotSupported else Some Misplaced
+
+-- what is counted: the anchor, the start of a label or its end
+abbrev pub times_fault : Known → Part → Option RuleFault
+times_fault known p =
+    if has_anchor p then Some NotSupported else
+    if begins_label (rule_named known) p || ends_label (rule_named known) p then Some Misplaced else None
+
+-- the first thing that it names and that isn't there; or a second anchor, or one in a choice or in what is counted;
+-- or the start or the end of a label where it may not be
 abbrev pub part_fault : Known → Part → Option RuleFault
 part_fault known (Of class) = class_fault known class
 part_fault known (OfRule name) = rule_fault known name
 part_fault known (Then p q) =
-    if has_anchor p && has_anchor q then Some NotSupported else option_or (part_fault known p) (part_fault known q)
+    option_or (then_fault known p q) (option_or (part_fault known p) (part_fault known q))
 part_fault known (Choice p q) =
     if has_anchor p || has_anchor q then Some NotSupported else option_or (part_fault known p) (part_fault known q)
-part_fault known (Times count p) = if has_anchor p then Some NotSupported else part_fault known p
+part_fault known (Times count p) = option_or (times_fault known p) (part_fault known p)
 part_fault known (Literal points) = None
 part_fault known Any = None
 part_fault known Start = None

@@ -1,16 +1,16 @@
 //! Actions of a file as a ruleset has them (RFC 7940, section 7).
-ghost use Rattle.std.specs.Prelude.{◌≡◌, IfOk, map};
+ghost use Rattle.std.specs.Prelude.{◌≡◌, IfOk, OnOk, map};
 ghost use Rattle.std.specs.Option.{option_map};
 ghost use Rattle.ruleset_text.specs.ActionForms as forms;
 ghost use Rattle.ruleset_text.specs.ActionSteps.{disposition_of as disposition_named};
 ghost use Rattle.lgr_text.specs.ActionNames.{called as called_name, condition_called, trigger_called, SaysAction};
-ghost use Rattle.lgr_text.specs.ActionNames.{action_fault, condition_fault, name_fault, trigger_fault};
+ghost use Rattle.lgr_text.specs.ActionNames.{action_fault, condition_fault, name_fault, trigger_fault, with_name};
 ghost use Rattle.lgr_text.specs.inner.Faults.{IsFaultOf};
 ghost use Rattle.lgr_text.specs.Records.{action as action_of, condition as condition_of, trigger as trigger_of};
 
 use crate::records::{Action, Condition, Trigger};
 use crate::rule_error::{RuleError, RuleFault};
-use ruleset_text::{Name, NamedAction, NamedCondition, NamedTrigger, number_of};
+use ruleset_text::{Name, NamedAction, NamedCondition, NamedTrigger, is_one_of, number_of};
 use std::alloc::{AllocError, Global};
 use variant_dispositions::Disposition;
 
@@ -88,12 +88,22 @@ fn named_trigger(
     };
     let mut names = Vec::new(alloc);
     for name in &trigger.types {
-        names.push(called(alloc, types, name.as_slice())?)?;
+        push_once(&mut names, called(alloc, types, name.as_slice())?)?;
     }
     Ok(Some(NamedTrigger {
         kind: trigger.kind,
         types: names,
     }))
+}
+
+/// Appends a name, if it isn't one of the names.
+fn push_once(names: &mut Vec<Name>, name: Name) -> Result<(), AllocError>
+    ensures { OnOk result (names.new.items ≡ with_name names.old.items name) }
+{
+    if !is_one_of(names, name.as_slice()) {
+        names.push(name)?;
+    }
+    Ok(())
 }
 
 /// What a name of the file is called in the ruleset.

@@ -1,5 +1,6 @@
 //! Sets of code points, and what classes make of them (RFC 7940, section 6.2).
-ghost use Rattle.std.specs.Prelude.{◌≡◌, ◌+◌, ◌<◌, ◌≤◌, ◌||◌, ℕ, Bool, not, All, IfOk, OnOk, IsTrue};
+ghost use Rattle.std.specs.Prelude.{◌≡◌, ◌+◌, ◌<◌, ◌≤◌, ◌||◌, ◌↔◌, [], ℕ, Bool, not, All, IfOk, OnOk, IsTrue};
+ghost use Rattle.std.specs.List.{list_all};
 ghost use Rattle.label_patterns.specs.declared.span.Span.{Span};
 ghost use Rattle.label_patterns.specs.Sets.{is_in, is_in_span};
 ghost use Rattle.lgr_text.specs.CodePoints.{AreApart, AreSpans, IsSpan, is_joined};
@@ -77,6 +78,29 @@ impl CodePoints {
         Ok(CodePoints {
             spans: Vec::from_slice(alloc, &self.spans)?,
         })
+    }
+
+    /// Whether a code point is in the set.
+    pub fn has(&self, point: u32) -> bool
+        ensures { result ≡ is_in self.now point }
+    {
+        self.spans
+            .iter()
+            .any(|span| span.first <= point && point <= span.last)
+    }
+
+    /// Whether these are all in the set.
+    pub fn has_all(&self, points: &[u32]) -> bool
+        ensures { result ≡ list_all (is_in self.now) points.now }
+    {
+        points.iter().all(|point| self.has(*point))
+    }
+
+    /// Whether no code point is in the set.
+    pub fn is_empty(&self) -> bool
+        ensures { IsTrue result ↔ (self.now ≡ []) }
+    {
+        self.spans.is_empty()
     }
 
     /// The set as patterns take it.

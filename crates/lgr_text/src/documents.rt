@@ -1,10 +1,12 @@
 //! What a document says (RFC 7940, section 3).
-ghost use Rattle.std.specs.Prelude.{◌≡◌, IfOk, List, option_and_then, option_map};
+ghost use Rattle.std.specs.Prelude.{◌≡◌, IfOk, List, false, map, option_and_then, option_map};
 ghost use Rattle.lgr_text.specs.Documents as documents;
 ghost use Rattle.lgr_text.specs.Documents.{IsSaidBy};
 ghost use Rattle.lgr_text.specs.Elements as contents;
 ghost use Rattle.lgr_text.specs.Elements.{Content};
 ghost use Rattle.lgr_text.specs.Records as records;
+ghost use Rattle.lgr_text.specs.Sizes.{exceeds};
+ghost use Rattle.lgr_text.specs.WellFormed.{IsWellFormedRuleset};
 ghost use Rattle.lgr_text.specs.inner.Reading.{AreOf, Reads, after_blanks};
 ghost use Rattle.lgr_text.specs.inner.Roots.{root_attributes, root_of};
 
@@ -21,7 +23,9 @@ const NAMESPACE: &[u8] = b"urn:ietf:params:xml:ns:lgr-1.0";
 
 /// The ruleset that the tokens of a document say.
 pub fn read_ruleset(alloc: Global, tokens: &[Token]) -> Result<Ruleset, ReadError>
-    ensures { IsSaidBy tokens.now result }
+    ensures says { IsSaidBy tokens.now result }
+    ensures limit { IfOk result (λ _. exceeds 0 0 (map (λ t. t.said) tokens.now) ≡ false) }
+    ensures well_formed { IfOk result (λ r. IsWellFormedRuleset (records.file r)) }
 {
     let prefix = prefix_in(alloc, tokens)?;
     let elements = Elements {
@@ -29,6 +33,7 @@ pub fn read_ruleset(alloc: Global, tokens: &[Token]) -> Result<Ruleset, ReadErro
         tokens,
     };
     elements.check_nesting()?;
+    elements.check_sizes()?;
     read_root(alloc, elements)
 }
 

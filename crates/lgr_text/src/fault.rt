@@ -9,6 +9,8 @@ use std::alloc::{AllocError, AllocFailed};
 pub enum ReadError {
     /// The element or the text on this line, counted from 1, isn't one of RFC 7940.
     Wrong(usize),
+    /// The element on this line, counted from 1, is one too many in its entry, its class, its rule or its action.
+    Limit(usize),
     /// Memory was refused.
     Memory,
 }

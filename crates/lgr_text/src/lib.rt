@@ -24,6 +24,7 @@ mod nesting;
 mod order;
 mod order_error;
 mod orders;
+mod part_faults;
 mod part_items;
 mod parts;
 mod properties;

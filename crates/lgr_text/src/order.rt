@@ -8,11 +8,17 @@ use crate::order_error::OrderError;
 use crate::records::Definition;
 use std::alloc::Global;
 
+/// How many definitions a ruleset may have. A table has 256 rules at most.
+const MAX_DEFINITIONS: usize = 1024;
+
 /// The numbers of the definitions in an order in which each comes after those that it names.
 pub fn definition_order(alloc: Global, definitions: &[Definition]) -> Result<Vec<usize>, OrderError>
     ensures order { IfOk result (λ order. IsOrder definitions.now order.items) }
     ensures fault { IfErr result (IsOrderFault definitions.now) }
 {
+    if definitions.len() > MAX_DEFINITIONS {
+        return Err(OrderError::Limit(definitions[MAX_DEFINITIONS].line));
+    }
     if let Some(number) = first_repeated(definitions) {
         return Err(OrderError::Repeated(definitions[number].line));
     }

@@ -7,6 +7,8 @@ use std::alloc::{AllocError, AllocFailed};
 /// Why definitions have no order. Lines are counted from 1.
 #[derive(Clone, Copy, Debug, PartialEq, Eq)]
 pub enum OrderError {
+    /// There are too many definitions before the one on this line.
+    Limit(usize),
     /// The definition on this line has the name of an earlier one.
     Repeated(usize),
     /// The element on this line names a class or a rule that isn't defined.

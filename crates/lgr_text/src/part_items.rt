@@ -7,18 +7,20 @@ ghost use Rattle.lgr_text.specs.ClassMembers.{class_fault, HasSpans};
 ghost use Rattle.lgr_text.specs.Known.{known as known_of, HaveSpans};
 ghost use Rattle.lgr_text.specs.PartMatches.{has_anchor as has_anchor_part, part_fault, rule_fault, rule_named};
 ghost use Rattle.lgr_text.specs.PartAtoms.{fault_within, part_atoms};
-ghost use Rattle.lgr_text.specs.PartMatches.{BeginsWith, IsWellFormed, Matching, SaysRule};
+ghost use Rattle.lgr_text.specs.PartMatches.{BeginsWith, IsWellFormed, Matching, MatchesAsPart, SaysRule};
 ghost use Rattle.lgr_text.specs.Records.{class as class_of, part as part_of};
 ghost use Rattle.lgr_text.specs.inner.Faults.{IsFaultOf};
 ghost use Rattle.lgr_text.specs.inner.Items.{as_atom, choice_of, copies, further, in_sequence};
 ghost use Rattle.lgr_text.specs.inner.Items.{is_atom as is_atom_pattern};
-ghost use Rattle.lgr_text.specs.inner.Items.{nothing as nothing_pattern, ungrouped as ungrouped_pattern};
+ghost use Rattle.lgr_text.specs.inner.Items.{never as never_pattern, nothing as nothing_pattern};
+ghost use Rattle.lgr_text.specs.inner.Items.{literal_items, ungrouped as ungrouped_pattern};
 ghost use Rattle.lgr_text.specs.inner.Items.{AddsClass, Appends, HaveSets};
 
 use crate::atoms::left_after;
 use crate::class_sets::set_of;
 use crate::joins::SetOperation;
 use crate::known::Known;
+use crate::part_faults::{check_then, check_times, has_anchor};
 use crate::records::{ClassTree, Count, PartTree};
 use crate::rule_error::{RuleError, RuleFault};
 use label_patterns::{PatternTree, PointSet, is_context_rule};
@@ -64,11 +66,18 @@ fn sequence_of(alloc: Global, mut items: Vec<PatternTree>) -> Result<PatternTree
 fn nothing(alloc: Global) -> Result<PatternTree, AllocError>
     ensures { IfOk result (λ tree. pattern tree ≡ nothing_pattern) }
 {
+    let inner = never(alloc)?;
+    let group = Box::new(alloc, PatternTree::Group(Box::new(alloc, inner)?))?;
+    Ok(PatternTree::Optional(group))
+}
+
+/// What no part of a label matches: a code point before the start.
+fn never(alloc: Global) -> Result<PatternTree, AllocError>
+    ensures { IfOk result (λ tree. pattern tree ≡ never_pattern) }
+{
     let any = Box::new(alloc, PatternTree::Any)?;
     let start = Box::new(alloc, PatternTree::Start)?;
-    let never = Box::new(alloc, PatternTree::Then(any, start))?;
-    let group = Box::new(alloc, PatternTree::Group(never))?;
-    Ok(PatternTree::Optional(group))
+    Ok(PatternTree::Then(any, start))
 }
 
 /// The items as one atom, to which `?` or `*` may be added.
@@ -151,8 +160,36 @@ fn push_copies(
     Ok(())
 }
 
+/// Appends what no part of a label matches, in a group.
+fn push_never(alloc: Global, items: &mut Vec<PatternTree>) -> Result<(), RuleError>
+    ensures items { OnOk result (map pattern items.new.items ≡
+        map pattern items.old.items ++ patterns.Group never_pattern ∷ []) }
+    ensures fault { IsFaultOf None result }
+{
+    let inner = never(alloc)?;
+    push(items, PatternTree::Group(Box::new(alloc, inner)?))
+}
+
+/// Appends code points; what matches nothing, if one of them is in no label.
+fn push_literal(
+    alloc: Global,
+    known: Known<'_>,
+    items: &mut Vec<PatternTree>,
+    literal: &[u32],
+) -> Result<(), RuleError>
+    ensures items { OnOk result (map pattern items.new.items ≡
+        map pattern items.old.items ++ literal_items (known_of known.entry).points literal.now) }
+    ensures fault { IsFaultOf None result }
+{
+    if known.points.has_all(literal) {
+        push_points(items, literal)
+    } else {
+        push_never(alloc, items)
+    }
+}
+
 /// Appends code points.
-fn push_literal(items: &mut Vec<PatternTree>, points: &[u32]) -> Result<(), RuleError>
+fn push_points(items: &mut Vec<PatternTree>, points: &[u32]) -> Result<(), RuleError>
     ensures items { OnOk result (map pattern items.new.items ≡
         map pattern items.old.items ++ map patterns.Point points.now) }
     ensures fault { IsFaultOf None result }
@@ -163,7 +200,7 @@ fn push_literal(items: &mut Vec<PatternTree>, points: &[u32]) -> Result<(), Rule
     Ok(())
 }
 
-/// Appends the set of a class.
+/// Appends the set of a class; what matches nothing, if none of its code points is in labels.
 fn push_class(
     alloc: Global,
     known: Known<'_>,
@@ -179,6 +216,9 @@ fn push_class(
 {
     let class = set_of(alloc, known, class)?;
     let set = class.join(alloc, SetOperation::Intersection, known.points)?;
+    if set.is_empty() {
+        return push_never(alloc, items);
+    }
     let number = number_of_set(sets, set.into_point_set())?;
     push(items, PatternTree::Set(number))
 }
@@ -259,26 +299,6 @@ fn push_times(
     Ok(())
 }
 
-/// Whether the anchor stands in a part of a rule.
-fn has_anchor(part: &PartTree) -> bool
-    ensures { result ≡ has_anchor_part (part_of part.now) }
-{
-    match part {
-        PartTree::Anchor => true,
-        PartTree::Then(first, rest) => has_anchor(first) || has_anchor(rest),
-        PartTree::Choice(left, right) => has_anchor(left) || has_anchor(right),
-        PartTree::Times(_, part) => has_anchor(part),
-        _ => false,
-    }
-}
-
-/// Whether the anchor stands in both parts.
-fn have_anchors(first: &PartTree, rest: &PartTree) -> bool
-    ensures { result ≡ (has_anchor_part (part_of first.now) && has_anchor_part (part_of rest.now)) }
-{
-    has_anchor(first) && has_anchor(rest)
-}
-
 /// Appends the items that match what a part of a rule matches.
 fn push_part(
     alloc: Global,
@@ -297,7 +317,7 @@ fn push_part(
     ensures fault { IsFaultOf (part_fault (known_of known.entry) (part_of part.now)) result }
 {
     match part {
-        PartTree::Literal(points) => push_literal(items, points),
+        PartTree::Literal(points) => push_literal(alloc, known, items, points),
         PartTree::Any => push(items, PatternTree::Any),
         PartTree::Of(class) => push_class(alloc, known, items, sets, class),
         PartTree::Start => push(items, PatternTree::Start),
@@ -305,9 +325,7 @@ fn push_part(
         PartTree::Anchor => push(items, PatternTree::Anchor),
         PartTree::OfRule(rule) => push_rule(alloc, known, items, rule.name.as_slice()),
         PartTree::Then(first, rest) => {
-            if have_anchors(first, rest) {
-                return Err(RuleError::Fault(RuleFault::NotSupported));
-            }
+            check_then(known, first, rest)?;
             push_part(alloc, known, items, sets, first)?;
             push_part(alloc, known, items, sets, rest)
         }
@@ -322,9 +340,7 @@ fn push_part(
             push_choice(alloc, items, left_items, right_items)
         }
         PartTree::Times(count, part) => {
-            if has_anchor(part) {
-                return Err(RuleError::Fault(RuleFault::NotSupported));
-            }
+            check_times(known, part)?;
             let mut once = Vec::new(alloc);
             push_part(alloc, known, &mut once, sets, part)?;
             push_times(alloc, items, *count, once)
@@ -345,6 +361,8 @@ pub fn pattern_of_rule(
     ensures known { IfOk result (λ tree. HasItsSets (length made.new.sets.items) (pattern tree)) }
     ensures pattern { IfOk result (λ tree.
         SaysRule (known_of known.entry) made.new.sets.items (pattern tree) (part_of rule.now)) }
+    ensures part { IfOk result (λ tree.
+        MatchesAsPart (known_of known.entry) made.new.sets.items (pattern tree) (part_of rule.now)) }
     ensures sets { OnOk result (BeginsWith made.new.sets.items made.old.sets.items) }
     ensures rules { OnOk result (HaveSets (length made.new.sets.items) (known_of known.entry).rules) }
     ensures atoms { OnOk result

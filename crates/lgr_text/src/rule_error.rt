@@ -9,6 +9,9 @@ use std::alloc::{AllocError, AllocFailed};
 pub enum RuleFault {
     /// It names a class, a rule, a tag or a type that isn't defined.
     Undefined,
+    /// The start of a label isn't the first that it matches, or the end isn't the last, or one of them is counted
+    /// (RFC 7940, section 6.3.8).
+    Misplaced,
     /// It has a property or a disposition that isn't known, or an anchor where no pattern has one.
     NotSupported,
     /// It takes more atoms than a pattern may have.

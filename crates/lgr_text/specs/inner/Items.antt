@@ -1,6 +1,6 @@
 -- Items of a pattern, one after the other.
 use Rattle.std.specs.Prelude.{◌≡◌, ℕ, ◌+◌, ◌↔◌, List, [], ◌∷◌, ◌++◌, ◌&&◌, ◌≤◌, ◌<◌, ◌-◌, zero, suc}
-use Rattle.std.specs.Prelude.{length, slice_index_or, Option, Some, None, Bool, true, false, if◌then◌else◌}
+use Rattle.std.specs.Prelude.{◌⊎◌, map, length, slice_index_or, Option, Some, None, Bool, true, false, if◌then◌else◌}
 use Rattle.std.specs.List.{AllByRecursion, list_all}
 use Rattle.label_patterns.specs.declared.span.Span.{Span}
 use Rattle.label_patterns.specs.Laws.{seen}
@@ -110,12 +110,32 @@ pub record Appends (points : List Span) (anchored : Bool) (old_sets sets : List 
   pub known : HaveSets (length sets) added
   pub match_them : AreItemsFor points sets added R
 
--- the number of a set was appended, which has those of a class that are in labels
-pub record AddsClass (known : Known) (class : Class) (old_sets sets : List (List Span)) (old items : List Pattern)
+-- the code point is in the class, and in labels
+abbrev pub is_member : Known → Class → ℕ → Bool
+is_member known class c = has known class c && is_in known.points c
+
+-- the number of a set was appended, which has those of a class that are in labels: some code points
+pub record AddsSet (known : Known) (class : Class) (old_sets sets : List (List Span)) (old items : List Pattern)
     : Type 0 where
   pub kept : BeginsWith sets old_sets
   pub number : ℕ
   pub within : number < length sets
+  pub some : 0 < length (slice_index_or sets number [])
   pub is : items ≡ old ++ Set number ∷ []
-  pub members : (c : ℕ) → c ≤ 0x10FFFF
-      → is_in (slice_index_or sets number []) c ≡ (has known class c && is_in known.points c)
+  pub members : (c : ℕ) → c ≤ 0x10FFFF → is_in (slice_index_or sets number []) c ≡ is_member known class c
+
+-- what matches nothing was appended, since none of a class is in labels
+pub record AddsNever (known : Known) (class : Class) (old_sets sets : List (List Span)) (old items : List Pattern)
+    : Type 0 where
+  pub same : sets ≡ old_sets
+  pub is : items ≡ old ++ Group never ∷ []
+  pub members : (c : ℕ) → c ≤ 0x10FFFF → is_member known class c ≡ false
+
+-- a class was appended
+abbrev pub AddsClass : Known → Class → List (List Span) → List (List Span) → List Pattern → List Pattern → Type 0
+AddsClass known class old_sets sets old items =
+    AddsSet known class old_sets sets old items ⊎ AddsNever known class old_sets sets old items
+
+-- code points one after the other; what matches nothing, if one of them is in no label
+abbrev pub literal_items : List Span → List ℕ → List Pattern
+literal_items points literal = if list_all (is_in points) literal then map Point literal else Group never ∷ []

@@ -4,7 +4,7 @@ use Rattle.std.specs.Prelude.{Err, option_map, if◌then◌else◌}
 use Rattle.lgr_text.specs.declared.element.Element as held
 use Rattle.lgr_text.specs.declared.element.Elements as held_elements
 use Rattle.lgr_text.specs.declared.fault.ReadError.{ReadError}
-use Rattle.lgr_text.specs.declared.fault.ReadError.TheVariants.{Wrong, Memory}
+use Rattle.lgr_text.specs.declared.fault.ReadError.TheVariants.{Wrong, Limit, Memory}
 use Rattle.lgr_text.specs.Elements
 use Rattle.lgr_text.specs.Elements.{Content, Node, Say, is_blank_text}
 use Rattle.xml_text.specs.Tokens
@@ -69,6 +69,7 @@ abbrev pub NextIs : held_elements.Elements → Content → Result (Option held.E
 NextIs rest content (Ok None) = content ≡ Elements.Nothing
 NextIs rest content (Ok (Some element)) = IsFirst element rest content
 NextIs rest content (Err (Wrong line)) = BeginsWithText content
+NextIs rest content (Err (Limit line)) = ⊥
 NextIs rest content (Err Memory) = Unit {0}
 
 -- ---- what is read, and what is wrong
@@ -76,6 +77,7 @@ NextIs rest content (Err Memory) = Unit {0}
 -- nothing is said, unless memory was refused
 abbrev pub Fails : {X : Type 0} → Option X → ReadError → Type 0
 Fails said (Wrong line) = said ≡ None
+Fails said (Limit line) = ⊥
 Fails said Memory = Unit {0}
 
 -- what is read is what is said, and something is wrong exactly where nothing is said
@@ -86,9 +88,17 @@ Reads view said (Err error) = Fails said error
 -- it isn't so, unless memory was refused
 abbrev pub IsNot : Bool → ReadError → Type 0
 IsNot is (Wrong line) = is ≡ false
+IsNot is (Limit line) = ⊥
 IsNot is Memory = Unit {0}
 
 -- something is wrong exactly where it isn't so
 abbrev pub Checks : {T : Type 0} → Bool → Result T ReadError → Type 0
 Checks is (Ok done) = is ≡ true
 Checks is (Err error) = IsNot is error
+
+-- there are too many elements in one exactly where it is so, and nothing else is wrong
+abbrev pub IsWithinLimit : {T : Type 0} → Bool → Result T ReadError → Type 0
+IsWithinLimit exceeds (Ok done) = exceeds ≡ false
+IsWithinLimit exceeds (Err (Wrong line)) = ⊥
+IsWithinLimit exceeds (Err (Limit line)) = exceeds ≡ true
+IsWithinLimit exceeds (Err Memory) = ⊥

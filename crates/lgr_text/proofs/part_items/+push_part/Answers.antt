@@ -4,7 +4,7 @@ use Rattle.label_patterns.specs.Trees.{pattern}
 use Rattle.lgr_text.specs.Known.{known as known_of}
 use Rattle.lgr_text.specs.PartMatches.{has_anchor, IsWellFormed}
 use Rattle.lgr_text.specs.Records.{class as class_of, part as part_of, Literal, Then, Choice, Times, OfRule}
-use Rattle.lgr_text.proofs.PartLemmas.{choice-part, class-part, literal-part, then-part, times-part, AppendsPart, anchor-part, any-part, end-part, start-part, rule-part}
+use Rattle.lgr_text.proofs.PartLemmas.{choice-part, class-kept, class-part, literal-part, then-apart, then-part, times-part, times-unanchored, AppendsPart, anchor-part, any-part, end-part, start-part, rule-part}
 use Rattle.lgr_text.proofs.SetNumberLemmas.{sets-stay}
 use Rattle.lgr_text.proofs.part_items.+push_part.Goals as goal
 
@@ -36,7 +36,7 @@ returns-in_ok-push_part-in-Then-clause-items t c =
     let apart : (has_anchor (part_of first) && has_anchor (part_of rest)) ≡ false =
     ap (λ q. has_anchor (part_of q) && has_anchor (part_of rest)) (c.deref-in-Then-3.ensures ∙ sym c.deref-in-Then.ensures)
     ∙ ap (λ q. has_anchor (part_of c.deref-in-Then.result.now) && has_anchor (part_of q)) (c.deref-in-Then-4.ensures ∙ sym c.deref-in-Then-2.ensures)
-    ∙ sym c.have_anchors.ensures ∙ c.if-have_anchors.false in
+    ∙ then-apart (known_of c.args.known) (part_of c.deref-in-Then.result.now) (part_of c.deref-in-Then-2.result.now) c.in_ok-check_then-in-Then.ensures in
     on_ok_weaker c.push_part-in-Then.result
     (λ right. then-part (known_of c.args.known) (part_of first) (part_of rest) (part_of c.args.part.now)
     c.args.sets.now.items c.push_part.new.sets.items c.push_part-in-Then.new.sets.items
@@ -81,7 +81,8 @@ returns-in_ok-push_part-in-Times-clause-items t c =
     let is : part_of c.args.part.now ≡ Times c.in-Times.count (part_of inner) =
     ap part_of c.in-Times.is ∙ ap (λ q. Times c.in-Times.count (part_of q)) (sym c.deref-in-Times-2.ensures) in
     let none : has_anchor (part_of inner) ≡ false =
-    ap (λ q. has_anchor (part_of q)) (c.deref-in-Times-2.ensures ∙ sym c.deref-in-Times.ensures) ∙ sym c.has_anchor-in-Times.ensures ∙ c.if-has_anchor-3.false in
+    ap (λ q. has_anchor (part_of q)) (c.deref-in-Times-2.ensures ∙ sym c.deref-in-Times.ensures)
+    ∙ times-unanchored known (part_of c.deref-in-Times.result.now) c.in_ok-check_times-in-Times.ensures in
     let well : IsWellFormed (Times c.in-Times.count (part_of inner)) = subst IsWellFormed is c.requires.part in
     let once = map pattern c.push_part-in-Times.new.items.items in
     let first = c.args.sets.now.items in
@@ -138,5 +139,8 @@ returns-in-Anchor-clause-items t c =
 pub returns-in-Of-clause-rules : goal.returns-in-Of-clause-rules
 returns-in-Of-clause-rules t c =
     on_ok_weaker c.push_class.result
-    (λ adds. sets-stay c.push_class.new.sets.items c.args.sets.now.items (map pattern c.args.known.rules.now) adds.kept c.requires.rules)
+    (λ adds. sets-stay c.push_class.new.sets.items c.args.sets.now.items (map pattern c.args.known.rules.now)
+    (class-kept (known_of c.args.known) (class_of c.in-Of.class) c.args.sets.now.items c.push_class.new.sets.items
+    (map pattern c.args.items.now.items) (map pattern c.push_class.new.items.items) adds)
+    c.requires.rules)
     c.push_class.ensures.items

@@ -1,7 +1,7 @@
 use Rattle.std.proofs.Common.{◌≡◌, ◌++◌, map, take}
 use Rattle.label_patterns.specs.Patterns.{Point}
 use Rattle.label_patterns.specs.Trees.{pattern}
-use Rattle.lgr_text.proofs.part_items.push_literal.Given as goal
+use Rattle.lgr_text.proofs.part_items.push_points.Given as goal
 
 -- the code points so far
 abbrev pub invariant-loop-point : goal.invariant-loop-point
