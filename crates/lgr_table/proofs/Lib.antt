@@ -1,1 +1,22 @@
 -- The lemmas of this crate.
+pub mod ActionLemmas
+pub mod TableLemmas
+pub mod AddedLemmas
+pub mod CalledLemmas
+pub mod EntryLemmas
+pub mod FirstLemmas
+pub mod FreshLemmas
+pub mod KeptLemmas
+pub mod NumberTypeLemmas
+pub mod TypeLemmas
+pub mod AgreeLemmas
+pub mod DecisionLemmas
+pub mod GrowthLemmas
+pub mod NumberLemmas
+pub mod OtherRulesLemmas
+pub mod PointLemmas
+pub mod RiseLemmas
+pub mod RuleLemmas
+pub mod StepLemmas
+pub mod TakenLemmas
+pub mod TakenOrderLemmas

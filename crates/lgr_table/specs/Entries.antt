@@ -6,6 +6,7 @@ use Rattle.std.specs.Option.{option_map}
 use Rattle.lgr_text.specs.Records as lgr
 use Rattle.lgr_text.specs.Records.{Range, Sequence, Source}
 use Rattle.lgr_table.specs.Numbers.{Numbering, numbered_condition, type_number}
+use Rattle.ruleset_text.specs.Names.{is_one_of}
 use Rattle.variant_table.specs.Entries.{Entry, Variant}
 use Rattle.variant_table.specs.Ranges.{range_size}
 
@@ -73,11 +74,16 @@ HasOneType e source =
 abbrev pub AreOfOneType : (ℕ → Bool) → List lgr.Entry → Type 0
 AreOfOneType may entries = All (λ e. All (HasOneType e) (kept_sources may e)) entries
 
--- a source stays with and without a type: that makes a difference where some variant has a type
+-- a variant without a type is a source that the table keeps, which stays with and without a type: that makes a
+-- difference where some variant has a type
+abbrev pub stays_as : (ℕ → Bool) → lgr.Entry → lgr.Variant → Bool
+stays_as may e v = not (is_some v.type_name) && is_one_of (kept_sources may e) v.points
+
+abbrev pub stays_untyped_in : (ℕ → Bool) → lgr.Entry → Bool
+stays_untyped_in may e = list_any (stays_as may e) e.variants
+
 abbrev pub stays_untyped : (ℕ → Bool) → List lgr.Entry → Bool
-stays_untyped may entries =
-    list_any (λ e. list_any (λ s. list_any (λ v. is_reflexive s v && not (is_some v.type_name)) e.variants)
-    (kept_sources may e)) entries
+stays_untyped may entries = list_any (stays_untyped_in may) entries
 
 abbrev pub has_types : List lgr.Entry → Bool
 has_types entries = list_any (λ e. list_any (λ v. is_some v.type_name) e.variants) entries

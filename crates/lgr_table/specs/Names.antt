@@ -47,11 +47,13 @@ abbrev pub asked : Option Condition → List (List ℕ)
 asked None = []
 asked (Some c) = c.rule ∷ []
 
+-- those of an entry and of its variants
+abbrev pub asked_by : lgr.Entry → List (List ℕ)
+asked_by e = asked e.condition ++ flat_map (λ v. asked v.condition) e.variants
+
 -- the rules that conditions of entries, of variants and of actions name
 abbrev pub asked_rules : Ruleset → List (List ℕ)
-asked_rules r =
-    flat_map (λ e. asked e.condition ++ flat_map (λ v. asked v.condition) e.variants) r.entries
-    ++ flat_map (λ a. asked a.condition) r.actions
+asked_rules r = flat_map asked_by r.entries ++ flat_map (λ a. asked a.condition) r.actions
 
 -- ---- what each has to be
 

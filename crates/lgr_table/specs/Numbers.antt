@@ -17,12 +17,19 @@ is_same None (Some name) = false
 is_same (Some name) None = false
 is_same (Some name) (Some other) = bytes_eq name other
 
-abbrev pub all_types : Numbering → List (Option (List ℕ))
-all_types n = map Some predefined_types ++ n.types
+-- types after the predefined ones
+abbrev pub types_with : List (Option (List ℕ)) → List (Option (List ℕ))
+types_with types = map Some predefined_types ++ types
 
--- the number of a type, or of having none, if the table has it
+abbrev pub all_types : Numbering → List (Option (List ℕ))
+all_types n = types_with n.types
+
+-- the number of a type, or of having none, if a table with these types has it
+abbrev pub number_among : List (Option (List ℕ)) → Option (List ℕ) → Option ℕ
+number_among types type = position (is_same type) (types_with types)
+
 abbrev pub type_number : Numbering → Option (List ℕ) → Option ℕ
-type_number n type = position (is_same type) (all_types n)
+type_number n type = number_among n.types type
 
 -- a condition by the number of its rule; one that the table hasn't has a number after those that it has
 abbrev pub numbered_condition : Numbering → Condition → numbered.Condition

@@ -6,6 +6,7 @@ use Rattle.idn_class.specs.declared.properties.Properties.{Properties}
 use Rattle.label_patterns.specs.Laws.{seen}
 use Rattle.label_patterns.specs.Patterns.{Anchor, Pattern}
 use Rattle.label_patterns.specs.Rules.{Holds}
+use Rattle.lgr_text.specs.ActionNames.{each_once}
 use Rattle.lgr_text.specs.Records.{Action, Condition, IsRule, Part, Ruleset, Trigger}
 use Rattle.lgr_table.specs.Entries.{AreOfOneType, all_entries, needs_type}
 use Rattle.lgr_table.specs.Meanings.{AreMeaningsOf, Meanings, RuleHolds}
@@ -61,8 +62,9 @@ called_condition n d c = record { kind = c.kind; rule = slice_index_or d.rule_na
 abbrev pub called_type : Numbering → Definitions → List ℕ → List ℕ
 called_type n d name = unwrap_or (option_map (type_name d) (type_number n (Some name))) []
 
+-- a type that is given twice says no more than one that is given once
 abbrev pub called_trigger : Numbering → Definitions → Trigger → NamedTrigger
-called_trigger n d t = record { kind = t.kind; types = map (called_type n d) t.types }
+called_trigger n d t = record { kind = t.kind; types = each_once (map (called_type n d) t.types) }
 
 pub record SaysAction (n : Numbering) (d : Definitions) (action : Action) (named : NamedAction) : Type 0 where
   pub disposition : disposition_word named.disposition ≡ action.disposition
@@ -98,5 +100,5 @@ pub record IsTableOf (properties : Properties) (r : Ruleset) (t : TableValue) : 
   pub meanings : Meanings
   pub numbering : Numbering
   pub names : HasItsNames r
-  pub are_meant : AreMeaningsOf r meanings
+  pub are_meant : AreMeaningsOf (may_stand properties) r meanings
   pub says : Says properties r meanings numbering t

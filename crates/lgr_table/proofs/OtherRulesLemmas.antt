@@ -1,0 +1,61 @@
+-- What a set and a rule more make of a table.
+use Rattle.std.proofs.Common.{◌≡◌, ℕ, List, [], ◌∷◌, ◌++◌, Some, Ok, refl, sym, ap, subst, ◌∙◌}
+use Rattle.label_patterns.specs.declared.span.Span.{Span}
+use Rattle.label_patterns.specs.Patterns.{Pattern}
+use Rattle.ruleset_text.specs.Definition as definition
+use Rattle.ruleset_text.specs.Definitions.{Definitions, added, with_definition}
+use Rattle.variant_table.specs.Entries.{TableValue}
+use Rattle.lgr_table.specs.inner.RuleSteps.{HasOtherRules}
+use Rattle.lgr_table.proofs.AddedLemmas.{is-added}
+
+-- ---- nothing else is defined
+
+abbrev with_rules : TableValue → Definitions → TableValue
+with_rules t d = record t {
+  definitions = record t.definitions { set_names = d.set_names; sets = d.sets; rule_names = d.rule_names; rules = d.rules };
+}
+
+pub others-same : (t : TableValue) → HasOtherRules t t
+others-same t = refl
+
+pub others-too : (t u v : TableValue) → HasOtherRules t u → HasOtherRules u v → HasOtherRules t v
+others-too t u v h k = k ∙ ap (λ x. with_rules x v.definitions) h
+
+-- the table with the definitions that a set, or a rule, was added to
+set-others : (t u : TableValue) (name : List ℕ) (set : List Span) → u ≡ record t { definitions = u.definitions }
+    → added t.definitions (definition.Set name set) ≡ u.definitions → HasOtherRules t u
+set-others t u name set only is =
+    only ∙ subst (λ d. record t { definitions = d } ≡ with_rules t d) is refl
+
+rule-others : (t u : TableValue) (name : List ℕ) (p : Pattern) → u ≡ record t { definitions = u.definitions }
+    → added t.definitions (definition.Rule name p) ≡ u.definitions → HasOtherRules t u
+rule-others t u name p only is =
+    only ∙ subst (λ d. record t { definitions = d } ≡ with_rules t d) is refl
+
+pub record AddsTheSet (t u : TableValue) (set : List Span) : Type 0 where
+  pub sets : u.definitions.sets ≡ t.definitions.sets ++ set ∷ []
+  pub rules : u.definitions.rules ≡ t.definitions.rules
+  pub others : HasOtherRules t u
+
+pub record AddsTheRule (t u : TableValue) (p : Pattern) : Type 0 where
+  pub sets : u.definitions.sets ≡ t.definitions.sets
+  pub rules : u.definitions.rules ≡ t.definitions.rules ++ p ∷ []
+  pub others : HasOtherRules t u
+
+pub set-added : (limit : ℕ) (t u : TableValue) (name : List ℕ) (set : List Span) → u ≡ record t { definitions = u.definitions }
+    → with_definition limit t.definitions (Some (definition.Set name set)) ≡ Ok u.definitions → AddsTheSet t u set
+set-added limit t u name set only h =
+    let is = is-added limit t.definitions u.definitions (definition.Set name set) h in record {
+      sets = ap (λ (d : Definitions). d.sets) (sym is);
+      rules = ap (λ (d : Definitions). d.rules) (sym is);
+      others = set-others t u name set only is;
+    }
+
+pub rule-added : (limit : ℕ) (t u : TableValue) (name : List ℕ) (p : Pattern) → u ≡ record t { definitions = u.definitions }
+    → with_definition limit t.definitions (Some (definition.Rule name p)) ≡ Ok u.definitions → AddsTheRule t u p
+rule-added limit t u name p only h =
+    let is = is-added limit t.definitions u.definitions (definition.Rule name p) h in record {
+      sets = ap (λ (d : Definitions). d.sets) (sym is);
+      rules = ap (λ (d : Definitions). d.rules) (sym is);
+      others = rule-others t u name p only is;
+    }

@@ -1,0 +1,46 @@
+use Rattle.std.proofs.Common.{◌≡◌, List, length, map, take, sym, ap, subst, ◌∙◌}
+use Rattle.std.proofs.lemmas.List.{take_all}
+use Rattle.lgr_text.specs.Records.{Entry, entry, file}
+use Rattle.lgr_table.specs.Tables.{may_stand}
+use Rattle.lgr_table.specs.inner.EntrySteps.{AddsEntry}
+use Rattle.lgr_table.specs.inner.Steps.{AddsEntries}
+use Rattle.lgr_table.proofs.CalledLemmas.{mapped-more}
+use Rattle.lgr_table.proofs.EntryLemmas.{entries-more, entries-none, with_only}
+use Rattle.ruleset_text.specs.Definitions.{Definitions}
+use Rattle.variant_table.specs.Entries.{TableValue}
+use Rattle.lgr_table.proofs.entries.add_entries.Goals as goal
+
+pub loop-entry-init : goal.loop-entry-init
+loop-entry-init c =
+    let t = c.args.builder.now in
+    entries-none (may_stand t.definitions.properties) (file c.args.ruleset.now) c.args.numbers.now t c.requires.none
+
+pub add_entry-requires-clause-types : goal.add_entry-requires-clause-types
+add_entry-requires-clause-types c =
+    ap (λ (t : TableValue). length t.definitions.types) c.loop-entry.invariant.others ∙ c.requires.types
+
+pub add_entry-requires-clause-rules : goal.add_entry-requires-clause-rules
+add_entry-requires-clause-rules c =
+    ap (λ (t : TableValue). length t.definitions.rule_names) c.loop-entry.invariant.others ∙ c.requires.rules
+
+pub loop-entry-preserved : goal.loop-entry-preserved
+loop-entry-preserved c =
+    let t = c.args.builder.now in
+    let u = c.loop-entry.builder in
+    let v = c.add_entry.new.builder in
+    let n = c.args.numbers.now in
+    let r = file c.args.ruleset.now in
+    let may = may_stand t.definitions.properties in
+    let xs = c.deref-entry-items.result.now in
+    let i = c.loop-entry.entry-index in
+    let this = c.entry-item.result in
+    let same : u.definitions ≡ t.definitions = ap (λ (w : TableValue). w.definitions) c.loop-entry.invariant.others in
+    let one : AddsEntry may n (entry this) u v = subst (λ (d : Definitions). AddsEntry (may_stand d.properties) n (entry this) u v) same c.in_ok-add_entry.ensures in
+    subst (λ (es : List Entry). AddsEntries may (with_only r es) n t v) (mapped-more entry xs i this c.loop-entry-test.true c.entry-item.is)
+    (entries-more may r n (map entry (take i xs)) (entry this) t u v c.loop-entry.invariant one)
+
+pub returns : goal.returns
+returns c =
+    let t = c.args.builder.now in
+    subst (λ l. AddsEntries (may_stand t.definitions.properties) (with_only (file c.args.ruleset.now) (map entry l)) c.args.numbers.now t c.loop-entry.builder)
+    (take_all c.loop-entry.entry-index c.deref-entry-items.result.now c.loop-entry-test.false ∙ c.deref-entry-items.ensures.value) c.loop-entry.invariant

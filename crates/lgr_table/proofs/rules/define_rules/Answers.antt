@@ -1,0 +1,77 @@
+use Rattle.std.proofs.Common.{◌≡◌, ◌+◌, ◌<◌, ℕ, List, length, get_or, map, take, refl, sym, ap, subst, ◌∙◌}
+use Rattle.std.specs.Prelude.{◌↔◌, IsTrue}
+use Rattle.std.proofs.lemmas.List.{take_all}
+use Rattle.idn_class.specs.declared.properties.Properties.{Properties}
+use Rattle.label_patterns.specs.Sets.{is_in}
+use Rattle.ruleset_text.specs.Definitions.{Definitions}
+use Rattle.lgr_text.specs.DefinitionOrder.{IsOrder}
+use Rattle.lgr_text.specs.Records.{definition, entry}
+use Rattle.lgr_text.specs.declared.records.Definition.{Definition as Held}
+use Rattle.lgr_text.specs.declared.records.Entry.{Entry as HeldEntry}
+use Rattle.lgr_table.specs.Meanings.{IsKept}
+use Rattle.lgr_table.specs.Tables.{may_stand}
+use Rattle.lgr_table.specs.inner.RuleSteps.{known_by}
+use Rattle.lgr_table.proofs.OtherRulesLemmas.{others-too}
+use Rattle.lgr_table.proofs.RuleLemmas.{adds-rules}
+use Rattle.lgr_table.proofs.StepLemmas.{meaning-formed, taken-step}
+use Rattle.lgr_table.proofs.TakenLemmas.{AreTaken}
+use Rattle.lgr_table.proofs.TakenOrderLemmas.{chosen}
+use Rattle.lgr_table.proofs.rules.define_rules.Goals as goal
+
+pub take-requires-clause-meaning : goal.take-requires-clause-meaning
+take-requires-clause-meaning c =
+    let raw = c.args.«ruleset».now.definitions.items in
+    let order = c.deref-number-items.result.now in
+    let is : IsOrder raw order =
+    subst (λ (l : List ℕ). IsOrder raw l) (sym c.deref-number-items.ensures.value)
+    (subst (λ (l : List Held). IsOrder l c.in-Ok.order.items) c.deref-3.ensures.value c.in-Ok.ensures.order) in
+    meaning-formed raw order c.loop-number.number-index c.index-definition.result.now is c.loop-number-test.true
+    c.index-definition.ensures c.requires.well_formed.definitions
+
+pub loop-number-preserved : goal.loop-number-preserved
+loop-number-preserved c =
+    let raw = c.args.«ruleset».now.definitions.items in
+    let order = c.deref-number-items.result.now in
+    let is : IsOrder raw order =
+    subst (λ (l : List ℕ). IsOrder raw l) (sym c.deref-number-items.ensures.value)
+    (subst (λ (l : List Held). IsOrder l c.in-Ok.order.items) c.deref-3.ensures.value c.in-Ok.ensures.order) in
+    let entries = map entry c.deref-2.result.now in
+    let points = c.in_ok-points.points in
+    record {
+      taken = taken-step raw order c.loop-number.number-index c.index-definition.result.now entries points
+          (known_by entries points c.loop-number.taken c.loop-number.builder.definitions.rules)
+          (known_by entries points c.take.new.taken c.take.new.builder.definitions.rules) c.loop-number.builder.definitions.sets
+          c.take.new.builder.definitions.sets is c.loop-number-test.true c.index-definition.ensures c.loop-number.invariant.taken
+          c.in_ok-take.ensures.added;
+      sets = c.in_ok-take.ensures.sets;
+      others = others-too c.args.builder.now c.loop-number.builder c.take.new.builder c.loop-number.invariant.others c.in_ok-take.ensures.others;
+    }
+
+pub returns : goal.returns
+returns c =
+    let held = c.args.«ruleset».now in
+    let raw = held.definitions.items in
+    let order = c.deref-number-items.result.now in
+    let is : IsOrder raw order =
+    subst (λ (l : List ℕ). IsOrder raw l) (sym c.deref-number-items.ensures.value)
+    (subst (λ (l : List Held). IsOrder l c.in-Ok.order.items) c.deref-3.ensures.value c.in-Ok.ensures.order) in
+    let points = c.in_ok-points.points in
+    let own = c.args.builder.now.definitions.properties in
+    let properties : c.properties-properties.result ≡ own =
+    c.properties-properties.ensures ∙ ap (λ (d : Definitions). d.properties) c.definitions.ensures in
+    let are : (n : ℕ) → IsTrue (is_in points n) ↔ IsKept (may_stand own) (map entry held.entries.items) n =
+    subst (λ (q : Properties). (n : ℕ) → IsTrue (is_in points n) ↔ IsKept (may_stand q) (map entry held.entries.items) n) properties
+    (subst (λ (l : List HeldEntry). (n : ℕ) → IsTrue (is_in points n) ↔ IsKept (may_stand c.properties-properties.result) (map entry l) n)
+    c.deref.ensures.value (c.in_ok-points.ensures {u = tt})) in
+    let u = c.loop-number.builder in
+    let all : take c.loop-number.number-index order ≡ order = take_all c.loop-number.number-index order c.loop-number-test.false in
+    let taken : AreTaken (map entry held.entries.items) points
+    (known_by (map entry held.entries.items) points c.loop-number.taken u.definitions.rules) u.definitions.sets
+    (chosen (map definition raw) order) =
+    subst (λ (l : List HeldEntry). AreTaken (map entry l) points (known_by (map entry l) points c.loop-number.taken u.definitions.rules)
+    u.definitions.sets (chosen (map definition raw) order)) c.deref-2.ensures.value
+    (subst (λ (o : List ℕ). AreTaken (map entry c.deref-2.result.now) points
+    (known_by (map entry c.deref-2.result.now) points c.loop-number.taken u.definitions.rules) u.definitions.sets
+    (chosen (map definition raw) o)) all c.loop-number.invariant.taken) in
+    adds-rules own held order points (known_by (map entry held.entries.items) points c.loop-number.taken u.definitions.rules)
+    c.args.builder.now u is are taken refl c.loop-number.invariant.others

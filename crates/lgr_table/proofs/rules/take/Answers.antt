@@ -1,0 +1,44 @@
+use Rattle.std.proofs.Common.{◌≡◌, ◌∷◌, [], ◌++◌, List, ℕ, map, sym, ap, subst, ◌∙◌}
+use Rattle.label_patterns.specs.declared.span.Span.{Span}
+use Rattle.label_patterns.specs.Patterns.{Pattern}
+use Rattle.label_patterns.specs.Trees.{pattern}
+use Rattle.ruleset_text.specs.Definitions.{Definitions}
+use Rattle.lgr_text.specs.Known.{known as known_of}
+use Rattle.lgr_text.specs.Records.{entry, meaning, part}
+use Rattle.lgr_table.specs.inner.RuleSteps.{AddsMeaning, known_by}
+use Rattle.lgr_table.proofs.StepLemmas.{rule-adds}
+use Rattle.lgr_table.proofs.rules.take.Goals as goal
+
+pub returns-in_ok-push-in-Ok-pattern_of_rule-clause-added :
+    goal.returns-in_ok-push-in-Ok-pattern_of_rule-clause-added
+returns-in_ok-push-in-Ok-pattern_of_rule-clause-added c =
+    let entries = map entry c.args.repertoire.entries.now in
+    let points = c.args.repertoire.points.now in
+    let taken = c.args.taken.now in
+    let old = c.args.builder.now.definitions in
+    let known = known_by entries points taken old.rules in
+    let found = known_of c.known-known.result in
+    let tree = c.in-Ok-pattern_of_rule.tree in
+    let same : found ≡ known =
+    c.known-known.ensures
+    ∙ ap (λ (r : List Pattern). known_by entries points taken r)
+    (c.rules.ensures.is ∙ ap (λ (d : Definitions). d.rules) c.definitions-in-Rule.ensures) in
+    let made = c.pattern_of_rule.new.made.sets.items in
+    let final = c.define_rule.new.builder.definitions.sets in
+    let after : final ≡ made =
+    c.in_ok-define_rule-in-Ok-pattern_of_rule.ensures.sets ∙ c.in_ok-define_sets-in-Ok-pattern_of_rule.ensures.sets ∙ c.deref.ensures.value in
+    let copy : c.in_ok-copied-in-Ok-pattern_of_rule.field-0 ≡ c.args.definition.now.name =
+    c.in_ok-copied-in-Ok-pattern_of_rule.ensures ∙ c.as_slice-name.ensures in
+    let names : c.push.new.self.items ≡ taken.rule_names.items ++ c.args.definition.now.name ∷ [] =
+    c.in_ok-push-in-Ok-pattern_of_rule.ensures.items ∙ ap (λ (n : List ℕ). taken.rule_names.items ++ n ∷ []) copy in
+    let rules : c.define_rule.new.builder.definitions.rules ≡ old.rules ++ pattern tree ∷ [] =
+    c.in_ok-define_rule-in-Ok-pattern_of_rule.ensures.rules
+    ∙ ap (λ (r : List Pattern). r ++ pattern tree ∷ []) c.in_ok-define_sets-in-Ok-pattern_of_rule.ensures.rules in
+    let adds =
+    rule-adds known found c.args.made.now.atoms_left old.sets c.args.made.now.sets.items made final c.args.definition.now.name
+    (part c.in-Rule.rule) (pattern tree) c.push.new.self.items c.define_rule.new.builder.definitions.rules same c.requires.sets after
+    names rules c.in-Ok-pattern_of_rule.ensures.fault c.in-Ok-pattern_of_rule.ensures.known c.in-Ok-pattern_of_rule.ensures.pattern
+    c.in-Ok-pattern_of_rule.ensures.part c.in-Ok-pattern_of_rule.ensures.sets in
+    subst (λ m. AddsMeaning known old.sets c.args.definition.now.name (meaning m)
+    (known_by entries points (record taken { rule_names = c.push.new.self }) c.define_rule.new.builder.definitions.rules) final)
+    (sym c.in-Rule.is) adds

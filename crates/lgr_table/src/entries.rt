@@ -1,0 +1,194 @@
+//! The entries of a table.
+ghost use Rattle.std.specs.Prelude.{◌≡◌, ◌∷◌, [], OnOk, length, map};
+ghost use Rattle.std.specs.List.{flat_map};
+ghost use Rattle.std.specs.Option.{option_map};
+ghost use Rattle.lgr_text.specs.Records as records;
+ghost use Rattle.lgr_text.specs.Records.{file};
+ghost use Rattle.lgr_table.specs.Entries as words;
+ghost use Rattle.lgr_table.specs.Names.{asked, asked_by};
+ghost use Rattle.lgr_table.specs.Tables.{may_stand};
+ghost use Rattle.lgr_table.specs.inner.EntrySteps.{AddsEntry, AddsSources};
+ghost use Rattle.lgr_table.specs.inner.Steps.{AddsEntries, AreAmong};
+
+use crate::fault::{TableError, TableFault};
+use crate::kept::may_be;
+use crate::mapped::mapped_of;
+use crate::numbers::Numbers;
+use label_patterns::Span;
+use lgr_text::{Condition, Entry, Ruleset, Source, Variant};
+use std::alloc::Global;
+use variant_table::{EntryFault, TableBuilder};
+
+/// How many code points there are.
+const CODE_POINTS: u64 = 0x11_0000;
+
+/// Adds the entries of the file, without those that no label can have.
+pub(crate) fn add_entries(
+    alloc: Global,
+    builder: &mut TableBuilder,
+    numbers: &Numbers,
+    ruleset: &Ruleset,
+) -> Result<(), TableError>
+    requires none { builder.old.entries ≡ [] }
+    requires types { length builder.old.definitions.types ≡ length numbers.now.types }
+    requires rules { length builder.old.definitions.rule_names ≡ length numbers.now.rules }
+    ensures { OnOk result (AddsEntries (may_stand builder.old.definitions.properties) (file «ruleset».now)
+        numbers.now builder.old builder.new) }
+{
+    check_ranges(&ruleset.entries)?;
+    for entry in &ruleset.entries {
+        add_entry(alloc, builder, numbers, entry)?;
+    }
+    Ok(())
+}
+
+/// Refuses ranges that have more code points together than there are: one stands in two of them. So none takes long,
+/// however many code points it has that no label has.
+fn check_ranges(entries: &[Entry]) -> Result<(), TableError> {
+    let mut left = CODE_POINTS;
+    for entry in entries {
+        let more = points_of_range(&entry.source);
+        if more > left {
+            return Err(TableFault::SameSource.on(entry.line));
+        }
+        left -= more;
+    }
+    Ok(())
+}
+
+/// How many code points a range has.
+fn points_of_range(source: &Source) -> u64 {
+    match source {
+        Source::Sequence(_) => 0,
+        Source::Range(span) => u64::from(span.last.saturating_sub(span.first)) + 1,
+    }
+}
+
+/// Adds the entries that an element is: one for each of its sources that the table keeps.
+fn add_entry(
+    alloc: Global,
+    builder: &mut TableBuilder,
+    numbers: &Numbers,
+    entry: &Entry,
+) -> Result<(), TableError>
+    requires types { length builder.old.definitions.types ≡ length numbers.now.types }
+    requires rules { length builder.old.definitions.rule_names ≡ length numbers.now.rules }
+    ensures { OnOk result (AddsEntry (may_stand builder.old.definitions.properties) numbers.now
+        (records.entry entry.now) builder.old builder.new) }
+{
+    check_rules(numbers, entry)?;
+    add_sources(alloc, builder, numbers, entry)?;
+    Ok(())
+}
+
+fn add_sources(
+    alloc: Global,
+    builder: &mut TableBuilder,
+    numbers: &Numbers,
+    entry: &Entry,
+) -> Result<(), TableError>
+    requires types { length builder.old.definitions.types ≡ length numbers.now.types }
+    requires rules { length builder.old.definitions.rule_names ≡ length numbers.now.rules }
+    ensures { let e = records.entry entry.now in
+        OnOk result (AddsSources (may_stand builder.old.definitions.properties) numbers.now
+        e (words.sources e.source) builder.old builder.new) }
+{
+    match &entry.source {
+        Source::Sequence(points) => add_source(alloc, builder, numbers, entry, points),
+        Source::Range(span) => add_range(alloc, builder, numbers, entry, *span),
+    }
+}
+
+/// Adds the entry of each code point of a range that the table keeps.
+fn add_range(
+    alloc: Global,
+    builder: &mut TableBuilder,
+    numbers: &Numbers,
+    entry: &Entry,
+    span: Span,
+) -> Result<(), TableError>
+    requires types { length builder.old.definitions.types ≡ length numbers.now.types }
+    requires rules { length builder.old.definitions.rule_names ≡ length numbers.now.rules }
+    ensures { OnOk result (AddsSources (may_stand builder.old.definitions.properties) numbers.now
+        (records.entry entry.now) (words.sources (records.Range span)) builder.old builder.new) }
+{
+    if span.last < span.first {
+        return Ok(());
+    }
+    let count = (span.last - span.first) as usize + 1;
+    for offset in 0..count {
+        let point = span.first + offset as u32;
+        add_source(alloc, builder, numbers, entry, &[point])?;
+    }
+    Ok(())
+}
+
+/// Adds the entry of one of its sources, if the table keeps it.
+fn add_source(
+    alloc: Global,
+    builder: &mut TableBuilder,
+    numbers: &Numbers,
+    entry: &Entry,
+    source: &[u32],
+) -> Result<(), TableError>
+    requires types { length builder.old.definitions.types ≡ length numbers.now.types }
+    requires rules { length builder.old.definitions.rule_names ≡ length numbers.now.rules }
+    ensures { OnOk result (AddsSources (may_stand builder.old.definitions.properties) numbers.now
+        (records.entry entry.now) (source.now ∷ []) builder.old builder.new) }
+{
+    let kept = may_be(alloc, builder.definitions().properties(), source)?;
+    if !kept {
+        return Ok(());
+    }
+    let mapped = mapped_of(alloc, builder.definitions(), numbers, entry, source)?;
+    match builder.add_entry(&mapped) {
+        Ok(()) => Ok(()),
+        Err(fault) => Err(not_added(fault, entry.line)),
+    }
+}
+
+/// Why the entry on this line isn't added.
+fn not_added(fault: EntryFault, line: usize) -> TableError {
+    match fault {
+        EntryFault::Memory => TableError::Memory,
+        // A variant of no code points.
+        EntryFault::Syntax => TableFault::NotSupported.on(line),
+        EntryFault::Limit => TableFault::Limit.on(line),
+        EntryFault::NoSuchName => TableFault::NoSuchName.on(line),
+        EntryFault::BadClass => TableFault::BadClass.on(line),
+        EntryFault::SameVariant(_) => TableFault::SameVariant.on(line),
+        EntryFault::SameSource => TableFault::SameSource.on(line),
+    }
+}
+
+/// Refuses an entry of which a condition, or that of a variant, asks for a rule that isn't one of these.
+fn check_rules(numbers: &Numbers, entry: &Entry) -> Result<(), TableError>
+    ensures { OnOk result (AreAmong numbers.now.rules (asked_by (records.entry entry.now))) }
+{
+    check_rule(numbers, &entry.condition)?;
+    check_rules_of_variants(numbers, &entry.variants)?;
+    Ok(())
+}
+
+fn check_rules_of_variants(numbers: &Numbers, variants: &[Variant]) -> Result<(), TableError>
+    ensures { OnOk result (AreAmong numbers.now.rules
+        (flat_map (λ v. asked v.condition) (map records.variant variants.now))) }
+{
+    for variant in variants {
+        check_rule(numbers, &variant.condition)?;
+    }
+    Ok(())
+}
+
+fn check_rule(numbers: &Numbers, condition: &Option<Condition>) -> Result<(), TableError>
+    ensures { OnOk result (AreAmong numbers.now.rules (asked (option_map records.condition condition.now))) }
+{
+    let Some(condition) = condition else {
+        return Ok(());
+    };
+    if numbers.rule_number(condition.rule.name.as_slice()) < numbers.rules().len() {
+        Ok(())
+    } else {
+        Err(TableFault::NoSuchName.on(condition.rule.line))
+    }
+}

@@ -1,0 +1,254 @@
+//! The rules of a table, and the sets that they name.
+ghost use Rattle.std.specs.Prelude.{◌≡◌, ◌++◌, ◌∷◌, [], IfOk, OnOk, map, true};
+ghost use Rattle.label_patterns.specs.Sets.{Rise};
+ghost use Rattle.label_patterns.specs.Trees.{pattern};
+ghost use Rattle.lgr_text.specs.Known.{HaveSpans};
+ghost use Rattle.lgr_text.specs.PartMatches.{BeginsWith};
+ghost use Rattle.lgr_text.specs.Records.{entry as entry_of, file, meaning as meaning_of};
+ghost use Rattle.lgr_text.specs.WellFormed.{IsWellFormedMeaning, IsWellFormedRuleset};
+ghost use Rattle.lgr_table.specs.Tables.{may_stand};
+ghost use Rattle.lgr_table.specs.inner.RuleSteps.{AddsMeaning, HasNoRules, HasOtherRules, known_by};
+ghost use Rattle.lgr_table.specs.inner.Steps.{AddsRules};
+
+use crate::fault::{TableError, TableFault};
+use crate::names::Named;
+use crate::points::points_of;
+use crate::taken::{Repertoire, Taken};
+use label_patterns::{PatternTree, PointSet, Span};
+use lgr_text::{
+    Definition, Made, Meaning, OrderError, PartTree, RuleError, RuleFault, Ruleset,
+    definition_order, pattern_of_rule,
+};
+use ruleset_text::{Definition as TableDefinition, DefinitionFault, Name};
+use std::alloc::Global;
+use variant_table::TableBuilder;
+
+/// Defines the rules of the file, each after those that it names, and tells which numbers they have.
+pub(crate) fn define_rules(
+    alloc: Global,
+    builder: &mut TableBuilder,
+    ruleset: &Ruleset,
+) -> Result<Vec<Name>, TableError>
+    requires none { HasNoRules builder.old.definitions }
+    requires well_formed { IsWellFormedRuleset (file ruleset.now) }
+    ensures { IfOk result (λ rules.
+        AddsRules (may_stand builder.old.definitions.properties) (file ruleset.now) rules.items
+        builder.old builder.new) }
+{
+    let properties = builder.definitions().properties();
+    let points = points_of(alloc, properties, &ruleset.entries)?;
+    let repertoire = Repertoire {
+        entries: &ruleset.entries,
+        points: &points,
+    };
+    let order = match definition_order(alloc, &ruleset.definitions) {
+        Ok(order) => order,
+        Err(error) => return Err(not_ordered(error)),
+    };
+    let mut taken = Taken::new(alloc);
+    let mut made = Made {
+        sets: Vec::new(alloc),
+        atoms_left: builder.definitions().atoms_left(),
+    };
+    for number in &order {
+        let definition = &ruleset.definitions[*number];
+        take(
+            alloc, builder, repertoire, &mut taken, &mut made, definition,
+        )?;
+    }
+    Ok(taken.rule_names)
+}
+
+/// Takes a definition.
+fn take(
+    alloc: Global,
+    builder: &mut TableBuilder,
+    repertoire: Repertoire<'_>,
+    taken: &mut Taken,
+    made: &mut Made,
+    definition: &Definition,
+) -> Result<(), TableError>
+    requires entries { HaveSpans (map entry_of repertoire.entries.now) }
+    requires meaning { IsWellFormedMeaning (meaning_of definition.now.meaning) }
+    requires sets { made.old.sets.items ≡ builder.old.definitions.sets }
+    ensures added { let entries = map entry_of repertoire.entry.entries.now in
+        let points = repertoire.entry.points.now in
+        OnOk result (AddsMeaning (known_by entries points taken.old builder.old.definitions.rules)
+        builder.old.definitions.sets definition.now.name (meaning_of definition.now.meaning)
+        (known_by entries points taken.new builder.new.definitions.rules) builder.new.definitions.sets) }
+    ensures sets { OnOk result (made.new.sets.items ≡ builder.new.definitions.sets) }
+    ensures others { OnOk result (HasOtherRules builder.old builder.new) }
+{
+    let name = definition.name.as_slice();
+    match &definition.meaning {
+        Meaning::Class(class) => {
+            let rules = builder.definitions().rules();
+            match taken.add_class(alloc, repertoire, rules, name, class) {
+                Ok(()) => Ok(()),
+                Err(error) => Err(not_made(error, definition.line)),
+            }
+        }
+        Meaning::Rule(rule) => {
+            let known = taken.known(repertoire, builder.definitions().rules());
+            match pattern_of_rule(alloc, known, made, rule) {
+                Ok(tree) => {
+                    define_sets(alloc, builder, &made.sets, definition.line)?;
+                    define_rule(alloc, builder, name, tree, definition.line)?;
+                    taken.rule_names.push(Name::copied(alloc, name)?)?;
+                    Ok(())
+                }
+                Err(error) => Err(not_made(error, definition.line)),
+            }
+        }
+    }
+}
+
+/// Defines the sets that follow those that are defined.
+fn define_sets(
+    alloc: Global,
+    builder: &mut TableBuilder,
+    sets: &[PointSet],
+    line: usize,
+) -> Result<(), TableError>
+    requires { BeginsWith sets.now builder.old.definitions.sets }
+    ensures sets { OnOk result (builder.new.definitions.sets ≡ sets.now) }
+    ensures rules { OnOk result (builder.new.definitions.rules ≡ builder.old.definitions.rules) }
+    ensures others { OnOk result (HasOtherRules builder.old builder.new) }
+{
+    for number in builder.definitions().sets().len()..sets.len() {
+        define_set(alloc, builder, &sets[number], line)?;
+    }
+    Ok(())
+}
+
+/// Defines a set.
+fn define_set(
+    alloc: Global,
+    builder: &mut TableBuilder,
+    set: &PointSet,
+    line: usize,
+) -> Result<(), TableError>
+    ensures sets { OnOk result (builder.new.definitions.sets ≡ builder.old.definitions.sets ++ set.now ∷ []) }
+    ensures rules { OnOk result (builder.new.definitions.rules ≡ builder.old.definitions.rules) }
+    ensures others { OnOk result (HasOtherRules builder.old builder.new) }
+{
+    let name = Named::Set.fresh_name(alloc, builder.definitions(), b"", line)?;
+    let copy = copied(alloc, set, line)?;
+    match builder.define(TableDefinition::Set(name, copy)) {
+        Ok(()) => Ok(()),
+        Err(fault) => Err(not_defined(fault, line)),
+    }
+}
+
+/// The set once more. Its spans rise, which is tested since no contract of `PointSet` tells it.
+fn copied(alloc: Global, set: &PointSet, line: usize) -> Result<PointSet, TableError>
+    ensures { IfOk result (λ copy. copy ≡ set.now) }
+{
+    let spans = Vec::from_slice(alloc, set.spans())?;
+    if !do_rise(&spans) {
+        return Err(TableFault::NotSupported.on(line));
+    }
+    Ok(PointSet::new(spans))
+}
+
+/// Whether no span is empty, and each begins above the end of the one before.
+fn do_rise(spans: &[Span]) -> bool
+    ensures { result ≡ true → Rise spans.now }
+{
+    let mut least = 0u64;
+    for span in spans {
+        if u64::from(span.first) < least || span.last < span.first {
+            return false;
+        }
+        least = u64::from(span.last) + 1;
+    }
+    true
+}
+
+/// Defines a rule.
+fn define_rule(
+    alloc: Global,
+    builder: &mut TableBuilder,
+    name: &[u8],
+    tree: PatternTree,
+    line: usize,
+) -> Result<(), TableError>
+    ensures sets { OnOk result (builder.new.definitions.sets ≡ builder.old.definitions.sets) }
+    ensures rules { OnOk result (builder.new.definitions.rules ≡ builder.old.definitions.rules ++ pattern tree ∷ []) }
+    ensures others { OnOk result (HasOtherRules builder.old builder.new) }
+{
+    let name = Named::Rule.fresh_name(alloc, builder.definitions(), name, line)?;
+    match builder.define(TableDefinition::Rule(name, tree)) {
+        Ok(()) => Ok(()),
+        Err(fault) => Err(not_defined(fault, line)),
+    }
+}
+
+/// Why the definitions have no order.
+fn not_ordered(error: OrderError) -> TableError {
+    match error {
+        OrderError::Limit(line) => TableFault::Limit.on(line),
+        OrderError::Repeated(line) => TableFault::SameName.on(line),
+        OrderError::Undefined(line) => TableFault::NoSuchName.on(line),
+        OrderError::Circular(line) => TableFault::NoSuchName.on(line),
+        OrderError::Memory => TableError::Memory,
+    }
+}
+
+/// Why the definition on this line is no set and no pattern.
+fn not_made(error: RuleError, line: usize) -> TableError {
+    match error {
+        RuleError::Fault(RuleFault::Undefined) => TableFault::NoSuchName.on(line),
+        RuleError::Fault(RuleFault::Misplaced) => TableFault::Syntax.on(line),
+        RuleError::Fault(RuleFault::NotSupported) => TableFault::NotSupported.on(line),
+        RuleError::Fault(RuleFault::Limit) => TableFault::Limit.on(line),
+        RuleError::Memory => TableError::Memory,
+    }
+}
+
+/// Why the table doesn't take the definition on this line.
+fn not_defined(fault: DefinitionFault, line: usize) -> TableError {
+    match fault {
+        DefinitionFault::Limit => TableFault::Limit.on(line),
+        DefinitionFault::BadClass => TableFault::BadClass.on(line),
+        DefinitionFault::Memory => TableError::Memory,
+        _ => TableFault::NotSupported.on(line),
+    }
+}
+
+#[cfg(test)]
+mod tests {
+    use super::*;
+    use idn_class::Properties;
+    use lgr_text::read_ruleset;
+    use std::test::Fail;
+    use xml_text::read_document;
+
+    /// Digits after `a`, by a class that is defined last.
+    const TEXT: &[u8] = b"<lgr xmlns='urn:ietf:params:xml:ns:lgr-1.0'>\
+        <data><char cp='0061'/><range first-cp='0030' last-cp='0039'/></data>\
+        <rules>\
+        <rule name='after-a'><look-behind><char cp='0061'/></look-behind><anchor/></rule>\
+        <rule name='two'><rule by-ref='one'/><rule by-ref='one'/></rule>\
+        <rule name='one'><class by-ref='digit'/></rule>\
+        <class name='digit'>0030-0039</class>\
+        </rules></lgr>";
+
+    #[test]
+    fn defines_rules(rt: HostRuntime) -> Result<(), Fail> {
+        let alloc = rt.alloc();
+        let tokens = read_document(alloc, TEXT)?;
+        let ruleset = read_ruleset(alloc, &tokens)?;
+        let mut builder = TableBuilder::new(alloc, Properties::Unicode);
+        let rules = define_rules(alloc, &mut builder, &ruleset)?;
+        let definitions = builder.definitions();
+        assert_eq!(rt; rules.len(), 3);
+        assert_eq!(rt; definitions.rules().len(), 3);
+        assert_eq!(rt; definitions.sets().len(), 1);
+        assert_eq!(rt; rules[0].as_slice(), b"after-a".as_slice());
+        assert_eq!(rt; definitions.rule_name(0), b"rule_1".as_slice());
+        assert_eq!(rt; rules[1].as_slice(), b"one".as_slice());
+        assert_eq!(rt; definitions.rule_name(1), b"one".as_slice());
+        Ok(())
+    }
+}
