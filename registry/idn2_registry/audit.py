@@ -1,5 +1,6 @@
 """`audit`: which registered labels are no longer valid, and which collide with each other."""
 
+import contextlib
 import json
 from collections.abc import Iterable, Sequence
 from dataclasses import dataclass
@@ -9,7 +10,7 @@ from typing import Any, TypeVar
 from .answers import ExitStatus, Refusal, furthest_first
 from .collisions import Collisions, pairs_in, refusals_in
 from .configuration import Configuration
-from .faults import Unknown
+from .faults import NotRegistered, Unknown
 from .holdings import Holdings
 from .old_labels import MARK, Barred
 from .output import Output
@@ -47,6 +48,11 @@ class Tested:
     refused: Refused
 
     @classmethod
+    def unread(cls, holdings: Holdings) -> "Tested":
+        """All of them, as if each were tested."""
+        return cls(holdings.text, holdings.text, {})
+
+    @classmethod
     def read(cls, program: Program, holdings: Holdings, means: Means, name: str) -> "Tested":
         """All of them are tested."""
         refused: Refused = {}
@@ -56,7 +62,7 @@ class Tested:
             refused |= refusals
             old.update(marked)
         if not refused:
-            return cls(holdings.text, holdings.text, refused)
+            return cls.unread(holdings)
         valid = text_of(label for label in holdings.labels if label not in refused)
         registered = (label for label in holdings.labels if label in old or label not in refused)
         return cls(valid, text_of(label + MARK if label in old else label for label in registered), refused)
@@ -171,10 +177,21 @@ def groups_of(pairs: Iterable[tuple[Each, Each]]) -> list[list[Each]]:
     return sorted(sorted(set(group)) for group in {id(group): group for group in joined.values()}.values())
 
 
-def findings(program: Program, admitting: Sequence[Table], zone: Table, tested: Tested, means: Means,
+def findings(program: Program, admitting: Sequence[Table], zone: Table, holdings: Holdings, means: Means,
              name: str) -> Findings:
-    """All that is wrong with the labels of a register under some tables. Those that may be registered are asked, and what they
-    collide with may be a label of older rules, too."""
+    """All that is wrong with the labels of a register under some tables. Most registers have no label that may not be
+    registered: then the runs that read them have tested each. Only where these refuse them each is tested by itself."""
+    # A label of older rules has a mark after a tab, which no label has.
+    if b"\t" not in holdings.text:
+        with contextlib.suppress(NotRegistered):
+            return findings_of(program, admitting, zone, Tested.unread(holdings), means, name)
+    return findings_of(program, admitting, zone, Tested.read(program, holdings, means, name), means, f"{name}-tested")
+
+
+def findings_of(program: Program, admitting: Sequence[Table], zone: Table, tested: Tested, means: Means,
+                name: str) -> Findings:
+    """The same of labels that were tested. Those that may be registered are asked, and what they collide with may be a label
+    of older rules, too."""
     check_for_collisions(zone, program)
     parts = parts_of(tested.valid, means.lines_of_a_part(tested.valid.count(b"\n")))
     task = AuditTask(program, zone, tested.registered)
@@ -203,8 +220,7 @@ def audit(configuration: Configuration, program: Program, holdings: Holdings, me
     earlier = Earlier.read(since)
     tables = {name: read_table(name, path, program) for name, path in configuration.tables.items()}
     admitting = [tables[name] for name in configuration.admitting]
-    tested = Tested.read(program, holdings, means, "audit")
-    found = findings(program, admitting, tables[configuration.zone], tested, means, "audit")
+    found = findings(program, admitting, tables[configuration.zone], holdings, means, "audit")
     groups = found.groups()
     new_labels = [label for label in sorted(found.invalid) if not earlier.knows(label)]
     new_groups = [group for group in groups if not earlier.knows_group(group)]

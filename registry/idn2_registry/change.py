@@ -7,7 +7,7 @@ from pathlib import Path
 from typing import Any
 
 from .answers import ExitStatus, Object, Refusal
-from .audit import Pairs, Tested, findings, groups_of
+from .audit import Pairs, findings, groups_of
 from .configuration import Configuration, Limits
 from .faults import Unknown, Unusable
 from .holdings import Holdings
@@ -122,11 +122,10 @@ def newly_colliding(configuration: Configuration, program: Program, holdings: Ho
     if new.name != configuration.zone:
         return []
     admitting = [tables[name] for name in configuration.admitting]
-    tested = Tested.read(program, holdings, means, "change")
     found: list[Pairs] = []
     for name, zone in (("change-old", tables[new.name]), ("change-new", new)):
         under = [zone] if admitting == [tables[new.name]] else admitting
-        found.append(findings(program, under, zone, tested, means, name).pairs)
+        found.append(findings(program, under, zone, holdings, means, name).pairs)
     old, now = ({frozenset(pair) for pair in pairs} for pairs in found)
     return groups_of((min(pair), max(pair)) for pair in now - old)
 

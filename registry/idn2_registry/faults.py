@@ -22,5 +22,9 @@ class Unknown(Fault):
         self.told = told or text
 
 
+class NotRegistered(Unknown):
+    """A run read a file of registered labels in which one may not be registered."""
+
+
 class Unsayable(Exception):
     """What was asked for can't be said, or contradicts itself: a no. The text names where and why."""

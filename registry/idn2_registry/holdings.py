@@ -5,7 +5,7 @@ from dataclasses import dataclass
 from functools import cached_property
 
 from .answers import RegisteredLabel
-from .old_labels import alabel_of
+from .old_labels import name_of
 from .program import Program
 from .register import Register
 
@@ -41,6 +41,6 @@ class Holdings:
     def named(self, labels: Iterable[str], program: Program) -> dict[str, RegisteredLabel]:
         """Labels with their A-labels and holders."""
         wanted = sorted(set(labels))
-        told = program.tested([label.encode() for label in wanted])
-        return {label: RegisteredLabel(label, alabel_of(label, answer), self.holders.get(label))
-                for label, answer in zip(wanted, told, strict=True)}
+        told = program.alabels([label.encode() for label in wanted])
+        return {label: RegisteredLabel(label, alabel or name_of(label), self.holders.get(label))
+                for label, alabel in zip(wanted, told, strict=True)}

@@ -13,13 +13,15 @@ from pathlib import Path
 
 from .answers import Object
 from .configuration import LabelRules
-from .faults import Unknown, Unusable
+from .faults import NotRegistered, Unknown, Unusable
 
 # Under which name the program is installed beside this one; `make install` writes another name here if it has one.
 NAME_FILE = "program_name.txt"
 ANSWERED = (0, 1)
 # The message of a line that is refused.
 REFUSED = re.compile(rb"^idn2: line (\d+): \d+ .*\n", re.MULTILINE)
+# How the message of a file of registered labels begins that is refused.
+NOT_REGISTERED = b"idn2: registered line "
 OPTIONS: dict[LabelRules, tuple[str, ...]] = {LabelRules.PROFILE: (), LabelRules.STANDARD: ("--standard",)}
 
 
@@ -83,6 +85,15 @@ class Program:
             raise Unknown(ended(done.returncode, done.stderr))
         return done.stdout
 
+    def alabels(self, labels: Sequence[bytes]) -> list[str | None]:
+        """The A-labels of labels; None for one that may not be registered."""
+        output, refused = self.plain(["--register"], b"".join(label + b"\n" for label in labels))
+        told, none = output.decode().split("\n")[:-1], set(refused)
+        if len(told) + len(none) != len(labels):
+            raise Unknown("the program didn't answer each label")
+        left = iter(told)
+        return [None if number in none else next(left) for number in range(1, len(labels) + 1)]
+
     def tested(self, labels: Sequence[bytes]) -> list[Object]:
         """What it says of labels that are to be registered."""
         return self._told(["--register"], labels)
@@ -101,8 +112,10 @@ class Program:
 
     def plain(self, words: Sequence[str], given: bytes, files: Sequence[int] = ()) -> tuple[bytes, list[int]]:
         """The output, without objects, of a run that answered each line, and the numbers of the lines that it refused. Raises
-        Unknown for any other."""
+        NotRegistered where it refused its registered labels, and Unknown for any other."""
         done = self.run(words, given, files, None)
+        if done.stderr.startswith(NOT_REGISTERED):
+            raise NotRegistered(ended(done.returncode, done.stderr))
         refused = [int(line) for line in REFUSED.findall(done.stderr)]
         if done.returncode not in ANSWERED or len(refused) != done.stderr.count(b"\n"):
             raise Unknown(ended(done.returncode, done.stderr))

@@ -134,14 +134,14 @@ class SqliteRegister(Register):
             yield from connection.execute("select label, holder from registered order by label collate binary")
 
     def texts(self) -> tuple[bytes, bytes]:
-        # As rows a million labels take twice the time. The order of a subquery is that of what is put together of it.
+        # As rows a million labels take twice the time. The order of a subquery is that of what is put together of it, and what
+        # is put together of no holder is null, which is left out.
+        query = """select count(*), cast(group_concat(label, char(10)) as blob),
+                count(holder), cast(group_concat(label || char(9) || holder, char(10)) as blob)
+            from (select label, holder from registered order by label collate binary)"""
         with self._connection() as connection:
-            connection.execute("begin")
-            found = [connection.execute(f"select count(*), cast(group_concat(text, char(10)) as blob) from (select {text} as "
-                                        f"text from registered where {which} order by label collate binary)").fetchone()
-                     for text, which in (("label", "true"), ("label || char(9) || holder", "holder is not null"))]
-            connection.execute("commit")
-        labels, holders = (checked_lines((text or b"") + b"\n" * bool(count), count) for count, text in found)
+            row = connection.execute(query).fetchone()
+        labels, holders = (checked_lines((text or b"") + b"\n" * bool(count), count) for count, text in (row[:2], row[2:]))
         return labels, holders
 
     def load(self, rows: Iterable[Row]) -> None:

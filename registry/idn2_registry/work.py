@@ -124,7 +124,9 @@ def results(means: Means, name: str, task: Task, parts: Sequence[bytes], state: 
             progress.add(lines[number])
     finally:
         progress.close()
-    kept.remove()
+        # Of what is done whole, and where nothing is done, there is nothing to go on with.
+        if len(found) in (0, len(parts)):
+            kept.remove()
     return [found[number] for number in range(len(parts))]
 
 

@@ -247,7 +247,7 @@ def test_shows_progress_on_a_terminal_alone(place: Place) -> None:
     os.close(master)
     assert process.returncode == 0 and "audit [####" in shown and "2 of 2" in shown and "s left" in shown, shown
     # It is there before the first part is done.
-    assert shown.startswith(f"\raudit-test [{' ' * work.BAR}] 0 of 2 \r"), shown
+    assert shown.startswith(f"\raudit [{' ' * work.BAR}] 0 of 2 \r"), shown
 
 
 def test_what_was_done_before_has_no_part_in_the_rate(monkeypatch: pytest.MonkeyPatch) -> None:
