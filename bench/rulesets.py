@@ -23,7 +23,7 @@ from runs import Failed, Run, found, in_turn, measured, version, words_of
 
 sys.path.append(str(pathlib.Path(__file__).resolve().parent.parent / "tests"))
 
-from hostile import conditions_at_every_limit
+from hard_rulesets import conditions_at_every_limit
 
 FIRST_LINE = "%version 3"
 HAN, SYLLABLES = 0x4E00, "AC00..D7A3"
