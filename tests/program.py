@@ -90,7 +90,8 @@ REFUSED_WORDS = [
     "--variants|t|--steps|two|x", "--variants|t|--among|r|--steps|2|x", "--jump|--variants|t|--steps|2|x", "--steps|2|x",
     "-l|-d|x", "-l|--variants|t", "--variants|t|--check-table|t", "--variants|t|--ruleset|t|x",
     "--ruleset|t|--check-ruleset|t", "--ruleset|t|--ruleset|t|x", "--check-ruleset|t|x", "--check-ruleset|t|--limit|1",
-    "--check-ruleset|t|--jump", "--ruleset|t|--among|t|x", "--ruleset|t|--tries|0|x", "-r|--register|x",
+    "--check-ruleset|t|--jump", "--print-ruleset|t|x", "--print-ruleset|t|--json", "--print-ruleset|t|--check-ruleset|t",
+    "--print-ruleset|t|--print-ruleset|t", "--print-ruleset|t|--after|a", "--ruleset|t|--among|t|x", "--ruleset|t|--tries|0|x", "-r|--register|x",
     "--quiet|--quiet", "--standard|--standard|x", "--standard=yes|x", "--explain=yes|x", "--json|--json|x", "--json=yes|x",
     "--variants|t|--variants|u", "--variants", "--check-table|t|x", "--check-table|t|", "--after|a|x", "--after||x",
     "--limit|1|x", "-r|--tries|1|x", "--variants|t|--limit|0|x", "--variants|t|--limit|+5|x", "--variants|t|--limit| 5|x",
@@ -145,6 +146,7 @@ Options:
       --check-table <FILE>    Print the pairs that the table in FILE lacks
       --ruleset <FILE>        List each label's variants by the ruleset in FILE
       --check-ruleset <FILE>  Print the pairs that the ruleset in FILE lacks
+      --print-ruleset <FILE>  Print what the ruleset in FILE says; not as JSON
       --among <FILE>          With --variants: list labels in FILE that collide
       --others                With --among: leave out the label itself
       --jump                  With --variants: answer LABEL TAB TEXT by a label

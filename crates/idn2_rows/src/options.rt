@@ -171,6 +171,10 @@ const READ: [(&str, &str); 28] = [
         "CheckTable false false \"t\" Ruleset [] None 1000000 None None \"none\"",
     ),
     (
+        "idn2|--print-ruleset|t",
+        "PrintTable false false \"t\" Ruleset [] None 1000000 None None \"none\"",
+    ),
+    (
         "idn2|-r|--standard|faß",
         "Unicode Register false false \"\" Table [] None 1000000 None None \"faß\\n\"",
     ),

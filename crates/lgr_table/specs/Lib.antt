@@ -4,4 +4,5 @@ pub mod Entries
 pub mod Names
 pub mod Meanings
 pub mod Tables
+pub mod Texts
 pub mod Examples

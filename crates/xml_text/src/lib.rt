@@ -23,7 +23,7 @@ mod token;
 pub use attribute::{Attribute, Tag, TagKind};
 pub use bytes::is_blank;
 pub use characters::first_wrong_character;
-pub use document::read_document;
+pub use document::{begins_as_xml, read_document};
 pub use fault::{DocumentError, Place, ReadError};
 pub use laws::{
     a_text_begins_with_one_tag, a_text_is_one_document, a_text_that_stops_is_no_document,

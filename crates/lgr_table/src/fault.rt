@@ -1,0 +1,62 @@
+//! Why a ruleset has no table.
+ghost use Rattle.std.specs.Prelude.{◌≡◌};
+ghost use Rattle.lgr_table.specs.declared.fault.TableError.TheVariants.{Fault, Memory};
+
+use std::alloc::{AllocError, AllocFailed};
+
+/// What is wrong with a ruleset of which no table is made.
+#[derive(Clone, Copy, Debug, PartialEq, Eq)]
+pub enum TableFault {
+    /// It is no document of XML, or not one of RFC 7940.
+    Syntax,
+    /// An entry has the source of an earlier one.
+    SameSource,
+    /// A variant is one that its entry has before it, unless each has a condition and the two conditions differ.
+    SameVariant,
+    /// A code point whose class is none of PVALID, CONTEXTJ and CONTEXTO, where none may be left out.
+    BadClass,
+    /// It is one entry, variant, code point, type, class, rule, action or atom too many, or the canonical text is too
+    /// long with it.
+    Limit,
+    /// A class, a rule or a tag is named that isn't defined, or a definition is part of itself.
+    NoSuchName,
+    /// A class or a rule has the name of an earlier one.
+    SameName,
+    /// The standard allows it, and no table says it: a variant of no code points, a reflexive variant with a condition,
+    /// an anchor in a rule that an action asks for, or a property or a disposition that isn't known.
+    NotSupported,
+}
+
+/// Why a ruleset has no table.
+#[derive(Clone, Copy, Debug, PartialEq, Eq)]
+pub enum TableError {
+    /// What is wrong, and the line of the element that has it, counted from 1.
+    Fault { fault: TableFault, line: usize },
+    /// Memory was refused.
+    Memory,
+}
+
+impl From<AllocError> for TableError {
+    ghost from_gives = { λ _ e. e ≡ Memory };
+
+    fn from(_: AllocError) -> Self {
+        TableError::Memory
+    }
+}
+
+impl<T: Drop> From<AllocFailed<T>> for TableError {
+    ghost from_gives = { λ _ e. e ≡ Memory };
+
+    fn from(_: AllocFailed<T>) -> Self {
+        TableError::Memory
+    }
+}
+
+impl TableFault {
+    /// The fault of the element on this line.
+    pub(crate) fn on(self, line: usize) -> TableError
+        ensures { result ≡ Fault self line }
+    {
+        TableError::Fault { fault: self, line }
+    }
+}
