@@ -129,7 +129,7 @@ check-tables: all
 	for ruleset in tables/rulesets/*.txt; do $(PROGRAM) --check-ruleset $$ruleset || exit 1; done
 
 # Times the program against libidn2's, and prints one table of ratios. Then what a million registered labels take, and
-# what one of what a limit bounds takes at worst, and what idn2-registry and its service take.
+# what one of what a limit bounds takes at worst, what idn2-registry and its service take, and how XML is read.
 bench: all
 	python3 bench/bench.py
 	python3 bench/collisions.py
@@ -137,6 +137,7 @@ bench: all
 	python3 bench/rulesets.py
 	python3 bench/registry.py
 	python3 bench/service.py
+	python3 bench/xml.py
 
 # Compares the program with libidn2, with a reference implementation of the rules and of the table notation, with Unicode's
 # IDNA test file where IDNA_TEST_FILE names it, and, as the reference implementation, with an evaluator of RFC 7940; and

@@ -15,7 +15,7 @@ const MAX_BYTES: usize = 67_108_864;
 
 /// What a document of XML 1.0 says that is written in UTF-8 and has no document type, or the first byte with which no
 /// document goes on.
-pub fn read_document(alloc: Global, text: &[u8]) -> Result<Vec<Token>, DocumentError>
+pub fn read_document(alloc: Global, text: &[u8]) -> Result<Vec<Token<'_>>, DocumentError>
     ensures read { IfOk result (λ tokens. IsDocument text.now tokens.items) }
     ensures fault { IfErr result (IsFault text.now) }
 {

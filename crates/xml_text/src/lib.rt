@@ -9,9 +9,11 @@ mod declaration;
 mod document;
 mod document_state;
 mod fault;
+mod gathered;
 mod laws;
 mod lines;
 mod names;
+mod passage;
 mod quote;
 mod reference;
 mod repeats;
@@ -29,6 +31,7 @@ pub use laws::{
     a_text_begins_with_one_tag, a_text_is_one_document, a_text_that_stops_is_no_document,
     definitions_give_the_examples,
 };
+pub use passage::Passage;
 pub use reference::referenced;
 pub use tag::read_tag;
 pub use token::{Said, Token};

@@ -39,6 +39,12 @@ pub record IsTaken {S : Type 0} (step : S → ℕ → Option S) (first : Option 
   pub line : list_all is_in_line (drop 1 (take n bytes)) ≡ true
   pub leads : run step first (drop 1 (take n bytes)) ≡ Some s
 
+-- so many bytes of one line lead from a state to another
+pub record GoesOn {S : Type 0} (step : S → ℕ → Option S) (s : S) (bytes : List ℕ) (n : ℕ) (t : S) : Type 0 where
+  pub within : n ≤ length bytes
+  pub line : list_all is_in_line (take n bytes) ≡ true
+  pub leads : run step (Some s) (take n bytes) ≡ Some t
+
 -- so many bytes were taken and lead to the state; or none, since the first may not stand there
 abbrev pub Takes : {S : Type 0} → (S → ℕ → Option S) → Option S → List ℕ → Option ℕ → S → Type 0
 Takes step first bytes None s = first ≡ None

@@ -37,8 +37,3 @@ returns-then-is_complete-clause-read c =
     let complete : is_complete (state c.loop-place.state) ≡ true = search rules in
     subst (λ (t : List Token). IsBody c.args.line (line_feeds c.args.text.now) t) (sym c.into_tokens.ensures)
     (whole_body c.args.line c.args.text.now c.loop-place.place (state c.loop-place.state) c.loop-place-test.false c.loop-place.invariant.read complete)
-
-pub returns-else-is_complete-clause-stop : goal.returns-else-is_complete-clause-stop
-returns-else-is_complete-clause-stop c =
-    let open_ : is_complete (state c.loop-place.state) ≡ false = search rules in
-    (omega arith, stops_past c.args.line c.args.text.now c.loop-place.place (state c.loop-place.state) c.loop-place-test.false c.loop-place.invariant.read open_)
