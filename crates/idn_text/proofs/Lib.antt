@@ -12,6 +12,8 @@ pub mod LawLemmas
 pub mod NumberingLemmas
 -- How the reading of lines goes on.
 pub mod ReadingLemmas
+-- A reader by steps stops where its grammar says.
+pub mod StopLemmas
 -- Taking bytes from the front of what a reader gave.
 pub mod TakingLemmas
 -- The UTF-8 of a list of code points.

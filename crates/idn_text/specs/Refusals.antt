@@ -6,10 +6,10 @@ use Rattle.idn_text.specs.declared.refusal.Refusal.TheVariants.{Disallowed, Unas
 use Rattle.idn_text.specs.declared.refusal.Refusal.TheVariants.{ContextJ, ContextO, Bidi, LabelTooLong, BadALabel}
 use Rattle.idn_text.specs.declared.refusal.Refusal.TheVariants.{LookupInvalid, LookupLength, Syntax, SameSource}
 use Rattle.idn_text.specs.declared.refusal.Refusal.TheVariants.{SameVariant, BadClass, Limit, NoSuchName, SameName}
-use Rattle.idn_text.specs.declared.refusal.Refusal.TheVariants.{NotInTable, NotValid, Usage, ReadFault, WriteFault}
-use Rattle.idn_text.specs.declared.refusal.Refusal.TheVariants.{Memory}
+use Rattle.idn_text.specs.declared.refusal.Refusal.TheVariants.{NotSupported, NotInTable, NotValid, Usage, ReadFault}
+use Rattle.idn_text.specs.declared.refusal.Refusal.TheVariants.{WriteFault, Memory}
 
--- 1 to 5 are of a line, 10 to 21 of a label or a name, 30 to 36 of a table, 40 and 41 of a label under a table,
+-- 1 to 5 are of a line, 10 to 21 of a label or a name, 30 to 37 of a table, 40 and 41 of a label under a table,
 -- 50 to 70 of a run
 abbrev pub refusal_number : Refusal → ℕ
 refusal_number NotUtf8 = 1
@@ -36,6 +36,7 @@ refusal_number BadClass = 33
 refusal_number Limit = 34
 refusal_number NoSuchName = 35
 refusal_number SameName = 36
+refusal_number NotSupported = 37
 refusal_number NotInTable = 40
 refusal_number NotValid = 41
 refusal_number Usage = 50
@@ -69,6 +70,7 @@ refusal_text BadClass = codes "code point not allowed in a table"
 refusal_text Limit = codes "table limit"
 refusal_text NoSuchName = codes "name not defined"
 refusal_text SameName = codes "name given twice"
+refusal_text NotSupported = codes "not supported"
 refusal_text NotInTable = codes "not made of table entries"
 refusal_text NotValid = codes "not valid under the table"
 refusal_text Usage = codes "usage"

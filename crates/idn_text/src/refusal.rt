@@ -43,7 +43,7 @@ pub enum Refusal {
     /// A name, or a label of it, whose length the DNS refuses (RFC 1035 section 2.3.4).
     LookupLength,
     /// A line of a table that is not blank, and is no comment, no entry, no range and no definition; or the first line
-    /// of a text that lacks its version.
+    /// of a text that lacks its version; or what is no XML, or not that of a ruleset (RFC 7940).
     Syntax,
     /// A source that an earlier line of the table has.
     SameSource,
@@ -57,6 +57,8 @@ pub enum Refusal {
     NoSuchName,
     /// A name that an earlier line of a ruleset defines, or that is predefined.
     SameName,
+    /// What a ruleset in XML may say, and no table says.
+    NotSupported,
     /// A label that can't be cut into sources of the table, whatever their conditions (RFC 7940 section 8.1).
     NotInTable,
     /// A label that can be cut into sources of a ruleset, but that isn't eligible, breaks a demand, is unclear, or is
@@ -104,6 +106,7 @@ impl Refusal {
             Refusal::Limit => 34,
             Refusal::NoSuchName => 35,
             Refusal::SameName => 36,
+            Refusal::NotSupported => 37,
             Refusal::NotInTable => 40,
             Refusal::NotValid => 41,
             Refusal::Usage => 50,
@@ -142,6 +145,7 @@ impl Refusal {
             Refusal::Limit => "table limit",
             Refusal::NoSuchName => "name not defined",
             Refusal::SameName => "name given twice",
+            Refusal::NotSupported => "not supported",
             Refusal::NotInTable => "not made of table entries",
             Refusal::NotValid => "not valid under the table",
             Refusal::Usage => "usage",

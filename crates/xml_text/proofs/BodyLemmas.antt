@@ -2,8 +2,8 @@
 use Rattle.std.proofs.Common.{◌≡◌, ℕ, zero, suc, ◌+◌, ◌<◌, ◌≤◌, Bool, true, false, ◌==◌, ◌&&◌, not, Option, Some, None, List, [], ◌∷◌, ◌++◌, length, take, drop, get_or, cond, refl, sym, ap, ◌∙◌, subst, append-nil, take_all, arith}
 use Rattle.std.proofs.lemmas.Bool.Decides.{nat_tests}
 use Rattle.std.proofs.lemmas.List.{drop_all}
-use Rattle.ruleset_text.specs.Stops.{run, Begins}
-use Rattle.ruleset_text.proofs.StopLemmas.{run_append}
+use Rattle.idn_text.specs.Stops.{run, Begins}
+use Rattle.idn_text.proofs.StopLemmas.{run_append}
 use Rattle.std.specs.List.{list_all}
 use Rattle.xml_text.specs.declared.document_state.DocumentState.{DocumentState}
 use Rattle.xml_text.specs.Documents.{IsBody}

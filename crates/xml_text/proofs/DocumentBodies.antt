@@ -1,7 +1,7 @@
 -- A document is read, and what is read is one.
 use Rattle.std.proofs.Common.{◌≡◌, ℕ, Bool, true, false, ◌&&◌, Option, Some, None, List, [], ◌∷◌, ◌++◌, refl, sym, ap, ◌∙◌, subst, arith}
-use Rattle.ruleset_text.specs.Stops.{run}
-use Rattle.ruleset_text.proofs.StopLemmas.{run_none, run_append}
+use Rattle.idn_text.specs.Stops.{run}
+use Rattle.idn_text.proofs.StopLemmas.{run_none, run_append}
 use Rattle.xml_text.specs.declared.document_state.Part.{Part}
 use Rattle.xml_text.specs.declared.document_state.Part.TheVariants as part
 use Rattle.xml_text.specs.declared.repeats.Repeats.{Repeats}

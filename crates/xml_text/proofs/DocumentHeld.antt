@@ -4,8 +4,8 @@ use Rattle.std.specs.List.{list_all}
 use Rattle.std.specs.Option.{option_map}
 use Rattle.std.specs.Prelude.{slice_get}
 use Rattle.std.proofs.lemmas.Bool.Decides.{nat_tests}
-use Rattle.ruleset_text.specs.Stops.{run}
-use Rattle.ruleset_text.proofs.StopLemmas.{run_none, run_one}
+use Rattle.idn_text.specs.Stops.{run}
+use Rattle.idn_text.proofs.StopLemmas.{run_none, run_one}
 use Rattle.xml_text.specs.declared.attribute.TagKind.{TagKind}
 use Rattle.xml_text.specs.declared.document_state.Part.{Part}
 use Rattle.xml_text.specs.declared.document_state.Part.TheVariants as part

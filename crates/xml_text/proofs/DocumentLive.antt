@@ -7,8 +7,8 @@ use Rattle.std.proofs.lemmas.Bool.Decides.{nat_tests}
 use Rattle.std.proofs.lemmas.List.{length-append, length-take, length-map, take-append-drop}
 use Rattle.std.proofs.lemmas.Option.{slice_get_past}
 use Rattle.std.proofs.lemmas.Slice.Eq.{bytes_eq-Decides}
-use Rattle.ruleset_text.specs.Stops.{run, Begins}
-use Rattle.ruleset_text.proofs.StopLemmas.{run_append}
+use Rattle.idn_text.specs.Stops.{run, Begins}
+use Rattle.idn_text.proofs.StopLemmas.{run_append}
 use Rattle.xml_text.specs.declared.attribute.TagKind.TheVariants.{Empty}
 use Rattle.xml_text.specs.declared.document_state.Part.{Part}
 use Rattle.xml_text.specs.declared.document_state.Part.TheVariants as part

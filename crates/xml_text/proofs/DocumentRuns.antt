@@ -12,7 +12,7 @@ use Rattle.xml_text.specs.declared.document_state.Part.TheVariants as part
 use Rattle.xml_text.specs.declared.repeats.Repeats.{Repeats}
 use Rattle.xml_text.specs.declared.repeats.Repeats.TheVariants as repeats
 use Rattle.xml_text.specs.declared.state.Phase.TheVariants as phase
-use Rattle.ruleset_text.specs.Stops.{run}
+use Rattle.idn_text.specs.Stops.{run}
 use Rattle.xml_text.specs.Documents.{Written, texts, text_token, closing}
 use Rattle.xml_text.specs.LineEnds.{line_after, next_line}
 use Rattle.xml_text.specs.Names.{is_blank, AreBlanks, is_name_start, is_name_byte, is_name, is_reference_byte}

@@ -11,6 +11,7 @@ pub mod DocumentReads
 pub mod DocumentRuns
 pub mod DocumentTaken
 pub mod FileLemmas
+pub mod GatheredLemmas
 pub mod LineEndLemmas
 pub mod ListLemmas
 pub mod NumberLemmas

@@ -1,7 +1,7 @@
 -- Runs of a reader by steps.
 use Rattle.std.proofs.Common.{◌≡◌, ◌⊎◌, inl, inr, Bool, true, false, Option, Some, None, List, ◌∷◌, ◌++◌, cond, refl, ap, ◌∙◌, sym}
-use Rattle.ruleset_text.specs.Stops.{run}
-use Rattle.ruleset_text.proofs.StopLemmas.{run_append, run_none}
+use Rattle.idn_text.specs.Stops.{run}
+use Rattle.idn_text.proofs.StopLemmas.{run_append, run_none}
 
 -- the bytes lead from a state to another
 abbrev pub Leads : {S L : Type 0} → (S → L → Option S) → S → List L → S → Type 0

@@ -3,7 +3,7 @@ use Rattle.std.proofs.Common.{◌≡◌, ℕ, ◌+◌, ◌<◌, zero, suc, inl, 
 use Rattle.std.specs.List.{list_all}
 use Rattle.std.proofs.lemmas.List.Folds.{list_all-append}
 use Rattle.std.proofs.lemmas.Slice.Eq.{bytes_eq-Decides}
-use Rattle.ruleset_text.specs.Stops.{Begins}
+use Rattle.idn_text.specs.Stops.{Begins}
 use Rattle.xml_text.specs.declared.attribute.TagKind.TheVariants.{Start, Empty}
 use Rattle.xml_text.specs.declared.quote.Quote.{Quote}
 use Rattle.xml_text.specs.declared.quote.Quote.TheVariants as quote

@@ -1,8 +1,8 @@
 -- What is read is a tag, and where reading stops none goes on.
 use Rattle.std.proofs.Common.{◌≡◌, ℕ, ◌<◌, ◌≤◌, ◌⊎◌, inl, inr, Option, Some, None, List, [], ◌∷◌, ◌++◌, length, take, drop, get_or, refl, sym, ap, ◌∙◌, subst, append_assoc, append-nil, take_all, arith}
 use Rattle.std.proofs.lemmas.List.{drop_all}
-use Rattle.ruleset_text.specs.Stops.{run, Begins}
-use Rattle.ruleset_text.proofs.StopLemmas.{run_none, run_append, run_one}
+use Rattle.idn_text.specs.Stops.{run, Begins}
+use Rattle.idn_text.proofs.StopLemmas.{run_none, run_append, run_one}
 use Rattle.xml_text.specs.declared.attribute.TagKind.{TagKind}
 use Rattle.xml_text.specs.declared.state.Phase.{Phase}
 use Rattle.xml_text.specs.declared.state.Phase.TheVariants as phase

@@ -3,7 +3,7 @@ use Rattle.std.proofs.Common.{◌≡◌, ◌≢◌, ℕ, Bool, true, false, ◌=
 use Rattle.std.specs.List.{flat_map, list_all}
 use Rattle.std.proofs.lemmas.Bool.Decides.{nat_tests}
 use Rattle.std.proofs.Common.{arith}
-use Rattle.ruleset_text.specs.Stops.{run}
+use Rattle.idn_text.specs.Stops.{run}
 use Rattle.xml_text.specs.declared.attribute.TagKind.{TagKind}
 use Rattle.xml_text.specs.declared.attribute.TagKind.TheVariants.{Start, Empty}
 use Rattle.xml_text.specs.declared.quote.Quote.{Quote}

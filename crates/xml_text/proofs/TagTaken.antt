@@ -1,21 +1,22 @@
 -- Runs of a tag.
-use Rattle.std.proofs.Common.{◌≡◌, ℕ, ◌<◌, ◌≤◌, Bool, true, false, ◌==◌, ◌&&◌, not, Some, None, List, [], ◌∷◌, ◌++◌, length, take, drop, get_or, cond, refl, sym, ap, ◌∙◌, append_assoc, append-nil, arith}
+use Rattle.std.proofs.Common.{◌≡◌, ℕ, ◌<◌, ◌≤◌, Bool, true, false, ◌==◌, ◌&&◌, not, Some, None, List, [], ◌∷◌, ◌++◌, length, take, drop, get_or, cond, ◌+◌, refl, sym, ap, ◌∙◌, append_assoc, append-nil, subst, Option, arith}
 use Rattle.std.specs.List.{list_all}
 use Rattle.std.proofs.lemmas.Bool.Decides.{nat_tests}
-use Rattle.ruleset_text.specs.Stops.{run}
+use Rattle.idn_text.specs.Stops.{run}
 use Rattle.xml_text.specs.declared.quote.Quote.{Quote}
+use Rattle.xml_text.specs.declared.quote.Quote.TheVariants as quote
 use Rattle.xml_text.specs.declared.run.Run.{Run}
 use Rattle.xml_text.specs.declared.run.Run.TheVariants as runs
 use Rattle.xml_text.specs.declared.state.Phase.TheVariants as phase
 use Rattle.xml_text.specs.Attributes.{is_named}
-use Rattle.xml_text.specs.Names.{is_name_byte}
+use Rattle.xml_text.specs.Names.{is_blank, is_name_byte, is_name_start}
 use Rattle.xml_text.specs.Tags.{quote_byte, spaced}
-use Rattle.xml_text.specs.inner.Runs.{goes_on, is_in_line}
-use Rattle.xml_text.specs.inner.TagSteps.{State, step, step_by, named, after_step, equals_step, with_attribute_byte, with_value, closed, moved, Goes}
+use Rattle.xml_text.specs.inner.Runs.{IsTaken, GoesOn, goes_on, is_in_line}
+use Rattle.xml_text.specs.inner.TagSteps.{State, step, step_by, with_phase, named, after_step, end_step, equals_step, with_attribute, with_attribute_byte, with_value, closed, moved, Goes}
 use Rattle.xml_text.proofs.ListLemmas.{and_both}
 use Rattle.xml_text.proofs.Runs.{first, yes, no}
 use Rattle.xml_text.proofs.TagRuns.{not_false}
-use Rattle.xml_text.proofs.TakenLemmas.{first_of, run_taken}
+use Rattle.xml_text.proofs.TakenLemmas.{first_of, run_taken, one_taken, taken_on, one_more, run_goes_on}
 
 -- ---- on one line
 
@@ -124,3 +125,50 @@ value_goes q s bytes n value here some within are is =
     run_taken step (Some (with_value s (b ∷ []))) bytes n (with_value s (b ∷ [])) (record s { value = value }) some within (all_in_line (runs.Value q) bs are) refl
     (value_run q (with_value s (b ∷ [])) bs here are
     ∙ ap (λ (x : List ℕ). Some (record s { value = x })) (append_assoc s.value (b ∷ []) bs ∙ ap (λ (x : List ℕ). s.value ++ x) (sym (first_of bytes n some within)) ∙ sym is))
+
+-- ---- what follows a run
+
+quote_in_line : (q : Quote) → is_in_line (quote_byte q) ≡ true
+quote_in_line quote.Double = refl
+quote_in_line quote.Single = refl
+
+pub quote_goes : (q : Quote) (s : State) (bytes : List ℕ) → s.phase ≡ phase.Value q → 0 < length bytes → get_or bytes 0 0 ≡ quote_byte q → GoesOn step s bytes 1 (closed s)
+quote_goes q s bytes here some is =
+    let b = get_or bytes 0 0 in
+    let same : (b == quote_byte q) ≡ true = grind (arith, nat_tests) in
+    one_more step s (closed s) bytes some (ap is_in_line is ∙ quote_in_line q)
+    (ap (λ p. step_by p s b) here
+    ∙ yes (b == quote_byte q) (Some (closed s)) (cond (b == 60) None (cond (b == 38) (moved (record s { reference = [] }) (phase.Reference q)) (Some (with_value s (spaced b ∷ []))))) same)
+
+pub begun_value : (q : Quote) (s : State) (bytes : List ℕ) → s.phase ≡ phase.Attribute → is_named s.attributes s.attribute ≡ false → 2 ≤ length bytes → get_or bytes 0 0 ≡ 61
+    → get_or bytes 1 0 ≡ quote_byte q → GoesOn step s bytes 2 (with_phase s (phase.Value q))
+begun_value q s [] here new some first_ second = absurd (omega arith)
+begun_value q s (a ∷ []) here new some first_ second = absurd (omega arith)
+begun_value q s (a ∷ b ∷ bytes) here new some first_ second =
+    let two : a ∷ b ∷ [] ≡ 61 ∷ quote_byte q ∷ [] = ap (λ (x : ℕ). x ∷ b ∷ []) first_ ∙ ap (λ (x : ℕ). 61 ∷ x ∷ []) second in
+    record {
+      within = some;
+      line = ap (list_all is_in_line) two ∙ ap (λ (x : Bool). x && true) (quote_in_line q);
+      leads = ap (run step (Some s)) two
+          ∙ first step s (with_phase s phase.AfterEquals) (with_phase s (phase.Value q)) 61 (quote_byte q ∷ [])
+          (ap (λ p. step_by p s 61) here ∙ no (is_named s.attributes s.attribute) None (equals_step s 61) new) (by q);
+    }
+  where
+    by : (q : Quote) → run step (Some (with_phase s phase.AfterEquals)) (quote_byte q ∷ []) ≡ Some (with_phase s (phase.Value q))
+    by quote.Double = refl
+    by quote.Single = refl
+
+pub begun_attribute : (s : State) (bytes : List ℕ) (n : ℕ) (t : State) → s.phase ≡ phase.Blank → is_name_start (get_or bytes 0 0) ≡ true
+    → Goes (λ s b. Some (with_attribute s b)) s bytes (Some n) t → GoesOn step s bytes n t
+begun_attribute s bytes n t here is taken =
+    let b = get_or bytes 0 0 in
+    let line : is_in_line b ≡ true = grind (arith, nat_tests) in
+    let starts : step s b ≡ Some (with_attribute s b) = ap (λ p. step_by p s b) here ∙ yes (is_name_start b) (Some (with_attribute s b)) (after_step s b) is in
+    run_goes_on step s t bytes n line (subst (λ (o : Option State). IsTaken step o bytes n t) (sym starts) taken)
+
+pub blank_goes : (s : State) (bytes rest : List ℕ) (m : ℕ) (t : State) → is_blank (get_or bytes 0 0) ≡ true → 0 < length bytes → rest ≡ drop 1 bytes
+    → GoesOn step (with_phase s phase.Blank) rest m t → Goes after_step s bytes (Some (1 + m)) t
+blank_goes s bytes rest m t is some same more =
+    let b = get_or bytes 0 0 in
+    taken_on step (after_step s b) bytes rest 1 m (with_phase s phase.Blank) t same
+    (one_taken step (after_step s b) bytes true (with_phase s phase.Blank) some (yes (is_blank b) (moved s phase.Blank) (end_step s b) is)) more

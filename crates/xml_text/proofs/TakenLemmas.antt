@@ -1,11 +1,13 @@
 -- Runs that are taken, by any reader.
 use Rattle.std.proofs.Common.{◌≡◌, ℕ, zero, suc, ◌+◌, ◌<◌, ◌≤◌, Bool, true, false, Option, Some, None, List, [], ◌∷◌, ◌++◌, length, take, drop, get_or, cond, refl, sym, ap, ◌∙◌, subst, add_comm, arith}
 use Rattle.std.specs.List.{list_all}
-use Rattle.std.proofs.lemmas.List.{take-append-drop, take-take, drop-take, take_all}
-use Rattle.ruleset_text.specs.Stops.{run}
-use Rattle.ruleset_text.proofs.StopLemmas.{run_append}
+use Rattle.std.proofs.lemmas.List.{take-append-drop, take-take, drop-take, take_all, length-drop}
+use Rattle.std.proofs.lemmas.List.Folds.{list_all-append}
+use Rattle.idn_text.specs.Stops.{run}
+use Rattle.idn_text.proofs.StopLemmas.{run_append}
 use Rattle.xml_text.specs.declared.run.Run.{Run}
-use Rattle.xml_text.specs.inner.Runs.{IsTaken, Takes, taken_as, goes_on, is_in_line}
+use Rattle.xml_text.specs.inner.Runs.{IsTaken, Takes, GoesOn, taken_as, goes_on, is_in_line}
+use Rattle.xml_text.proofs.ListLemmas.{both_and}
 
 -- the first byte, and the others
 pub first_of : (bytes : List ℕ) (n : ℕ) → 0 < n → n ≤ length bytes → take n bytes ≡ get_or bytes 0 0 ∷ drop 1 (take n bytes)
@@ -55,3 +57,42 @@ pub taken_further : {S : Type 0} (step : S → ℕ → Option S) (start s t : S)
 taken_further step start s t text rest i n same e is =
     ap (run step (Some start)) (further text i n ∙ ap (λ (x : List ℕ). take i text ++ take n x) (sym same)) ∙ run_append step (take i text) (take n rest) (Some start)
     ∙ ap (λ (o : Option _). run step o (take n rest)) e ∙ ap (run step (Some s)) (first_of rest n is.some is.within) ∙ is.leads
+
+-- ---- runs after a run
+
+rest_of_both : (xs ys : List ℕ) → 0 < length xs → drop 1 (xs ++ ys) ≡ drop 1 xs ++ ys
+rest_of_both [] ys some = absurd (omega arith)
+rest_of_both (x ∷ xs) ys some = refl
+
+-- a run, and what follows it on its line
+pub taken_on : {S : Type 0} (step : S → ℕ → Option S) (first : Option S) (bytes rest : List ℕ) (n m : ℕ) (s t : S) → rest ≡ drop n bytes → IsTaken step first bytes n s → GoesOn step s rest m t
+    → IsTaken step first bytes (n + m) t
+taken_on step first bytes rest n m s t same is more =
+    let xs = take n bytes in
+    let ys = take m rest in
+    let both : drop 1 (take (n + m) bytes) ≡ drop 1 xs ++ ys =
+    ap (drop 1) (further bytes n m ∙ ap (λ (x : List ℕ). take n bytes ++ take m x) (sym same)) ∙ rest_of_both xs ys (grind (arith, is.some, is.within)) in
+    record {
+      some = omega (arith, is.some);
+      within = omega (arith, is.within, more.within, ap length same ∙ length-drop n bytes);
+      line = ap (list_all is_in_line) both ∙ list_all-append is_in_line (drop 1 xs) ys ∙ both_and (list_all is_in_line (drop 1 xs)) (list_all is_in_line ys) is.line more.line;
+      leads = ap (run step first) both ∙ run_append step (drop 1 xs) ys first ∙ ap (λ (o : Option _). run step o ys) is.leads ∙ more.leads;
+    }
+
+pub no_more : {S : Type 0} (step : S → ℕ → Option S) (s : S) (bytes : List ℕ) → GoesOn step s bytes 0 s
+no_more step s bytes = record { within = omega arith; line = refl; leads = refl }
+
+pub one_more : {S : Type 0} (step : S → ℕ → Option S) (s t : S) (bytes : List ℕ) → 0 < length bytes → is_in_line (get_or bytes 0 0) ≡ true → step s (get_or bytes 0 0) ≡ Some t
+    → GoesOn step s bytes 1 t
+one_more step s t [] some line is = absurd (omega arith)
+one_more step s t (b ∷ bs) some line is = record { within = omega arith; line = both_and (is_in_line b) true line refl; leads = is }
+
+pub run_goes_on : {S : Type 0} (step : S → ℕ → Option S) (s t : S) (bytes : List ℕ) (n : ℕ) → is_in_line (get_or bytes 0 0) ≡ true → IsTaken step (step s (get_or bytes 0 0)) bytes n t
+    → GoesOn step s bytes n t
+run_goes_on step s t bytes n line is =
+    let split = first_of bytes n is.some is.within in
+    record {
+      within = is.within;
+      line = ap (list_all is_in_line) split ∙ both_and (is_in_line (get_or bytes 0 0)) (list_all is_in_line (drop 1 (take n bytes))) line is.line;
+      leads = ap (run step (Some s)) split ∙ is.leads;
+    }

@@ -1,7 +1,8 @@
 -- Documents as they stand in files: a byte order mark, a declaration, and what follows. The numbers in brackets are
 -- productions of XML 1.0.
 use Rattle.std.specs.Prelude.{◌≡◌, ℕ, ◌+◌, ◌<◌, ◌≤◌, Bool, true, false, ◌==◌, ◌&&◌, ◌||◌, not, nat_lt}
-use Rattle.std.specs.Prelude.{List, [], ◌∷◌, ◌++◌, length, take, drop, codes, bytes_eq, slice_index, if◌then◌else◌}
+use Rattle.std.specs.Prelude.{List, [], ◌∷◌, ◌++◌, length, take, drop, codes, bytes_eq, find, slice_index, Option, Some}
+use Rattle.std.specs.Prelude.{None, if◌then◌else◌}
 use Rattle.std.specs.List.{list_all}
 use Rattle.std.specs.Str.{str_eq_ignore_ascii_case}
 use Rattle.xml_text.specs.declared.attribute.TagKind.{TagKind}
@@ -35,6 +36,16 @@ mark_of text = if begins_with byte_order_mark text then byte_order_mark else []
 
 abbrev pub without_mark : List ℕ → List ℕ
 without_mark text = drop (length (mark_of text)) text
+
+-- ---- which texts are taken for XML
+
+abbrev pub is_less_than : Option ℕ → Bool
+is_less_than None = false
+is_less_than (Some b) = b == 60
+
+-- the first byte that is no blank, after the mark if there is one, is '<'
+abbrev pub begins_as_xml : List ℕ → Bool
+begins_as_xml text = is_less_than (find (λ b. not (is_blank b)) (without_mark text))
 
 -- ---- the declaration
 

@@ -1,7 +1,7 @@
 -- Where a text stops being a tag.
 use Rattle.std.specs.Prelude.{◌≡◌, ℕ, ◌≤◌, true, ◌⊎◌, List, [], ◌∷◌, ◌++◌, length, take, drop}
 use Rattle.std.specs.List.{list_all}
-use Rattle.ruleset_text.specs.Stops.{Begins}
+use Rattle.idn_text.specs.Stops.{Begins}
 use Rattle.xml_text.specs.declared.fault.ReadError.{ReadError}
 use Rattle.xml_text.specs.declared.fault.ReadError.TheVariants.{Stop, Memory}
 use Rattle.xml_text.specs.Names.{is_reference_byte}

@@ -1,27 +1,30 @@
 //! What a tag says.
 ghost use Rattle.std.specs.Prelude.{◌≡◌};
 ghost use Rattle.xml_text.specs.Attributes.{is as is_attribute, is_named};
+ghost use Rattle.xml_text.specs.Passages.{passage};
 
+use crate::passage::Passage;
 use std::marker::Model;
 
 /// An attribute: its name, and the UTF-8 of its value, in which each reference is replaced and each blank is a space.
 #[derive(Debug, Drop)]
-pub struct Attribute {
-    name: Vec<u8>,
-    value: Vec<u8>,
+pub struct Attribute<'a> {
+    name: Passage<'a>,
+    value: Passage<'a>,
 }
 
-impl Model for Attribute {
+impl<'a> Model for Attribute<'a> {
     ghost use Rattle.xml_text.specs.Attributes.{Attribute as Said};
+    ghost use Rattle.xml_text.specs.Passages.{passage};
 
     ghost Value = { Said };
 
-    ghost view = { λ a. record { name = a.name.items; value = a.value.items } };
+    ghost view = { λ a. record { name = passage a.name; value = passage a.value } };
 }
 
-impl Attribute {
-    pub fn new(name: Vec<u8>, value: Vec<u8>) -> Self
-        ensures { result ≡ record { name = name.items; value = value.items } }
+impl<'a> Attribute<'a> {
+    pub fn new(name: Passage<'a>, value: Passage<'a>) -> Self
+        ensures { result ≡ record { name = passage name.entry; value = passage value.entry } }
     {
         Attribute { name, value }
     }
@@ -29,13 +32,13 @@ impl Attribute {
     pub fn name(&self) -> &[u8]
         ensures { result.now ≡ self.now.name }
     {
-        &self.name
+        self.name.as_slice()
     }
 
     pub fn value(&self) -> &[u8]
         ensures { result.now ≡ self.now.value }
     {
-        &self.value
+        self.value.as_slice()
     }
 
     /// Whether it has this name and this value.
@@ -47,7 +50,7 @@ impl Attribute {
 }
 
 /// Whether one of the attributes has the name.
-pub fn is_one_named(attributes: &[Attribute], name: &[u8]) -> bool
+pub fn is_one_named(attributes: &[Attribute<'_>], name: &[u8]) -> bool
     ensures { result ≡ is_named attributes.now name.now }
 {
     attributes.iter().any(|attribute| attribute.name() == name)
@@ -64,8 +67,8 @@ pub enum TagKind {
 
 /// A start tag, or the tag of an empty element.
 #[derive(Debug, Drop)]
-pub struct Tag {
-    pub name: Vec<u8>,
-    pub attributes: Vec<Attribute>,
+pub struct Tag<'a> {
+    pub name: Passage<'a>,
+    pub attributes: Vec<Attribute<'a>>,
     pub kind: TagKind,
 }

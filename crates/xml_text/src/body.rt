@@ -10,7 +10,7 @@ use crate::token::Token;
 use std::alloc::Global;
 
 /// What a document says whose declaration is followed by this text, which begins on this line.
-pub fn read_body(alloc: Global, text: &[u8], line: usize) -> Result<Vec<Token>, ReadError>
+pub fn read_body(alloc: Global, text: &[u8], line: usize) -> Result<Vec<Token<'_>>, ReadError>
     requires short { length text.now ≤ max_bytes }
     requires line { line ≤ max_bytes + 1 }
     ensures read { IfOk result (λ tokens. IsBody line (line_feeds text.now) tokens.items) }

@@ -112,7 +112,7 @@ fn is_xml_tag(alloc: Global, inside: &[u8], ascii: bool) -> Result<bool, Documen
 }
 
 /// Whether a tag has the attributes of a declaration: version 1.0, perhaps an encoding, perhaps that it stands alone.
-fn is_declared(read: &Tag, ascii: bool) -> bool
+fn is_declared(read: &Tag<'_>, ascii: bool) -> bool
     ensures { result ≡ words.is_xml_tag ascii (tag read.now) }
 {
     matches!(read.kind, TagKind::Empty)
@@ -120,7 +120,7 @@ fn is_declared(read: &Tag, ascii: bool) -> bool
         && are_declared(&read.attributes, ascii)
 }
 
-fn are_declared(attributes: &[Attribute], ascii: bool) -> bool
+fn are_declared(attributes: &[Attribute<'_>], ascii: bool) -> bool
     ensures { result ≡ words.are_declared ascii attributes.now }
 {
     match attributes {
@@ -134,13 +134,13 @@ fn are_declared(attributes: &[Attribute], ascii: bool) -> bool
     }
 }
 
-fn is_version(attribute: &Attribute) -> bool
+fn is_version(attribute: &Attribute<'_>) -> bool
     ensures { result ≡ words.is_version attribute.now }
 {
     attribute.is(b"version", b"1.0")
 }
 
-fn is_encoding(attribute: &Attribute, ascii: bool) -> bool
+fn is_encoding(attribute: &Attribute<'_>, ascii: bool) -> bool
     ensures { result ≡ words.is_encoding ascii attribute.now }
 {
     let value = attribute.value();
@@ -149,7 +149,7 @@ fn is_encoding(attribute: &Attribute, ascii: bool) -> bool
             || ascii && value.eq_ignore_ascii_case(b"us-ascii"))
 }
 
-fn is_standalone(attribute: &Attribute) -> bool
+fn is_standalone(attribute: &Attribute<'_>) -> bool
     ensures { result ≡ words.is_standalone attribute.now }
 {
     attribute.is(b"standalone", b"yes") || attribute.is(b"standalone", b"no")

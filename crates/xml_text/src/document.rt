@@ -1,8 +1,10 @@
 //! Reading a document.
 ghost use Rattle.std.specs.Prelude.{◌≡◌, ◌≤◌, length, take, IfOk, IfErr};
-ghost use Rattle.xml_text.specs.Files.{IsDocument, IsFault, IsFront, IsReadable, HasWrongDeclaration, mark_of};
+ghost use Rattle.xml_text.specs.Files.{IsDocument, IsFault, IsFront, IsReadable, HasWrongDeclaration, begins_as_xml};
+ghost use Rattle.xml_text.specs.Files.{is_less_than, mark_of};
 
 use crate::body::read_body;
+use crate::bytes::is_blank;
 use crate::characters::first_wrong_character;
 use crate::declaration::declaration_length;
 use crate::fault::{DocumentError, Place, ReadError};
@@ -13,9 +15,23 @@ use std::alloc::Global;
 /// How many bytes a document may have: 64 MiB.
 const MAX_BYTES: usize = 67_108_864;
 
+/// Whether a text is taken for XML: its first byte that is no blank is `<`, after a byte order mark if it has one.
+pub fn begins_as_xml(text: &[u8]) -> bool
+    ensures { result ≡ begins_as_xml text.now }
+{
+    let (_, rest) = text.split_at(mark_length(text));
+    is_less_than(rest.iter().find(|byte| !is_blank(**byte)).copied())
+}
+
+fn is_less_than(byte: Option<u8>) -> bool
+    ensures { result ≡ is_less_than byte }
+{
+    byte == Some(b'<')
+}
+
 /// What a document of XML 1.0 says that is written in UTF-8 and has no document type, or the first byte with which no
 /// document goes on.
-pub fn read_document(alloc: Global, text: &[u8]) -> Result<Vec<Token>, DocumentError>
+pub fn read_document(alloc: Global, text: &[u8]) -> Result<Vec<Token<'_>>, DocumentError>
     ensures read { IfOk result (λ tokens. IsDocument text.now tokens.items) }
     ensures fault { IfErr result (IsFault text.now) }
 {
@@ -77,6 +93,27 @@ mod tests {
         );
         assert_eq!(rt; tokens[2].line(), 3);
         Ok(())
+    }
+
+    #[test]
+    fn begins_with_a_tag_after_blanks(rt: HostRuntime) {
+        for text in [
+            "<a/>",
+            "\u{feff}<?xml version='1.0'?><a/>",
+            " \t\r\n<a/>",
+            "\u{feff}\n<a/>",
+        ] {
+            assert!(rt; begins_as_xml(text.as_bytes()), "{text}");
+        }
+        for text in [
+            "",
+            "\n",
+            "%version 3\n<a/>",
+            "\u{feff}0061",
+            "\n\u{feff}<a/>",
+        ] {
+            assert!(rt; !begins_as_xml(text.as_bytes()), "{text}");
+        }
     }
 
     #[test]

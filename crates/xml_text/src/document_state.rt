@@ -11,6 +11,7 @@ ghost use Rattle.xml_text.specs.References.{referenced as referenced_by};
 
 use crate::attribute::{Tag, TagKind};
 use crate::bytes::{is_blank, is_name_byte, is_name_start, is_reference_byte};
+use crate::gathered::Gathered;
 use crate::names::Names;
 use crate::reference::referenced;
 use crate::repeats::Repeats;
@@ -63,21 +64,21 @@ pub enum Part {
 
 /// What was read of a document.
 #[derive(Drop)]
-pub struct DocumentState {
-    tokens: Vec<Token>,
+pub struct DocumentState<'a> {
+    tokens: Vec<Token<'a>>,
     /// The names of the elements that are open, the innermost first.
-    names: Names,
+    names: Names<'a>,
     /// Whether the root element has begun.
     is_rooted: bool,
     /// What the text says since the last tag.
-    said: Vec<u8>,
+    said: Gathered<'a>,
     line: usize,
     /// Whether CR was read last, which LF may follow in one end of a line.
     is_after_return: bool,
     /// The line on which the tag begins that isn't complete.
     begun: usize,
     /// What was read of it.
-    tag: TagState,
+    tag: TagState<'a>,
     /// What was read of a reference, or of the name of a processing instruction.
     word: Vec<u8>,
     part: Part,
@@ -86,7 +87,7 @@ pub struct DocumentState {
 /// What reads one byte answers whether it may stand there. What reads a run answers how many of the bytes that follow
 /// it took, or `None` if the first may not stand there. After that, and if memory was refused, the state is of no use
 /// any more.
-impl DocumentState {
+impl<'a> DocumentState<'a> {
     /// Nothing was read before this line.
     pub fn new(alloc: Global, line: usize) -> Self
         ensures start { state result ≡ steps.start line }
@@ -96,7 +97,7 @@ impl DocumentState {
             tokens: Vec::new(alloc),
             names: Names::new(alloc),
             is_rooted: false,
-            said: Vec::new(alloc),
+            said: Gathered::new(),
             line,
             is_after_return: false,
             begun: line,
@@ -109,7 +110,7 @@ impl DocumentState {
     /// Reads a run of a text whose lines end in CR LF, LF or CR.
     // Always inline, as what it calls for each run: reading wants no call for a run.
     #[inline(always)]
-    pub fn read(&mut self, alloc: Global, rest: &[u8]) -> Result<Option<usize>, AllocError>
+    pub fn read(&mut self, alloc: Global, rest: &'a [u8]) -> Result<Option<usize>, AllocError>
         requires some { 0 < length rest.now }
         requires line { self.old.line + 1 < 2 ^ 64 }
         ensures taken { IfOk result (λ taken. Reads self.old rest.now taken self.new) }
@@ -127,7 +128,7 @@ impl DocumentState {
 
     /// Reads a run, and counts lines.
     #[inline(always)]
-    fn step(&mut self, alloc: Global, rest: &[u8]) -> Result<Option<usize>, AllocError>
+    fn step(&mut self, alloc: Global, rest: &'a [u8]) -> Result<Option<usize>, AllocError>
         requires some { 0 < length rest.now }
         requires line { self.old.line + 1 < 2 ^ 64 }
         ensures taken { IfOk result (λ taken.
@@ -145,14 +146,14 @@ impl DocumentState {
     }
 
     #[inline(always)]
-    fn take(&mut self, alloc: Global, rest: &[u8]) -> Result<Option<usize>, AllocError>
+    fn take(&mut self, alloc: Global, rest: &'a [u8]) -> Result<Option<usize>, AllocError>
         requires { 0 < length rest.now }
         ensures { IfOk result (λ taken. Goes steps.take (state self.old) rest.now taken (state self.new)) }
     {
         let byte = rest[0];
         match self.part {
-            Part::Content(brackets) => self.content(brackets, rest),
-            Part::Reference => Ok(one(self.reference(byte)?)),
+            Part::Content(brackets) => self.content(alloc, brackets, rest),
+            Part::Reference => Ok(one(self.reference(alloc, byte)?)),
             Part::Markup => self.markup(alloc, rest),
             Part::Tag => self.tag(alloc, rest),
             Part::EndName(at) => Ok(one(self.end_name(alloc, at, byte)?)),
@@ -161,7 +162,7 @@ impl DocumentState {
             Part::CommentBegin => Ok(one(self.comment_begin(byte))),
             Part::Comment(dashes) => Ok(self.comment(dashes, rest)),
             Part::SectionBegin(at) => Ok(one(self.section_begin(at, byte))),
-            Part::Section(brackets) => self.section(brackets, rest),
+            Part::Section(brackets) => self.section(alloc, brackets, rest),
             Part::Question => Ok(one(self.question(byte)?)),
             Part::Target => Ok(one(self.target(byte)?)),
             Part::TargetEnd => Ok(one(self.target_end(byte))),
@@ -178,7 +179,12 @@ impl DocumentState {
     }
 
     #[inline(always)]
-    fn content(&mut self, brackets: Repeats, rest: &[u8]) -> Result<Option<usize>, AllocError>
+    fn content(
+        &mut self,
+        alloc: Global,
+        brackets: Repeats,
+        rest: &'a [u8],
+    ) -> Result<Option<usize>, AllocError>
         requires { 0 < length rest.now }
         ensures { IfOk result (λ taken. Goes (steps.content_step brackets) (state self.old) rest.now taken
             (state self.new)) }
@@ -197,32 +203,32 @@ impl DocumentState {
                 Ok(one(self.go_on(Part::Reference)))
             }
             b']' => {
-                self.said.push(byte)?;
+                self.said.add(alloc, rest, 1)?;
                 Ok(one(self.go_on(Part::Content(brackets.after(true)))))
             }
             b'>' if brackets.is_two() => Ok(None),
-            _ => self.text_run(rest),
+            _ => self.text_run(alloc, rest),
         }
     }
 
     /// Reads bytes of text between tags, of which the first is one.
     #[inline(always)]
-    fn text_run(&mut self, rest: &[u8]) -> Result<Option<usize>, AllocError>
+    fn text_run(&mut self, alloc: Global, rest: &'a [u8]) -> Result<Option<usize>, AllocError>
         requires some { 0 < length rest.now }
         requires inside { steps.has_none self.old.names ≡ false }
         ensures { IfOk result (λ taken. Goes steps.spoken_step (state self.old) rest.now taken (state self.new)) }
     {
         let len = Run::Text.len(rest);
-        self.said.extend_from_slice(&rest[..len])?;
+        self.said.add(alloc, rest, len)?;
         self.part = Part::Content(Repeats::Zero);
         Ok(Some(len))
     }
 
-    fn reference(&mut self, byte: u8) -> Result<bool, AllocError>
+    fn reference(&mut self, alloc: Global, byte: u8) -> Result<bool, AllocError>
         ensures { IfOk result (λ taken. steps.reference_step (state self.old) byte ≡ taken_as taken (state self.new)) }
     {
         if byte == b';' {
-            return self.resolve();
+            return self.resolve(alloc);
         }
         if !is_reference_byte(byte) {
             return Ok(false);
@@ -232,7 +238,7 @@ impl DocumentState {
     }
 
     /// Puts the character in place of a reference that is complete.
-    fn resolve(&mut self) -> Result<bool, AllocError>
+    fn resolve(&mut self, alloc: Global) -> Result<bool, AllocError>
         ensures { IfOk result (λ taken. steps.resolved (state self.old) (referenced_by self.old.word.items) ≡
             taken_as taken (state self.new)) }
     {
@@ -241,11 +247,11 @@ impl DocumentState {
         };
         let mut room = [0; 4];
         let utf8 = character.encode_utf8(&mut room);
-        self.said.extend_from_slice(utf8.as_bytes())?;
+        self.said.join(alloc, utf8.as_bytes())?;
         Ok(self.go_on(Part::Content(Repeats::Zero)))
     }
 
-    fn markup(&mut self, alloc: Global, rest: &[u8]) -> Result<Option<usize>, AllocError>
+    fn markup(&mut self, alloc: Global, rest: &'a [u8]) -> Result<Option<usize>, AllocError>
         requires { 0 < length rest.now }
         ensures { IfOk result (λ taken. Goes steps.markup_step (state self.old) rest.now taken (state self.new)) }
     {
@@ -268,7 +274,7 @@ impl DocumentState {
         }
     }
 
-    fn begin_tag(&mut self, alloc: Global, rest: &[u8]) -> Result<Option<usize>, AllocError>
+    fn begin_tag(&mut self, alloc: Global, rest: &'a [u8]) -> Result<Option<usize>, AllocError>
         requires { 0 < length rest.now }
         ensures { IfOk result (λ taken. Goes steps.begin_tag_step (state self.old) rest.now taken (state self.new)) }
     {
@@ -281,7 +287,7 @@ impl DocumentState {
     }
 
     #[inline(always)]
-    fn tag(&mut self, alloc: Global, rest: &[u8]) -> Result<Option<usize>, AllocError>
+    fn tag(&mut self, alloc: Global, rest: &'a [u8]) -> Result<Option<usize>, AllocError>
         requires some { 0 < length rest.now }
         requires part { self.old.part ≡ parts.Tag }
         ensures { IfOk result (λ taken. Goes steps.tag_step (state self.old) rest.now taken (state self.new)) }
@@ -304,7 +310,7 @@ impl DocumentState {
             name,
             attributes,
             ..
-        } = replace(&mut self.tag, TagState::new(alloc)).into_tag(kind);
+        } = replace(&mut self.tag, TagState::new(alloc)).into_tag(alloc, kind)?;
         self.names.open(alloc, kind, &name)?;
         self.tokens
             .push(Token::new(Said::Open(name, attributes), self.begun))?;
@@ -329,8 +335,8 @@ impl DocumentState {
         ensures { OnOk result (state self.new ≡ steps.with_text (state self.old)) }
     {
         if !self.said.is_empty() {
-            let said = Said::Text(replace(&mut self.said, Vec::new(alloc)));
-            self.tokens.push(Token::new(said, self.begun))?;
+            let said = replace(&mut self.said, Gathered::new()).finish(alloc)?;
+            self.tokens.push(Token::new(Said::Text(said), self.begun))?;
         }
         Ok(())
     }
@@ -383,7 +389,7 @@ impl DocumentState {
         byte == b'-' && self.go_on(Part::Comment(Repeats::Zero))
     }
 
-    fn comment(&mut self, dashes: Repeats, rest: &[u8]) -> Option<usize>
+    fn comment(&mut self, dashes: Repeats, rest: &'a [u8]) -> Option<usize>
         requires { 0 < length rest.now }
         ensures { Goes (steps.comment_step dashes) (state self.old) rest.now result (state self.new) }
     {
@@ -412,32 +418,38 @@ impl DocumentState {
         })
     }
 
-    fn section(&mut self, brackets: Repeats, rest: &[u8]) -> Result<Option<usize>, AllocError>
+    fn section(
+        &mut self,
+        alloc: Global,
+        brackets: Repeats,
+        rest: &'a [u8],
+    ) -> Result<Option<usize>, AllocError>
         requires { 0 < length rest.now }
         ensures { IfOk result (λ taken. Goes (steps.section_step brackets) (state self.old) rest.now taken
             (state self.new)) }
     {
         let byte = rest[0];
         if byte == b']' {
-            return Ok(one(self.section_bracket(brackets)?));
+            return Ok(one(self.section_bracket(alloc, brackets)?));
         }
         if brackets.is_two() && byte == b'>' {
             return Ok(one(self.go_on(Part::Content(Repeats::Zero))));
         }
         let len = Run::Section.len(rest);
-        self.said.extend_from_slice(brackets.brackets())?;
-        self.said.extend_from_slice(&rest[..len])?;
+        let held = brackets.brackets();
+        self.said.add(alloc, held, held.len())?;
+        self.said.add(alloc, rest, len)?;
         self.part = Part::Section(Repeats::Zero);
         Ok(Some(len))
     }
 
     /// Reads a bracket in a section: the last two may end it.
-    fn section_bracket(&mut self, brackets: Repeats) -> Result<bool, AllocError>
+    fn section_bracket(&mut self, alloc: Global, brackets: Repeats) -> Result<bool, AllocError>
         ensures { IfOk result (λ taken. steps.bracket_in_section brackets (state self.old) ≡
             taken_as taken (state self.new)) }
     {
         if brackets.is_two() {
-            self.said.push(b']')?;
+            self.said.add(alloc, b"]", 1)?;
         }
         Ok(self.go_on(Part::Section(brackets.after(true))))
     }
@@ -475,7 +487,7 @@ impl DocumentState {
         byte == b'>' && self.go_on(Part::Content(Repeats::Zero))
     }
 
-    fn instruction(&mut self, is_mark: bool, rest: &[u8]) -> Option<usize>
+    fn instruction(&mut self, is_mark: bool, rest: &'a [u8]) -> Option<usize>
         requires { 0 < length rest.now }
         ensures { Goes (steps.instruction_step is_mark) (state self.old) rest.now result (state self.new) }
     {
@@ -498,8 +510,8 @@ impl DocumentState {
     }
 
     /// What a document says that is complete.
-    pub fn into_tokens(self) -> Vec<Token>
-        ensures { result.items ≡ self.tokens.items }
+    pub fn into_tokens(self) -> Vec<Token<'a>>
+        ensures { result.items ≡ self.entry.tokens.items }
     {
         let DocumentState { tokens, .. } = self;
         tokens

@@ -9,9 +9,11 @@ mod declaration;
 mod document;
 mod document_state;
 mod fault;
+mod gathered;
 mod laws;
 mod lines;
 mod names;
+mod passage;
 mod quote;
 mod reference;
 mod repeats;
@@ -23,12 +25,13 @@ mod token;
 pub use attribute::{Attribute, Tag, TagKind};
 pub use bytes::is_blank;
 pub use characters::first_wrong_character;
-pub use document::read_document;
+pub use document::{begins_as_xml, read_document};
 pub use fault::{DocumentError, Place, ReadError};
 pub use laws::{
     a_text_begins_with_one_tag, a_text_is_one_document, a_text_that_stops_is_no_document,
     definitions_give_the_examples,
 };
+pub use passage::Passage;
 pub use reference::referenced;
 pub use tag::read_tag;
 pub use token::{Said, Token};

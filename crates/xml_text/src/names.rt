@@ -1,27 +1,30 @@
 //! The names of the elements that are open.
 ghost use Rattle.std.specs.Prelude.{◌≡◌, ◌∷◌, [], List, ℕ, length, MatchOption, OnOk};
+ghost use Rattle.xml_text.specs.Passages.{passage};
 ghost use Rattle.xml_text.specs.inner.DocumentSteps.{has_none, names_with, without_first};
 
 use crate::attribute::TagKind;
+use crate::passage::Passage;
 use std::alloc::{AllocError, Global};
 use std::collections::VecDeque;
 use std::marker::Model;
 
 /// The names of the elements that are open, the innermost first.
 #[derive(Drop)]
-pub struct Names {
-    names: VecDeque<Vec<u8>>,
+pub struct Names<'a> {
+    names: VecDeque<Passage<'a>>,
 }
 
-impl Model for Names {
+impl<'a> Model for Names<'a> {
     ghost use Rattle.std.specs.Prelude.{List, ℕ, map};
+    ghost use Rattle.xml_text.specs.Passages.{passage};
 
     ghost Value = { List (List ℕ) };
 
-    ghost view = { λ n. map (λ v. v.items) n.names.items };
+    ghost view = { λ n. map passage n.names.items };
 }
 
-impl Names {
+impl<'a> Names<'a> {
     /// No element is open.
     pub fn new(alloc: Global) -> Self
         ensures { result ≡ [] }
@@ -50,24 +53,29 @@ impl Names {
         ensures { MatchOption result (self.now ≡ []) (λ name. (outer : List (List ℕ)) × (self.now ≡ name.now ∷ outer)) }
     {
         match self.names.front() {
-            Some(name) => Some(name),
+            Some(name) => Some(name.as_slice()),
             None => None,
         }
     }
 
     /// Opens the element of a tag, unless it is empty.
-    pub fn open(&mut self, alloc: Global, kind: TagKind, name: &[u8]) -> Result<(), AllocError>
-        ensures { OnOk result (self.new ≡ names_with name.now self.old kind) }
+    pub fn open(
+        &mut self,
+        alloc: Global,
+        kind: TagKind,
+        name: &Passage<'a>,
+    ) -> Result<(), AllocError>
+        ensures { OnOk result (self.new ≡ names_with (passage name.now) self.old kind) }
     {
         match kind {
-            TagKind::Start => self.push(Vec::from_slice(alloc, name)?),
+            TagKind::Start => self.push(name.copied(alloc)?),
             TagKind::Empty => Ok(()),
         }
     }
 
     /// Opens an element.
-    fn push(&mut self, name: Vec<u8>) -> Result<(), AllocError>
-        ensures { OnOk result (self.new ≡ name.items ∷ self.old) }
+    fn push(&mut self, name: Passage<'a>) -> Result<(), AllocError>
+        ensures { OnOk result (self.new ≡ passage name.entry ∷ self.old) }
     {
         self.names.push_front(name)?;
         Ok(())

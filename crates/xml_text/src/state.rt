@@ -1,14 +1,16 @@
 //! Reading a tag by runs: what was read of it, and which byte may follow.
-ghost use Rattle.std.specs.Prelude.{◌≡◌, ◌<◌, [], ◌∷◌, Some, length, IfOk};
+ghost use Rattle.std.specs.Prelude.{◌≡◌, ◌<◌, [], ◌∷◌, Some, true, length, slice_index, IfOk, OnOk};
+ghost use Rattle.xml_text.specs.Names as words;
 ghost use Rattle.xml_text.specs.References.{referenced};
 ghost use Rattle.xml_text.specs.Tags.{tag};
 ghost use Rattle.xml_text.specs.declared.state.Phase.TheVariants as phases;
-ghost use Rattle.xml_text.specs.inner.Runs.{taken_as};
+ghost use Rattle.xml_text.specs.inner.Runs.{taken_as, GoesOn};
 ghost use Rattle.xml_text.specs.inner.TagSteps as steps;
 ghost use Rattle.xml_text.specs.inner.TagSteps.{state, Goes};
 
 use crate::attribute::{Attribute, Tag, TagKind, is_one_named};
 use crate::bytes::{is_blank, is_name_byte, is_name_start, is_reference_byte};
+use crate::gathered::Gathered;
 use crate::quote::Quote;
 use crate::reference::referenced;
 use crate::run::{Run, one};
@@ -46,13 +48,13 @@ pub enum Phase {
 
 /// What was read of a tag.
 #[derive(Drop)]
-pub struct TagState {
-    name: Vec<u8>,
-    attributes: Vec<Attribute>,
+pub struct TagState<'a> {
+    name: Gathered<'a>,
+    attributes: Vec<Attribute<'a>>,
     /// The name of the attribute that isn't complete.
-    attribute: Vec<u8>,
+    attribute: Gathered<'a>,
     /// What was read of its value.
-    value: Vec<u8>,
+    value: Gathered<'a>,
     /// What was read after the `&` of the reference that isn't complete.
     reference: Vec<u8>,
     phase: Phase,
@@ -61,16 +63,16 @@ pub struct TagState {
 /// What reads one byte answers whether it may stand there. What reads a run answers how many of the bytes that follow
 /// it took, or `None` if the first may not stand there. After that, and if memory was refused, the state is of no use
 /// any more.
-impl TagState {
+impl<'a> TagState<'a> {
     /// Nothing was read.
     pub fn new(alloc: Global) -> Self
         ensures { state result ≡ steps.start }
     {
         TagState {
-            name: Vec::new(alloc),
+            name: Gathered::new(),
             attributes: Vec::new(alloc),
-            attribute: Vec::new(alloc),
-            value: Vec::new(alloc),
+            attribute: Gathered::new(),
+            value: Gathered::new(),
             reference: Vec::new(alloc),
             phase: Phase::Open,
         }
@@ -88,22 +90,22 @@ impl TagState {
 
     /// Reads a run.
     #[inline(always)]
-    pub fn read(&mut self, alloc: Global, rest: &[u8]) -> Result<Option<usize>, AllocError>
+    pub fn read(&mut self, alloc: Global, rest: &'a [u8]) -> Result<Option<usize>, AllocError>
         requires { 0 < length rest.now }
         ensures { IfOk result (λ taken. Goes steps.step (state self.old) rest.now taken (state self.new)) }
     {
         let byte = rest[0];
         match self.phase {
             Phase::Open => Ok(one(self.open(byte))),
-            Phase::Begin => self.begin(rest),
-            Phase::Name => self.name(rest),
-            Phase::After => Ok(one(self.after(byte))),
-            Phase::Blank => self.blank(rest),
-            Phase::Attribute => self.attribute(rest),
+            Phase::Begin => self.begin(alloc, rest),
+            Phase::Name => self.name(alloc, rest),
+            Phase::After => self.after(alloc, rest),
+            Phase::Blank => self.blank(alloc, rest),
+            Phase::Attribute => self.attribute(alloc, rest),
             Phase::BeforeEquals => Ok(one(self.equals(byte))),
             Phase::AfterEquals => Ok(one(self.quote(byte))),
             Phase::Value(quote) => self.value(alloc, quote, rest),
-            Phase::Reference(quote) => Ok(one(self.reference(quote, byte)?)),
+            Phase::Reference(quote) => Ok(one(self.reference(alloc, quote, byte)?)),
             Phase::Slash => Ok(one(self.slash(byte))),
             Phase::Ended(_) => Ok(None),
         }
@@ -123,47 +125,71 @@ impl TagState {
         byte == b'<' && self.go_on(Phase::Begin)
     }
 
-    fn begin(&mut self, rest: &[u8]) -> Result<Option<usize>, AllocError>
+    fn begin(&mut self, alloc: Global, rest: &'a [u8]) -> Result<Option<usize>, AllocError>
         requires { 0 < length rest.now }
         ensures { IfOk result (λ taken. Goes steps.begin_step (state self.old) rest.now taken (state self.new)) }
     {
         if !is_name_start(rest[0]) {
             return Ok(None);
         }
-        self.name_run(rest)
+        self.name_run(alloc, rest)
     }
 
     #[inline(always)]
-    fn name(&mut self, rest: &[u8]) -> Result<Option<usize>, AllocError>
+    fn name(&mut self, alloc: Global, rest: &'a [u8]) -> Result<Option<usize>, AllocError>
         requires { 0 < length rest.now }
         ensures { IfOk result (λ taken. Goes steps.name_step (state self.old) rest.now taken (state self.new)) }
     {
         let byte = rest[0];
         if !is_name_byte(byte) {
-            return Ok(one(self.after(byte)));
+            return self.after(alloc, rest);
         }
-        self.name_run(rest)
+        self.name_run(alloc, rest)
     }
 
     /// Reads bytes of the tag's name, of which the first is one.
     #[inline(always)]
-    fn name_run(&mut self, rest: &[u8]) -> Result<Option<usize>, AllocError>
+    fn name_run(&mut self, alloc: Global, rest: &'a [u8]) -> Result<Option<usize>, AllocError>
         requires { 0 < length rest.now }
         ensures { IfOk result (λ taken. Goes (λ s b. Some (steps.named s b)) (state self.old) rest.now taken
             (state self.new)) }
     {
         let len = Run::Name.len(rest);
-        self.name.extend_from_slice(&rest[..len])?;
+        self.name.add(alloc, rest, len)?;
         self.phase = Phase::Name;
         Ok(Some(len))
     }
 
-    fn after(&mut self, byte: u8) -> bool
-        ensures { steps.after_step (state self.old) byte ≡ taken_as result (state self.new) }
+    /// Reads what may follow a name or a value, and after a blank the name of an attribute.
+    fn after(&mut self, alloc: Global, rest: &'a [u8]) -> Result<Option<usize>, AllocError>
+        requires { 0 < length rest.now }
+        ensures { IfOk result (λ taken. Goes steps.after_step (state self.old) rest.now taken (state self.new)) }
     {
+        let byte = rest[0];
         if is_blank(byte) {
-            return self.go_on(Phase::Blank);
+            return Ok(Some(self.blank_run(alloc, rest)?));
         }
+        Ok(one(self.end(byte)))
+    }
+
+    /// Reads a blank, and the name of an attribute if one stands after it: how many bytes.
+    #[inline(always)]
+    #[tactic(auto, using(crate::proofs::TagTaken::blank_goes))]
+    fn blank_run(&mut self, alloc: Global, rest: &'a [u8]) -> Result<usize, AllocError>
+        requires some { 0 < length rest.now }
+        requires blank { words.is_blank (slice_index rest.now 0) ≡ true }
+        ensures { IfOk result (λ n. Goes steps.after_step (state self.old) rest.now (Some n) (state self.new)) }
+    {
+        self.phase = Phase::Blank;
+        let (_, more) = rest.split_at(1);
+        let len = self.begin_attribute(alloc, more)?;
+        Ok(1 + len)
+    }
+
+    /// Reads what may end a tag.
+    fn end(&mut self, byte: u8) -> bool
+        ensures { steps.end_step (state self.old) byte ≡ taken_as result (state self.new) }
+    {
         match byte {
             b'>' => self.go_on(Phase::Ended(TagKind::Start)),
             b'/' => self.go_on(Phase::Slash),
@@ -171,45 +197,86 @@ impl TagState {
         }
     }
 
-    fn blank(&mut self, rest: &[u8]) -> Result<Option<usize>, AllocError>
+    /// Reads the name of an attribute after a blank, if one stands there: how many bytes.
+    #[inline(always)]
+    #[tactic(auto, using(crate::proofs::TakenLemmas::no_more))]
+    fn begin_attribute(&mut self, alloc: Global, rest: &'a [u8]) -> Result<usize, AllocError>
+        requires { self.old.phase ≡ phases.Blank }
+        ensures { IfOk result (λ n. GoesOn steps.step (state self.old) rest.now n (state self.new)) }
+    {
+        match rest.first() {
+            Some(byte) if is_name_start(*byte) => self.attribute_begin(alloc, rest),
+            _ => Ok(0),
+        }
+    }
+
+    fn blank(&mut self, alloc: Global, rest: &'a [u8]) -> Result<Option<usize>, AllocError>
         requires { 0 < length rest.now }
         ensures { IfOk result (λ taken. Goes steps.blank_step (state self.old) rest.now taken (state self.new)) }
     {
-        let byte = rest[0];
-        if !is_name_start(byte) {
-            return Ok(one(self.after(byte)));
+        if !is_name_start(rest[0]) {
+            return self.after(alloc, rest);
         }
-        self.attribute.clear();
-        self.value.clear();
+        Ok(Some(self.attribute_begin(alloc, rest)?))
+    }
+
+    /// Reads bytes of an attribute's name from its beginning, of which the first is one.
+    #[inline(always)]
+    fn attribute_begin(&mut self, alloc: Global, rest: &'a [u8]) -> Result<usize, AllocError>
+        requires { 0 < length rest.now }
+        ensures { IfOk result (λ n. Goes (λ s b. Some (steps.with_attribute s b)) (state self.old) rest.now (Some n)
+            (state self.new)) }
+    {
+        self.attribute = Gathered::new();
+        self.value = Gathered::new();
         self.phase = Phase::Attribute;
-        self.attribute_run(rest)
+        self.attribute_run(alloc, rest)
     }
 
     #[inline(always)]
-    fn attribute(&mut self, rest: &[u8]) -> Result<Option<usize>, AllocError>
+    fn attribute(&mut self, alloc: Global, rest: &'a [u8]) -> Result<Option<usize>, AllocError>
         requires some { 0 < length rest.now }
         requires phase { self.old.phase ≡ phases.Attribute }
         ensures { IfOk result (λ taken. Goes steps.attribute_step (state self.old) rest.now taken (state self.new)) }
     {
         let byte = rest[0];
         if !is_name_byte(byte) {
-            let is_new = !is_one_named(&self.attributes, &self.attribute);
+            let is_new = !is_one_named(&self.attributes, self.attribute.as_slice());
             return Ok(one(is_new && self.equals(byte)));
         }
-        self.attribute_run(rest)
+        Ok(Some(self.attribute_run(alloc, rest)?))
     }
 
-    /// Reads bytes of an attribute's name, of which the first is one.
+    /// Reads bytes of an attribute's name, of which the first is one, and what begins its value.
     #[inline(always)]
-    fn attribute_run(&mut self, rest: &[u8]) -> Result<Option<usize>, AllocError>
+    fn attribute_run(&mut self, alloc: Global, rest: &'a [u8]) -> Result<usize, AllocError>
         requires some { 0 < length rest.now }
         requires phase { self.old.phase ≡ phases.Attribute }
-        ensures { IfOk result (λ taken. Goes (λ s b. Some (steps.with_attribute_byte s b)) (state self.old) rest.now
-            taken (state self.new)) }
+        ensures { IfOk result (λ n. Goes (λ s b. Some (steps.with_attribute_byte s b)) (state self.old) rest.now
+            (Some n) (state self.new)) }
     {
         let len = Run::Name.len(rest);
-        self.attribute.extend_from_slice(&rest[..len])?;
-        Ok(Some(len))
+        self.attribute.add(alloc, rest, len)?;
+        let (_, more) = rest.split_at(len);
+        Ok(len + self.begin_value(more))
+    }
+
+    /// Reads `=` and a quote after the name of an attribute, if they stand there: how many bytes.
+    #[tactic(auto, using(crate::proofs::TagTaken::begun_value, crate::proofs::TakenLemmas::no_more))]
+    fn begin_value(&mut self, rest: &[u8]) -> usize
+        requires { self.old.phase ≡ phases.Attribute }
+        ensures { GoesOn steps.step (state self.old) rest.now result (state self.new) }
+    {
+        let quote = match rest {
+            [b'=', b'"', ..] => Quote::Double,
+            [b'=', b'\'', ..] => Quote::Single,
+            _ => return 0,
+        };
+        if is_one_named(&self.attributes, self.attribute.as_slice()) {
+            return 0;
+        }
+        self.phase = Phase::Value(quote);
+        2
     }
 
     fn equals(&mut self, byte: u8) -> bool
@@ -236,7 +303,7 @@ impl TagState {
         &mut self,
         alloc: Global,
         quote: Quote,
-        rest: &[u8],
+        rest: &'a [u8],
     ) -> Result<Option<usize>, AllocError>
         requires some { 0 < length rest.now }
         requires phase { self.old.phase ≡ phases.Value quote }
@@ -245,7 +312,8 @@ impl TagState {
     {
         let byte = rest[0];
         if byte == quote.byte() {
-            return Ok(one(self.end_value(alloc)?));
+            self.end_value(alloc)?;
+            return Ok(Some(1));
         }
         match byte {
             b'<' => Ok(None),
@@ -254,42 +322,63 @@ impl TagState {
                 Ok(one(self.go_on(Phase::Reference(quote))))
             }
             b'\t' | b'\n' | b'\r' => {
-                self.value.push(b' ')?;
+                self.value.add(alloc, b" ", 1)?;
                 Ok(Some(1))
             }
-            _ => self.value_run(quote, rest),
+            _ => self.value_run(alloc, quote, rest),
         }
     }
 
     /// Ends a value, and its attribute.
-    fn end_value(&mut self, alloc: Global) -> Result<bool, AllocError>
-        ensures { IfOk result (λ taken. Some (steps.closed (state self.old)) ≡ taken_as taken (state self.new)) }
+    fn end_value(&mut self, alloc: Global) -> Result<(), AllocError>
+        ensures { OnOk result (state self.new ≡ steps.closed (state self.old)) }
     {
-        let name = replace(&mut self.attribute, Vec::new(alloc));
-        let value = replace(&mut self.value, Vec::new(alloc));
+        let name = replace(&mut self.attribute, Gathered::new()).finish(alloc)?;
+        let value = replace(&mut self.value, Gathered::new()).finish(alloc)?;
         self.attributes.push(Attribute::new(name, value))?;
-        Ok(self.go_on(Phase::After))
+        self.phase = Phase::After;
+        Ok(())
     }
 
     /// Reads bytes of a value that stand for themselves, of which the first is one.
     #[inline(always)]
-    fn value_run(&mut self, quote: Quote, rest: &[u8]) -> Result<Option<usize>, AllocError>
+    fn value_run(
+        &mut self,
+        alloc: Global,
+        quote: Quote,
+        rest: &'a [u8],
+    ) -> Result<Option<usize>, AllocError>
         requires some { 0 < length rest.now }
         requires phase { self.old.phase ≡ phases.Value quote }
         ensures { IfOk result (λ taken. Goes (λ s b. Some (steps.with_value s (b ∷ []))) (state self.old) rest.now
             taken (state self.new)) }
     {
         let len = Run::Value(quote).len(rest);
-        self.value.extend_from_slice(&rest[..len])?;
-        Ok(Some(len))
+        self.value.add(alloc, rest, len)?;
+        let (_, more) = rest.split_at(len);
+        let quotes = self.quote_after(alloc, quote, more)?;
+        Ok(Some(len + quotes))
     }
 
-    fn reference(&mut self, quote: Quote, byte: u8) -> Result<bool, AllocError>
+    /// Reads the quote after a value, if it stands there: how many bytes.
+    #[tactic(auto, using(crate::proofs::TagTaken::quote_goes, crate::proofs::TakenLemmas::no_more))]
+    fn quote_after(&mut self, alloc: Global, quote: Quote, rest: &[u8]) -> Result<usize, AllocError>
+        requires { self.old.phase ≡ phases.Value quote }
+        ensures { IfOk result (λ n. GoesOn steps.step (state self.old) rest.now n (state self.new)) }
+    {
+        if rest.first() != Some(&quote.byte()) {
+            return Ok(0);
+        }
+        self.end_value(alloc)?;
+        Ok(1)
+    }
+
+    fn reference(&mut self, alloc: Global, quote: Quote, byte: u8) -> Result<bool, AllocError>
         ensures { IfOk result (λ taken. steps.reference_step quote (state self.old) byte ≡
             taken_as taken (state self.new)) }
     {
         if byte == b';' {
-            return self.resolve(quote);
+            return self.resolve(alloc, quote);
         }
         if !is_reference_byte(byte) {
             return Ok(false);
@@ -299,7 +388,7 @@ impl TagState {
     }
 
     /// Puts the character in place of a reference that is complete.
-    fn resolve(&mut self, quote: Quote) -> Result<bool, AllocError>
+    fn resolve(&mut self, alloc: Global, quote: Quote) -> Result<bool, AllocError>
         ensures { let s = state self.old in IfOk result
             (λ taken. steps.resolved quote s (referenced s.reference) ≡ taken_as taken (state self.new)) }
     {
@@ -308,7 +397,7 @@ impl TagState {
         };
         let mut room = [0; 4];
         let utf8 = character.encode_utf8(&mut room);
-        self.value.extend_from_slice(utf8.as_bytes())?;
+        self.value.join(alloc, utf8.as_bytes())?;
         Ok(self.go_on(Phase::Value(quote)))
     }
 
@@ -330,18 +419,18 @@ impl TagState {
     }
 
     /// The tag, which is complete.
-    pub fn into_tag(self, kind: TagKind) -> Tag
-        ensures { tag result ≡ steps.tag_of (state self) kind }
+    pub fn into_tag(self, alloc: Global, kind: TagKind) -> Result<Tag<'a>, AllocError>
+        ensures { IfOk result (λ t. tag t ≡ steps.tag_of (state self.entry) kind) }
     {
         let TagState {
             name,
             attributes,
             ..
         } = self;
-        Tag {
-            name,
+        Ok(Tag {
+            name: name.finish(alloc)?,
             attributes,
             kind,
-        }
+        })
     }
 }

@@ -10,7 +10,7 @@ use std::alloc::Global;
 
 /// The tag with which a text begins, and how many bytes it has. The text is characters of XML, and its lines end in
 /// line feeds alone (section 2.11).
-pub fn read_tag(alloc: Global, text: &[u8]) -> Result<(Tag, usize), ReadError>
+pub fn read_tag(alloc: Global, text: &[u8]) -> Result<(Tag<'_>, usize), ReadError>
     ensures read { IfOk result (λ read. IsTag (take read.1 text.now) (tag read.0)) }
     ensures within { IfOk result (λ read. read.1 ≤ length text.now) }
     ensures stop { IfErr result (StopsAt text.now) }
@@ -24,7 +24,7 @@ pub fn read_tag(alloc: Global, text: &[u8]) -> Result<(Tag, usize), ReadError>
         };
         place += taken;
         if let Some(kind) = state.kind() {
-            return Ok((state.into_tag(kind), place));
+            return Ok((state.into_tag(alloc, kind)?, place));
         }
     }
     Err(ReadError::Stop(text.len()))

@@ -3,27 +3,28 @@ ghost use Rattle.std.specs.Prelude.{◌≡◌};
 ghost use Rattle.xml_text.specs.Tokens.{said as said_as};
 
 use crate::attribute::Attribute;
+use crate::passage::Passage;
 use std::marker::Model;
 
 /// What a document says at a place of it.
 #[derive(Debug, Drop)]
-pub enum Said {
+pub enum Said<'a> {
     /// A start tag, or the beginning of an empty element.
-    Open(Vec<u8>, Vec<Attribute>),
+    Open(Passage<'a>, Vec<Attribute<'a>>),
     /// The UTF-8 of what stands between two tags in the root element, without comments and processing instructions.
-    Text(Vec<u8>),
+    Text(Passage<'a>),
     /// An end tag, or the end of an empty element.
     Close,
 }
 
 /// What a document says, and a line of it, counted from 1.
 #[derive(Debug, Drop)]
-pub struct Token {
-    said: Said,
+pub struct Token<'a> {
+    said: Said<'a>,
     line: usize,
 }
 
-impl Model for Token {
+impl<'a> Model for Token<'a> {
     ghost use Rattle.xml_text.specs.Tokens.{Token as Told, said as said_as};
 
     ghost Value = { Told };
@@ -31,16 +32,16 @@ impl Model for Token {
     ghost view = { λ t. record { said = said_as t.said; line = t.line } };
 }
 
-impl Token {
+impl<'a> Token<'a> {
     /// What is said, on this line.
-    pub fn new(said: Said, line: usize) -> Self
-        ensures { result ≡ record { said = said_as said; line = line } }
+    pub fn new(said: Said<'a>, line: usize) -> Self
+        ensures { result ≡ record { said = said_as said.entry; line = line } }
     {
         Token { said, line }
     }
 
     /// What is said.
-    pub fn said(&self) -> &Said
+    pub fn said(&self) -> &Said<'a>
         ensures { said_as result.now ≡ self.now.said }
     {
         &self.said

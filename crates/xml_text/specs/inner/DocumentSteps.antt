@@ -3,7 +3,7 @@ use Rattle.std.specs.Prelude.{◌≡◌, ℕ, ◌+◌, ◌<◌, ◌≤◌, Bool,
 use Rattle.std.specs.Prelude.{List, [], ◌∷◌, ◌++◌, length, take as front, slice_get, slice_index, codes}
 use Rattle.std.specs.Prelude.{encode_utf8, if◌then◌else◌}
 use Rattle.std.specs.Option.{option_map}
-use Rattle.ruleset_text.specs.Stops.{run}
+use Rattle.idn_text.specs.Stops.{run}
 use Rattle.xml_text.specs.declared.attribute.TagKind.{TagKind}
 use Rattle.xml_text.specs.declared.attribute.TagKind.TheVariants.{Start, Empty}
 use Rattle.xml_text.specs.declared.document_state.DocumentState as reading
@@ -20,6 +20,7 @@ use Rattle.xml_text.specs.Tags.{Tag}
 use Rattle.xml_text.specs.Tokens
 use Rattle.xml_text.specs.Tokens.{Token}
 use Rattle.xml_text.specs.declared.state.Phase.TheVariants as phase
+use Rattle.xml_text.specs.inner.Gathering.{gathered}
 use Rattle.xml_text.specs.inner.Runs.{Takes}
 use Rattle.xml_text.specs.inner.TagSteps as tag
 
@@ -40,7 +41,7 @@ state s = record {
   tokens = s.tokens.items;
   names = s.names;
   rooted = s.is_rooted;
-  said = s.said.items;
+  said = gathered s.said;
   line = s.line;
   begun = s.begun;
   tag = tag.state s.tag;

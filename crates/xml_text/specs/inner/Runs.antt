@@ -2,7 +2,7 @@
 use Rattle.std.specs.Prelude.{◌≡◌, ℕ, ◌<◌, ◌≤◌, Bool, true, false, ◌==◌, ◌&&◌, not, Option, Some, None}
 use Rattle.std.specs.Prelude.{List, length, take, drop}
 use Rattle.std.specs.List.{list_all}
-use Rattle.ruleset_text.specs.Stops.{run}
+use Rattle.idn_text.specs.Stops.{run}
 use Rattle.xml_text.specs.declared.run.Run.{Run}
 use Rattle.xml_text.specs.declared.run.Run.TheVariants as runs
 use Rattle.xml_text.specs.Names.{is_name_byte}
@@ -38,6 +38,12 @@ pub record IsTaken {S : Type 0} (step : S → ℕ → Option S) (first : Option 
   pub within : n ≤ length bytes
   pub line : list_all is_in_line (drop 1 (take n bytes)) ≡ true
   pub leads : run step first (drop 1 (take n bytes)) ≡ Some s
+
+-- so many bytes of one line lead from a state to another
+pub record GoesOn {S : Type 0} (step : S → ℕ → Option S) (s : S) (bytes : List ℕ) (n : ℕ) (t : S) : Type 0 where
+  pub within : n ≤ length bytes
+  pub line : list_all is_in_line (take n bytes) ≡ true
+  pub leads : run step (Some s) (take n bytes) ≡ Some t
 
 -- so many bytes were taken and lead to the state; or none, since the first may not stand there
 abbrev pub Takes : {S : Type 0} → (S → ℕ → Option S) → Option S → List ℕ → Option ℕ → S → Type 0

@@ -1,4 +1,4 @@
-use Rattle.std.proofs.Common.{rules, ◌≡◌, ℕ, ◌<◌, true, false, Option, None, List, length, sym, subst, arith}
+use Rattle.std.proofs.Common.{rules, ◌≡◌, ℕ, ◌<◌, true, false, Option, None, List, length, sym, subst, ◌∙◌, arith}
 use Rattle.xml_text.specs.Documents.{IsBody}
 use Rattle.xml_text.specs.LineEnds.{line_feeds}
 use Rattle.xml_text.specs.Tokens.{Token}
@@ -38,7 +38,7 @@ returns-then-is_complete-clause-read c =
     subst (λ (t : List Token). IsBody c.args.line (line_feeds c.args.text.now) t) (sym c.into_tokens.ensures)
     (whole_body c.args.line c.args.text.now c.loop-place.place (state c.loop-place.state) c.loop-place-test.false c.loop-place.invariant.read complete)
 
-pub returns-else-is_complete-clause-stop : goal.returns-else-is_complete-clause-stop
-returns-else-is_complete-clause-stop c =
-    let open_ : is_complete (state c.loop-place.state) ≡ false = search rules in
+pub returns-clause-stop : goal.returns-clause-stop
+returns-clause-stop c =
+    let open_ : is_complete (state c.loop-place.state) ≡ false = sym c.is_complete.ensures ∙ c.if-is_complete.false in
     (omega arith, stops_past c.args.line c.args.text.now c.loop-place.place (state c.loop-place.state) c.loop-place-test.false c.loop-place.invariant.read open_)

@@ -1,5 +1,5 @@
 use Rattle.std.proofs.Common.{◌≡◌, ◌-◌, ◌≤◌, Some, None, length, take}
-use Rattle.ruleset_text.specs.Stops.{run}
+use Rattle.idn_text.specs.Stops.{run}
 use Rattle.xml_text.specs.inner.TagSteps.{start, step, state, kind_of}
 use Rattle.xml_text.proofs.tag.read_tag.Given as goal
 

@@ -1,10 +1,11 @@
 use Rattle.std.proofs.Common.{rules, ◌≡◌, ◌++◌, take}
 use Rattle.xml_text.specs.inner.TagSteps.{state}
+use Rattle.xml_text.specs.inner.Gathering.{gathered}
 use Rattle.xml_text.proofs.TagTaken.{name_goes}
 use Rattle.xml_text.proofs.state.TagState.name_run.Goals as goal
 
 pub returns : goal.returns
 returns c =
     let len = c.len-len in
-    let is : c.extend_from_slice.new.self.items ≡ c.args.self.now.name.items ++ take len.result c.args.rest.now = search rules in
-    name_goes (state c.args.self.now) c.args.rest.now len.result c.extend_from_slice.new.self.items len.ensures.some len.ensures.within len.ensures.run is
+    let is : gathered c.add.new.self ≡ gathered c.args.self.now.name ++ take len.result c.args.rest.now = search rules in
+    name_goes (state c.args.self.now) c.args.rest.now len.result (gathered c.add.new.self) len.ensures.some len.ensures.within len.ensures.run is
