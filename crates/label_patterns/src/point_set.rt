@@ -1,11 +1,12 @@
 //! Sets of code points.
-ghost use Rattle.std.specs.Prelude.{◌≡◌, ◌≤◌, nat_lt, length};
+ghost use Rattle.std.specs.Prelude.{◌≡◌, ◌≤◌, nat_lt, length, IfOk};
 ghost use Rattle.label_patterns.specs.Sets.{is_in, Rise};
 ghost use Rattle.label_patterns.specs.Places.{AreThePlaces};
 ghost use Rattle.label_patterns.specs.CachedPlaces.{AreThePlacesBelow};
 
 use crate::places::{both, point_places, with_place_if};
 use crate::span::Span;
+use std::alloc::{AllocError, Global};
 use std::marker::Model;
 
 /// A set of code points, as spans that rise.
@@ -33,6 +34,16 @@ impl PointSet {
         ensures { result ≡ spans.items }
     {
         PointSet { spans }
+    }
+
+    /// The set once more.
+    ///
+    /// `Err`: memory was refused.
+    pub fn copied(&self, alloc: Global) -> Result<PointSet, AllocError>
+        ensures { IfOk result (λ copy. copy ≡ self.now) }
+    {
+        let spans = Vec::from_slice(alloc, &self.spans)?;
+        Ok(PointSet::new(spans))
     }
 
     /// The spans, which rise.

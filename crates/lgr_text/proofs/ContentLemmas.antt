@@ -1,6 +1,7 @@
 -- What tokens say of contents.
-use Rattle.std.proofs.Common.{◌≡◌, ℕ, suc, ◌+◌, ◌-◌, true, false, cond, eqb, List, [], ◌∷◌, ◌++◌, length, map, take, drop, Option, Some, None, refl, sym, ap, ◌∙◌, append_assoc, arith}
+use Rattle.std.proofs.Common.{◌≡◌, ℕ, suc, ◌+◌, ◌-◌, Bool, true, false, cond, eqb, List, [], ◌∷◌, ◌++◌, length, map, take, drop, Option, Some, None, refl, sym, ap, ◌∙◌, append_assoc, subst, arith}
 use Rattle.std.specs.Prelude.{bytes_eq, option_map}
+use Rattle.std.specs.List.{prefix_len}
 use Rattle.std.proofs.lemmas.Bool.Decides.{nat_tests}
 use Rattle.std.proofs.lemmas.List.{length-append, drop-map, take-map}
 use Rattle.std.proofs.lemmas.Slice.Eq.{bytes_eq-Decides}
@@ -132,6 +133,26 @@ all-passed p [] c none (Elements.Nothing, e, f) = ap (said_by p) (sym f)
 all-passed p [] c none (Elements.Text text more, e, f) = absurd cc
 all-passed p [] c none (Elements.Element local others within more, e, f) = absurd cc
 all-passed p (t ∷ ts) c none h = absurd (omega arith)
+
+abbrev pub blank_len : List Token → ℕ
+blank_len ts = prefix_len (λ t. is_blank_said t.said) ts
+
+one_dropped : (n : ℕ) (t : Token) (ts : List Token) → drop (1 + n) (t ∷ ts) ≡ drop n ts
+one_dropped n t ts =
+    let e : 1 + n ≡ suc n = omega arith in
+    ap (λ (m : ℕ). drop m (t ∷ ts)) e
+
+text-passed : (p : List ℕ) (t : Token) (ts : List Token) (c : Content) (b : Bool) → is_blank_said t.said ≡ b → FollowsBlanks p (t ∷ ts) c
+    → (FollowsBlanks p ts c → Say p (drop (blank_len ts) ts) (after_blanks c)) → Say p (drop (blank_len (t ∷ ts)) (t ∷ ts)) (after_blanks c)
+text-passed p t ts c true e h rest =
+    subst (λ (b : Bool). Say p (drop (cond b (1 + blank_len ts) 0) (t ∷ ts)) (after_blanks c)) (sym e)
+    (subst (λ (l : List Token). Say p l (after_blanks c)) (sym (one_dropped (blank_len ts) t ts)) (rest (blank-passed p t ts c e h)))
+text-passed p t ts c false e h rest =
+    subst (λ (b : Bool). Say p (drop (cond b (1 + blank_len ts) 0) (t ∷ ts)) (after_blanks c)) (sym e) (blanks-passed p t ts c e h)
+
+pub texts-passed : (p : List ℕ) (ts : List Token) (c : Content) → FollowsBlanks p ts c → Say p (drop (blank_len ts) ts) (after_blanks c)
+texts-passed p [] c h = all-passed p [] c refl h
+texts-passed p (t ∷ ts) c h = text-passed p t ts c (is_blank_said t.said) refl h (λ more. texts-passed p ts c more)
 
 -- ---- the next element
 

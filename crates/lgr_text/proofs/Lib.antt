@@ -1,4 +1,5 @@
 -- Lemmas that several proofs cite, and those of one subject.
+pub mod BranchLemmas
 pub mod ClassLemmas
 pub mod CombiningLemmas
 pub mod ContentLemmas
@@ -19,8 +20,10 @@ pub mod PartLemmas
 pub mod PassLemmas
 pub mod PropertyLemmas
 pub mod RepeatLemmas
+pub mod RowLemmas
 pub mod RuleLemmas
 pub mod SectionLemmas
+pub mod SetChoiceLemmas
 pub mod SetNumberLemmas
 pub mod SortedLemmas
 pub mod SpanLemmas

@@ -1,33 +1,42 @@
 -- Parts of rules and the items that match the same.
 use Rattle.std.proofs.Common.{◌≡◌, ℕ, zero, suc, ◌+◌, ◌-◌, ◌<◌, ◌≤◌, inl, inr, Bool, true, false, ◌||◌, ◌&&◌, not, List, [], ◌∷◌, ◌++◌, length, drop, get_or, map, Option, Some, None, refl, ap, sym, subst, ◌∙◌, append_assoc, if◌then◌else◌, arith}
-use Rattle.std.specs.Prelude.{◌↔◌, slice_index}
+use Rattle.std.specs.Prelude.{◌↔◌, slice_index, Result, Ok, Err, OnOk}
 use Rattle.std.specs.List.{list_all}
 use Rattle.std.proofs.lemmas.List.Folds.{list_all-append}
 use Rattle.std.proofs.lemmas.Bool.{eqb-true, eq-eqb}
-use Rattle.std.proofs.lemmas.List.{append-nil, get_or_append_left, length-drop}
+use Rattle.std.proofs.lemmas.List.{append-nil, length-drop}
 use Rattle.std.proofs.Math.Bool.{and-true}
 use Rattle.std.proofs.Math.Seq.{drop-cons}
 use Rattle.label_patterns.specs.declared.span.Span.{Span}
 use Rattle.label_patterns.specs.Laws.{seen}
-use Rattle.label_patterns.specs.Matches.{Matches, Seen, HasItsSets}
+use Rattle.label_patterns.specs.Matches.{Seen, HasItsSets}
 use Rattle.label_patterns.specs.Patterns.{Pattern, Point, Set, Optional, Group}
 use Rattle.label_patterns.specs.Patterns as pattern
+use Rattle.label_patterns.specs.Rules.{is_context_rule}
 use Rattle.label_patterns.specs.Sets.{is_in}
 use Rattle.ruleset_text.specs.Names.{number_of}
 use Rattle.lgr_text.specs.ClassMembers.{has}
 use Rattle.lgr_text.specs.Known.{Known}
 use Rattle.lgr_text.specs.LabelEnds.{begins_label, ends_label}
-use Rattle.lgr_text.specs.declared.rule_error.RuleFault.TheVariants.{Misplaced, NotSupported}
-use Rattle.lgr_text.specs.PartMatches.{BeginsWith, IsOf, parts_label, then_fault, times_fault, has_anchor, rule_named, Matching, PartMatches, Place, Repeats, IsUpTo, StandThere}
+use Rattle.lgr_text.specs.declared.rule_error.RuleError.{RuleError}
+use Rattle.lgr_text.specs.declared.rule_error.RuleFault.{RuleFault}
+use Rattle.lgr_text.specs.declared.rule_error.RuleFault.TheVariants.{Misplaced, NotSupported, Undefined}
+use Rattle.lgr_text.specs.PartMatches.{BeginsWith, IsOf, is_named, parts_label, rule_fault, then_fault, times_fault, has_anchor, rule_named, Matching, Place, Repeats, IsUpTo, StandThere}
 use Rattle.lgr_text.specs.Records.{Class, Part, Literal, Any, Of, Start, End, Anchor, OfRule, Then, Choice, Times}
+use Rattle.lgr_text.specs.declared.part_items.Side.{Side}
+use Rattle.lgr_text.specs.declared.part_items.Side.TheVariants.{After, Before}
 use Rattle.lgr_text.specs.declared.records.Count.{Count}
-use Rattle.lgr_text.specs.inner.Items.{AddsSet, is_member, literal_items, never, anchors, as_atom, further_up_to, is_item, HasShape, choice_of, copies, further, AddsClass, Appends, ItemsMatch, HaveSets, ItemMatches}
-use Rattle.lgr_text.proofs.ItemLemmas.{choice-is, copies-are, further-are, items-join, items-split, one-item}
+use Rattle.lgr_text.specs.inner.Branches.{HaveBranches}
+use Rattle.lgr_text.specs.inner.Faults.{IsFaultOf}
+use Rattle.lgr_text.specs.inner.Items.{AddsSets, is_member, literal_items, never_on, anchors, as_atom, further_up_to, is_item, HasShape, choice_of, copies, further, AddsClass, Appends, ItemsMatch, HaveSets, ItemMatches}
+use Rattle.lgr_text.proofs.ItemLemmas.{choice-is, copies-are, further-are, item-is, items-join, items-split, one-item}
+use Rattle.lgr_text.proofs.RowLemmas.{named-branches, whole-around}
+use Rattle.lgr_text.proofs.RuleLemmas.{items-place}
 use Rattle.lgr_text.proofs.SetNumberLemmas.{begins-length, choice-has, have-join, have-more, points-have, rule-has, times-have}
 use Rattle.lgr_text.proofs.RepeatLemmas.{repeats-join, repeats-map, repeats-split}
 
 abbrev pub AppendsPart : Known → List (List Span) → List (List Span) → List Pattern → List Pattern → Part → Type 0
-AppendsPart known old_sets sets old items p = Appends known.points (has_anchor p) old_sets sets old items (Matching known p)
+AppendsPart known old_sets sets old items p = Appends known.points (has_anchor known p) old_sets sets old items (Matching known p)
 
 pub begins-so : (sets : List (List Span)) → BeginsWith sets sets
 begins-so sets = ([], sym (append-nil sets))
@@ -120,9 +129,14 @@ points-append known sets old items points e = record {
   match_them = λ all label at i j begins of. literal-is (seen all label) at points i j;
 }
 
--- nothing matches a code point before the start
-not-never : (s : Seen) (at : Option Place) (i j : ℕ) → ItemsMatch s at (Group never ∷ []) i j → ⊥
-not-never s at i j h = let one = (one-item s at (Group never) i j).0 h in omega (arith, one.1.1, one.2.0)
+-- nothing matches a code point before the start or after the end
+not-never : (side : Side) (s : Seen) (at : Option Place) (i j : ℕ) → ItemsMatch s at (Group (never_on side) ∷ []) i j → ⊥
+not-never Before s at i j h = let one = (one-item s at (Group (never_on Before)) i j).0 h in omega (arith, one.1.1, one.2.0)
+not-never After s at i j h = let one = (one-item s at (Group (never_on After)) i j).0 h in omega (arith, one.1.1, one.2.0.0)
+
+never-has : (side : Side) (n : ℕ) → HasItsSets n (never_on side)
+never-has Before n = (tt, tt)
+never-has After n = (tt, tt)
 
 -- what stands in a label of these code points is made of them
 points-of-label : (points : List Span) (s : Seen) (at : Option Place) (literal : List ℕ) (i j : ℕ) → IsOf points s.label
@@ -133,21 +147,21 @@ points-of-label points s at (c ∷ literal) i j of h =
     let is : is_in points c ≡ true = ap (is_in points) (sym here) ∙ (of i 0 h.1.0.0).0 in
     ap (λ b. b && list_all (is_in points) literal) is ∙ points-of-label points s at literal h.0 j of h.2
 
-pub literal-appends : (known : Known) (sets : List (List Span)) (old items : List Pattern) (points : List ℕ)
-    → items ≡ old ++ literal_items known.points points → AppendsPart known sets sets old items (Literal points)
-literal-appends known sets old items points = by-cases (list_all (is_in known.points) points) refl
+pub literal-appends : (side : Side) (known : Known) (sets : List (List Span)) (old items : List Pattern) (points : List ℕ)
+    → items ≡ old ++ literal_items side known.points points → AppendsPart known sets sets old items (Literal points)
+literal-appends side known sets old items points = by-cases (list_all (is_in known.points) points) refl
   where
-    by-cases : (b : Bool) → list_all (is_in known.points) points ≡ b → items ≡ old ++ (if b then map Point points else Group never ∷ [])
+    by-cases : (b : Bool) → list_all (is_in known.points) points ≡ b → items ≡ old ++ (if b then map Point points else Group (never_on side) ∷ [])
         → AppendsPart known sets sets old items (Literal points)
     by-cases true all_in e = points-append known sets old items points e
     by-cases false some_out e = record {
       kept = begins-so sets;
-      added = Group never ∷ [];
+      added = Group (never_on side) ∷ [];
       is = e;
       shape = record { flat = refl; one = refl };
-      known = ((tt, tt), tt);
+      known = (never-has side (length sets), tt);
       match_them = λ all label at i j begins of. (
-        λ h. absurd (not-never (seen all label) at i j h),
+        λ h. absurd (not-never side (seen all label) at i j h),
         λ h.
             let s = seen all label in
             let all_in = points-of-label known.points s at points i j of ((literal-is s at points i j).1 h) in
@@ -158,7 +172,7 @@ literal-appends known sets old items points = by-cases (list_all (is_in known.po
 -- ---- one item
 
 pub one-appends : (known : Known) (sets : List (List Span)) (old items : List Pattern) (one : Pattern) (q : Part)
-    → HasShape (has_anchor q) (one ∷ []) → HasItsSets (length sets) one
+    → HasShape (has_anchor known q) (one ∷ []) → HasItsSets (length sets) one
     → ((s : Seen) (at : Option Place) (i j : ℕ) → ItemMatches s at one i j ↔ Matching known q s at i j)
     → items ≡ old ++ one ∷ [] → AppendsPart known sets sets old items q
 one-appends known sets old items one q shape its_sets match_it e = record {
@@ -192,40 +206,45 @@ anchor-appends known sets old items e =
 
 -- ---- a class
 
-set-appends : (known : Known) (class : Class) (old_sets sets : List (List Span)) (old items : List Pattern)
-    → AddsSet known class old_sets sets old items → AppendsPart known old_sets sets old items (Of class)
-set-appends known class old_sets sets old items adds = record {
-  kept = adds.kept;
-  added = Set adds.number ∷ [];
+sets-append : (known : Known) (class : Class) (old_sets sets : List (List Span)) (old items : List Pattern)
+    → AddsSets known class old_sets sets old items → AppendsPart known old_sets sets old items (Of class)
+sets-append known class old_sets sets old items adds = record {
+  kept = (adds.choice.added, adds.choice.kept);
+  added = adds.item ∷ [];
   is = adds.is;
-  shape = record { flat = refl; one = refl };
-  known = (adds.within, tt);
+  shape = adds.shape;
+  known = (adds.choice.known, tt);
   match_them = λ all label at i j begins of.
-      let set : get_or all adds.number [] ≡ get_or sets adds.number [] =
-      ap (λ l. get_or l adds.number []) begins.1 ∙ get_or_append_left sets begins.0 [] adds.number adds.within in
-      let same : i < length label → is_in (get_or all adds.number []) (slice_index label i) ≡ has known class (slice_index label i) = λ less.
+      let s = seen all label in
+      let one : anchors (adds.item ∷ []) ≡ 0 = adds.shape.one in
+      let choice = adds.choice.match_them all label i j begins in
+      let same : i < length label → is_in adds.spans (slice_index label i) ≡ has known class (slice_index label i) = λ less.
       let here = of i 0 less in
-      ap (λ l. is_in l (slice_index label i)) set
-      ∙ adds.members (slice_index label i) here.1
+      adds.members (slice_index label i) here.1
       ∙ ap (λ b. has known class (slice_index label i) && b) here.0
       ∙ and-true (has known class (slice_index label i)) in (
-        λ h. (let one = (one-item (seen all label) at (Set adds.number) i j).0 h in ((one.0.0, sym (same one.0.0) ∙ one.0.1), one.1)),
-        λ h. (one-item (seen all label) at (Set adds.number) i j).1 ((h.0.0, same h.0.0 ∙ h.0.1), h.1),
+        λ h.
+            let item = (one-item s None adds.item i j).0 (items-place s at None (adds.item ∷ []) i j one h) in
+            let found = choice.0 ((item-is s adds.item i j).0 item) in
+            ((found.0.0, sym (same found.0.0) ∙ found.0.1), found.1),
+        λ h.
+            let found = choice.1 ((h.0.0, same h.0.0 ∙ h.0.1), h.1) in
+            items-place s None at (adds.item ∷ []) i j one ((one-item s None adds.item i j).1 ((item-is s adds.item i j).1 found)),
       );
 }
 
 -- none of a class is in labels
-never-appends : (known : Known) (class : Class) (sets : List (List Span)) (old items : List Pattern)
-    → items ≡ old ++ Group never ∷ [] → ((c : ℕ) → c ≤ 0x10FFFF → is_member known class c ≡ false)
+never-appends : (side : Side) (known : Known) (class : Class) (sets : List (List Span)) (old items : List Pattern)
+    → items ≡ old ++ Group (never_on side) ∷ [] → ((c : ℕ) → c ≤ 0x10FFFF → is_member known class c ≡ false)
     → AppendsPart known sets sets old items (Of class)
-never-appends known class sets old items e none = record {
+never-appends side known class sets old items e none = record {
   kept = begins-so sets;
-  added = Group never ∷ [];
+  added = Group (never_on side) ∷ [];
   is = e;
   shape = record { flat = refl; one = refl };
-  known = ((tt, tt), tt);
+  known = (never-has side (length sets), tt);
   match_them = λ all label at i j begins of. (
-    λ h. absurd (not-never (seen all label) at i j h),
+    λ h. absurd (not-never side (seen all label) at i j h),
     λ h.
         let c = slice_index label i in
         let here = of i 0 h.0.0 in
@@ -234,62 +253,87 @@ never-appends known class sets old items e none = record {
   );
 }
 
-pub class-appends : (known : Known) (class : Class) (old_sets sets : List (List Span)) (old items : List Pattern)
-    → AddsClass known class old_sets sets old items → AppendsPart known old_sets sets old items (Of class)
-class-appends known class old_sets sets old items adds = elim adds [
-  | inl adds_set ↦ set-appends known class old_sets sets old items adds_set
+pub class-appends : (side : Side) (known : Known) (class : Class) (old_sets sets : List (List Span)) (old items : List Pattern)
+    → AddsClass side known class old_sets sets old items → AppendsPart known old_sets sets old items (Of class)
+class-appends side known class old_sets sets old items adds = elim adds [
+  | inl adds_sets ↦ sets-append known class old_sets sets old items adds_sets
   | inr adds_never ↦
       subst (λ all. AppendsPart known old_sets all old items (Of class)) (sym adds_never.same)
-      (never-appends known class old_sets old items adds_never.is adds_never.members)
+      (never-appends side known class old_sets old items adds_never.is adds_never.members)
 ]
 
-pub class-kept : (known : Known) (class : Class) (old_sets sets : List (List Span)) (old items : List Pattern)
-    → AddsClass known class old_sets sets old items → BeginsWith sets old_sets
-class-kept known class old_sets sets old items adds = elim adds [
-  | inl adds_set ↦ adds_set.kept
+pub class-kept : (side : Side) (known : Known) (class : Class) (old_sets sets : List (List Span)) (old items : List Pattern)
+    → AddsClass side known class old_sets sets old items → BeginsWith sets old_sets
+class-kept side known class old_sets sets old items adds = elim adds [
+  | inl adds_sets ↦ (adds_sets.choice.added, adds_sets.choice.kept)
   | inr adds_never ↦ subst (λ all. BeginsWith all old_sets) (sym adds_never.same) (begins-so old_sets)
 ]
 
 -- ---- a rule that is named
 
+no-context : (named context : Bool) → (if not named then Some Undefined else if context then Some NotSupported else None) ≡ None → context ≡ false
+no-context true true e = absurd (cc)
+no-context true false e = refl
+no-context false context e = absurd (cc)
+
+and-false : (b : Bool) → (b && false) ≡ false
+and-false true = refl
+and-false false = refl
+
+-- the value is there where no fault is told
+pub told-none : {X P Q : Type 0} (fault : Option RuleFault) (result : Result X RuleError) → (fault ≡ None → P → Q) → IsFaultOf fault result
+    → OnOk result P → OnOk result Q
+told-none fault (Ok v) f none h = f none h
+told-none fault (Err e) f none h = tt
+
 pub rule-appends : (known : Known) (sets : List (List Span)) (old items : List Pattern) (name : List ℕ)
-    → HaveSets (length sets) known.rules → items ≡ old ++ Group (rule_named known name) ∷ []
-    → AppendsPart known sets sets old items (OfRule name)
-rule-appends known sets old items name rules e = record {
+    → HaveSets (length sets) known.rules → HaveBranches known.rules → rule_fault known name ≡ None
+    → items ≡ old ++ Group (rule_named known name) ∷ [] → AppendsPart known sets sets old items (OfRule name)
+rule-appends known sets old items name rules have none e = record {
   kept = begins-so sets;
   added = Group (rule_named known name) ∷ [];
   is = e;
-  shape = record { flat = refl; one = refl };
+  shape = record { flat = refl; one = ap (λ b. if b then 1 else 0) (sym unanchored) };
   known = (rule-has known.rules (number_of known.rule_names name) (length sets) rules, tt);
-  match_them = λ all label at i j begins of. one-item (seen all label) at (Group (rule_named known name)) i j;
+  match_them = λ all label at i j begins of.
+      let s = seen all label in
+      let item = one-item s at (Group (rule_named known name)) i j in
+      let same = whole-around s at (rule_named known name) i j (named-branches known.rules (number_of known.rule_names name) have) whole in
+      (λ h. same.0 (item.0 h), λ h. item.1 (same.1 h));
 }
+  where
+    whole : is_context_rule (rule_named known name) ≡ false
+    whole = no-context (is_named known name) (is_context_rule (rule_named known name)) none
+
+    unanchored : has_anchor known (OfRule name) ≡ false
+    unanchored = ap (λ b. is_named known name && b) whole ∙ and-false (is_named known name)
 
 -- ---- one after the other
 
 -- what is right has one anchor at most
-pub then-apart : (known : Known) (p q : Part) → then_fault known p q ≡ None → (has_anchor p && has_anchor q) ≡ false
-then-apart known p q = by-test (has_anchor p && has_anchor q)
+pub then-apart : (known : Known) (p q : Part) → then_fault known p q ≡ None → (has_anchor known p && has_anchor known q) ≡ false
+then-apart known p q = by-test (has_anchor known p && has_anchor known q)
   where
-    by-test : (b : Bool) → (if b then Some NotSupported else if not (parts_label known p q) then None else if has_anchor p || has_anchor q then Some NotSupported else Some Misplaced) ≡ None → b ≡ false
+    by-test : (b : Bool) → (if b then Some NotSupported else if not (parts_label known p q) then None else if has_anchor known p || has_anchor known q then Some NotSupported else Some Misplaced) ≡ None → b ≡ false
     by-test true e = absurd cc
     by-test false e = refl
 
 -- and none where it is counted
-pub times-unanchored : (known : Known) (p : Part) → times_fault known p ≡ None → has_anchor p ≡ false
-times-unanchored known p = by-test (has_anchor p)
+pub times-unanchored : (known : Known) (p : Part) → times_fault known p ≡ None → has_anchor known p ≡ false
+times-unanchored known p = by-test (has_anchor known p)
   where
     by-test : (b : Bool) → (if b then Some NotSupported else if begins_label (rule_named known) p || ends_label (rule_named known) p then Some Misplaced else None) ≡ None → b ≡ false
     by-test true e = absurd cc
     by-test false e = refl
 
 pub then-appends : (known : Known) (p q : Part) (first middle last : List (List Span)) (old between items : List Pattern)
-    → (has_anchor p && has_anchor q) ≡ false → AppendsPart known first middle old between p → AppendsPart known middle last between items q
+    → (has_anchor known p && has_anchor known q) ≡ false → AppendsPart known first middle old between p → AppendsPart known middle last between items q
     → AppendsPart known first last old items (Then p q)
 then-appends known p q first middle last old between items apart left right = record {
   kept = begins-too last middle first right.kept left.kept;
   added = left.added ++ right.added;
   is = right.is ∙ ap (λ l. l ++ right.added) left.is ∙ append_assoc old left.added right.added;
-  shape = shapes-join (has_anchor p) (has_anchor q) left.added right.added apart left.shape right.shape;
+  shape = shapes-join (has_anchor known p) (has_anchor known q) left.added right.added apart left.shape right.shape;
   known = have-join left.added right.added (length last)
       (have-more left.added (length middle) (length last) (begins-length last middle right.kept) left.known) right.known;
   match_them = λ all label at i j begins of.
@@ -304,46 +348,18 @@ then-appends known p q first middle last old between items apart left right = re
 
 -- ---- what has no anchor is about no place
 
-or-left : (a b : Bool) → (a || b) ≡ false → a ≡ false
-or-left true b e = e
-or-left false b e = refl
-
-or-right : (a b : Bool) → (a || b) ≡ false → b ≡ false
-or-right true b e = absurd (cc)
-or-right false b e = e
-
-pub same-place : (has_it : Class → ℕ → Bool) (named : List ℕ → ℕ → ℕ → Type 0) (label : List ℕ) (at other : Option Place) (p : Part) (i j : ℕ)
-    → has_anchor p ≡ false → PartMatches has_it named label at p i j → PartMatches has_it named label other p i j
-same-place has_it named label at other (Literal points) i j none h = h
-same-place has_it named label at other Any i j none h = h
-same-place has_it named label at other (Of class) i j none h = h
-same-place has_it named label at other Start i j none h = h
-same-place has_it named label at other End i j none h = h
-same-place has_it named label at other Anchor i j none h = absurd (cc)
-same-place has_it named label at other (OfRule name) i j none h = h
-same-place has_it named label at other (Then p q) i j none h = (
-  h.0,
-  same-place has_it named label at other p i h.0 (or-left (has_anchor p) (has_anchor q) none) h.1,
-  same-place has_it named label at other q h.0 j (or-right (has_anchor p) (has_anchor q) none) h.2,
-)
-same-place has_it named label at other (Choice p q) i j none h = elim h [
-  | inl l ↦ inl (same-place has_it named label at other p i j (or-left (has_anchor p) (has_anchor q) none) l)
-  | inr r ↦ inr (same-place has_it named label at other q i j (or-right (has_anchor p) (has_anchor q) none) r)
-]
-same-place has_it named label at other (Times count p) i j none h = (
-  h.0,
-  h.1,
-  repeats-map (PartMatches has_it named label at p) (PartMatches has_it named label other p) (λ k m. same-place has_it named label at other p k m none) h.0 i j h.2,
-)
-
-matching-same : (known : Known) (p : Part) (s : Seen) (at other : Option Place) (i j : ℕ) → has_anchor p ≡ false → Matching known p s at i j → Matching known p s other i j
-matching-same known p s at other i j none h =
-    same-place (has known) (λ name k m. Matches s (rule_named known name) k m) s.label at other p i j none h
+matching-same : (known : Known) (p : Part) (first last all : List (List Span)) (label : List ℕ) (items : List Pattern) (at other : Option Place) (i j : ℕ)
+    → has_anchor known p ≡ false → AppendsPart known first last [] items p → BeginsWith all last → IsOf known.points label
+    → Matching known p (seen all label) at i j → Matching known p (seen all label) other i j
+matching-same known p first last all label items at other i j none made begins of h =
+    let one : anchors made.added ≡ 0 = made.shape.one ∙ ap (λ b. if b then 1 else 0) none in
+    (made.match_them all label other i j begins of).0
+    (items-place (seen all label) at other made.added i j one ((made.match_them all label at i j begins of).1 h))
 
 -- ---- one or the other
 
 pub choice-appends : (known : Known) (p q : Part) (first middle last : List (List Span)) (old items left_items right_items : List Pattern)
-    → has_anchor p ≡ false → has_anchor q ≡ false
+    → has_anchor known p ≡ false → has_anchor known q ≡ false
     → AppendsPart known first middle [] left_items p → AppendsPart known middle last [] right_items q
     → items ≡ old ++ choice_of left_items right_items ∷ []
     → AppendsPart known first last old items (Choice p q)
@@ -351,7 +367,7 @@ choice-appends known p q first middle last old items left_items right_items no_p
   kept = begins-too last middle first right.kept left.kept;
   added = choice_of left_items right_items ∷ [];
   is = e;
-  shape = record { flat = refl; one = ap (λ b. if b then 1 else 0) (sym (ap (λ b. b || has_anchor q) no_p ∙ no_q)) };
+  shape = record { flat = refl; one = ap (λ b. if b then 1 else 0) (sym (ap (λ b. b || has_anchor known q) no_p ∙ no_q)) };
   known = choice-has left_items right_items (length last)
       (have-more left_items (length middle) (length last) (begins-length last middle right.kept) (subst (HaveSets (length middle)) (sym left.is) left.known))
       (subst (HaveSets (length last)) (sym right.is) right.known);
@@ -359,12 +375,12 @@ choice-appends known p q first middle last old items left_items right_items no_p
       let s = seen all label in
       let lower = begins-too all last middle begins right.kept in (
         λ h. elim ((choice-is s at left_items right_items i j).0 h) [
-          | inl l ↦ inl (matching-same known p s None at i j no_p ((left.match_them all label None i j lower of).0 (subst (λ ps. ItemsMatch s None ps i j) left.is l)))
-          | inr r ↦ inr (matching-same known q s None at i j no_q ((right.match_them all label None i j begins of).0 (subst (λ ps. ItemsMatch s None ps i j) right.is r)))
+          | inl l ↦ inl (matching-same known p first middle all label left_items None at i j no_p left lower of ((left.match_them all label None i j lower of).0 (subst (λ ps. ItemsMatch s None ps i j) left.is l)))
+          | inr r ↦ inr (matching-same known q middle last all label right_items None at i j no_q right begins of ((right.match_them all label None i j begins of).0 (subst (λ ps. ItemsMatch s None ps i j) right.is r)))
         ],
         λ h. (choice-is s at left_items right_items i j).1 (elim h [
-          | inl l ↦ inl (subst (λ ps. ItemsMatch s None ps i j) (sym left.is) ((left.match_them all label None i j lower of).1 (matching-same known p s at None i j no_p l)))
-          | inr r ↦ inr (subst (λ ps. ItemsMatch s None ps i j) (sym right.is) ((right.match_them all label None i j begins of).1 (matching-same known q s at None i j no_q r)))
+          | inl l ↦ inl (subst (λ ps. ItemsMatch s None ps i j) (sym left.is) ((left.match_them all label None i j lower of).1 (matching-same known p first middle all label left_items at None i j no_p left lower of l)))
+          | inr r ↦ inr (subst (λ ps. ItemsMatch s None ps i j) (sym right.is) ((right.match_them all label None i j begins of).1 (matching-same known q middle last all label right_items at None i j no_q right begins of r)))
         ]),
       );
 }
@@ -372,7 +388,7 @@ choice-appends known p q first middle last old items left_items right_items no_p
 -- ---- so many times
 
 pub times-appends : (known : Known) (count : Count) (p : Part) (first last : List (List Span)) (old items once : List Pattern)
-    → has_anchor p ≡ false → IsUpTo count.least count.most
+    → has_anchor known p ≡ false → IsUpTo count.least count.most
     → AppendsPart known first last [] once p
     → items ≡ old ++ (copies count.least once ++ further count once)
     → AppendsPart known first last old items (Times count p)
@@ -380,15 +396,15 @@ times-appends known count p first last old items once none fits appends e = reco
   kept = appends.kept;
   added = copies count.least once ++ further count once;
   is = e;
-  shape = times-shape count (has_anchor p) once none (subst (HasShape (has_anchor p)) (sym appends.is) appends.shape);
+  shape = times-shape count (has_anchor known p) once none (subst (HasShape (has_anchor known p)) (sym appends.is) appends.shape);
   known = times-have count.least count.most once (length last) (subst (HaveSets (length last)) (sym appends.is) appends.known);
   match_them = λ all label at i j begins of.
       let s = seen all label in
       let R : ℕ → ℕ → Type 0 = Matching known p s at in
       let forth : (o : Option Place) (k m : ℕ) → ItemsMatch s o once k m → R k m = λ o k m h.
-      matching-same known p s o at k m none ((appends.match_them all label o k m begins of).0 (subst (λ ps. ItemsMatch s o ps k m) appends.is h)) in
+      matching-same known p first last all label once o at k m none appends begins of ((appends.match_them all label o k m begins of).0 (subst (λ ps. ItemsMatch s o ps k m) appends.is h)) in
       let back : (o : Option Place) (k m : ℕ) → R k m → ItemsMatch s o once k m = λ o k m h.
-      subst (λ ps. ItemsMatch s o ps k m) (sym appends.is) ((appends.match_them all label o k m begins of).1 (matching-same known p s at o k m none h)) in (
+      subst (λ ps. ItemsMatch s o ps k m) (sym appends.is) ((appends.match_them all label o k m begins of).1 (matching-same known p first last all label once at o k m none appends begins of h)) in (
         λ h.
             let both = items-split s at (copies count.least once) (further count once) i j h in
             let least = repeats-map (ItemsMatch s at once) R (forth at) count.least i both.0 ((copies-are s at once count.least i both.0).0 both.1) in
@@ -409,18 +425,18 @@ times-appends known count p first last old items once none fits appends e = reco
 
 -- ---- the same of a part that is one of these
 
-pub literal-part : (known : Known) (old_sets sets : List (List Span)) (old items : List Pattern) (points : List ℕ) (p : Part)
-    → p ≡ Literal points → sets ≡ old_sets → items ≡ old ++ literal_items known.points points → AppendsPart known old_sets sets old items p
-literal-part known old_sets sets old items points p is same e =
+pub literal-part : (side : Side) (known : Known) (old_sets sets : List (List Span)) (old items : List Pattern) (points : List ℕ) (p : Part)
+    → p ≡ Literal points → sets ≡ old_sets → items ≡ old ++ literal_items side known.points points → AppendsPart known old_sets sets old items p
+literal-part side known old_sets sets old items points p is same e =
     subst (AppendsPart known old_sets sets old items) (sym is)
-    (subst (λ all. AppendsPart known old_sets all old items (Literal points)) (sym same) (literal-appends known old_sets old items points e))
+    (subst (λ all. AppendsPart known old_sets all old items (Literal points)) (sym same) (literal-appends side known old_sets old items points e))
 
 pub rule-part : (known : Known) (name : List ℕ) (old_sets sets : List (List Span)) (old items : List Pattern) (p : Part)
-    → p ≡ OfRule name → sets ≡ old_sets → HaveSets (length old_sets) known.rules → items ≡ old ++ Group (rule_named known name) ∷ []
-    → AppendsPart known old_sets sets old items p
-rule-part known name old_sets sets old items p is same rules e =
+    → p ≡ OfRule name → sets ≡ old_sets → HaveSets (length old_sets) known.rules → HaveBranches known.rules → rule_fault known name ≡ None
+    → items ≡ old ++ Group (rule_named known name) ∷ [] → AppendsPart known old_sets sets old items p
+rule-part known name old_sets sets old items p is same rules have none e =
     subst (AppendsPart known old_sets sets old items) (sym is)
-    (subst (λ all. AppendsPart known old_sets all old items (OfRule name)) (sym same) (rule-appends known old_sets old items name rules e))
+    (subst (λ all. AppendsPart known old_sets all old items (OfRule name)) (sym same) (rule-appends known old_sets old items name rules have none e))
 
 -- sets that stay, in the place of those that were
 same-sets : (known : Known) (old_sets sets : List (List Span)) (old items : List Pattern) (p q : Part) → p ≡ q → sets ≡ old_sets
@@ -444,19 +460,19 @@ pub anchor-part : (known : Known) (old_sets sets : List (List Span)) (old items 
     → p ≡ Anchor → sets ≡ old_sets → items ≡ old ++ pattern.Anchor ∷ [] → AppendsPart known old_sets sets old items p
 anchor-part known old_sets sets old items p is same e = same-sets known old_sets sets old items p Anchor is same (anchor-appends known old_sets old items e)
 
-pub class-part : (known : Known) (class : Class) (old_sets sets : List (List Span)) (old items : List Pattern) (p : Part)
-    → p ≡ Of class → AddsClass known class old_sets sets old items → AppendsPart known old_sets sets old items p
-class-part known class old_sets sets old items p is adds =
-    subst (AppendsPart known old_sets sets old items) (sym is) (class-appends known class old_sets sets old items adds)
+pub class-part : (side : Side) (known : Known) (class : Class) (old_sets sets : List (List Span)) (old items : List Pattern) (p : Part)
+    → p ≡ Of class → AddsClass side known class old_sets sets old items → AppendsPart known old_sets sets old items p
+class-part side known class old_sets sets old items p is adds =
+    subst (AppendsPart known old_sets sets old items) (sym is) (class-appends side known class old_sets sets old items adds)
 
 pub then-part : (known : Known) (p q r : Part) (first middle last : List (List Span)) (old between items : List Pattern)
-    → r ≡ Then p q → (has_anchor p && has_anchor q) ≡ false → AppendsPart known first middle old between p → AppendsPart known middle last between items q
+    → r ≡ Then p q → (has_anchor known p && has_anchor known q) ≡ false → AppendsPart known first middle old between p → AppendsPart known middle last between items q
     → AppendsPart known first last old items r
 then-part known p q r first middle last old between items is apart left right =
     subst (AppendsPart known first last old items) (sym is) (then-appends known p q first middle last old between items apart left right)
 
 pub choice-part : (known : Known) (p q r : Part) (first middle last sets : List (List Span)) (old items left_items right_items : List Pattern)
-    → r ≡ Choice p q → sets ≡ last → has_anchor p ≡ false → has_anchor q ≡ false
+    → r ≡ Choice p q → sets ≡ last → has_anchor known p ≡ false → has_anchor known q ≡ false
     → AppendsPart known first middle [] left_items p → AppendsPart known middle last [] right_items q
     → items ≡ old ++ choice_of left_items right_items ∷ []
     → AppendsPart known first sets old items r
@@ -466,7 +482,7 @@ choice-part known p q r first middle last sets old items left_items right_items 
     (choice-appends known p q first middle last old items left_items right_items no_p no_q left right e))
 
 pub times-part : (known : Known) (count : Count) (p r : Part) (first last sets : List (List Span)) (old items once : List Pattern)
-    → r ≡ Times count p → sets ≡ last → has_anchor p ≡ false → IsUpTo count.least count.most
+    → r ≡ Times count p → sets ≡ last → has_anchor known p ≡ false → IsUpTo count.least count.most
     → AppendsPart known first last [] once p
     → items ≡ old ++ (copies count.least once ++ further count once)
     → AppendsPart known first sets old items r

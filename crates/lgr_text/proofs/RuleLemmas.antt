@@ -2,25 +2,20 @@
 use Rattle.std.proofs.Common.{◌≡◌, ℕ, ◌+◌, ◌≤◌, inl, inr, Bool, true, false, ◌||◌, ◌&&◌, not, List, [], ◌∷◌, length, Option, Some, None, refl, ap, sym, subst, ◌∙◌, if◌then◌else◌, arith}
 use Rattle.std.specs.Prelude.{◌↔◌}
 use Rattle.std.specs.List.{list_all}
-use Rattle.label_patterns.specs.declared.span.Span.{Span}
-use Rattle.label_patterns.specs.Laws.{seen}
 use Rattle.label_patterns.specs.Matches.{Matches, Rounds, Seen, no_round, one_more}
 use Rattle.label_patterns.specs.Patterns.{Pattern, Point, Set, Any, Start, End, Anchor, Group, Optional, Many, Then, Either}
-use Rattle.label_patterns.specs.Rules.{branches, is_anchor, is_context, is_context_rule, After, Before, Holds, HoldsAs, HoldsInOne}
-use Rattle.lgr_text.specs.Known.{Known}
-use Rattle.lgr_text.specs.PartMatches.{has_anchor, MatchesAsPart, Place, SaysRule}
-use Rattle.lgr_text.specs.Records.{Part}
-use Rattle.lgr_text.specs.inner.Items.{anchors, in_sequence, is_item, HasShape, ItemMatches, ItemsMatch}
+use Rattle.label_patterns.specs.Rules.{branches, is_anchor, is_context, is_context_rule, After, Before, BeginsAfter, EndsBefore}
+use Rattle.lgr_text.specs.PartMatches.{Place}
+use Rattle.lgr_text.specs.inner.Items.{anchors, in_sequence, is_item, ItemMatches, ItemsMatch}
 use Rattle.lgr_text.proofs.ItemLemmas.{item-is, sequence-is}
-use Rattle.lgr_text.proofs.PartLemmas.{AppendsPart}
 
 -- ---- which patterns are those of context rules
 
-both-left : (a b : Bool) → (a && b) ≡ true → a ≡ true
+pub both-left : (a b : Bool) → (a && b) ≡ true → a ≡ true
 both-left true b e = refl
 both-left false b e = absurd (cc)
 
-both-right : (a b : Bool) → (a && b) ≡ true → b ≡ true
+pub both-right : (a b : Bool) → (a && b) ≡ true → b ≡ true
 both-right true b e = e
 both-right false b e = absurd (cc)
 
@@ -87,7 +82,7 @@ item-place s at other (Many p) i j none h = h
 item-place s at other (Then p q) i j none h = h
 item-place s at other (Either p q) i j none h = h
 
-items-place : (s : Seen) (at other : Option Place) (ps : List Pattern) (i j : ℕ) → anchors ps ≡ 0 → ItemsMatch s at ps i j → ItemsMatch s other ps i j
+pub items-place : (s : Seen) (at other : Option Place) (ps : List Pattern) (i j : ℕ) → anchors ps ≡ 0 → ItemsMatch s at ps i j → ItemsMatch s other ps i j
 items-place s at other [] i j none h = h
 items-place s at other (p ∷ ps) i j none h =
     (h.0, item-place s at other p i h.0 (first-none (is_anchor p) (anchors ps) none) h.1, items-place s at other ps h.0 j (rest-none (is_anchor p) (anchors ps) none) h.2)
@@ -238,70 +233,32 @@ item-branch (Then p q) e = absurd (cc)
 item-branch (Either p q) e = absurd (cc)
 
 -- a sequence has one branch
-one-branch : (ps : List Pattern) → list_all is_item ps ≡ true → branches (in_sequence ps) ≡ in_sequence ps ∷ []
+pub one-branch : (ps : List Pattern) → list_all is_item ps ≡ true → branches (in_sequence ps) ≡ in_sequence ps ∷ []
 one-branch [] flat = refl
 one-branch (p ∷ []) flat = item-branch p (both-left (is_item p) true flat)
 one-branch (p ∷ q ∷ ps) flat = refl
 
 -- ---- rules
 
-whole-holds : (s : Seen) (ps : List Pattern) (i j : ℕ) → list_all is_item ps ≡ true → anchors ps ≡ 0
-    → Holds s (in_sequence ps) i j ↔ ((k : ℕ) × (m : ℕ) × (k ≤ length s.label) × ItemsMatch s (place i j) ps k m)
-whole-holds s ps i j flat none =
-    let is : is_context_rule (in_sequence ps) ≡ false = sequence-rule ps flat ∙ none-context ps flat none in (
-      λ h.
-          let found = subst (λ b. HoldsAs b s (in_sequence ps) i j) is h in
-          (found.0, found.1, found.2, items-place s None (place i j) ps found.0 found.1 none ((sequence-is s ps found.0 found.1).0 found.3)),
-      λ h. subst (λ b. HoldsAs b s (in_sequence ps) i j) (sym is)
-          (h.0, h.1, h.2, (sequence-is s ps h.0 h.1).1 (items-place s (place i j) None ps h.0 h.1 none h.3)),
-    )
+-- a sequence by itself, or as the first of several branches
+pub row-rule : (ps : List Pattern) → list_all is_item ps ≡ true → is_context_rule (in_sequence ps) ≡ is_context (in_sequence ps)
+row-rule = sequence-rule
 
-context-holds : (s : Seen) (ps : List Pattern) (i j : ℕ) → list_all is_item ps ≡ true → anchors ps ≡ 1 → i ≤ length s.label
-    → Holds s (in_sequence ps) i j ↔ ((k : ℕ) × (m : ℕ) × (k ≤ length s.label) × ItemsMatch s (place i j) ps k m)
-context-holds s ps i j flat one within =
-    let is : is_context_rule (in_sequence ps) ≡ true = sequence-rule ps flat ∙ one-context ps flat one in
-    let branch = one-branch ps flat in (
-      λ h.
-          let found = subst (λ l. HoldsInOne s l i j) branch (subst (λ b. HoldsAs b s (in_sequence ps) i j) is h) in
-          elim found [
-            | inl both ↦
-                let rises = before-rises s (in_sequence ps) both.0.0 i both.0.1 in
-                (both.0.0, both.1.0, omega (arith, rises, within), together s ps i j both.0.0 both.1.0 one both.0.1 both.1.1)
-            | inr none ↦ absurd none
-          ],
-      λ h.
-          let both = around s ps i j h.0 h.1 one h.3 in
-          subst (λ b. HoldsAs b s (in_sequence ps) i j) (sym is)
-          (subst (λ l. HoldsInOne s l i j) (sym branch) (inl ((h.0, both.0), (h.1, both.1)))),
-    )
+pub whole-row : (ps : List Pattern) → list_all is_item ps ≡ true → anchors ps ≡ 0 → is_context_rule (in_sequence ps) ≡ false
+whole-row ps flat none = sequence-rule ps flat ∙ none-context ps flat none
 
-items-hold : (s : Seen) (b : Bool) (ps : List Pattern) (i j : ℕ) → HasShape b ps → i ≤ length s.label
-    → Holds s (in_sequence ps) i j ↔ ((k : ℕ) × (m : ℕ) × (k ≤ length s.label) × ItemsMatch s (place i j) ps k m)
-items-hold s true ps i j shape within = context-holds s ps i j shape.flat shape.one within
-items-hold s false ps i j shape within = whole-holds s ps i j shape.flat shape.one
+pub anchored-row : (ps : List Pattern) → list_all is_item ps ≡ true → anchors ps ≡ 1 → is_context_rule (in_sequence ps) ≡ true
+anchored-row ps flat one = sequence-rule ps flat ∙ one-context ps flat one
 
-pub says-rule : (known : Known) (rule : Part) (old_sets sets : List (List Span)) (items : List Pattern) → AppendsPart known old_sets sets [] items rule
-    → SaysRule known sets (in_sequence items) rule
-says-rule known rule old_sets sets items appends = λ all label i j begins of i_within j_within.
-    let s = seen all label in
-    let shape : HasShape (has_anchor rule) items = subst (HasShape (has_anchor rule)) (sym appends.is) appends.shape in
-    let holds = items-hold s (has_anchor rule) items i j shape i_within in (
-      λ h.
-          let found = holds.0 h in
-          let match_it = subst (λ ps. ItemsMatch s (place i j) ps found.0 found.1) appends.is found.3 in
-          (found.0, found.1, found.2, (appends.match_them all label (place i j) found.0 found.1 begins of).0 match_it),
-      λ h. holds.1 (
-        h.0,
-        h.1,
-        h.2,
-        subst (λ ps. ItemsMatch s (place i j) ps h.0 h.1) (sym appends.is) ((appends.match_them all label (place i j) h.0 h.1 begins of).1 h.3),
-      ),
-    )
-
-pub matches-as-part : (known : Known) (rule : Part) (old_sets sets : List (List Span)) (items : List Pattern) → AppendsPart known old_sets sets [] items rule
-    → MatchesAsPart known sets (in_sequence items) rule
-matches-as-part known rule old_sets sets items appends = λ all label k l begins of.
-    let s = seen all label in (
-      λ h. (appends.match_them all label None k l begins of).0 (subst (λ ps. ItemsMatch s None ps k l) appends.is ((sequence-is s items k l).0 h)),
-      λ h. (sequence-is s items k l).1 (subst (λ ps. ItemsMatch s None ps k l) (sym appends.is) ((appends.match_them all label None k l begins of).1 h)),
-    )
+-- items hold around a part of a label where they match with the anchor for that part
+pub context-row : (s : Seen) (ps : List Pattern) (i j : ℕ) → anchors ps ≡ 1 → i ≤ length s.label
+    → (EndsBefore s (in_sequence ps) i × BeginsAfter s (in_sequence ps) j)
+    ↔ ((k : ℕ) × (m : ℕ) × (k ≤ length s.label) × ItemsMatch s (place i j) ps k m)
+context-row s ps i j one within = (
+  λ both.
+      let rises = before-rises s (in_sequence ps) both.0.0 i both.0.1 in
+      (both.0.0, both.1.0, omega (arith, rises, within), together s ps i j both.0.0 both.1.0 one both.0.1 both.1.1),
+  λ h.
+      let both = around s ps i j h.0 h.1 one h.3 in
+      ((h.0, both.0), (h.1, both.1)),
+)

@@ -51,7 +51,7 @@ ungrouped-has p n h = h
 pub choice-has : (ps qs : List Pattern) (n : ℕ) → HaveSets n ps → HaveSets n qs → HaveSets n (choice_of ps qs ∷ [])
 choice-has ps qs n h k = ((sequence-has ps n h, ungrouped-has (in_sequence qs) n (sequence-has qs n k)), tt)
 
-atom-has : (ps : List Pattern) (n : ℕ) → HaveSets n ps → HasItsSets n (as_atom ps)
+pub atom-has : (ps : List Pattern) (n : ℕ) → HaveSets n ps → HasItsSets n (as_atom ps)
 atom-has [] n h = (tt, tt)
 atom-has (p ∷ []) n h = elim (is_atom p) as (λ b. HasItsSets n (if b then p else Group p)) [ true ↦ h.0 | false ↦ h.0 ]
 atom-has (p ∷ q ∷ ps) n h = sequence-has (p ∷ q ∷ ps) n h

@@ -1,6 +1,6 @@
 -- The properties of Unicode that a class may name (RFC 7940, section 6.2.3), and which code points have them.
 use Rattle.std.specs.Prelude.{ℕ, Bool, false, ◌==◌, ◌&&◌, not, ◌+◌, List, map, filter, take, drop, length}
-use Rattle.std.specs.Prelude.{nat_le, position, Option, Some, None, codes, if◌then◌else◌}
+use Rattle.std.specs.Prelude.{nat_le, position, Option, Some, None, codes, option_and_then, if◌then◌else◌}
 use Rattle.std.specs.Char.{to_ascii_lowercase}
 use Rattle.std.specs.Option.{option_map}
 use Rattle.ucd_bidi.specs.BidiClass.{bidi_class, bidi_class_eq}
@@ -32,8 +32,12 @@ category_alone (Some (set.CategoryGroup g)) = Some (set.CategoryGroup g)
 category_alone (Some other) = None
 
 -- one to three digits
+abbrev pub up_to_254 : ℕ → Option ℕ
+up_to_254 class = if nat_le class 254 then Some class else None
+
+-- one to three digits: a combining class is at most 254 (The Unicode Standard, section 3.11)
 abbrev pub class_named : List ℕ → Option ℕ
-class_named value = if nat_le (length value) 3 then number value else None
+class_named value = if nat_le (length value) 3 then option_and_then up_to_254 (number value) else None
 
 abbrev pub is_deprecated : ℕ → Bool
 is_deprecated c = in_set (set.Binary binary.Deprecated) c

@@ -1,4 +1,5 @@
 -- The definitions that inner functions cite.
+pub mod Branches
 pub mod Counts
 pub mod Faults
 pub mod Items

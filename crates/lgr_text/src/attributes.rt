@@ -137,7 +137,7 @@ impl<'a> Element<'a> {
 }
 
 /// The value of the first attribute of this name.
-fn value_of<'a>(attributes: &'a [Attribute], name: &[u8]) -> Option<&'a [u8]>
+fn value_of<'a>(attributes: &'a [Attribute<'a>], name: &[u8]) -> Option<&'a [u8]>
     ensures { option_copied result ≡ terms.value attributes.now name.now }
 {
     for attribute in attributes {
@@ -149,7 +149,7 @@ fn value_of<'a>(attributes: &'a [Attribute], name: &[u8]) -> Option<&'a [u8]>
 }
 
 /// Whether each attribute is named by one of the words of a text.
-fn are_among(names: &[u8], attributes: &[Attribute]) -> bool
+fn are_among(names: &[u8], attributes: &[Attribute<'_>]) -> bool
     ensures { result ≡ terms.are_among names.now attributes.now }
 {
     attributes

@@ -2,12 +2,12 @@
 ghost use Rattle.std.specs.Prelude.{◌≡◌, ◌+◌, ◌<◌, ◌≤◌, ◌||◌, ◌↔◌, [], ℕ, Bool, not, All, IfOk, OnOk, IsTrue};
 ghost use Rattle.std.specs.List.{list_all};
 ghost use Rattle.label_patterns.specs.declared.span.Span.{Span};
-ghost use Rattle.label_patterns.specs.Sets.{is_in, is_in_span};
+ghost use Rattle.label_patterns.specs.Sets.{is_in, is_in_span, Rise};
 ghost use Rattle.lgr_text.specs.CodePoints.{AreApart, AreSpans, IsSpan, is_joined};
 ghost use Rattle.lgr_text.specs.inner.Stretches.{BeginUpTo, EndFrom};
 
 use crate::joins::SetOperation;
-use label_patterns::{PointSet, Span};
+use label_patterns::Span;
 use std::alloc::{AllocError, Global};
 use std::marker::Model;
 
@@ -103,11 +103,12 @@ impl CodePoints {
         self.spans.is_empty()
     }
 
-    /// The set as patterns take it.
-    pub fn into_point_set(self) -> PointSet
-        ensures { result ≡ self }
+    /// The spans, which rise.
+    pub fn spans(&self) -> &[Span]
+        ensures spans { result.now ≡ self.now }
+        ensures rise { Rise self.now }
     {
-        PointSet::new(self.spans)
+        &self.spans
     }
 }
 

@@ -10,14 +10,19 @@ use label_patterns::Span;
 use std::alloc::{AllocError, Global};
 use ucd_normal::canonical_combining_class;
 
-/// The class that one to three digits write.
+/// The greatest combining class that the Unicode Standard allows (section 3.11).
+const LAST_CLASS: u32 = 254;
+
+/// The class that one to three digits write, at most 254.
 pub(crate) fn class_named(value: &[u8]) -> Option<u32>
     ensures { result ≡ terms.class_named value.now }
 {
-    if value.len() <= 3 {
-        number_of(value)
-    } else {
-        None
+    if value.len() > 3 {
+        return None;
+    }
+    match number_of(value) {
+        Some(class) if class <= LAST_CLASS => Some(class),
+        _ => None,
     }
 }
 

@@ -22,7 +22,7 @@ use xml_text::{Attribute, Token};
 const NAMESPACE: &[u8] = b"urn:ietf:params:xml:ns:lgr-1.0";
 
 /// The ruleset that the tokens of a document say.
-pub fn read_ruleset(alloc: Global, tokens: &[Token]) -> Result<Ruleset, ReadError>
+pub fn read_ruleset(alloc: Global, tokens: &[Token<'_>]) -> Result<Ruleset, ReadError>
     ensures says { IsSaidBy tokens.now result }
     ensures limit { IfOk result (λ _. exceeds 0 0 (map (λ t. t.said) tokens.now) ≡ false) }
     ensures well_formed { IfOk result (λ r. IsWellFormedRuleset (records.file r)) }
@@ -63,7 +63,7 @@ fn read_alone(alloc: Global, root: &Element<'_>, rest: Elements<'_>) -> Result<R
 }
 
 /// What stands before the names of elements: the first tag declares their namespace.
-fn prefix_in(alloc: Global, tokens: &[Token]) -> Result<Vec<u8>, ReadError>
+fn prefix_in(alloc: Global, tokens: &[Token<'_>]) -> Result<Vec<u8>, ReadError>
     ensures { Reads (λ v. v.items) (option_and_then documents.prefix_of (root_attributes tokens.now)) result }
 {
     let Some(first) = tokens.first() else {
@@ -77,7 +77,7 @@ fn prefix_in(alloc: Global, tokens: &[Token]) -> Result<Vec<u8>, ReadError>
 }
 
 /// What the attributes of the root declare.
-fn prefix_of(alloc: Global, attributes: &[Attribute]) -> Result<Option<Vec<u8>>, AllocError>
+fn prefix_of(alloc: Global, attributes: &[Attribute<'_>]) -> Result<Option<Vec<u8>>, AllocError>
     ensures { IfOk result (λ found. option_map (λ v. v.items) found ≡ documents.prefix_of attributes.now) }
 {
     match attributes {
@@ -87,7 +87,7 @@ fn prefix_of(alloc: Global, attributes: &[Attribute]) -> Result<Option<Vec<u8>>,
 }
 
 /// What an attribute declares.
-fn declared_in(alloc: Global, attribute: &Attribute) -> Result<Option<Vec<u8>>, AllocError>
+fn declared_in(alloc: Global, attribute: &Attribute<'_>) -> Result<Option<Vec<u8>>, AllocError>
     ensures { IfOk result (λ found. option_map (λ v. v.items) found ≡ documents.declared_in attribute.now) }
 {
     if attribute.value() == NAMESPACE {

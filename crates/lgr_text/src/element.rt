@@ -1,7 +1,7 @@
 //! The elements of a document, one after the other.
 ghost use Rattle.std.specs.Prelude.{◌≡◌, ◌+◌, ◌<◌, ◌≤◌, List, ℕ, bytes_eq, false, length, map};
 ghost use Rattle.std.specs.Prelude.{IfOk, IfSome, MatchOption};
-ghost use Rattle.std.specs.List.{list_all};
+ghost use Rattle.std.specs.List.{list_all, prefix_len};
 ghost use Rattle.lgr_text.specs.Elements.{Content, Say, text_of};
 ghost use Rattle.lgr_text.specs.Elements as contents;
 ghost use Rattle.lgr_text.specs.declared.fault.ReadError.TheVariants.{Wrong};
@@ -17,14 +17,14 @@ use xml_text::{Attribute, Said, Token, is_blank as is_blank_byte};
 pub struct Elements<'a> {
     /// What stands before the name of each element.
     pub prefix: &'a [u8],
-    pub tokens: &'a [Token],
+    pub tokens: &'a [Token<'a>],
 }
 
 /// An element: its name without the prefix, its attributes, and the elements in it.
 #[derive(Clone, Copy)]
 pub struct Element<'a> {
     pub name: &'a [u8],
-    pub attributes: &'a [Attribute],
+    pub attributes: &'a [Attribute<'a>],
     pub within: Elements<'a>,
     /// The line of its tag, counted from 1.
     pub line: usize,
@@ -53,14 +53,15 @@ impl<'a> Elements<'a> {
         };
         let (tokens, _) = others.split_at(len);
         let (_, rest) = others.split_at(len + 1);
-        self.tokens = rest;
+        let prefix = self.prefix;
+        *self = Elements {
+            prefix,
+            tokens: rest,
+        };
         Ok(Some(Element {
             name,
             attributes,
-            within: Elements {
-                prefix: self.prefix,
-                tokens,
-            },
+            within: Elements { prefix, tokens },
             line: first.line(),
         }))
     }
@@ -96,53 +97,60 @@ impl<'a> Element<'a> {
 }
 
 /// The name and the attributes of a start tag.
-pub fn opened(said: &Said) -> Option<(&[u8], &[Attribute])>
+pub fn opened<'t, 'a>(said: &'t Said<'a>) -> Option<(&'t [u8], &'t [Attribute<'a>])>
     ensures { MatchOption result (is_open (said_as said.now) ≡ false)
         (λ tag. said_as said.now ≡ Open tag.0.now tag.1.now) }
 {
     match said {
-        Said::Open(name, attributes) => Some((name, attributes)),
+        Said::Open(name, attributes) => Some((name.as_slice(), attributes)),
         Said::Text(_) | Said::Close => None,
     }
 }
 
 /// The text between two tags.
-fn text_in(said: &Said) -> Option<&[u8]>
+fn text_in<'t>(said: &'t Said<'_>) -> Option<&'t [u8]>
     ensures { MatchOption result (is_text (said_as said.now) ≡ false) (λ text. said_as said.now ≡ Text text.now) }
 {
     match said {
-        Said::Text(text) => Some(text),
+        Said::Text(text) => Some(text.as_slice()),
         Said::Open(_, _) | Said::Close => None,
     }
 }
 
 /// What follows the texts at the front that are blank.
-fn without_blank_texts(tokens: &[Token]) -> &[Token]
+fn without_blank_texts<'t, 'a>(tokens: &'t [Token<'a>]) -> &'t [Token<'a>]
     ensures is { (p : List ℕ) (c : Content) → Say p tokens.now c → Say p result.now (after_blanks c) }
     ensures within { length result.now ≤ length tokens.now }
 {
-    let mut rest = tokens;
-    while let Some((first, others)) = rest.split_first() {
-        if !is_blank(first.said()) {
-            break;
-        }
-        rest = others;
-    }
+    let (_, rest) = tokens.split_at(blank_texts(tokens));
     rest
 }
 
+/// How many texts at the front are blank.
+fn blank_texts(tokens: &[Token<'_>]) -> usize
+    ensures is { result ≡ prefix_len (λ t. is_blank_said t.said) tokens.now }
+    ensures within { result ≤ length tokens.now }
+{
+    for (place, token) in tokens.iter().enumerate() {
+        if !is_blank(token.said()) {
+            return place;
+        }
+    }
+    tokens.len()
+}
+
 /// Whether it is a text of blanks.
-fn is_blank(said: &Said) -> bool
+fn is_blank(said: &Said<'_>) -> bool
     ensures { result ≡ is_blank_said (said_as said.now) }
 {
     match said {
-        Said::Text(text) => is_blank_text(text),
+        Said::Text(text) => is_blank_text(text.as_slice()),
         Said::Open(_, _) | Said::Close => false,
     }
 }
 
 /// How many tokens stand before the end tag of the element in which they begin.
-fn inner_len(tokens: &[Token]) -> Option<usize>
+fn inner_len(tokens: &[Token<'_>]) -> Option<usize>
     ensures is { result ≡ closes 0 (map (λ t. t.said) tokens.now) }
     ensures within { IfSome result (λ n. n < length tokens.now) }
 {

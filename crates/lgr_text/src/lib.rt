@@ -5,6 +5,7 @@ mod action_elements;
 mod actions;
 mod atoms;
 mod attributes;
+mod branches;
 mod class_sets;
 mod classes;
 mod code_points;
@@ -39,6 +40,7 @@ mod words;
 
 pub use action_elements::read_action;
 pub use actions::{Renamed, named_action};
+pub use branches::{Made, pattern_of_rule};
 pub use class_sets::set_of;
 pub use code_points::CodePoints;
 pub use definitions::read_definition;
@@ -55,7 +57,7 @@ pub use laws::{
 pub use names::NameKind;
 pub use order::definition_order;
 pub use order_error::OrderError;
-pub use part_items::{Made, pattern_of_rule};
+pub use part_items::copied as copied_pattern;
 pub use records::{
     Action, ClassTree, Condition, Count, Definition, Entry, Meaning, PartTree, Reference, Ruleset,
     Source, Trigger, Variant,

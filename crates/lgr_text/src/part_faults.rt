@@ -1,17 +1,18 @@
 //! What is wrong with the order of the parts of a rule (RFC 7940, sections 6.3.8 and 6.4.1).
 ghost use Rattle.std.specs.Prelude.{◌≡◌, ◌&&◌};
+ghost use Rattle.label_patterns.specs.Rules.{is_context_rule as is_context};
 ghost use Rattle.label_patterns.specs.Trees.{pattern};
 ghost use Rattle.lgr_text.specs.Known.{known as known_of};
 ghost use Rattle.lgr_text.specs.LabelEnds as ends;
 ghost use Rattle.lgr_text.specs.PartMatches.{has_anchor as has_anchor_part, parts_label as parts_label_of};
-ghost use Rattle.lgr_text.specs.PartMatches.{rule_named, then_fault, times_fault};
+ghost use Rattle.lgr_text.specs.PartMatches.{is_named, rule_named, then_fault, times_fault};
 ghost use Rattle.lgr_text.specs.Records.{part as part_of};
 ghost use Rattle.lgr_text.specs.inner.Faults.{IsFaultOf};
 
 use crate::known::Known;
 use crate::records::PartTree;
 use crate::rule_error::{RuleError, RuleFault};
-use label_patterns::PatternTree;
+use label_patterns::{PatternTree, is_context_rule};
 use ruleset_text::number_of;
 
 /// That two parts may stand one after the other.
@@ -22,13 +23,13 @@ pub(crate) fn check_then(
 ) -> Result<(), RuleError>
     ensures { IsFaultOf (then_fault (known_of known.entry) (part_of first.now) (part_of rest.now)) result }
 {
-    if have_anchors(first, rest) {
+    if have_anchors(known, first, rest) {
         return Err(RuleError::Fault(RuleFault::NotSupported));
     }
     if !parts_label(known, first, rest) {
         return Ok(());
     }
-    if has_anchor(first) || has_anchor(rest) {
+    if has_anchor(known, first) || has_anchor(known, rest) {
         Err(RuleError::Fault(RuleFault::NotSupported))
     } else {
         Err(RuleError::Fault(RuleFault::Misplaced))
@@ -39,7 +40,7 @@ pub(crate) fn check_then(
 pub(crate) fn check_times(known: Known<'_>, part: &PartTree) -> Result<(), RuleError>
     ensures { IsFaultOf (times_fault (known_of known.entry) (part_of part.now)) result }
 {
-    if has_anchor(part) {
+    if has_anchor(known, part) {
         return Err(RuleError::Fault(RuleFault::NotSupported));
     }
     if begins_label(known, part) || ends_label(known, part) {
@@ -49,24 +50,35 @@ pub(crate) fn check_times(known: Known<'_>, part: &PartTree) -> Result<(), RuleE
     }
 }
 
-/// Whether the anchor stands in a part of a rule.
-pub(crate) fn has_anchor(part: &PartTree) -> bool
-    ensures { result ≡ has_anchor_part (part_of part.now) }
+/// Whether the anchor stands in a part of a rule, or in a rule that it names.
+pub(crate) fn has_anchor(known: Known<'_>, part: &PartTree) -> bool
+    ensures { result ≡ has_anchor_part (known_of known.entry) (part_of part.now) }
 {
     match part {
         PartTree::Anchor => true,
-        PartTree::Then(first, rest) => has_anchor(first) || has_anchor(rest),
-        PartTree::Choice(left, right) => has_anchor(left) || has_anchor(right),
-        PartTree::Times(_, part) => has_anchor(part),
+        PartTree::OfRule(rule) => is_named_context(known, rule.name.as_slice()),
+        PartTree::Then(first, rest) => has_anchor(known, first) || has_anchor(known, rest),
+        PartTree::Choice(left, right) => has_anchor(known, left) || has_anchor(known, right),
+        PartTree::Times(_, part) => has_anchor(known, part),
         _ => false,
     }
 }
 
-/// Whether the anchor stands in both parts.
-fn have_anchors(first: &PartTree, rest: &PartTree) -> bool
-    ensures { result ≡ (has_anchor_part (part_of first.now) && has_anchor_part (part_of rest.now)) }
+/// Whether the rule of this name has the anchor.
+fn is_named_context(known: Known<'_>, name: &[u8]) -> bool
+    ensures { result ≡ (is_named (known_of known.entry) name.now
+        && is_context (rule_named (known_of known.entry) name.now)) }
 {
-    has_anchor(first) && has_anchor(rest)
+    let number = number_of(known.rule_names, name);
+    number < known.rules.len() && is_context_rule(&known.rules[number])
+}
+
+/// Whether the anchor stands in both parts.
+fn have_anchors(known: Known<'_>, first: &PartTree, rest: &PartTree) -> bool
+    ensures { result ≡ (has_anchor_part (known_of known.entry) (part_of first.now)
+        && has_anchor_part (known_of known.entry) (part_of rest.now)) }
+{
+    has_anchor(known, first) && has_anchor(known, rest)
 }
 
 /// Whether the end of a label stands in the first of two parts, or its start in the second.

@@ -1,42 +1,39 @@
 //! The parts of a rule as items of a pattern (RFC 7940, sections 6.3 and 6.4).
-ghost use Rattle.std.specs.Prelude.{◌≡◌, ◌<◌, ◌+◌, ◌++◌, ◌&&◌, ◌∷◌, [], map, length, slice_index_or, None, IfOk, OnOk};
-ghost use Rattle.label_patterns.specs.Matches.{HasItsSets};
+ghost use Rattle.std.specs.Prelude.{◌≡◌, ◌<◌, ◌+◌, ◌++◌, ◌&&◌, ◌∷◌, ◌⊎◌, [], map, length, slice_index_or, None, IfOk, OnOk};
 ghost use Rattle.label_patterns.specs.Patterns as patterns;
+ghost use Rattle.label_patterns.specs.Sets.{Rise};
 ghost use Rattle.label_patterns.specs.Trees.{pattern};
 ghost use Rattle.lgr_text.specs.ClassMembers.{class_fault, HasSpans};
 ghost use Rattle.lgr_text.specs.Known.{known as known_of, HaveSpans};
 ghost use Rattle.lgr_text.specs.PartMatches.{has_anchor as has_anchor_part, part_fault, rule_fault, rule_named};
-ghost use Rattle.lgr_text.specs.PartAtoms.{fault_within, part_atoms};
-ghost use Rattle.lgr_text.specs.PartMatches.{BeginsWith, IsWellFormed, Matching, MatchesAsPart, SaysRule};
+ghost use Rattle.lgr_text.specs.PartMatches.{BeginsWith, IsWellFormed, Matching};
 ghost use Rattle.lgr_text.specs.Records.{class as class_of, part as part_of};
+ghost use Rattle.lgr_text.specs.inner.Branches.{HaveBranches};
 ghost use Rattle.lgr_text.specs.inner.Faults.{IsFaultOf};
 ghost use Rattle.lgr_text.specs.inner.Items.{as_atom, choice_of, copies, further, in_sequence};
 ghost use Rattle.lgr_text.specs.inner.Items.{is_atom as is_atom_pattern};
-ghost use Rattle.lgr_text.specs.inner.Items.{never as never_pattern, nothing as nothing_pattern};
+ghost use Rattle.lgr_text.specs.inner.Items.{never as never_pattern, never_on as never_pattern_on};
+ghost use Rattle.lgr_text.specs.inner.Items.{nothing as nothing_pattern};
 ghost use Rattle.lgr_text.specs.inner.Items.{literal_items, ungrouped as ungrouped_pattern};
-ghost use Rattle.lgr_text.specs.inner.Items.{AddsClass, Appends, HaveSets};
+ghost use Rattle.lgr_text.specs.inner.Items.{AddsChoice, AddsClass, Appends, FitsLine, HaveSets};
 
-use crate::atoms::left_after;
 use crate::class_sets::set_of;
 use crate::joins::SetOperation;
 use crate::known::Known;
 use crate::part_faults::{check_then, check_times, has_anchor};
 use crate::records::{ClassTree, Count, PartTree};
 use crate::rule_error::{RuleError, RuleFault};
-use label_patterns::{PatternTree, PointSet, is_context_rule};
+use label_patterns::{PatternTree, PointSet, Span, is_context_rule};
 use ruleset_text::number_of;
 use std::alloc::{AllocError, Global};
 
-/// The sets that patterns name, and how many atoms are left for further patterns.
-#[derive(Drop)]
-pub struct Made {
-    pub sets: Vec<PointSet>,
-    pub atoms_left: usize,
-}
+/// The most spans of a set, since a line of the notation has the place for these: each takes 15 bytes at most.
+const MOST_SPANS: usize = 500;
 
 /// The number of a set among those that patterns name, to which it is added if it is none of them.
 fn number_of_set(sets: &mut Vec<PointSet>, set: PointSet) -> Result<usize, AllocError>
-    ensures kept { OnOk result (BeginsWith sets.new.items sets.old.items) }
+    ensures kept { OnOk result
+        ((sets.new.items ≡ sets.old.items) ⊎ (sets.new.items ≡ sets.old.items ++ set ∷ [])) }
     ensures within { IfOk result (λ number. number < length sets.new.items) }
     ensures number { IfOk result (λ number. slice_index_or sets.new.items number [] ≡ set) }
 {
@@ -49,8 +46,45 @@ fn number_of_set(sets: &mut Vec<PointSet>, set: PointSet) -> Result<usize, Alloc
     Ok(sets.len() - 1)
 }
 
+/// Spans as a set.
+fn set_tree(
+    alloc: Global,
+    sets: &mut Vec<PointSet>,
+    spans: &[Span],
+) -> Result<PatternTree, AllocError>
+    requires rise { Rise spans.now }
+    requires fits { FitsLine spans.now }
+    ensures { IfOk result (λ tree. AddsChoice spans.now sets.old.items sets.new.items (pattern tree)) }
+{
+    let set = PointSet::new(Vec::from_slice(alloc, spans)?);
+    let number = number_of_set(sets, set)?;
+    Ok(PatternTree::Set(number))
+}
+
+/// Spans as a set, or as a choice between sets where they are too many for one.
+fn choice_of_sets(
+    alloc: Global,
+    sets: &mut Vec<PointSet>,
+    spans: &[Span],
+) -> Result<PatternTree, AllocError>
+    requires rise { Rise spans.now }
+    requires some { 0 < length spans.now }
+    ensures { IfOk result (λ tree. AddsChoice spans.now sets.old.items sets.new.items (pattern tree)) }
+{
+    if spans.len() <= MOST_SPANS {
+        return set_tree(alloc, sets, spans);
+    }
+    let (first, others) = spans.split_at(MOST_SPANS);
+    let left = set_tree(alloc, sets, first)?;
+    let right = choice_of_sets(alloc, sets, others)?;
+    Ok(PatternTree::Either(Box::new(alloc, left)?, Box::new(alloc, right)?))
+}
+
 /// The items one after the other.
-fn sequence_of(alloc: Global, mut items: Vec<PatternTree>) -> Result<PatternTree, AllocError>
+pub(crate) fn sequence_of(
+    alloc: Global,
+    mut items: Vec<PatternTree>,
+) -> Result<PatternTree, AllocError>
     ensures { IfOk result (λ tree. pattern tree ≡ in_sequence (map pattern items.items)) }
 {
     let Some(mut tree) = items.pop() else {
@@ -71,13 +105,41 @@ fn nothing(alloc: Global) -> Result<PatternTree, AllocError>
     Ok(PatternTree::Optional(group))
 }
 
-/// What no part of a label matches: a code point before the start.
-fn never(alloc: Global) -> Result<PatternTree, AllocError>
-    ensures { IfOk result (λ tree. pattern tree ≡ never_pattern) }
+/// Where a part of a rule stands: before the anchor, or where there is none; or after it.
+#[derive(Clone, Copy)]
+pub(crate) enum Side {
+    Before,
+    After,
+}
+
+impl Side {
+    /// Where what follows a part stands.
+    fn after(self, known: Known<'_>, part: &PartTree) -> Self {
+        if has_anchor(known, part) {
+            Side::After
+        } else {
+            self
+        }
+    }
+}
+
+/// What no part of a label matches: a code point before the start, or after the end, since no pattern has the start of a
+/// label after the anchor.
+fn never_on(alloc: Global, side: Side) -> Result<PatternTree, AllocError>
+    ensures { IfOk result (λ tree. pattern tree ≡ never_pattern_on side) }
 {
     let any = Box::new(alloc, PatternTree::Any)?;
-    let start = Box::new(alloc, PatternTree::Start)?;
-    Ok(PatternTree::Then(any, start))
+    match side {
+        Side::Before => Ok(PatternTree::Then(any, Box::new(alloc, PatternTree::Start)?)),
+        Side::After => Ok(PatternTree::Then(Box::new(alloc, PatternTree::End)?, any)),
+    }
+}
+
+/// What no part of a label matches.
+pub(crate) fn never(alloc: Global) -> Result<PatternTree, AllocError>
+    ensures { IfOk result (λ tree. pattern tree ≡ never_pattern) }
+{
+    never_on(alloc, Side::Before)
 }
 
 /// The items as one atom, to which `?` or `*` may be added.
@@ -95,6 +157,17 @@ fn atom_of(alloc: Global, mut items: Vec<PatternTree>) -> Result<PatternTree, Al
     }
 }
 
+/// The pattern, in a group if `?` or `*` may not be added to it.
+fn grouped(alloc: Global, tree: PatternTree) -> Result<PatternTree, AllocError>
+    ensures { IfOk result (λ item. pattern item ≡ as_atom (pattern tree ∷ [])) }
+{
+    if is_atom(&tree) {
+        Ok(tree)
+    } else {
+        Ok(PatternTree::Group(Box::new(alloc, tree)?))
+    }
+}
+
 /// Whether `?` or `*` may be added to an item.
 fn is_atom(tree: &PatternTree) -> bool
     ensures { result ≡ is_atom_pattern (pattern tree.now) }
@@ -106,7 +179,9 @@ fn is_atom(tree: &PatternTree) -> bool
 }
 
 /// The pattern once more.
-fn copied(alloc: Global, tree: &PatternTree) -> Result<PatternTree, AllocError>
+///
+/// `Err`: memory was refused.
+pub fn copied(alloc: Global, tree: &PatternTree) -> Result<PatternTree, AllocError>
     ensures { IfOk result (λ copy. pattern copy ≡ pattern tree.now) }
 {
     match tree {
@@ -136,7 +211,7 @@ fn copied(alloc: Global, tree: &PatternTree) -> Result<PatternTree, AllocError>
 }
 
 /// Appends an item.
-fn push(items: &mut Vec<PatternTree>, item: PatternTree) -> Result<(), RuleError>
+pub(crate) fn push(items: &mut Vec<PatternTree>, item: PatternTree) -> Result<(), RuleError>
     ensures items { OnOk result (map pattern items.new.items ≡ map pattern items.old.items ++ pattern item ∷ []) }
     ensures fault { IsFaultOf None result }
 {
@@ -161,12 +236,12 @@ fn push_copies(
 }
 
 /// Appends what no part of a label matches, in a group.
-fn push_never(alloc: Global, items: &mut Vec<PatternTree>) -> Result<(), RuleError>
+fn push_never(alloc: Global, items: &mut Vec<PatternTree>, side: Side) -> Result<(), RuleError>
     ensures items { OnOk result (map pattern items.new.items ≡
-        map pattern items.old.items ++ patterns.Group never_pattern ∷ []) }
+        map pattern items.old.items ++ patterns.Group (never_pattern_on side) ∷ []) }
     ensures fault { IsFaultOf None result }
 {
-    let inner = never(alloc)?;
+    let inner = never_on(alloc, side)?;
     push(items, PatternTree::Group(Box::new(alloc, inner)?))
 }
 
@@ -175,16 +250,17 @@ fn push_literal(
     alloc: Global,
     known: Known<'_>,
     items: &mut Vec<PatternTree>,
+    side: Side,
     literal: &[u32],
 ) -> Result<(), RuleError>
     ensures items { OnOk result (map pattern items.new.items ≡
-        map pattern items.old.items ++ literal_items (known_of known.entry).points literal.now) }
+        map pattern items.old.items ++ literal_items side (known_of known.entry).points literal.now) }
     ensures fault { IsFaultOf None result }
 {
     if known.points.has_all(literal) {
         push_points(items, literal)
     } else {
-        push_never(alloc, items)
+        push_never(alloc, items, side)
     }
 }
 
@@ -200,27 +276,29 @@ fn push_points(items: &mut Vec<PatternTree>, points: &[u32]) -> Result<(), RuleE
     Ok(())
 }
 
-/// Appends the set of a class; what matches nothing, if none of its code points is in labels.
+/// Appends the set of a class, or a choice between sets; what matches nothing, if none of its code points is in labels.
 fn push_class(
     alloc: Global,
     known: Known<'_>,
     items: &mut Vec<PatternTree>,
     sets: &mut Vec<PointSet>,
+    side: Side,
     class: &ClassTree,
 ) -> Result<(), RuleError>
     requires spans { HasSpans (class_of class.now) }
     requires entries { HaveSpans (known_of known).entries }
-    ensures items { OnOk result (AddsClass (known_of known.entry) (class_of class.now)
+    ensures items { OnOk result (AddsClass side (known_of known.entry) (class_of class.now)
         sets.old.items sets.new.items (map pattern items.old.items) (map pattern items.new.items)) }
     ensures fault { IsFaultOf (class_fault (known_of known.entry) (class_of class.now)) result }
 {
     let class = set_of(alloc, known, class)?;
     let set = class.join(alloc, SetOperation::Intersection, known.points)?;
     if set.is_empty() {
-        return push_never(alloc, items);
+        return push_never(alloc, items, side);
     }
-    let number = number_of_set(sets, set.into_point_set())?;
-    push(items, PatternTree::Set(number))
+    let choice = choice_of_sets(alloc, sets, set.spans())?;
+    let item = grouped(alloc, choice)?;
+    push(items, item)
 }
 
 /// Appends the pattern of the rule of this name, in a group.
@@ -300,81 +378,53 @@ fn push_times(
 }
 
 /// Appends the items that match what a part of a rule matches.
-fn push_part(
+pub(crate) fn push_part(
     alloc: Global,
     known: Known<'_>,
     items: &mut Vec<PatternTree>,
     sets: &mut Vec<PointSet>,
+    side: Side,
     part: &PartTree,
 ) -> Result<(), RuleError>
     requires part { IsWellFormed (part_of part.now) }
     requires entries { HaveSpans (known_of known).entries }
     requires rules { HaveSets (length sets.old.items) (known_of known).rules }
-    ensures items { OnOk result (Appends (known_of known.entry).points (has_anchor_part (part_of part.now))
+    requires branches { HaveBranches (known_of known).rules }
+    ensures items { OnOk result (Appends (known_of known.entry).points
+        (has_anchor_part (known_of known.entry) (part_of part.now))
         sets.old.items sets.new.items (map pattern items.old.items) (map pattern items.new.items)
         (Matching (known_of known.entry) (part_of part.now))) }
     ensures rules { OnOk result (HaveSets (length sets.new.items) (known_of known.entry).rules) }
     ensures fault { IsFaultOf (part_fault (known_of known.entry) (part_of part.now)) result }
 {
     match part {
-        PartTree::Literal(points) => push_literal(alloc, known, items, points),
+        PartTree::Literal(points) => push_literal(alloc, known, items, side, points),
         PartTree::Any => push(items, PatternTree::Any),
-        PartTree::Of(class) => push_class(alloc, known, items, sets, class),
+        PartTree::Of(class) => push_class(alloc, known, items, sets, side, class),
         PartTree::Start => push(items, PatternTree::Start),
         PartTree::End => push(items, PatternTree::End),
         PartTree::Anchor => push(items, PatternTree::Anchor),
         PartTree::OfRule(rule) => push_rule(alloc, known, items, rule.name.as_slice()),
         PartTree::Then(first, rest) => {
             check_then(known, first, rest)?;
-            push_part(alloc, known, items, sets, first)?;
-            push_part(alloc, known, items, sets, rest)
+            push_part(alloc, known, items, sets, side, first)?;
+            push_part(alloc, known, items, sets, side.after(known, first), rest)
         }
         PartTree::Choice(left, right) => {
-            if has_anchor(left) || has_anchor(right) {
+            if has_anchor(known, left) || has_anchor(known, right) {
                 return Err(RuleError::Fault(RuleFault::NotSupported));
             }
             let mut left_items = Vec::new(alloc);
-            push_part(alloc, known, &mut left_items, sets, left)?;
+            push_part(alloc, known, &mut left_items, sets, side, left)?;
             let mut right_items = Vec::new(alloc);
-            push_part(alloc, known, &mut right_items, sets, right)?;
+            push_part(alloc, known, &mut right_items, sets, side, right)?;
             push_choice(alloc, items, left_items, right_items)
         }
         PartTree::Times(count, part) => {
             check_times(known, part)?;
             let mut once = Vec::new(alloc);
-            push_part(alloc, known, &mut once, sets, part)?;
+            push_part(alloc, known, &mut once, sets, side, part)?;
             push_times(alloc, items, *count, once)
         }
     }
-}
-
-/// The pattern of a rule. The anchor of a condition may stand in it, once, one after the other with other parts.
-pub fn pattern_of_rule(
-    alloc: Global,
-    known: Known<'_>,
-    made: &mut Made,
-    rule: &PartTree,
-) -> Result<PatternTree, RuleError>
-    requires rule { IsWellFormed (part_of rule.now) }
-    requires entries { HaveSpans (known_of known).entries }
-    requires rules { HaveSets (length made.old.sets.items) (known_of known).rules }
-    ensures known { IfOk result (λ tree. HasItsSets (length made.new.sets.items) (pattern tree)) }
-    ensures pattern { IfOk result (λ tree.
-        SaysRule (known_of known.entry) made.new.sets.items (pattern tree) (part_of rule.now)) }
-    ensures part { IfOk result (λ tree.
-        MatchesAsPart (known_of known.entry) made.new.sets.items (pattern tree) (part_of rule.now)) }
-    ensures sets { OnOk result (BeginsWith made.new.sets.items made.old.sets.items) }
-    ensures rules { OnOk result (HaveSets (length made.new.sets.items) (known_of known.entry).rules) }
-    ensures atoms { OnOk result
-        (made.new.atoms_left + part_atoms (known_of known.entry) (part_of rule.now) ≡ made.old.atoms_left) }
-    ensures fault { IsFaultOf
-        (fault_within made.old.atoms_left (known_of known.entry) (part_of rule.now)) result }
-{
-    let Some(atoms_left) = left_after(known, rule, made.atoms_left) else {
-        return Err(RuleError::Fault(RuleFault::Limit));
-    };
-    made.atoms_left = atoms_left;
-    let mut items = Vec::new(alloc);
-    push_part(alloc, known, &mut items, &mut made.sets, rule)?;
-    Ok(sequence_of(alloc, items)?)
 }

@@ -19,13 +19,13 @@ use Rattle.ruleset_text.specs.Lexemes.{begins_in_word, is_word_byte, lexemes}
 use Rattle.ruleset_text.specs.NamedConditions.{HasRule, condition_text}
 use Rattle.ruleset_text.specs.Names.{is_name, is_one_of, AreNames}
 use Rattle.ruleset_text.specs.PlacedLexemes.{Placed, unplaced}
-use Rattle.ruleset_text.specs.Stops.{run, Begins}
+use Rattle.idn_text.specs.Stops.{run, Begins}
 use Rattle.ruleset_text.proofs.AddedLemmas.{IsNew, new_from}
 use Rattle.ruleset_text.proofs.FreshNameLemmas.{fresh, numbered, numbered-name, numbered-once}
 use Rattle.ruleset_text.proofs.LineStopLemmas.{Tells, leads, ok_err, reads_to, tells}
 use Rattle.ruleset_text.proofs.NameWordLemmas.{name_word}
 use Rattle.ruleset_text.proofs.SpanBackLemmas.{word_first}
-use Rattle.ruleset_text.proofs.StopLemmas.{Reads, Spelled, run_none}
+use Rattle.idn_text.proofs.StopLemmas.{Reads, Spelled, run_none}
 use Rattle.variant_dispositions.specs.declared.disposition.Disposition.{Disposition}
 use Rattle.variant_dispositions.specs.declared.disposition.Disposition.TheVariants.{Invalid, Blocked, Allocatable, Activated, Valid}
 

@@ -25,7 +25,7 @@ use Rattle.ruleset_text.specs.Spans.{spans_in}
 use Rattle.ruleset_text.specs.Spans as spans
 use Rattle.ruleset_text.specs.declared.spans.Held.TheVariants as held
 use Rattle.ruleset_text.specs.SpanWords.{SpellSet}
-use Rattle.ruleset_text.specs.Stops.{Begins}
+use Rattle.idn_text.specs.Stops.{Begins}
 use Rattle.ruleset_text.specs.Tokens.{tokens_in}
 use Rattle.ruleset_text.proofs.ActionReadLemmas.{SpellsAction, action_as_read, action_spelled, action_tells, spelled_action}
 use Rattle.ruleset_text.proofs.DefinedLemmas.{mapped, if_true}
@@ -37,7 +37,7 @@ use Rattle.ruleset_text.proofs.PatternLemmas.{read_spelled}
 use Rattle.ruleset_text.proofs.SpanExactLemmas.{set_spelled}
 use Rattle.ruleset_text.proofs.SpanExactLemmas as exact
 use Rattle.ruleset_text.proofs.SpanStopLemmas.{spans_reader}
-use Rattle.ruleset_text.proofs.StopLemmas.{Spelled}
+use Rattle.idn_text.proofs.StopLemmas.{Spelled}
 use Rattle.ruleset_text.proofs.UseLemmas.{SpellUsed, pattern_reader}
 
 -- ---- after the keyword

@@ -21,7 +21,7 @@ use Rattle.ruleset_text.specs.EntryStops.{AreEntry, IsEntryOf, IsEntryStop}
 use Rattle.ruleset_text.specs.Lexemes.{lexemes}
 use Rattle.ruleset_text.specs.Names.{is_name}
 use Rattle.ruleset_text.specs.PlacedLexemes.{placed_lexemes}
-use Rattle.ruleset_text.specs.Stops.{run, Begins}
+use Rattle.idn_text.specs.Stops.{run, Begins}
 use Rattle.ruleset_text.specs.Tokens.{without_prefix}
 use Rattle.ruleset_text.proofs.EntryLemmas.{none_after}
 use Rattle.ruleset_text.proofs.EntryPartLemmas.{AllHad, had_by_form, form_by_had}
@@ -30,7 +30,7 @@ use Rattle.ruleset_text.proofs.EntrySpelledLemmas.{read_words}
 use Rattle.ruleset_text.proofs.HexLemmas.{hex_facts, scalar_below}
 use Rattle.ruleset_text.proofs.LineStopLemmas.{Tells, leads, reads_to, tells, stop_is, renamed, ok_err}
 use Rattle.ruleset_text.proofs.PlacedLemmas.{unplaced-from}
-use Rattle.ruleset_text.proofs.StopLemmas.{Spelled, Reads, run_none}
+use Rattle.idn_text.proofs.StopLemmas.{Spelled, Reads, run_none}
 
 pub none_some : {X : Type 0} (A : Type 0) (x : X) → (let o : Option X = None in o) ≡ Some x → A
 none_some A x e = absurd cc

@@ -1,5 +1,4 @@
 -- The lemmas of this crate.
-pub mod StopLemmas
 pub mod PatternLemmas
 pub mod SignLemmas
 pub mod UseLemmas

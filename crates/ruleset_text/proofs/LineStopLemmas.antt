@@ -3,8 +3,8 @@ use Rattle.std.proofs.Common.{◌≡◌, ℕ, List, [], ◌∷◌, ◌++◌, Opt
 use Rattle.ruleset_text.specs.declared.fault.FaultPlace.{FaultPlace}
 use Rattle.ruleset_text.specs.LineStops.{place_of, IsLineStop, or_end, at_lexeme, read_from}
 use Rattle.ruleset_text.specs.PlacedLexemes.{Placed, unplaced}
-use Rattle.ruleset_text.specs.Stops.{run, Begins, IsStop}
-use Rattle.ruleset_text.proofs.StopLemmas.{Spelled, Reads, run_none, run_one, stops, ends, stopped}
+use Rattle.idn_text.specs.Stops.{run, Begins, IsStop}
+use Rattle.idn_text.proofs.StopLemmas.{Spelled, Reads, run_none, run_one, stops, ends, stopped}
 
 pub unplaced_append : (xs ys : List Placed) → unplaced (xs ++ ys) ≡ unplaced xs ++ unplaced ys
 unplaced_append [] ys = refl

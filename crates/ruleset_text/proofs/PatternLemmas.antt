@@ -5,8 +5,8 @@ use Rattle.ruleset_text.specs.declared.token.Token.TheVariants as token
 use Rattle.label_patterns.specs.Patterns.{Pattern, Point, Set, Any, Start, End, Anchor, Group, Optional, Many, Then, Either}
 use Rattle.ruleset_text.specs.Grammar.{Sort, Atom, Item, Branch, Whole, Is, tokens, SpellsPattern}
 use Rattle.ruleset_text.specs.Reading.{Piece, Opening, Branched, Part, items, before_items, branches, before_branches, ending, with_sign, with_bar, with_close, step, alone, ended, pattern_at, pattern_of}
-use Rattle.ruleset_text.specs.Stops.{run}
-use Rattle.ruleset_text.proofs.StopLemmas.{run_none}
+use Rattle.idn_text.specs.Stops.{run}
+use Rattle.idn_text.proofs.StopLemmas.{run_none}
 
 -- ---- what is spelled is read
 

@@ -12,11 +12,11 @@ use Rattle.ruleset_text.specs.DefinitionReading.{spans_step, spans_ended}
 use Rattle.ruleset_text.specs.EntryWords.{point_of}
 use Rattle.ruleset_text.specs.Spans.{State, state, span, part_of, point_part, step, state_after, spans_at, spans_in}
 use Rattle.ruleset_text.specs.SpanWords.{SpellSet}
-use Rattle.ruleset_text.specs.Stops.{run}
+use Rattle.idn_text.specs.Stops.{run}
 use Rattle.ruleset_text.specs.Tokens.{without_prefix}
 use Rattle.ruleset_text.proofs.HexLemmas.{hex_facts, scalar_below}
 use Rattle.ruleset_text.proofs.SpanExactLemmas.{set_read, set_spelled}
-use Rattle.ruleset_text.proofs.StopLemmas.{Reads, run_append, run_none}
+use Rattle.idn_text.proofs.StopLemmas.{Reads, run_append, run_none}
 
 abbrev start : State
 start = state [] (held.Above 0)

@@ -12,11 +12,11 @@ use Rattle.ruleset_text.specs.PatternUses.{ArePattern, is_used}
 use Rattle.ruleset_text.specs.PatternSigns.{may_stand, groups_after, passed_after, State, start, with_pieces, step_in, ended_in}
 use Rattle.ruleset_text.specs.Reading.{Piece, Opening, Branched, Part, items, before_items, branches, before_branches, ending, with_sign, with_bar, with_close, step, alone, ended}
 use Rattle.ruleset_text.specs.DefinitionReading.{pattern_step}
-use Rattle.ruleset_text.specs.Stops.{run}
+use Rattle.idn_text.specs.Stops.{run}
 use Rattle.ruleset_text.specs.Tokens.{token_of, tokens_in}
 use Rattle.ruleset_text.proofs.PatternLemmas.{pieces_of, spelled_pieces, pieces_spelled, read_holds, AreGood, IsFresh, items_fold, whole_folds}
 use Rattle.ruleset_text.proofs.SignLemmas.{signed, unanchored_tokens, demand_signs, unanchored_pattern, rule_signs, out_of, and_true}
-use Rattle.ruleset_text.proofs.StopLemmas.{run_none, run_append, Reads}
+use Rattle.idn_text.proofs.StopLemmas.{run_none, run_append, Reads}
 
 -- ---- signs, token by token
 

@@ -8,7 +8,7 @@ use Rattle.ruleset_text.specs.declared.action.TriggerKind.TheVariants.{Any, All,
 use Rattle.ruleset_text.specs.declared.named_condition.NamedCondition.{NamedCondition}
 use Rattle.ruleset_text.specs.Actions.{NamedAction, NamedTrigger}
 use Rattle.ruleset_text.specs.Names.{is_name, is_one_of}
-use Rattle.ruleset_text.specs.Stops.{run}
+use Rattle.idn_text.specs.Stops.{run}
 use Rattle.variant_dispositions.specs.declared.disposition.Disposition.{Disposition}
 use Rattle.variant_dispositions.specs.declared.disposition.Disposition.TheVariants.{Invalid, Blocked, Allocatable}
 use Rattle.variant_dispositions.specs.declared.disposition.Disposition.TheVariants.{Activated, Valid}

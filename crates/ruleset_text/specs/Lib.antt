@@ -1,6 +1,5 @@
 -- The definitions that contracts cite.
 pub mod Grammar
-pub mod Stops
 pub mod Reading
 pub mod Pieces
 pub mod PatternSigns

@@ -8,7 +8,7 @@ use Rattle.ruleset_text.specs.declared.fault.FaultPlace.TheVariants.{Lexeme, End
 use Rattle.ruleset_text.specs.declared.fault.ReadError.{ReadError}
 use Rattle.ruleset_text.specs.declared.fault.ReadError.TheVariants as unread
 use Rattle.ruleset_text.specs.PlacedLexemes.{Placed, unplaced}
-use Rattle.ruleset_text.specs.Stops.{IsStop}
+use Rattle.idn_text.specs.Stops.{IsStop}
 
 -- ---- the law
 

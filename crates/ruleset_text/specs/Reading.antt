@@ -2,7 +2,7 @@
 use Rattle.std.specs.Prelude.{Bool, true, false, Option, Some, None, List, [], ◌∷◌}
 use Rattle.ruleset_text.specs.declared.token.Token.{Token}
 use Rattle.ruleset_text.specs.declared.token.Token.TheVariants as token
-use Rattle.ruleset_text.specs.Stops.{run}
+use Rattle.idn_text.specs.Stops.{run}
 use Rattle.label_patterns.specs.Patterns.{Pattern, Point, Set, Any, Start, End, Anchor, Group, Optional, Many, Then}
 use Rattle.label_patterns.specs.Patterns.{Either}
 

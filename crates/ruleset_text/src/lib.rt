@@ -58,5 +58,5 @@ pub use laws::{
 };
 pub use lexemes::without_blanks;
 pub use named_condition::NamedCondition;
-pub use names::{Name, is_name, is_one_of, number_of, predefined_type};
+pub use names::{Name, PREDEFINED_TYPES, is_name, is_one_of, number_of, predefined_type};
 pub use placed::PlacedLexemes;

@@ -8,8 +8,8 @@ ghost use Rattle.ruleset_text.specs.Names.{is_name as is_a_name};
 use std::alloc::{AllocError, Global};
 use std::marker::Model;
 
-/// How many types are predefined.
-pub(crate) const PREDEFINED_TYPES: usize = 5;
+/// How many types are predefined (RFC 7940, section 7.3).
+pub const PREDEFINED_TYPES: usize = 5;
 
 /// A name, in ASCII.
 #[derive(Drop)]

@@ -4,19 +4,27 @@ use Rattle.std.specs.Prelude.{◌⊎◌, map, length, slice_index_or, Option, So
 use Rattle.std.specs.List.{AllByRecursion, list_all}
 use Rattle.label_patterns.specs.declared.span.Span.{Span}
 use Rattle.label_patterns.specs.Laws.{seen}
-use Rattle.label_patterns.specs.Matches.{HasItsSets, Seen, Matches}
-use Rattle.label_patterns.specs.Patterns.{Pattern, Point, Set, Any, Start, Anchor, Group, Optional, Many, Then, Either}
+use Rattle.label_patterns.specs.Matches.{HasItsSets, Seen, Matches, MatchesOne}
+use Rattle.label_patterns.specs.Patterns.{Pattern, Point, Set, Any, Start, End, Anchor, Group, Optional, Many, Then}
+use Rattle.label_patterns.specs.Patterns.{Either}
 use Rattle.label_patterns.specs.Rules.{is_anchor}
 use Rattle.label_patterns.specs.Sets.{is_in}
 use Rattle.lgr_text.specs.ClassMembers.{has}
 use Rattle.lgr_text.specs.Known.{Known}
 use Rattle.lgr_text.specs.PartMatches.{BeginsWith, IsAnchored, IsOf, Place}
 use Rattle.lgr_text.specs.Records.{Class}
+use Rattle.lgr_text.specs.declared.part_items.Side.{Side}
+use Rattle.lgr_text.specs.declared.part_items.Side.TheVariants.{After, Before}
 use Rattle.lgr_text.specs.declared.records.Count.{Count}
 
--- what no part of a label matches: a code point before the start
+-- what no part of a label matches: a code point before the start, or after the end, by where it may stand: no pattern
+-- has the start of a label after the anchor
+abbrev pub never_on : Side → Pattern
+never_on Before = Then Any Start
+never_on After = Then End Any
+
 abbrev pub never : Pattern
-never = Then Any Start
+never = never_on Before
 
 -- what matches the empty part of a label at each place, and nothing else
 abbrev pub nothing : Pattern
@@ -114,28 +122,42 @@ pub record Appends (points : List Span) (anchored : Bool) (old_sets sets : List 
 abbrev pub is_member : Known → Class → ℕ → Bool
 is_member known class c = has known class c && is_in known.points c
 
--- the number of a set was appended, which has those of a class that are in labels: some code points
-pub record AddsSet (known : Known) (class : Class) (old_sets sets : List (List Span)) (old items : List Pattern)
+-- a set that a line of the notation can have: some spans, and not too many
+abbrev pub FitsLine : List Span → Type 0
+FitsLine spans = (0 < length spans) × (length spans ≤ 500)
+
+-- the pattern matches one code point of the spans, with sets that were appended, and that a line can have
+pub record AddsChoice (spans : List Span) (old_sets sets : List (List Span)) (p : Pattern) : Type 0 where
+  pub added : List (List Span)
+  pub kept : sets ≡ old_sets ++ added
+  pub fit : AllByRecursion FitsLine added
+  pub known : HasItsSets (length sets) p
+  pub match_them : (all : List (List Span)) (label : List ℕ) (i j : ℕ) → BeginsWith all sets
+      → Matches (seen all label) p i j ↔ MatchesOne (is_in spans) (seen all label) i j
+
+-- an item was appended for the code points of a class that are in labels
+pub record AddsSets (known : Known) (class : Class) (old_sets sets : List (List Span)) (old items : List Pattern)
     : Type 0 where
-  pub kept : BeginsWith sets old_sets
-  pub number : ℕ
-  pub within : number < length sets
-  pub some : 0 < length (slice_index_or sets number [])
-  pub is : items ≡ old ++ Set number ∷ []
-  pub members : (c : ℕ) → c ≤ 0x10FFFF → is_in (slice_index_or sets number []) c ≡ is_member known class c
+  pub item : Pattern
+  pub is : items ≡ old ++ item ∷ []
+  pub shape : HasShape false (item ∷ [])
+  pub spans : List Span
+  pub choice : AddsChoice spans old_sets sets item
+  pub members : (c : ℕ) → c ≤ 0x10FFFF → is_in spans c ≡ is_member known class c
 
 -- what matches nothing was appended, since none of a class is in labels
-pub record AddsNever (known : Known) (class : Class) (old_sets sets : List (List Span)) (old items : List Pattern)
+pub record AddsNever (side : Side) (known : Known) (class : Class) (old_sets sets : List (List Span)) (old items : List Pattern)
     : Type 0 where
   pub same : sets ≡ old_sets
-  pub is : items ≡ old ++ Group never ∷ []
+  pub is : items ≡ old ++ Group (never_on side) ∷ []
   pub members : (c : ℕ) → c ≤ 0x10FFFF → is_member known class c ≡ false
 
 -- a class was appended
-abbrev pub AddsClass : Known → Class → List (List Span) → List (List Span) → List Pattern → List Pattern → Type 0
-AddsClass known class old_sets sets old items =
-    AddsSet known class old_sets sets old items ⊎ AddsNever known class old_sets sets old items
+abbrev pub AddsClass : Side → Known → Class → List (List Span) → List (List Span) → List Pattern → List Pattern → Type 0
+AddsClass side known class old_sets sets old items =
+    AddsSets known class old_sets sets old items ⊎ AddsNever side known class old_sets sets old items
 
 -- code points one after the other; what matches nothing, if one of them is in no label
-abbrev pub literal_items : List Span → List ℕ → List Pattern
-literal_items points literal = if list_all (is_in points) literal then map Point literal else Group never ∷ []
+abbrev pub literal_items : Side → List Span → List ℕ → List Pattern
+literal_items side points literal =
+    if list_all (is_in points) literal then map Point literal else Group (never_on side) ∷ []

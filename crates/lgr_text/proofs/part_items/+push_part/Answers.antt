@@ -2,9 +2,9 @@ use Rattle.std.proofs.Common.{◌≡◌, ◌&&◌, false, [], map, refl, sym, ap
 use Rattle.std.proofs.lemmas.Result.{on_ok_weaker}
 use Rattle.label_patterns.specs.Trees.{pattern}
 use Rattle.lgr_text.specs.Known.{known as known_of}
-use Rattle.lgr_text.specs.PartMatches.{has_anchor, IsWellFormed}
+use Rattle.lgr_text.specs.PartMatches.{has_anchor, rule_fault, IsWellFormed}
 use Rattle.lgr_text.specs.Records.{class as class_of, part as part_of, Literal, Then, Choice, Times, OfRule}
-use Rattle.lgr_text.proofs.PartLemmas.{choice-part, class-kept, class-part, literal-part, then-apart, then-part, times-part, times-unanchored, AppendsPart, anchor-part, any-part, end-part, start-part, rule-part}
+use Rattle.lgr_text.proofs.PartLemmas.{choice-part, class-kept, class-part, literal-part, then-apart, then-part, times-part, times-unanchored, AppendsPart, anchor-part, any-part, end-part, start-part, rule-part, told-none}
 use Rattle.lgr_text.proofs.SetNumberLemmas.{sets-stay}
 use Rattle.lgr_text.proofs.part_items.+push_part.Goals as goal
 
@@ -12,7 +12,7 @@ pub returns-in-Literal-clause-items : goal.returns-in-Literal-clause-items
 returns-in-Literal-clause-items t c =
     let is : part_of c.args.part.now ≡ Literal c.deref.result.now = ap part_of c.in-Literal.is ∙ ap Literal (sym c.deref.ensures.value) in
     on_ok_weaker c.push_literal.result
-    (λ e. literal-part (known_of c.args.known) c.args.sets.now.items c.args.sets.now.items
+    (λ e. literal-part c.args.side (known_of c.args.known) c.args.sets.now.items c.args.sets.now.items
     (map pattern c.args.items.now.items) (map pattern c.push_literal.new.items.items) c.deref.result.now (part_of c.args.part.now) is
     refl e)
     c.push_literal.ensures.items
@@ -20,7 +20,7 @@ returns-in-Literal-clause-items t c =
 pub returns-in-Of-clause-items : goal.returns-in-Of-clause-items
 returns-in-Of-clause-items t c =
     on_ok_weaker c.push_class.result
-    (λ adds. class-part (known_of c.args.known) (class_of c.in-Of.class) c.args.sets.now.items c.push_class.new.sets.items
+    (λ adds. class-part c.args.side (known_of c.args.known) (class_of c.in-Of.class) c.args.sets.now.items c.push_class.new.sets.items
     (map pattern c.args.items.now.items) (map pattern c.push_class.new.items.items) (part_of c.args.part.now) (ap part_of c.in-Of.is) adds)
     c.push_class.ensures.items
 
@@ -28,14 +28,14 @@ pub returns-in_ok-push_part-in-Then-clause-items :
     goal.returns-in_ok-push_part-in-Then-clause-items
 returns-in_ok-push_part-in-Then-clause-items t c =
     let first = c.deref-in-Then-3.result.now in
-    let rest = c.deref-in-Then-4.result.now in
+    let rest = c.deref-in-Then-5.result.now in
     let is : part_of c.args.part.now ≡ Then (part_of first) (part_of rest) =
     ap part_of c.in-Then.is
     ∙ ap (λ q. Then (part_of q) (part_of c.in-Then.rest.value)) (sym c.deref-in-Then-3.ensures)
-    ∙ ap (λ q. Then (part_of first) (part_of q)) (sym c.deref-in-Then-4.ensures) in
-    let apart : (has_anchor (part_of first) && has_anchor (part_of rest)) ≡ false =
-    ap (λ q. has_anchor (part_of q) && has_anchor (part_of rest)) (c.deref-in-Then-3.ensures ∙ sym c.deref-in-Then.ensures)
-    ∙ ap (λ q. has_anchor (part_of c.deref-in-Then.result.now) && has_anchor (part_of q)) (c.deref-in-Then-4.ensures ∙ sym c.deref-in-Then-2.ensures)
+    ∙ ap (λ q. Then (part_of first) (part_of q)) (sym c.deref-in-Then-5.ensures) in
+    let apart : (has_anchor (known_of c.args.known) (part_of first) && has_anchor (known_of c.args.known) (part_of rest)) ≡ false =
+    ap (λ q. has_anchor (known_of c.args.known) (part_of q) && has_anchor (known_of c.args.known) (part_of rest)) (c.deref-in-Then-3.ensures ∙ sym c.deref-in-Then.ensures)
+    ∙ ap (λ q. has_anchor (known_of c.args.known) (part_of c.deref-in-Then.result.now) && has_anchor (known_of c.args.known) (part_of q)) (c.deref-in-Then-5.ensures ∙ sym c.deref-in-Then-2.ensures)
     ∙ then-apart (known_of c.args.known) (part_of c.deref-in-Then.result.now) (part_of c.deref-in-Then-2.result.now) c.in_ok-check_then-in-Then.ensures in
     on_ok_weaker c.push_part-in-Then.result
     (λ right. then-part (known_of c.args.known) (part_of first) (part_of rest) (part_of c.args.part.now)
@@ -54,10 +54,10 @@ returns-in_ok-push_part-in-Choice-2-clause-items t c =
     ap part_of c.in-Choice.is
     ∙ ap (λ q. Choice (part_of q) (part_of c.in-Choice.right.value)) (sym c.deref-in-Choice-2.ensures)
     ∙ ap (λ q. Choice (part_of left) (part_of q)) (sym c.deref-in-Choice-3.ensures) in
-    let no_left : has_anchor (part_of left) ≡ false =
-    ap (λ q. has_anchor (part_of q)) (c.deref-in-Choice-2.ensures ∙ sym c.deref-in-Choice.ensures) ∙ sym c.has_anchor.ensures ∙ c.if-has_anchor.false in
-    let no_right : has_anchor (part_of right) ≡ false =
-    ap (λ q. has_anchor (part_of q)) (c.deref-in-Choice-3.ensures ∙ sym c.deref-else-has_anchor.ensures) ∙ sym c.has_anchor-else-has_anchor.ensures ∙ c.if-has_anchor-2.false in
+    let no_left : has_anchor known (part_of left) ≡ false =
+    ap (λ q. has_anchor known (part_of q)) (c.deref-in-Choice-2.ensures ∙ sym c.deref-in-Choice.ensures) ∙ sym c.has_anchor.ensures ∙ c.if-has_anchor.false in
+    let no_right : has_anchor known (part_of right) ≡ false =
+    ap (λ q. has_anchor known (part_of q)) (c.deref-in-Choice-3.ensures ∙ sym c.deref-else-has_anchor.ensures) ∙ sym c.has_anchor-else-has_anchor.ensures ∙ c.if-has_anchor-2.false in
     let left_items = map pattern c.push_part-in-Choice.new.items.items in
     let right_items = map pattern c.push_part-in-Choice-2.new.items.items in
     let first = c.args.sets.now.items in
@@ -80,8 +80,8 @@ returns-in_ok-push_part-in-Times-clause-items t c =
     let inner = c.deref-in-Times-2.result.now in
     let is : part_of c.args.part.now ≡ Times c.in-Times.count (part_of inner) =
     ap part_of c.in-Times.is ∙ ap (λ q. Times c.in-Times.count (part_of q)) (sym c.deref-in-Times-2.ensures) in
-    let none : has_anchor (part_of inner) ≡ false =
-    ap (λ q. has_anchor (part_of q)) (c.deref-in-Times-2.ensures ∙ sym c.deref-in-Times.ensures)
+    let none : has_anchor known (part_of inner) ≡ false =
+    ap (λ q. has_anchor known (part_of q)) (c.deref-in-Times-2.ensures ∙ sym c.deref-in-Times.ensures)
     ∙ times-unanchored known (part_of c.deref-in-Times.result.now) c.in_ok-check_times-in-Times.ensures in
     let well : IsWellFormed (Times c.in-Times.count (part_of inner)) = subst IsWellFormed is c.requires.part in
     let once = map pattern c.push_part-in-Times.new.items.items in
@@ -98,11 +98,11 @@ returns-in_ok-push_part-in-Times-clause-items t c =
 pub returns-in-OfRule-clause-items : goal.returns-in-OfRule-clause-items
 returns-in-OfRule-clause-items t c =
     let is : part_of c.args.part.now ≡ OfRule c.as_slice.result.now = ap part_of c.in-OfRule.is ∙ ap OfRule (sym c.as_slice.ensures) in
-    on_ok_weaker c.push_rule.result
-    (λ e. rule-part (known_of c.args.known) c.as_slice.result.now c.args.sets.now.items c.args.sets.now.items
+    told-none (rule_fault (known_of c.args.known) c.as_slice.result.now) c.push_rule.result
+    (λ none e. rule-part (known_of c.args.known) c.as_slice.result.now c.args.sets.now.items c.args.sets.now.items
     (map pattern c.args.items.now.items) (map pattern c.push_rule.new.items.items) (part_of c.args.part.now) is
-    refl c.requires.rules e)
-    c.push_rule.ensures.items
+    refl c.requires.rules c.requires.branches none e)
+    c.push_rule.ensures.fault c.push_rule.ensures.items
 
 pub returns-in-Any-clause-items : goal.returns-in-Any-clause-items
 returns-in-Any-clause-items t c =
@@ -140,7 +140,7 @@ pub returns-in-Of-clause-rules : goal.returns-in-Of-clause-rules
 returns-in-Of-clause-rules t c =
     on_ok_weaker c.push_class.result
     (λ adds. sets-stay c.push_class.new.sets.items c.args.sets.now.items (map pattern c.args.known.rules.now)
-    (class-kept (known_of c.args.known) (class_of c.in-Of.class) c.args.sets.now.items c.push_class.new.sets.items
+    (class-kept c.args.side (known_of c.args.known) (class_of c.in-Of.class) c.args.sets.now.items c.push_class.new.sets.items
     (map pattern c.args.items.now.items) (map pattern c.push_class.new.items.items) adds)
     c.requires.rules)
     c.push_class.ensures.items

@@ -1,0 +1,31 @@
+use Rattle.std.proofs.Common.{rules, ◌≡◌, ◌<◌, ◌++◌, length, sym, subst, arith}
+use Rattle.label_patterns.specs.Sets.{Rise}
+use Rattle.label_patterns.specs.Trees.{pattern}
+use Rattle.lgr_text.specs.inner.Items.{AddsChoice}
+use Rattle.lgr_text.proofs.SetChoiceLemmas.{either-chosen, rise-left, rise-right}
+use Rattle.lgr_text.proofs.part_items.+choice_of_sets.Goals as goal
+
+pub set_tree-requires-2-clause-rise : goal.set_tree-requires-2-clause-rise
+set_tree-requires-2-clause-rise t c =
+    rise-left c.split_at.result.0.now c.split_at.result.1.now (subst Rise c.split_at.ensures.by_index.0 c.requires.rise)
+
+pub choice_of_sets-requires : goal.choice_of_sets-requires
+choice_of_sets-requires t c =
+    let fewer : length c.split_at.result.1.now < length c.args.spans.now = omega (arith, c.split_at.ensures.back_len, c.if-spans-le-MOST_SPANS.false) in
+    let some : 0 < length c.split_at.result.1.now = omega (arith, c.split_at.ensures.back_len, c.if-spans-le-MOST_SPANS.false) in (
+      omega (arith, fewer, c.decreases),
+      (rise-right c.split_at.result.0.now c.split_at.result.1.now (subst Rise c.split_at.ensures.by_index.0 c.requires.rise), some),
+    )
+
+pub returns : goal.returns
+returns t c =
+    let first = c.split_at.result.0.now in
+    let others = c.split_at.result.1.now in
+    let old = c.args.sets.now.items in
+    let between = c.set_tree-2.new.sets.items in
+    let new = c.choice_of_sets.new.sets.items in
+    let left = c.in_ok-new.field-0.value in
+    let right = c.in_ok-new-2.field-0.value in
+    either-chosen c.args.spans.now first others old between new (pattern left) (pattern right) (sym c.split_at.ensures.by_index.0)
+    (subst (λ x. AddsChoice first old between (pattern x)) (sym c.in_ok-new.ensures.ok) c.in_ok-left.ensures)
+    (subst (λ x. AddsChoice others between new (pattern x)) (sym c.in_ok-new-2.ensures.ok) c.in_ok-right.ensures)
