@@ -25,7 +25,7 @@ use Rattle.lgr_table.specs.Names.{asked}
 use Rattle.lgr_table.specs.Numbers.{Numbering, all_types, is_same, type_number}
 use Rattle.lgr_table.specs.Tables.{SayActions, SaysAction, called_condition, called_trigger, called_type}
 use Rattle.lgr_table.specs.declared.actions.TypeNames.{TypeNames}
-use Rattle.lgr_table.specs.inner.Steps.{AddsAction, AddsActions, AreAmong}
+use Rattle.lgr_table.specs.inner.Steps.{AddsAction, AreAmong, HaveDefined}
 use Rattle.lgr_table.specs.inner.TypeNames.{AreNamesOf, named, written}
 use Rattle.lgr_table.proofs.AddedLemmas.{is-added}
 use Rattle.variant_table.specs.Entries.{TableValue}
@@ -42,7 +42,7 @@ same_way x y = by_test (bytes_eq x y) (bytes_eq y x) (bytes_eq-Decides x y) (byt
     by_test false true h k = h.1 (sym (k.0 refl))
 
 -- a name that has a number is the one at it
-name_there : (names : List (List ℕ)) (name : List ℕ) → number_of names name < length names → Contains names name
+pub name_there : (names : List (List ℕ)) (name : List ℕ) → number_of names name < length names → Contains names name
 unfolding number_of
 name_there names name h = (number_of names name, h, at names h)
   where
@@ -194,21 +194,15 @@ say_more n d (x ∷ actions) [] a b h is = absurd h
 say_more n d (x ∷ actions) (y ∷ them) a b h is = (h.0, say_more n d actions them a b h.1 is)
 
 -- what actions say goes by the names of types and rules alone
-say_still : (n : Numbering) (d : Definitions) (more : List NamedAction) (actions : List Action) (them : List NamedAction) → SayActions n d actions them
+pub say_still : (n : Numbering) (d : Definitions) (more : List NamedAction) (actions : List Action) (them : List NamedAction) → SayActions n d actions them
     → SayActions n (record d { actions = more }) actions them
 say_still n d more [] [] h = tt
 say_still n d more [] (y ∷ them) h = absurd h
 say_still n d more (x ∷ actions) [] h = absurd h
 say_still n d more (x ∷ actions) (y ∷ them) h = (record { disposition = h.0.disposition; condition = h.0.condition; trigger = h.0.trigger }, say_still n d more actions them h.1)
 
-abbrev with_actions : TableValue → List NamedAction → TableValue
+abbrev pub with_actions : TableValue → List NamedAction → TableValue
 with_actions t actions = record t { definitions = record t.definitions { actions = actions } }
-
--- actions that were defined so far
-pub record HaveDefined (n : Numbering) (t u : TableValue) (actions : List Action) : Type 0 where
-  pub others : u ≡ with_actions t u.definitions.actions
-  pub say : SayActions n t.definitions actions u.definitions.actions
-  pub asked_for : AreAmong n.rules (flat_map (λ a. asked a.condition) actions)
 
 pub defined_none : (n : Numbering) (t : TableValue) → t.definitions.actions ≡ [] → HaveDefined n t t []
 defined_none n t none = record {
@@ -217,7 +211,7 @@ defined_none n t none = record {
   asked_for = λ k d l. absurd (omega (arith, l));
 }
 
-among_both : (rules xs ys : List (List ℕ)) → AreAmong rules xs → AreAmong rules ys → AreAmong rules (xs ++ ys)
+pub among_both : (rules xs ys : List (List ℕ)) → AreAmong rules xs → AreAmong rules ys → AreAmong rules (xs ++ ys)
 among_both rules [] ys left right = right
 among_both rules (x ∷ xs) ys left right = at (among_both rules xs ys (λ k d l. left (suc k) d (omega (arith, l))) right)
   where
@@ -239,14 +233,6 @@ defined_more n t u v actions a h k =
           (among_both n.rules (flat_map (λ (b : Action). asked b.condition) actions) (asked a.condition ++ []) h.asked_for
           (subst (AreAmong n.rules) (sym (append-nil (asked a.condition))) k.asked_for));
     }
-
-pub defined_all : (r : Ruleset) (n : Numbering) (t u : TableValue) → HaveDefined n t u r.actions → AddsActions r n t u
-defined_all r n t u h = record {
-  others = h.others;
-  say = subst (λ (x : TableValue). SayActions n x.definitions r.actions u.definitions.actions) (sym h.others)
-      (say_still n t.definitions u.definitions.actions r.actions u.definitions.actions h.say);
-  asked_for = h.asked_for;
-}
 
 -- one action more of those in memory
 pub one_more : (actions : List held_action.Action) (k : ℕ) (a : held_action.Action) → k < length actions → a ≡ get_or actions k a

@@ -27,7 +27,7 @@ stands-agree : (f g : ℕ → Bool) (label : List ℕ) (i : ℕ) → ((c : ℕ) 
 stands-agree f g label i same =
     (λ h. (h.0, sym (same (slice_index label i)) ∙ h.1), λ h. (h.0, same (slice_index label i) ∙ h.1))
 
-pub parts-agree : (f g : Class → ℕ → Bool) (R S : List ℕ → ℕ → ℕ → Type 0) (label : List ℕ) (at : Option Place) (p : Part) → Agree f g R S p
+pub parts-agree : (f g : Class → ℕ → Bool) (R S : Option Place → List ℕ → ℕ → ℕ → Type 0) (label : List ℕ) (at : Option Place) (p : Part) → Agree f g (R at) (S at) p
     → (i j : ℕ) → PartMatches f R label at p i j ↔ PartMatches g S label at p i j
 parts-agree f g R S label at (Literal points) agree i j = (λ h. h, λ h. h)
 parts-agree f g R S label at Any agree i j = (λ h. h, λ h. h)

@@ -8,20 +8,19 @@ use Rattle.std.proofs.lemmas.List.{get_or_append_left}
 use Rattle.std.proofs.lemmas.List.Elements.{All-append, All-nil, All-push, All-weaker}
 use Rattle.label_patterns.specs.declared.span.Span.{Span}
 use Rattle.label_patterns.specs.Laws.{seen}
-use Rattle.label_patterns.specs.Matches.{Matches, Seen}
+use Rattle.label_patterns.specs.Matches.{Seen}
 use Rattle.label_patterns.specs.Patterns as pattern
 use Rattle.label_patterns.specs.Patterns.{Pattern}
-use Rattle.label_patterns.specs.Rules.{is_context_rule}
 use Rattle.label_patterns.specs.Sets.{is_in}
 use Rattle.ruleset_text.specs.Names.{number_of}
 use Rattle.lgr_text.proofs.PartLemmas.{begins-too}
 use Rattle.lgr_text.specs.ClassMembers.{class_fault, has, set_fault, set_named, tag_fault}
 use Rattle.lgr_text.specs.CodePoints.{is_joined}
 use Rattle.lgr_text.specs.Known.{Known, tagged}
-use Rattle.lgr_text.specs.PartMatches.{BeginsWith, IsOf, Matching, MatchesAsPart, Place, SaysRule, part_fault, rule_fault, rule_named}
+use Rattle.lgr_text.specs.PartMatches.{BeginsWith, IsOf, Matching, MatchesAround, MatchesAsPart, Place, SaysRule, has_anchor, name_fault, part_fault, rule_fault, rule_named, whole_fault}
 use Rattle.lgr_text.specs.Records.{Class, Listed, OfTag, OfProperty, OfClass, Joined, Complement, Part, Literal, Any, Of, Start, End, Anchor, OfRule, Then, Choice, Times}
 use Rattle.lgr_text.specs.declared.rule_error.RuleFault.{RuleFault}
-use Rattle.lgr_text.specs.declared.rule_error.RuleFault.TheVariants.{NotSupported, Undefined}
+use Rattle.lgr_text.specs.declared.rule_error.RuleFault.TheVariants.{Undefined}
 use Rattle.lgr_table.specs.Names.{classes_of, rules_in}
 use Rattle.lgr_table.proofs.AgreeLemmas.{agree-known, parts-agree}
 use Rattle.lgr_table.proofs.NumberLemmas.{number-stays}
@@ -93,17 +92,15 @@ pub set-none : (known : Known) (name : List ℕ) → number_of known.set_names n
 set-none known name found =
     ap (λ b. if b then None else Some Undefined) (lt-ltb (number_of known.set_names name) (length known.sets) found)
 
-pub rule-found : (known : Known) (name : List ℕ) → rule_fault known name ≡ None → number_of known.rule_names name < length known.rules
-rule-found known name none = ltb-true (number_of known.rule_names name) (length known.rules) (not-by _ _ _ none)
+pub rule-found : (known : Known) (name : List ℕ) → name_fault known name ≡ None → number_of known.rule_names name < length known.rules
+rule-found known name none = ltb-true (number_of known.rule_names name) (length known.rules) (found-by _ _ none)
 
-pub rule-none : (old new : Known) (name : List ℕ) → Grows old new → rule_fault old name ≡ None → rule_fault new name ≡ None
-rule-none old new name grows none =
-    let found = rule-found old name none in
-    let both = grows.rules name found in
-    let more = lt-ltb (number_of new.rule_names name) (length new.rules) both.0 in
-    ap (λ b. if not b then Some Undefined else (if is_context_rule (rule_named new name) then Some NotSupported else None)) more
-    ∙ ap (λ p. if is_context_rule p then Some NotSupported else None) both.1
-    ∙ if-none _ _ _ none
+pub rule-none : (known : Known) (name : List ℕ) → number_of known.rule_names name < length known.rules → name_fault known name ≡ None
+rule-none known name found =
+    ap (λ b. if b then None else Some Undefined) (lt-ltb (number_of known.rule_names name) (length known.rules) found)
+
+name-free : (known : Known) (name : List ℕ) → rule_fault known name ≡ None → name_fault known name ≡ None
+name-free known name none = ap (λ b. if b then None else Some Undefined) (not-by _ _ _ none)
 
 -- ---- classes
 
@@ -135,18 +132,24 @@ class-none old new grows (Complement k) none = class-none old new grows k none
 -- nothing that the part names is missing
 pub record IsFree (known : Known) (p : Part) : Type 0 where
   pub classes : All (λ class. class_fault known class ≡ None) (classes_of p)
-  pub rules : All (λ name. rule_fault known name ≡ None) (rules_in p)
+  pub rules : All (λ name. name_fault known name ≡ None) (rules_in p)
 
 free-both : (known : Known) (p q : Part) → IsFree known p → IsFree known q → IsFree known (Then p q)
 free-both known p q left right = record {
   classes = All-append (λ class. class_fault known class ≡ None) (classes_of p) (classes_of q) left.classes right.classes;
-  rules = All-append (λ name. rule_fault known name ≡ None) (rules_in p) (rules_in q) left.rules right.rules;
+  rules = All-append (λ name. name_fault known name ≡ None) (rules_in p) (rules_in q) left.rules right.rules;
 }
 
 free-none : (known : Known) → IsFree known Any
-free-none known = record { classes = All-nil (λ class. class_fault known class ≡ None); rules = All-nil (λ name. rule_fault known name ≡ None) }
+free-none known = record { classes = All-nil (λ class. class_fault known class ≡ None); rules = All-nil (λ name. name_fault known name ≡ None) }
 
-pub part-free : (known : Known) (p : Part) → part_fault known p ≡ None → IsFree known p
+name-of : (known : Known) (name : List ℕ) → name_fault known name ≡ None → IsFree known (OfRule name)
+name-of known name none = record {
+  classes = (free-none known).classes;
+  rules = All-push (λ n. name_fault known n ≡ None) [] name (free-none known).rules none;
+}
+
+part-free : (known : Known) (p : Part) → part_fault known p ≡ None → IsFree known p
 part-free known (Literal points) none = record { classes = (free-none known).classes; rules = (free-none known).rules }
 part-free known Any none = free-none known
 part-free known (Of class) none = record {
@@ -156,10 +159,7 @@ part-free known (Of class) none = record {
 part-free known Start none = record { classes = (free-none known).classes; rules = (free-none known).rules }
 part-free known End none = record { classes = (free-none known).classes; rules = (free-none known).rules }
 part-free known Anchor none = record { classes = (free-none known).classes; rules = (free-none known).rules }
-part-free known (OfRule name) none = record {
-  classes = (free-none known).classes;
-  rules = All-push (λ n. rule_fault known n ≡ None) [] name (free-none known).rules none;
-}
+part-free known (OfRule name) none = name-of known name (name-free known name none)
 part-free known (Then p q) none =
     let both = second-none _ _ none in
     free-both known p q (part-free known p (first-none _ _ both)) (part-free known q (second-none _ _ both))
@@ -170,10 +170,32 @@ part-free known (Choice p q) none =
 part-free known (Times count p) none =
     let free = part-free known p (second-none _ _ none) in record { classes = free.classes; rules = free.rules }
 
+pub whole-free : (known : Known) (p : Part) → whole_fault known p ≡ None → IsFree known p
+whole-free known (Choice p q) none = by (has_anchor known p && has_anchor known q) none (whole-free known p) (whole-free known q)
+  where
+    by : (b : Bool)
+        → (if b then option_or (whole_fault known p) (whole_fault known q) else part_fault known (Choice p q)) ≡ None
+        → (whole_fault known p ≡ None → IsFree known p) → (whole_fault known q ≡ None → IsFree known q)
+        → IsFree known (Choice p q)
+    by true both left right =
+        (let free = free-both known p q (left (first-none _ _ both)) (right (second-none _ _ both)) in
+        record { classes = free.classes; rules = free.rules })
+    by false none left right = part-free known (Choice p q) none
+whole-free known (Literal points) none = part-free known (Literal points) none
+whole-free known Any none = part-free known Any none
+whole-free known (Of class) none = part-free known (Of class) none
+whole-free known Start none = part-free known Start none
+whole-free known End none = part-free known End none
+whole-free known Anchor none = part-free known Anchor none
+whole-free known (OfRule name) none = name-of known name none
+whole-free known (Then p q) none = part-free known (Then p q) none
+whole-free known (Times count p) none = part-free known (Times count p) none
+
 pub free-stays : (old new : Known) → Grows old new → (p : Part) → IsFree old p → IsFree new p
 free-stays old new grows p free = record {
   classes = All-weaker (λ k. class_fault old k ≡ None) (λ k. class_fault new k ≡ None) (class-none old new grows) (classes_of p) free.classes;
-  rules = All-weaker (λ n. rule_fault old n ≡ None) (λ n. rule_fault new n ≡ None) (λ name. rule-none old new name grows) (rules_in p) free.rules;
+  rules = All-weaker (λ n. name_fault old n ≡ None) (λ n. name_fault new n ≡ None)
+      (λ name none. rule-none new name (grows.rules name (rule-found old name none)).0) (rules_in p) free.rules;
 }
 
 -- ---- rules
@@ -181,15 +203,15 @@ free-stays old new grows p free = record {
 pub matching-stays : (old new : Known) → Grows old new → (p : Part) → IsFree old p → (s : Seen) (at : Option Place) (i j : ℕ)
     → Matching old p s at i j ↔ Matching new p s at i j
 matching-stays old new grows p free s at i j =
-    let R : List ℕ → ℕ → ℕ → Type 0 = λ name k m. Matches s (rule_named old name) k m in
-    let S : List ℕ → ℕ → ℕ → Type 0 = λ name k m. Matches s (rule_named new name) k m in
+    let R : Option Place → List ℕ → ℕ → ℕ → Type 0 = λ place name k m. MatchesAround s place (rule_named old name) k m in
+    let S : Option Place → List ℕ → ℕ → ℕ → Type 0 = λ place name k m. MatchesAround s place (rule_named new name) k m in
     parts-agree (has old) (has new) R S s.label at p
-    (agree-known (has old) (has new) R S p
+    (agree-known (has old) (has new) (R at) (S at) p
     (All-weaker (λ class. class_fault old class ≡ None) (λ class. (c : ℕ) → has old class c ≡ has new class c) (class-stays old new grows) (classes_of p) free.classes)
-    (All-weaker (λ name. rule_fault old name ≡ None) (λ name. (k m : ℕ) → R name k m ↔ S name k m) (λ name none k m.
+    (All-weaker (λ name. name_fault old name ≡ None) (λ name. (k m : ℕ) → R at name k m ↔ S at name k m) (λ name none k m.
     let same = (grows.rules name (rule-found old name none)).1 in (
-      λ h. subst (λ q. Matches s q k m) (sym same) h,
-      λ h. subst (λ q. Matches s q k m) same h,
+      λ h. subst (λ q. MatchesAround s at q k m) (sym same) h,
+      λ h. subst (λ q. MatchesAround s at q k m) same h,
     )) (rules_in p) free.rules))
     i j
 
@@ -206,8 +228,8 @@ says-stays old new sets more q rule grows begins free says = λ all label i j la
 
 pub matches-stay : (old new : Known) (sets more : List (List Span)) (q : Pattern) (rule : Part) → Grows old new → BeginsWith more sets
     → IsFree old rule → MatchesAsPart old sets q rule → MatchesAsPart new more q rule
-matches-stay old new sets more q rule grows begins free matches = λ all label k l later of.
+matches-stay old new sets more q rule grows begins free matches = λ all label at k l later of.
     let old_of : IsOf old.points label = subst (λ points. IsOf points label) grows.points of in
-    let same = matches all label k l (begins-too all more sets later begins) old_of in
-    let stays = matching-stays old new grows rule free (seen all label) None k l in
+    let same = matches all label at k l (begins-too all more sets later begins) old_of in
+    let stays = matching-stays old new grows rule free (seen all label) at k l in
     (λ h. stays.0 (same.0 h), λ h. same.1 (stays.1 h))

@@ -1,12 +1,12 @@
 -- The lemmas of this crate.
 pub mod ActionLemmas
+pub mod DemandLemmas
 pub mod TableLemmas
 pub mod AddedLemmas
 pub mod CalledLemmas
 pub mod EntryLemmas
 pub mod FirstLemmas
 pub mod FreshLemmas
-pub mod KeptLemmas
 pub mod NumberTypeLemmas
 pub mod TypeLemmas
 pub mod AgreeLemmas
@@ -15,7 +15,6 @@ pub mod GrowthLemmas
 pub mod NumberLemmas
 pub mod OtherRulesLemmas
 pub mod PointLemmas
-pub mod RiseLemmas
 pub mod RuleLemmas
 pub mod StepLemmas
 pub mod TakenLemmas

@@ -7,7 +7,6 @@ use Rattle.std.proofs.lemmas.List.Elements.{All-append, All-contains_itself, All
 use Rattle.idn_class.specs.declared.properties.Properties.{Properties}
 use Rattle.label_patterns.specs.declared.span.Span.{Span}
 use Rattle.label_patterns.specs.Laws.{seen}
-use Rattle.label_patterns.specs.Matches as pattern
 use Rattle.label_patterns.specs.Patterns.{Anchor, Pattern}
 use Rattle.label_patterns.specs.Rules.{Holds}
 use Rattle.label_patterns.specs.Sets.{is_in}
@@ -17,7 +16,7 @@ use Rattle.lgr_text.specs.ClassMembers.{class_fault, has, set_fault}
 use Rattle.lgr_text.specs.DefinitionOrder.{IsOrder}
 use Rattle.lgr_text.specs.Known.{Known}
 use Rattle.lgr_text.specs.PartMatches as parts
-use Rattle.lgr_text.specs.PartMatches.{IsOf, PartMatches, Place, rule_fault, rule_named}
+use Rattle.lgr_text.specs.PartMatches.{IsOf, MatchesAround, PartMatches, Place, name_fault, rule_named}
 use Rattle.lgr_text.specs.Records.{Class, Definition, Entry, IsClass, IsRule, Part, file}
 use Rattle.lgr_text.specs.declared.records.Ruleset as held
 use Rattle.variant_table.specs.Entries as table
@@ -30,7 +29,7 @@ use Rattle.lgr_table.specs.Tables.{IsOfSources, SayRules, SaysRule, may_stand}
 use Rattle.lgr_table.specs.inner.RuleSteps.{HasOtherRules}
 use Rattle.lgr_table.specs.inner.Steps.{AddsRules}
 use Rattle.lgr_table.proofs.AgreeLemmas.{agree-named, parts-agree}
-use Rattle.lgr_table.proofs.DecisionLemmas.{matches_there, there-agrees}
+use Rattle.lgr_table.proofs.DecisionLemmas.{matches_around, around-agrees}
 use Rattle.lgr_table.proofs.NumberLemmas.{number-at}
 use Rattle.lgr_table.proofs.PointLemmas.{kept-within}
 use Rattle.lgr_table.proofs.TakenLemmas.{AreTaken, IsBelow, IsPatternOf, classes-free, meant-free, names_of, rule-taken, rules-free, set-taken, sets-free}
@@ -76,17 +75,17 @@ kept-points properties entries points label are kept =
 -- ---- the meanings
 
 abbrev meanings_by : Known → List (List Span) → Meanings
-meanings_by known sets = record { known = known; matches = λ label name i j. matches_there (seen sets label) (rule_named known name) i j }
+meanings_by known sets = record { known = known; matches = λ label at name i j. matches_around (seen sets label) at (rule_named known name) i j }
 
 -- by what patterns match, or as it is decided
 decided : (known : Known) (sets : List (List Span)) (label : List ℕ) (at : Option Place) (rule : Part) (i j : ℕ)
     → parts.Matching known rule (seen sets label) at i j ↔ Matches (meanings_by known sets) label at rule i j
 decided known sets label at rule i j =
     let s = seen sets label in
-    let R : List ℕ → ℕ → ℕ → Type 0 = λ name k l. pattern.Matches s (rule_named known name) k l in
-    let S : List ℕ → ℕ → ℕ → Type 0 = λ name k l. IsTrue (matches_there s (rule_named known name) k l) in
+    let R : Option Place → List ℕ → ℕ → ℕ → Type 0 = λ place name k l. MatchesAround s place (rule_named known name) k l in
+    let S : Option Place → List ℕ → ℕ → ℕ → Type 0 = λ place name k l. IsTrue (matches_around s place (rule_named known name) k l) in
     parts-agree (has known) (has known) R S label at rule
-    (agree-named (has known) R S (λ name k l. (let e = there-agrees s (rule_named known name) k l in (e.1, e.0))) rule) i j
+    (agree-named (has known) (R at) (S at) (λ name k l. (let e = around-agrees s at (rule_named known name) k l in (e.1, e.0))) rule) i j
 
 -- the file, its definitions in order, and what is known of them; the table before and after
 module _ (properties : Properties) (raw : held.Ruleset) (order : List ℕ) (points : List Span) (known : Known) (t u : TableValue)
@@ -114,13 +113,13 @@ module _ (properties : Properties) (raw : held.Ruleset) (order : List ℕ) (poin
         (taken.meant (record { name = name; meaning = IsClass class }) (all-chosen raw.definitions.items order _ is_order h)).members c le;
     no_fault = each_free (λ d. All (λ k. class_fault known k ≡ None) (all_classes d.meaning))
         (λ d h. classes-free known d.meaning (meant-free known u.definitions.sets d.name d.meaning (taken.meant d h)));
-    rules = λ name rule label i j kept h.
+    rules = λ name rule label at i j kept h.
         let sets = u.definitions.sets in
         let meant : IsPatternOf known sets name rule = taken.meant (record { name = name; meaning = IsRule rule }) (all-chosen raw.definitions.items order _ is_order h) in
-        let there = there-agrees (seen sets label) (rule_named known name) i j in
-        let as_part = meant.matches sets label i j (begins-so sets) (label-of label kept) in
-        let by = decided known sets label None rule i j in
-        (λ k. by.0 (as_part.0 (there.0 k)), λ k. there.1 (as_part.1 (by.1 k)));
+        let around = around-agrees (seen sets label) at (rule_named known name) i j in
+        let as_part = meant.matches sets label at i j (begins-so sets) (label-of label kept) in
+        let by = decided known sets label at rule i j in
+        (λ k. by.0 (as_part.0 (around.0 k)), λ k. around.1 (as_part.1 (by.1 k)));
   }
 
   says : (n : Numbering) (k : ℕ) (rule : Part) → k < length known.rule_names → IsPatternOf known u.definitions.sets (get_or known.rule_names k []) rule
@@ -153,7 +152,7 @@ module _ (properties : Properties) (raw : held.Ruleset) (order : List ℕ) (poin
       let found = set-taken (file raw).entries points known u.definitions.sets (chosen (file raw).definitions order) name taken none in
       (found.0, chosen-all raw.definitions.items order _ is_order found.1)
 
-  rule-of : (name : List ℕ) → rule_fault known name ≡ None → IsRuleOf (file raw) name
+  rule-of : (name : List ℕ) → name_fault known name ≡ None → IsRuleOf (file raw) name
   rule-of name none =
       let found = rule-taken (file raw).entries points known u.definitions.sets (chosen (file raw).definitions order) name taken none in
       (found.0, chosen-all raw.definitions.items order _ is_order found.1)
@@ -171,7 +170,7 @@ module _ (properties : Properties) (raw : held.Ruleset) (order : List ℕ) (poin
         All-weaker (λ name. set_fault known name ≡ None) (IsClassOf (file raw)) class-of (named_classes d.meaning)
         (sets-free known d.meaning (meant-free known u.definitions.sets d.name d.meaning (taken.meant d h))));
     named = each_free (λ d. All (IsRuleOf (file raw)) (named_rules d.meaning)) (λ d h.
-        All-weaker (λ name. rule_fault known name ≡ None) (IsRuleOf (file raw)) rule-of (named_rules d.meaning)
+        All-weaker (λ name. name_fault known name ≡ None) (IsRuleOf (file raw)) rule-of (named_rules d.meaning)
         (rules-free known d.meaning (meant-free known u.definitions.sets d.name d.meaning (taken.meant d h))));
     rank = number_of (names_of (chosen (file raw).definitions order));
     below = each_free (IsBelow (chosen (file raw).definitions order)) taken.below;

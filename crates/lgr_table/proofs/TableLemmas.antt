@@ -16,7 +16,7 @@ use Rattle.lgr_table.specs.Entries.{all_entries}
 use Rattle.lgr_table.specs.Meanings.{Meanings, RuleHolds}
 use Rattle.lgr_table.specs.Names.{IsRuleOf, asked, asked_rules}
 use Rattle.lgr_table.specs.Numbers.{Numbering}
-use Rattle.lgr_table.specs.Tables.{IsOfSources, IsTableOf, SayActions, SayRules, may_stand}
+use Rattle.lgr_table.specs.Tables.{IsOfSources, IsTableOf, SayActions, SayDemands, SayRules, acting, demanded, may_stand}
 use Rattle.lgr_table.specs.inner.RuleSteps.{HasNoRules}
 use Rattle.lgr_table.specs.inner.Steps.{AddsActions, AddsEntries, AddsRules, AddsTypes, AreAmong}
 
@@ -50,7 +50,7 @@ is_rule r m n t say name there =
 
 -- the properties, the file, the numbers; the table at first, and after each step
 module _ (properties : Properties) (r : Ruleset) (n : Numbering) (start a b c e : TableValue) (begins : start ≡ empty_table properties Three)
-    (types : AddsTypes (may_stand start.definitions.properties) r n.types start a)
+    (types : AddsTypes r n.types start a)
     (rules : AddsRules (may_stand a.definitions.properties) r n.rules a b)
     (actions : AddsActions r n b c)
     (entries : AddsEntries (may_stand c.definitions.properties) r n c e)
@@ -70,8 +70,8 @@ module _ (properties : Properties) (r : Ruleset) (n : Numbering) (start a b c e 
   abbrev may : ℕ → Bool
   may = may_stand properties
 
-  its_types : AddsTypes may r n.types start a
-  its_types = subst (λ (p : Properties). AddsTypes (may_stand p) r n.types start a) start_by types
+  its_types : AddsTypes r n.types start a
+  its_types = subst (λ (p : Properties). AddsTypes r n.types start a) start_by types
 
   its_rules : AddsRules may r n.rules a b
   its_rules = subst (λ (p : Properties). AddsRules (may_stand p) r n.rules a b) a_by rules
@@ -131,10 +131,8 @@ module _ (properties : Properties) (r : Ruleset) (n : Numbering) (start a b c e 
       of_one_type = its_entries.of_one_type;
       entries = same_entries;
       say_rules = say_rules;
-      demands = ap (λ d. d.demands) same_definitions ∙ ap (λ (t : TableValue). t.definitions.demands) actions.others
-          ∙ ap (λ (t : TableValue). t.definitions.demands) its_rules.others ∙ ap (λ (t : TableValue). t.definitions.demands) its_types.others
-          ∙ ap (λ (t : TableValue). t.definitions.demands) begins;
-      actions = subst (λ d. SayActions n d r.actions d.actions) (sym same_definitions) actions.say;
+      demands = subst (λ d. SayDemands n d (demanded r.actions) d.demands) (sym same_definitions) actions.demands;
+      actions = subst (λ d. SayActions n d (acting r.actions) d.actions) (sym same_definitions) actions.say;
     };
   }
 
@@ -143,32 +141,38 @@ module _ (properties : Properties) (r : Ruleset) (n : Numbering) (start a b c e 
 pub no_types : (p : Properties) (start : TableValue) → start ≡ empty_table p Three → start.definitions.types ≡ []
 no_types p start begins = ap (λ (t : TableValue). t.definitions.types) begins
 
-pub no_rules : (p : Properties) (may : ℕ → Bool) (r : Ruleset) (names : List (Option (List ℕ))) (start a : TableValue) → start ≡ empty_table p Three
-    → AddsTypes may r names start a → HasNoRules a.definitions
-no_rules p may r names start a begins types = record {
+pub no_rules : (p : Properties) (r : Ruleset) (names : List (Option (List ℕ))) (start a : TableValue) → start ≡ empty_table p Three
+    → AddsTypes r names start a → HasNoRules a.definitions
+no_rules p r names start a begins types = record {
   sets = ap (λ (t : TableValue). t.definitions.sets) types.others ∙ ap (λ (t : TableValue). t.definitions.sets) begins;
   rules = ap (λ (t : TableValue). t.definitions.rules) types.others ∙ ap (λ (t : TableValue). t.definitions.rules) begins;
 }
 
-pub no_actions : (p : Properties) (may other : ℕ → Bool) (r : Ruleset) (names : List (Option (List ℕ))) (rules : List (List ℕ)) (start a b : TableValue)
-    → start ≡ empty_table p Three → AddsTypes may r names start a → AddsRules other r rules a b → b.definitions.actions ≡ []
-no_actions p may other r names rules start a b begins types adds =
+pub no_actions : (p : Properties) (other : ℕ → Bool) (r : Ruleset) (names : List (Option (List ℕ))) (rules : List (List ℕ)) (start a b : TableValue)
+    → start ≡ empty_table p Three → AddsTypes r names start a → AddsRules other r rules a b → b.definitions.actions ≡ []
+no_actions p other r names rules start a b begins types adds =
     ap (λ (t : TableValue). t.definitions.actions) adds.others ∙ ap (λ (t : TableValue). t.definitions.actions) types.others
     ∙ ap (λ (t : TableValue). t.definitions.actions) begins
+
+pub no_demands : (p : Properties) (other : ℕ → Bool) (r : Ruleset) (names : List (Option (List ℕ))) (rules : List (List ℕ)) (start a b : TableValue)
+    → start ≡ empty_table p Three → AddsTypes r names start a → AddsRules other r rules a b → b.definitions.demands ≡ []
+no_demands p other r names rules start a b begins types adds =
+    ap (λ (t : TableValue). t.definitions.demands) adds.others ∙ ap (λ (t : TableValue). t.definitions.demands) types.others
+    ∙ ap (λ (t : TableValue). t.definitions.demands) begins
 
 pub rules_counted : (may : ℕ → Bool) (r : Ruleset) (rules : List (List ℕ)) (n : Numbering) (a b : TableValue) → AddsRules may r rules a b → IsTable b → rules ≡ n.rules
     → length b.definitions.rule_names ≡ length n.rules
 rules_counted may r rules n a b adds is same = is.without_fault.named_rules ∙ adds.count ∙ ap length same
 
-pub no_entries : (p : Properties) (may other : ℕ → Bool) (r : Ruleset) (names : List (Option (List ℕ))) (rules : List (List ℕ)) (n : Numbering) (start a b c : TableValue)
-    → start ≡ empty_table p Three → AddsTypes may r names start a → AddsRules other r rules a b → AddsActions r n b c → c.entries ≡ []
-no_entries p may other r names rules n start a b c begins types adds actions =
+pub no_entries : (p : Properties) (other : ℕ → Bool) (r : Ruleset) (names : List (Option (List ℕ))) (rules : List (List ℕ)) (n : Numbering) (start a b c : TableValue)
+    → start ≡ empty_table p Three → AddsTypes r names start a → AddsRules other r rules a b → AddsActions r n b c → c.entries ≡ []
+no_entries p other r names rules n start a b c begins types adds actions =
     ap (λ (t : TableValue). t.entries) actions.others ∙ ap (λ (t : TableValue). t.entries) adds.others ∙ ap (λ (t : TableValue). t.entries) types.others
     ∙ ap (λ (t : TableValue). t.entries) begins
 
-pub types_counted : (may other : ℕ → Bool) (r : Ruleset) (names : List (Option (List ℕ))) (rules : List (List ℕ)) (n : Numbering) (start a b c : TableValue)
-    → AddsTypes may r names start a → AddsRules other r rules a b → AddsActions r n b c → names ≡ n.types → length c.definitions.types ≡ length n.types
-types_counted may other r names rules n start a b c types adds actions same =
+pub types_counted : (other : ℕ → Bool) (r : Ruleset) (names : List (Option (List ℕ))) (rules : List (List ℕ)) (n : Numbering) (start a b c : TableValue)
+    → AddsTypes r names start a → AddsRules other r rules a b → AddsActions r n b c → names ≡ n.types → length c.definitions.types ≡ length n.types
+types_counted other r names rules n start a b c types adds actions same =
     ap (λ (t : TableValue). length t.definitions.types) actions.others ∙ ap (λ (t : TableValue). length t.definitions.types) adds.others ∙ types.count ∙ ap length same
 
 pub names_still : (r : Ruleset) (n : Numbering) (b c : TableValue) → AddsActions r n b c → length c.definitions.rule_names ≡ length b.definitions.rule_names

@@ -13,12 +13,12 @@ use Rattle.ruleset_text.specs.Names.{number_of}
 use Rattle.lgr_text.proofs.PartLemmas.{begins-so}
 use Rattle.lgr_text.specs.ClassMembers.{class_fault, has, set_fault, set_named}
 use Rattle.lgr_text.specs.Known.{Known}
-use Rattle.lgr_text.specs.PartMatches.{BeginsWith, MatchesAsPart, SaysRule, rule_fault, rule_named}
+use Rattle.lgr_text.specs.PartMatches.{BeginsWith, MatchesAsPart, SaysRule, name_fault, rule_named}
 use Rattle.lgr_text.specs.Records as lgr
 use Rattle.lgr_text.specs.Records.{Class, Definition, Entry, IsClass, IsRule, Meaning, Part}
 use Rattle.lgr_table.specs.Names.{all_classes, classes_in, named_classes, named_rules}
 use Rattle.lgr_table.specs.inner.RuleSteps.{AddsMeaning, AddsPattern, AddsSet}
-use Rattle.lgr_table.proofs.GrowthLemmas.{Grows, IsFree, class-none, class-stays, first-none, free-stays, matches-stay, part-free, rule-found, rule-grows, says-stays, second-none, set-found, set-grows}
+use Rattle.lgr_table.proofs.GrowthLemmas.{Grows, IsFree, class-none, class-stays, first-none, free-stays, matches-stay, whole-free, rule-found, rule-grows, says-stays, second-none, set-found, set-grows}
 use Rattle.lgr_table.proofs.NumberLemmas.{name-there, number-found, number-new, number-stays}
 
 -- ---- what a definition means
@@ -171,8 +171,8 @@ sets-free known meaning none =
     (classes-found known) (all_classes meaning) (classes-free known meaning none))
 
 pub rules-free : (known : Known) (meaning : Meaning) → HasNoFault known meaning
-    → All (λ name. rule_fault known name ≡ None) (named_rules meaning)
-rules-free known (IsClass class) none = All-nil (λ name. rule_fault known name ≡ None)
+    → All (λ name. name_fault known name ≡ None) (named_rules meaning)
+rules-free known (IsClass class) none = All-nil (λ name. name_fault known name ≡ None)
 rules-free known (IsRule rule) none = none.rules
 
 pub meant-free : (known : Known) (sets : List (List Span)) (name : List ℕ) (meaning : Meaning) → IsMeant known sets name meaning → HasNoFault known meaning
@@ -188,7 +188,7 @@ set-taken entries points known sets done name taken none =
     (found.0, subst (λ n. Contains done (record { name = n; meaning = IsClass found.0 })) (name-there known.set_names name less) found.1)
 
 pub rule-taken : (entries : List Entry) (points : List Span) (known : Known) (sets : List (List Span)) (done : List Definition) (name : List ℕ)
-    → AreTaken entries points known sets done → rule_fault known name ≡ None
+    → AreTaken entries points known sets done → name_fault known name ≡ None
     → (rule : Part) × Contains done (record { name = name; meaning = IsRule rule })
 rule-taken entries points known sets done name taken none =
     let less : number_of known.rule_names name < length known.rule_names = omega (arith, rule-found known name none, taken.each_rule) in
@@ -203,7 +203,7 @@ names-taken entries points known sets done meaning taken none =
     All-append P (named_classes meaning) (named_rules meaning)
     (All-weaker (λ name. set_fault known name ≡ None) P (λ name e. (let c = set-taken entries points known sets done name taken e in contained-named done _ c.1))
     (named_classes meaning) (sets-free known meaning none))
-    (All-weaker (λ name. rule_fault known name ≡ None) P (λ name e. (let c = rule-taken entries points known sets done name taken e in contained-named done _ c.1))
+    (All-weaker (λ name. name_fault known name ≡ None) P (λ name e. (let c = rule-taken entries points known sets done name taken e in contained-named done _ c.1))
     (named_rules meaning) (rules-free known meaning none))
 
 -- ---- one more
@@ -301,7 +301,7 @@ taken-rule entries points known new sets more done name rule taken is_new adds =
     last = named-last known.rule_names known.rules name adds.p pattern.Anchor taken.each_rule other
 
     free : IsFree known rule
-    free = part-free known rule adds.no_fault
+    free = whole-free known rule adds.no_fault
 
     here : IsPatternOf grown more name rule
     here = record {

@@ -201,9 +201,9 @@ names-more before xs i x less is =
 
 -- ---- all types of a file
 
-pub types_defined : (may : ℕ → Bool) (r : Ruleset) (b : Bool) (types : List Type') (t u : TableValue) → HasTypes b (types_of r) types t u
-    → b ≡ needs_type may r.entries → AddsTypes may r types t u
-types_defined may r b types t u has is = record {
+pub types_defined : (r : Ruleset) (b : Bool) (types : List Type') (t u : TableValue) → HasTypes b (types_of r) types t u
+    → b ≡ needs_type r.entries → AddsTypes r types t u
+types_defined r b types t u has is = record {
   others = has.others;
   count = has.count;
   known = has.known;

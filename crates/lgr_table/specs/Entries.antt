@@ -74,20 +74,13 @@ HasOneType e source =
 abbrev pub AreOfOneType : (ℕ → Bool) → List lgr.Entry → Type 0
 AreOfOneType may entries = All (λ e. All (HasOneType e) (kept_sources may e)) entries
 
--- a variant without a type is a source that the table keeps, which stays with and without a type: that makes a
--- difference where some variant has a type
-abbrev pub stays_as : (ℕ → Bool) → lgr.Entry → lgr.Variant → Bool
-stays_as may e v = not (is_some v.type_name) && is_one_of (kept_sources may e) v.points
-
-abbrev pub stays_untyped_in : (ℕ → Bool) → lgr.Entry → Bool
-stays_untyped_in may e = list_any (stays_as may e) e.variants
-
-abbrev pub stays_untyped : (ℕ → Bool) → List lgr.Entry → Bool
-stays_untyped may entries = list_any (stays_untyped_in may) entries
-
 abbrev pub has_types : List lgr.Entry → Bool
 has_types entries = list_any (λ e. list_any (λ v. is_some v.type_name) e.variants) entries
 
--- so variants without a type need one of their own in the table
-abbrev pub needs_type : (ℕ → Bool) → List lgr.Entry → Bool
-needs_type may entries = has_types entries && stays_untyped may entries
+abbrev pub lacks_types : List lgr.Entry → Bool
+lacks_types entries = list_any (λ e. list_any (λ v. not (is_some v.type_name)) e.variants) entries
+
+-- a variant without a type is told from one that has a type, and from a source that stays as it is (7.2, 8.4), whatever
+-- the table leaves out: so it has a type of its own in the table, where some variant has a type
+abbrev pub needs_type : List lgr.Entry → Bool
+needs_type entries = has_types entries && lacks_types entries

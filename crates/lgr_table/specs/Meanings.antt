@@ -9,14 +9,15 @@ use Rattle.lgr_text.specs.PartMatches.{PartMatches, Place}
 use Rattle.lgr_text.specs.Records.{Class, Entry, IsClass, IsRule, Part, Ruleset}
 
 -- the entries and the sets of named classes; and whether a named rule matches the part of a label from one place to
--- another: label, name, from, to
+-- another, where the anchor stands for a part of the label: label, that part, name, from, to
 pub record Meanings : Type 0 where
   pub known : Known
-  pub matches : List ℕ → List ℕ → ℕ → ℕ → Bool
+  pub matches : List ℕ → Option Place → List ℕ → ℕ → ℕ → Bool
 
 -- the part of the label from i to j matches a part of a rule, where the anchor stands for a place
 abbrev pub Matches : Meanings → List ℕ → Option Place → Part → ℕ → ℕ → Type 0
-Matches m label at p i j = PartMatches (has m.known) (λ name k l. IsTrue (m.matches label name k l)) label at p i j
+Matches m label at p i j =
+    PartMatches (has m.known) (λ place name k l. IsTrue (m.matches label place name k l)) label at p i j
 
 -- a rule holds for the part from i to j: it matches some part of the label, where the anchor stands for that one (6.4)
 abbrev pub RuleHolds : Meanings → Part → List ℕ → ℕ → ℕ → Type 0
@@ -36,6 +37,6 @@ pub record AreMeaningsOf (may : ℕ → Bool) (r : Ruleset) (m : Meanings) : Typ
       → Contains r.definitions (record { name = name; meaning = IsClass class })
       → is_in (set_named m.known name) c ≡ has m.known class c
   pub no_fault : All (λ d. All (λ k. class_fault m.known k ≡ None) (all_classes d.meaning)) r.definitions
-  pub rules : (name : List ℕ) (rule : Part) (label : List ℕ) (i j : ℕ) → All (IsKept may r.entries) label
-      → Contains r.definitions (record { name = name; meaning = IsRule rule })
-      → IsTrue (m.matches label name i j) ↔ Matches m label None rule i j
+  pub rules : (name : List ℕ) (rule : Part) (label : List ℕ) (at : Option Place) (i j : ℕ)
+      → All (IsKept may r.entries) label → Contains r.definitions (record { name = name; meaning = IsRule rule })
+      → IsTrue (m.matches label at name i j) ↔ Matches m label at rule i j

@@ -1,9 +1,13 @@
 -- Which table of version 3 says what a file says (RFC 7940).
-use Rattle.std.specs.Prelude.{◌≡◌, ℕ, ◌<◌, ◌≤◌, ◌↔◌, Bool, IsTrue, not, List, [], ◌∷◌, Some, None, All, AllPairs}
-use Rattle.std.specs.Prelude.{Contains, IsSome, length, map, slice_index_or, ◌≢◌, unwrap_or}
+use Rattle.std.specs.Prelude.{◌≡◌, ℕ, ◌<◌, ◌≤◌, ◌↔◌, Bool, IsTrue, not, if◌then◌else◌, List, [], ◌∷◌, ◌++◌, Option, Some}
+use Rattle.std.specs.Prelude.{None, All, AllPairs, Contains, IsSome, bytes_eq, filter, is_some, length, map}
+use Rattle.std.specs.Prelude.{slice_index_or, ◌≢◌, unwrap_or}
+use Rattle.std.specs.List.{filter_map}
 use Rattle.std.specs.Option.{option_map}
 use Rattle.idn_class.specs.declared.properties.Properties.{Properties}
 use Rattle.label_patterns.specs.Laws.{seen}
+use Rattle.label_patterns.specs.declared.condition.ConditionKind.{ConditionKind}
+use Rattle.label_patterns.specs.declared.condition.ConditionKind.TheVariants.{Unless, When}
 use Rattle.label_patterns.specs.Patterns.{Anchor, Pattern}
 use Rattle.label_patterns.specs.Rules.{Holds}
 use Rattle.lgr_text.specs.ActionNames.{each_once}
@@ -15,8 +19,11 @@ use Rattle.lgr_table.specs.Numbers.{Numbering, all_types, type_number, types_of}
 use Rattle.ruleset_text.specs.declared.named_condition.NamedCondition.{NamedCondition}
 use Rattle.ruleset_text.specs.Actions.{NamedAction, NamedTrigger, disposition_word}
 use Rattle.ruleset_text.specs.Classes.{is_bad_point}
-use Rattle.ruleset_text.specs.Definitions.{Definitions, type_name}
+use Rattle.ruleset_text.specs.Definitions.{Definitions, Demand, type_name}
+use Rattle.ruleset_text.specs.declared.definition.DemandKind.{DemandKind}
+use Rattle.ruleset_text.specs.declared.definition.DemandKind.TheVariants.{Always, Never}
 use Rattle.ruleset_text.specs.Names.{number_of}
+use Rattle.variant_dispositions.specs.declared.disposition.Disposition.TheVariants.{Invalid}
 use Rattle.variant_table.specs.declared.version.Version.TheVariants.{Three}
 use Rattle.variant_table.specs.Entries.{Entry, TableValue}
 use Rattle.variant_table.specs.WellFormed.{IsTable}
@@ -28,9 +35,9 @@ abbrev pub may_stand : Properties → ℕ → Bool
 may_stand properties c = not (is_bad_point properties c)
 
 -- each type of the file has a number, and so has having none, if that has to be a type; no type and no rule has two
-pub record IsNumbering (may : ℕ → Bool) (r : Ruleset) (n : Numbering) : Type 0 where
+pub record IsNumbering (r : Ruleset) (n : Numbering) : Type 0 where
   pub types : (name : List ℕ) → Contains (types_of r) name → IsSome (type_number n (Some name))
-  pub untyped : Contains n.types None ↔ IsTrue (needs_type may r.entries)
+  pub untyped : Contains n.types None ↔ IsTrue (needs_type r.entries)
   pub each_type : AllPairs (λ a b. a ≢ b) (all_types n)
   pub each_rule : AllPairs (λ a b. a ≢ b) n.rules
 
@@ -78,22 +85,63 @@ SayActions n d [] (b ∷ named) = ⊥
 SayActions n d (a ∷ actions) [] = ⊥
 SayActions n d (a ∷ actions) (b ∷ named) = SaysAction n d a b × SayActions n d actions named
 
+-- ---- demands: those of its actions that make labels invalid by a rule alone, before the first that doesn't make them
+-- invalid. Which of such actions is triggered makes no difference (7.4)
+
+abbrev pub makes_invalid : Action → Bool
+makes_invalid a = bytes_eq a.disposition (disposition_word Invalid)
+
+-- those before the first that doesn't, and the others
+abbrev pub leading : List Action → List Action
+leading [] = []
+leading (a ∷ actions) = if makes_invalid a then a ∷ leading actions else []
+
+abbrev pub following : List Action → List Action
+following [] = []
+following (a ∷ actions) = if makes_invalid a then following actions else a ∷ actions
+
+-- the condition of an action that no type triggers
+abbrev pub rule_alone : Action → Option Condition
+rule_alone a = if is_some a.trigger then None else a.condition
+
+abbrev pub demanded : List Action → List Condition
+demanded actions = filter_map rule_alone (leading actions)
+
+-- those that are no demands
+abbrev pub acting : List Action → List Action
+acting actions = filter (λ a. not (is_some (rule_alone a))) (leading actions) ++ following actions
+
+-- no label may match the rule; or each has to
+abbrev pub demand_kind : ConditionKind → DemandKind
+demand_kind When = Never
+demand_kind Unless = Always
+
+pub record SaysDemand (n : Numbering) (d : Definitions) (condition : Condition) (demand : Demand) : Type 0 where
+  pub kind : demand.kind ≡ demand_kind condition.kind
+  pub pattern : demand.pattern ≡ slice_index_or d.rules (number_of n.rules condition.rule) Anchor
+
+abbrev pub SayDemands : Numbering → Definitions → List Condition → List Demand → Type 0
+SayDemands n d [] [] = Unit {0}
+SayDemands n d [] (b ∷ demands) = ⊥
+SayDemands n d (c ∷ conditions) [] = ⊥
+SayDemands n d (c ∷ conditions) (b ∷ demands) = SaysDemand n d c b × SayDemands n d conditions demands
+
 -- ---- the table
 
--- a well-formed table without demands: its entries are those of the file, less what no label has; and so are its types,
--- rules and actions, by these numbers
+-- a well-formed table: its entries are those of the file, less what no label has; and so are its types, rules, demands
+-- and actions, by these numbers
 pub record Says (properties : Properties) (r : Ruleset) (m : Meanings) (n : Numbering) (t : TableValue) : Type 0 where
   pub well_formed : IsTable t
   pub version : t.version ≡ Three
   pub by_these : t.definitions.properties ≡ properties
-  pub numbers : IsNumbering (may_stand properties) r n
+  pub numbers : IsNumbering r n
   pub types : length t.definitions.types ≡ length n.types
   pub rules : length t.definitions.rules ≡ length n.rules
   pub of_one_type : AreOfOneType (may_stand properties) r.entries
   pub entries : t.entries ≡ all_entries (may_stand properties) n r.entries
   pub say_rules : SayRules r m n t
-  pub demands : t.definitions.demands ≡ []
-  pub actions : SayActions n t.definitions r.actions t.definitions.actions
+  pub demands : SayDemands n t.definitions (demanded r.actions) t.definitions.demands
+  pub actions : SayActions n t.definitions (acting r.actions) t.definitions.actions
 
 -- the table says what the file says, whose names are all defined
 pub record IsTableOf (properties : Properties) (r : Ruleset) (t : TableValue) : Type 0 where

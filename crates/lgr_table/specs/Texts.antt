@@ -56,7 +56,7 @@ pub record HasTooMuch (text : List ℕ) (e : TableError) : Type 0 where
   pub told : e ≡ error.Fault Limit line
 
 -- the error is told of the text: memory was refused; or it is no document, or one that says no ruleset or has too much
--- in an element; or it says a ruleset that has no table
+-- in an element; or it says a ruleset. Which of these have no table, and why, is not said
 abbrev pub IsToldOf : List ℕ → TableError → Type 0
 IsToldOf text e =
     (e ≡ error.Memory)

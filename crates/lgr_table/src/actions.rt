@@ -1,18 +1,22 @@
 //! The actions of a table (RFC 7940, section 7).
-ghost use Rattle.std.specs.Prelude.{◌≡◌, ◌++◌, ◌∷◌, [], length, IfOk, OnOk};
-ghost use Rattle.lgr_text.specs.Records.{action as action_of, file};
-ghost use Rattle.lgr_table.specs.inner.Steps.{AddsAction, AddsActions};
+ghost use Rattle.std.specs.Prelude.{◌≡◌, ◌≤◌, ◌++◌, ◌∷◌, [], List, IfOk, OnOk};
+ghost use Rattle.std.specs.Prelude.{drop, filter, is_some, length, map, not, take};
+ghost use Rattle.std.specs.List.{filter_map};
+ghost use Rattle.std.specs.Option.{option_map};
+ghost use Rattle.lgr_text.specs.Records as records;
+ghost use Rattle.lgr_text.specs.Records.{action as action_of, condition as condition_of, file};
+ghost use Rattle.lgr_table.specs.Tables.{demand_kind, following, leading, makes_invalid, rule_alone};
+ghost use Rattle.lgr_table.specs.inner.Steps.{AddsAction, AddsActions, AddsDemand, AddsDemands, HaveDefined};
 ghost use Rattle.lgr_table.specs.inner.TypeNames.{AreNamesOf};
+ghost use Rattle.variant_table.specs.Entries.{TableValue};
 
 use crate::fault::{TableError, TableFault};
 use crate::numbers::Numbers;
-use lgr_text::{Action, Renamed, RuleError, RuleFault, Ruleset, named_action};
-use ruleset_text::{Definition, DefinitionFault, Definitions, Name, predefined_type};
+use label_patterns::ConditionKind;
+use lgr_text::{Action, Condition, Renamed, Ruleset, copied_pattern, named_action};
+use ruleset_text::{Definition, Definitions, DemandKind, Name, PREDEFINED_TYPES, predefined_type};
 use std::alloc::{AllocError, Global};
 use variant_table::TableBuilder;
-
-/// How many types are predefined.
-const PREDEFINED_TYPES: usize = 5;
 
 /// Types that have a name in the file.
 #[derive(Drop)]
@@ -23,20 +27,146 @@ struct TypeNames {
     written: Vec<Name>,
 }
 
-/// Defines the actions of the file.
+/// Defines the actions of the file, and as demands those that make labels invalid by a rule alone, before the first that
+/// doesn't make them invalid: which of these is triggered makes no difference.
 pub(crate) fn define_actions(
     alloc: Global,
     builder: &mut TableBuilder,
     numbers: &Numbers,
     ruleset: &Ruleset,
 ) -> Result<(), TableError>
+    requires no_demands { builder.old.definitions.demands ≡ [] }
     requires none { builder.old.definitions.actions ≡ [] }
     requires rules { length builder.old.definitions.rule_names ≡ length numbers.now.rules }
     ensures { OnOk result (AddsActions (file ruleset.now) numbers.now builder.old builder.new) }
 {
+    let actions: &[Action] = &ruleset.actions;
+    let (leading, following) = actions.split_at(leading_len(actions));
+    define_demands(alloc, builder, numbers, leading)?;
     let types = type_names(alloc, builder.definitions(), numbers)?;
-    for action in &ruleset.actions {
-        define_action(alloc, builder, numbers, &types, action)?;
+    define_others(alloc, builder, numbers, &types, leading)?;
+    define_each(alloc, builder, numbers, &types, following)
+}
+
+/// How many actions stand before the first that doesn't make labels invalid.
+fn leading_len(actions: &[Action]) -> usize
+    ensures within { result ≤ length actions.now }
+    ensures leading { map action_of (take result actions.now) ≡ leading (map action_of actions.now) }
+    ensures following { map action_of (drop result actions.now) ≡ following (map action_of actions.now) }
+{
+    for number in 0..actions.len() {
+        if !makes_invalid(&actions[number]) {
+            return number;
+        }
+    }
+    actions.len()
+}
+
+/// Whether an action makes labels invalid.
+fn makes_invalid(action: &Action) -> bool
+    ensures { result ≡ makes_invalid (action_of action.now) }
+{
+    action.disposition.as_slice() == b"invalid".as_slice()
+}
+
+/// The condition of an action that no type triggers.
+fn rule_alone(action: &Action) -> Option<&Condition>
+    ensures { option_map (λ c. condition_of c.now) result ≡ rule_alone (action_of action.now) }
+{
+    match &action.trigger {
+        Some(_) => None,
+        None => action.condition.as_ref(),
+    }
+}
+
+/// Defines those actions as demands that are about a rule alone.
+fn define_demands(
+    alloc: Global,
+    builder: &mut TableBuilder,
+    numbers: &Numbers,
+    actions: &[Action],
+) -> Result<(), TableError>
+    requires { builder.old.definitions.demands ≡ [] }
+    ensures { OnOk result (AddsDemands numbers.now (filter_map rule_alone (map action_of actions.now))
+        builder.old builder.new) }
+{
+    for action in actions {
+        if let Some(condition) = rule_alone(action) {
+            define_demand(alloc, builder, numbers, condition)?;
+        }
+    }
+    Ok(())
+}
+
+/// Defines a demand: that no label matches the rule of a condition, or that each one does.
+fn define_demand(
+    alloc: Global,
+    builder: &mut TableBuilder,
+    numbers: &Numbers,
+    condition: &Condition,
+) -> Result<(), TableError>
+    ensures { OnOk result (AddsDemand numbers.now (condition_of condition.now) builder.old builder.new) }
+{
+    let line = condition.rule.line;
+    let number = numbers.rule_number(condition.rule.name.as_slice());
+    let rules = builder.definitions().rules();
+    if number >= numbers.rules().len() || number >= rules.len() {
+        return Err(TableFault::NoSuchName.on(line));
+    }
+    let pattern = copied_pattern(alloc, &rules[number])?;
+    match builder.define(Definition::Demand(demand_kind(condition.kind), pattern)) {
+        Ok(()) => Ok(()),
+        Err(fault) => Err(TableError::of_definition(fault, line)),
+    }
+}
+
+/// Whether no label may match a rule, or each one has to, if a label is invalid where its condition holds.
+fn demand_kind(kind: ConditionKind) -> DemandKind
+    ensures { result ≡ demand_kind kind }
+{
+    match kind {
+        ConditionKind::When => DemandKind::Never,
+        ConditionKind::Unless => DemandKind::Always,
+    }
+}
+
+/// Defines those actions that aren't about a rule alone.
+fn define_others(
+    alloc: Global,
+    builder: &mut TableBuilder,
+    numbers: &Numbers,
+    types: &TypeNames,
+    actions: &[Action],
+) -> Result<(), TableError>
+    requires none { builder.old.definitions.actions ≡ [] }
+    requires rules { length builder.old.definitions.rule_names ≡ length numbers.now.rules }
+    requires types { AreNamesOf numbers.now builder.old.definitions types.now }
+    ensures { OnOk result (HaveDefined numbers.now builder.old builder.new
+        (filter (λ a. not (is_some (rule_alone a))) (map action_of actions.now))) }
+{
+    for action in actions {
+        if rule_alone(action).is_none() {
+            define_action(alloc, builder, numbers, types, action)?;
+        }
+    }
+    Ok(())
+}
+
+/// Defines actions.
+fn define_each(
+    alloc: Global,
+    builder: &mut TableBuilder,
+    numbers: &Numbers,
+    types: &TypeNames,
+    actions: &[Action],
+) -> Result<(), TableError>
+    requires rules { length builder.old.definitions.rule_names ≡ length numbers.now.rules }
+    requires types { AreNamesOf numbers.now builder.old.definitions types.now }
+    ensures { (t : TableValue) (before : List records.Action) → HaveDefined numbers.now t builder.old before →
+        OnOk result (HaveDefined numbers.now t builder.new (before ++ map action_of actions.now)) }
+{
+    for action in actions {
+        define_action(alloc, builder, numbers, types, action)?;
     }
     Ok(())
 }
@@ -65,30 +195,9 @@ fn define_action(
     match named_action(alloc, rules, types, action) {
         Ok(named) => match builder.define(Definition::Action(named)) {
             Ok(()) => Ok(()),
-            Err(fault) => Err(not_defined(fault, line)),
+            Err(fault) => Err(TableError::of_definition(fault, line)),
         },
-        Err(error) => Err(not_named(error, line)),
-    }
-}
-
-/// Why an action on this line isn't given the names of the table.
-fn not_named(error: RuleError, line: usize) -> TableError {
-    match error {
-        RuleError::Memory => TableError::Memory,
-        RuleError::Fault(RuleFault::Undefined) => TableFault::NoSuchName.on(line),
-        RuleError::Fault(RuleFault::Misplaced) => TableFault::Syntax.on(line),
-        RuleError::Fault(RuleFault::NotSupported) => TableFault::NotSupported.on(line),
-        RuleError::Fault(RuleFault::Limit) => TableFault::Limit.on(line),
-    }
-}
-
-/// Why an action on this line, whose names are defined, isn't one of the table: one that it doesn't know asks for a
-/// rule with an anchor.
-fn not_defined(fault: DefinitionFault, line: usize) -> TableError {
-    match fault {
-        DefinitionFault::Memory => TableError::Memory,
-        DefinitionFault::Limit => TableFault::Limit.on(line),
-        _ => TableFault::NotSupported.on(line),
+        Err(error) => Err(TableError::of_rule(error, line)),
     }
 }
 

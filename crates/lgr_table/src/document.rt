@@ -104,7 +104,8 @@ mod tests {
         assert_eq!(rt; table.len(), 6);
         assert_eq!(rt; definitions.types().len(), 1);
         assert_eq!(rt; definitions.rules().len(), 2);
-        assert_eq!(rt; definitions.actions().len(), 2);
+        assert_eq!(rt; definitions.demands().len(), 1);
+        assert_eq!(rt; definitions.actions().len(), 1);
         assert!(rt; table.find(&[0x73, 0x73]).is_some());
         Ok(())
     }

@@ -1,5 +1,5 @@
 //! The entries of a table.
-ghost use Rattle.std.specs.Prelude.{◌≡◌, ◌∷◌, [], OnOk, length, map};
+ghost use Rattle.std.specs.Prelude.{◌≡◌, ◌<◌, ◌∷◌, [], OnOk, length, map};
 ghost use Rattle.std.specs.List.{flat_map};
 ghost use Rattle.std.specs.Option.{option_map};
 ghost use Rattle.lgr_text.specs.Records as records;
@@ -143,21 +143,56 @@ fn add_source(
     let mapped = mapped_of(alloc, builder.definitions(), numbers, entry, source)?;
     match builder.add_entry(&mapped) {
         Ok(()) => Ok(()),
-        Err(fault) => Err(not_added(fault, entry.line)),
+        Err(fault) => Err(not_added(fault, entry)),
     }
 }
 
-/// Why the entry on this line isn't added.
-fn not_added(fault: EntryFault, line: usize) -> TableError {
+/// Why an entry isn't added.
+fn not_added(fault: EntryFault, entry: &Entry) -> TableError {
     match fault {
         EntryFault::Memory => TableError::Memory,
         // A variant of no code points.
-        EntryFault::Syntax => TableFault::NotSupported.on(line),
-        EntryFault::Limit => TableFault::Limit.on(line),
-        EntryFault::NoSuchName => TableFault::NoSuchName.on(line),
-        EntryFault::BadClass => TableFault::BadClass.on(line),
-        EntryFault::SameVariant(_) => TableFault::SameVariant.on(line),
-        EntryFault::SameSource => TableFault::SameSource.on(line),
+        EntryFault::Syntax => TableFault::NotSupported.on(entry.line),
+        EntryFault::Limit => TableFault::Limit.on(entry.line),
+        EntryFault::NoSuchName => TableFault::NoSuchName.on(entry.line),
+        EntryFault::BadClass => TableFault::BadClass.on(entry.line),
+        EntryFault::SameVariant(_) => TableFault::SameVariant.on(repeated_line(entry)),
+        EntryFault::SameSource => TableFault::SameSource.on(entry.line),
+    }
+}
+
+/// The line of the first variant that its entry has before it.
+fn repeated_line(entry: &Entry) -> usize {
+    for number in 0..entry.variants.len() {
+        if is_repeated(&entry.variants, number) {
+            return entry.variants[number].line;
+        }
+    }
+    entry.line
+}
+
+/// Whether an earlier variant has the same code points, unless each has a condition and the two differ.
+fn is_repeated(variants: &[Variant], number: usize) -> bool
+    requires { number < length variants.now }
+{
+    let variant = &variants[number];
+    for earlier in 0..number {
+        if is_same(&variants[earlier], variant) {
+            return true;
+        }
+    }
+    false
+}
+
+fn is_same(earlier: &Variant, variant: &Variant) -> bool {
+    if earlier.points.as_slice() != variant.points.as_slice() {
+        return false;
+    }
+    match (&earlier.condition, &variant.condition) {
+        (Some(one), Some(other)) => {
+            one.kind == other.kind && one.rule.name.as_slice() == other.rule.name.as_slice()
+        }
+        _ => true,
     }
 }
 

@@ -2,6 +2,8 @@
 ghost use Rattle.std.specs.Prelude.{◌≡◌};
 ghost use Rattle.lgr_table.specs.declared.fault.TableError.TheVariants.{Fault, Memory};
 
+use lgr_text::{OrderError, RuleError, RuleFault};
+use ruleset_text::DefinitionFault;
 use std::alloc::{AllocError, AllocFailed};
 
 /// What is wrong with a ruleset of which no table is made.
@@ -49,6 +51,44 @@ impl<T: Drop> From<AllocFailed<T>> for TableError {
 
     fn from(_: AllocFailed<T>) -> Self {
         TableError::Memory
+    }
+}
+
+impl TableError {
+    /// Why the definitions of a file have no order.
+    pub(crate) fn of_order(error: OrderError) -> Self {
+        match error {
+            OrderError::Limit(line) => TableFault::Limit.on(line),
+            OrderError::Repeated(line) => TableFault::SameName.on(line),
+            OrderError::Undefined(line) => TableFault::NoSuchName.on(line),
+            OrderError::Circular(line) => TableFault::NoSuchName.on(line),
+            OrderError::Memory => TableError::Memory,
+        }
+    }
+
+    /// Why what stands on this line is no set, no pattern and no action.
+    pub(crate) fn of_rule(error: RuleError, line: usize) -> Self {
+        match error {
+            RuleError::Fault(RuleFault::Undefined) => TableFault::NoSuchName.on(line),
+            RuleError::Fault(RuleFault::Misplaced) => TableFault::Syntax.on(line),
+            RuleError::Fault(RuleFault::NotSupported) => TableFault::NotSupported.on(line),
+            RuleError::Fault(RuleFault::Limit) => TableFault::Limit.on(line),
+            RuleError::Memory => TableError::Memory,
+        }
+    }
+
+    /// Why the table doesn't take the definition that stands on this line. Its name has its form and is new, and what
+    /// it names is defined: so a definition that the table doesn't know is an action that asks for a rule with an
+    /// anchor.
+    pub(crate) fn of_definition(fault: DefinitionFault, line: usize) -> Self {
+        match fault {
+            DefinitionFault::Limit => TableFault::Limit.on(line),
+            DefinitionFault::BadClass => TableFault::BadClass.on(line),
+            DefinitionFault::Memory => TableError::Memory,
+            DefinitionFault::Syntax | DefinitionFault::NoSuchName | DefinitionFault::SameName => {
+                TableFault::NotSupported.on(line)
+            }
+        }
     }
 }
 

@@ -4,11 +4,8 @@ ghost use Rattle.lgr_table.specs.Numbers as words;
 ghost use Rattle.lgr_table.specs.Numbers.{number_among};
 ghost use Rattle.ruleset_text.specs.Names as names;
 
-use ruleset_text::{Name, number_of, predefined_type};
+use ruleset_text::{Name, PREDEFINED_TYPES, number_of, predefined_type};
 use std::marker::Model;
-
-/// How many types are predefined (RFC 7940, section 7.3).
-const PREDEFINED_TYPES: usize = 5;
 
 /// The types and the rules that the table of a file defines, by their names in the file. Each has its place as its
 /// number, the types after the predefined ones. `None` is the type of variants that have none in the file.

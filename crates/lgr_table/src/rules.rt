@@ -1,25 +1,22 @@
 //! The rules of a table, and the sets that they name.
-ghost use Rattle.std.specs.Prelude.{◌≡◌, ◌++◌, ◌∷◌, [], IfOk, OnOk, map, true};
-ghost use Rattle.label_patterns.specs.Sets.{Rise};
+ghost use Rattle.std.specs.Prelude.{◌≡◌, ◌++◌, ◌∷◌, [], IfOk, OnOk, map};
 ghost use Rattle.label_patterns.specs.Trees.{pattern};
 ghost use Rattle.lgr_text.specs.Known.{HaveSpans};
 ghost use Rattle.lgr_text.specs.PartMatches.{BeginsWith};
 ghost use Rattle.lgr_text.specs.Records.{entry as entry_of, file, meaning as meaning_of};
+ghost use Rattle.lgr_text.specs.inner.Branches.{HaveBranches};
 ghost use Rattle.lgr_text.specs.WellFormed.{IsWellFormedMeaning, IsWellFormedRuleset};
 ghost use Rattle.lgr_table.specs.Tables.{may_stand};
 ghost use Rattle.lgr_table.specs.inner.RuleSteps.{AddsMeaning, HasNoRules, HasOtherRules, known_by};
 ghost use Rattle.lgr_table.specs.inner.Steps.{AddsRules};
 
-use crate::fault::{TableError, TableFault};
+use crate::fault::TableError;
 use crate::names::Named;
 use crate::points::points_of;
 use crate::taken::{Repertoire, Taken};
-use label_patterns::{PatternTree, PointSet, Span};
-use lgr_text::{
-    Definition, Made, Meaning, OrderError, PartTree, RuleError, RuleFault, Ruleset,
-    definition_order, pattern_of_rule,
-};
-use ruleset_text::{Definition as TableDefinition, DefinitionFault, Name};
+use label_patterns::{PatternTree, PointSet};
+use lgr_text::{Definition, Made, Meaning, PartTree, Ruleset, definition_order, pattern_of_rule};
+use ruleset_text::{Definition as TableDefinition, Name};
 use std::alloc::Global;
 use variant_table::TableBuilder;
 
@@ -43,7 +40,7 @@ pub(crate) fn define_rules(
     };
     let order = match definition_order(alloc, &ruleset.definitions) {
         Ok(order) => order,
-        Err(error) => return Err(not_ordered(error)),
+        Err(error) => return Err(TableError::of_order(error)),
     };
     let mut taken = Taken::new(alloc);
     let mut made = Made {
@@ -71,12 +68,14 @@ fn take(
     requires entries { HaveSpans (map entry_of repertoire.entries.now) }
     requires meaning { IsWellFormedMeaning (meaning_of definition.now.meaning) }
     requires sets { made.old.sets.items ≡ builder.old.definitions.sets }
+    requires branches { HaveBranches builder.old.definitions.rules }
     ensures added { let entries = map entry_of repertoire.entry.entries.now in
         let points = repertoire.entry.points.now in
         OnOk result (AddsMeaning (known_by entries points taken.old builder.old.definitions.rules)
         builder.old.definitions.sets definition.now.name (meaning_of definition.now.meaning)
         (known_by entries points taken.new builder.new.definitions.rules) builder.new.definitions.sets) }
     ensures sets { OnOk result (made.new.sets.items ≡ builder.new.definitions.sets) }
+    ensures branches { OnOk result (HaveBranches builder.new.definitions.rules) }
     ensures others { OnOk result (HasOtherRules builder.old builder.new) }
 {
     let name = definition.name.as_slice();
@@ -85,7 +84,7 @@ fn take(
             let rules = builder.definitions().rules();
             match taken.add_class(alloc, repertoire, rules, name, class) {
                 Ok(()) => Ok(()),
-                Err(error) => Err(not_made(error, definition.line)),
+                Err(error) => Err(TableError::of_rule(error, definition.line)),
             }
         }
         Meaning::Rule(rule) => {
@@ -97,7 +96,7 @@ fn take(
                     taken.rule_names.push(Name::copied(alloc, name)?)?;
                     Ok(())
                 }
-                Err(error) => Err(not_made(error, definition.line)),
+                Err(error) => Err(TableError::of_rule(error, definition.line)),
             }
         }
     }
@@ -133,36 +132,11 @@ fn define_set(
     ensures others { OnOk result (HasOtherRules builder.old builder.new) }
 {
     let name = Named::Set.fresh_name(alloc, builder.definitions(), b"", line)?;
-    let copy = copied(alloc, set, line)?;
+    let copy = set.copied(alloc)?;
     match builder.define(TableDefinition::Set(name, copy)) {
         Ok(()) => Ok(()),
-        Err(fault) => Err(not_defined(fault, line)),
+        Err(fault) => Err(TableError::of_definition(fault, line)),
     }
-}
-
-/// The set once more. Its spans rise, which is tested since no contract of `PointSet` tells it.
-fn copied(alloc: Global, set: &PointSet, line: usize) -> Result<PointSet, TableError>
-    ensures { IfOk result (λ copy. copy ≡ set.now) }
-{
-    let spans = Vec::from_slice(alloc, set.spans())?;
-    if !do_rise(&spans) {
-        return Err(TableFault::NotSupported.on(line));
-    }
-    Ok(PointSet::new(spans))
-}
-
-/// Whether no span is empty, and each begins above the end of the one before.
-fn do_rise(spans: &[Span]) -> bool
-    ensures { result ≡ true → Rise spans.now }
-{
-    let mut least = 0u64;
-    for span in spans {
-        if u64::from(span.first) < least || span.last < span.first {
-            return false;
-        }
-        least = u64::from(span.last) + 1;
-    }
-    true
 }
 
 /// Defines a rule.
@@ -180,39 +154,7 @@ fn define_rule(
     let name = Named::Rule.fresh_name(alloc, builder.definitions(), name, line)?;
     match builder.define(TableDefinition::Rule(name, tree)) {
         Ok(()) => Ok(()),
-        Err(fault) => Err(not_defined(fault, line)),
-    }
-}
-
-/// Why the definitions have no order.
-fn not_ordered(error: OrderError) -> TableError {
-    match error {
-        OrderError::Limit(line) => TableFault::Limit.on(line),
-        OrderError::Repeated(line) => TableFault::SameName.on(line),
-        OrderError::Undefined(line) => TableFault::NoSuchName.on(line),
-        OrderError::Circular(line) => TableFault::NoSuchName.on(line),
-        OrderError::Memory => TableError::Memory,
-    }
-}
-
-/// Why the definition on this line is no set and no pattern.
-fn not_made(error: RuleError, line: usize) -> TableError {
-    match error {
-        RuleError::Fault(RuleFault::Undefined) => TableFault::NoSuchName.on(line),
-        RuleError::Fault(RuleFault::Misplaced) => TableFault::Syntax.on(line),
-        RuleError::Fault(RuleFault::NotSupported) => TableFault::NotSupported.on(line),
-        RuleError::Fault(RuleFault::Limit) => TableFault::Limit.on(line),
-        RuleError::Memory => TableError::Memory,
-    }
-}
-
-/// Why the table doesn't take the definition on this line.
-fn not_defined(fault: DefinitionFault, line: usize) -> TableError {
-    match fault {
-        DefinitionFault::Limit => TableFault::Limit.on(line),
-        DefinitionFault::BadClass => TableFault::BadClass.on(line),
-        DefinitionFault::Memory => TableError::Memory,
-        _ => TableFault::NotSupported.on(line),
+        Err(fault) => Err(TableError::of_definition(fault, line)),
     }
 }
 
@@ -220,6 +162,7 @@ fn not_defined(fault: DefinitionFault, line: usize) -> TableError {
 mod tests {
     use super::*;
     use idn_class::Properties;
+    use label_patterns::is_context_rule;
     use lgr_text::read_ruleset;
     use std::test::Fail;
     use xml_text::read_document;
@@ -249,6 +192,44 @@ mod tests {
         assert_eq!(rt; definitions.rule_name(0), b"rule_1".as_slice());
         assert_eq!(rt; rules[1].as_slice(), b"one".as_slice());
         assert_eq!(rt; definitions.rule_name(1), b"one".as_slice());
+        Ok(())
+    }
+
+    /// Rules with the anchor, which name one another.
+    const ANCHORED: &[u8] = b"<lgr xmlns='urn:ietf:params:xml:ns:lgr-1.0'>\
+        <data><range first-cp='0061' last-cp='0063'/></data>\
+        <rules>\
+        <rule name='after-a'><look-behind><char cp='0061'/></look-behind><anchor/></rule>\
+        <rule name='one'><rule by-ref='after-a'/></rule>\
+        <rule name='two'><choice><rule by-ref='one'/>\
+        <rule><anchor/><look-ahead><char cp='0062'/></look-ahead></rule></choice></rule>\
+        <rule name='three'><choice><rule by-ref='two'/><rule by-ref='after-a'/></choice></rule>\
+        </rules></lgr>";
+
+    /// How many branches a pattern has.
+    fn branch_count(tree: &PatternTree) -> usize {
+        match tree {
+            PatternTree::Either(_, others) => branch_count(others).saturating_add(1),
+            _ => 1,
+        }
+    }
+
+    #[test]
+    fn makes_rules_that_name_anchored_rules(rt: HostRuntime) -> Result<(), Fail> {
+        let alloc = rt.alloc();
+        let tokens = read_document(alloc, ANCHORED)?;
+        let ruleset = read_ruleset(alloc, &tokens)?;
+        let mut builder = TableBuilder::new(alloc, Properties::Unicode);
+        let _names = define_rules(alloc, &mut builder, &ruleset)?;
+        let rules = builder.definitions().rules();
+        assert_eq!(rt; rules.len(), 4);
+        assert_eq!(rt; branch_count(&rules[0]), 1);
+        assert_eq!(rt; branch_count(&rules[1]), 1);
+        assert_eq!(rt; branch_count(&rules[2]), 2);
+        assert_eq!(rt; branch_count(&rules[3]), 3);
+        for rule in rules {
+            assert!(rt; is_context_rule(rule));
+        }
         Ok(())
     }
 }

@@ -1,5 +1,5 @@
 //! The types of a table.
-ghost use Rattle.std.specs.Prelude.{◌≡◌, ◌++◌, ◌∷◌, [], false, true, ℕ, List, is_some, map, IfOk, OnOk};
+ghost use Rattle.std.specs.Prelude.{◌≡◌, ◌++◌, ◌∷◌, [], false, true, ℕ, List, is_some, map, not, IfOk, OnOk};
 ghost use Rattle.std.specs.List.{flat_map, list_any};
 ghost use Rattle.lgr_text.specs.Records as records;
 ghost use Rattle.lgr_text.specs.Records.{file};
@@ -11,13 +11,11 @@ ghost use Rattle.lgr_table.specs.inner.TypeSteps.{AddsType, HasTypes};
 ghost use Rattle.std.specs.Option.{option_map};
 ghost use Rattle.variant_table.specs.Entries.{TableValue};
 
-use crate::fault::{TableError, TableFault};
-use crate::kept::is_kept_source;
+use crate::fault::TableError;
 use crate::names::Named;
 use crate::numbers::named_in;
-use idn_class::Properties;
 use lgr_text::{Entry, Ruleset, Trigger, Variant};
-use ruleset_text::{Definition, DefinitionFault, Name};
+use ruleset_text::{Definition, Name};
 use std::alloc::{AllocError, Global};
 use variant_table::TableBuilder;
 
@@ -29,18 +27,17 @@ pub(crate) fn define_types(
 ) -> Result<Vec<Option<Name>>, TableError>
     requires { builder.old.definitions.types ≡ [] }
     ensures { IfOk result (λ types.
-        AddsTypes (may_stand builder.old.definitions.properties) (file «ruleset».now) types.items
+        AddsTypes (file «ruleset».now) types.items
         builder.old builder.new) }
 {
     let mut types = Vec::new(alloc);
-    let properties = builder.definitions().properties();
     for entry in &ruleset.entries {
         define_of_variants(alloc, builder, &mut types, &entry.variants)?;
     }
     for action in &ruleset.actions {
         define_of_trigger(alloc, builder, &mut types, &action.trigger, action.line)?;
     }
-    let untyped = untyped_line(alloc, properties, &ruleset.entries)?;
+    let untyped = untyped_line(&ruleset.entries);
     let Some(line) = untyped else {
         return Ok(types);
     };
@@ -149,44 +146,19 @@ fn define_type(
     let fresh = Named::Type.fresh_name(alloc, builder.definitions(), name, line)?;
     match builder.define(Definition::VariantType(fresh)) {
         Ok(()) => Ok(()),
-        Err(DefinitionFault::Memory) => Err(TableError::Memory),
-        // The name has its form, and it is new.
-        Err(_) => Err(TableFault::Limit.on(line)),
+        Err(fault) => Err(TableError::of_definition(fault, line)),
     }
 }
 
-/// The line of a variant without a type that needs one in the table.
-fn untyped_line(
-    alloc: Global,
-    properties: Properties,
-    entries: &[Entry],
-) -> Result<Option<usize>, AllocError>
-    ensures { IfOk result (λ line.
-        is_some line ≡ words.needs_type (may_stand properties) (map records.entry entries.now)) }
+/// The line of a variant without a type, where some variant has one.
+fn untyped_line(entries: &[Entry]) -> Option<usize>
+    ensures { is_some result ≡ words.needs_type (map records.entry entries.now) }
 {
-    if !have_types(entries) {
-        return Ok(None);
+    if have_types(entries) {
+        first_untyped(entries)
+    } else {
+        None
     }
-    let line = first_staying(alloc, properties, entries)?;
-    Ok(line)
-}
-
-/// The line of the first variant without a type that is a source which the table keeps.
-fn first_staying(
-    alloc: Global,
-    properties: Properties,
-    entries: &[Entry],
-) -> Result<Option<usize>, AllocError>
-    ensures { IfOk result (λ line.
-        is_some line ≡ words.stays_untyped (may_stand properties) (map records.entry entries.now)) }
-{
-    for entry in entries {
-        let line = staying_line(alloc, properties, entry)?;
-        if line.is_some() {
-            return Ok(line);
-        }
-    }
-    Ok(None)
 }
 
 /// Whether some variant has a type.
@@ -212,37 +184,26 @@ fn has_types(variants: &[Variant]) -> bool
     false
 }
 
-/// The line of the first variant without a type that lets a source stay.
-fn staying_line(
-    alloc: Global,
-    properties: Properties,
-    entry: &Entry,
-) -> Result<Option<usize>, AllocError>
-    ensures { IfOk result (λ line.
-        is_some line ≡ words.stays_untyped_in (may_stand properties) (records.entry entry.now)) }
+/// The line of the first variant without a type.
+fn first_untyped(entries: &[Entry]) -> Option<usize>
+    ensures { is_some result ≡ words.lacks_types (map records.entry entries.now) }
 {
-    for variant in &entry.variants {
-        let stays = stays_untyped(alloc, properties, entry, variant)?;
-        if stays {
-            return Ok(Some(variant.line));
+    for entry in entries {
+        let line = untyped_among(&entry.variants);
+        if line.is_some() {
+            return line;
         }
     }
-    Ok(None)
+    None
 }
 
-/// Whether a variant has no type, and is a source of its entry that the table keeps.
-fn stays_untyped(
-    alloc: Global,
-    properties: Properties,
-    entry: &Entry,
-    variant: &Variant,
-) -> Result<bool, AllocError>
-    ensures { IfOk result (λ stays. stays ≡ words.stays_as (may_stand properties) (records.entry entry.now)
-        (records.variant variant.now)) }
+fn untyped_among(variants: &[Variant]) -> Option<usize>
+    ensures { is_some result ≡ list_any (λ v. not (is_some v.type_name)) (map records.variant variants.now) }
 {
-    if variant.type_name.is_some() {
-        return Ok(false);
+    for variant in variants {
+        if variant.type_name.is_none() {
+            return Some(variant.line);
+        }
     }
-    let kept = is_kept_source(alloc, properties, entry, &variant.points)?;
-    Ok(kept)
+    None
 }

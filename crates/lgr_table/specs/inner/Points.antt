@@ -1,10 +1,9 @@
--- The spans of sources.
-use Rattle.std.specs.Prelude.{ℕ, Bool, List, [], ◌∷◌, map, if◌then◌else◌}
+-- The code points of sources, as spans.
+use Rattle.std.specs.Prelude.{ℕ, Bool, List, filter, map}
+use Rattle.std.specs.List.{flat_map}
 use Rattle.label_patterns.specs.declared.span.Span.{Span}
-use Rattle.lgr_text.specs.Records.{Range, Sequence, Source}
 use Rattle.lgr_table.specs.Entries.{may_be}
 
--- a range, or each code point of a sequence, if a table may hold all of them
-abbrev pub spans_of : (ℕ → Bool) → Source → List Span
-spans_of may (Sequence points) = if may_be may points then map (λ c. record { first = c; last = c }) points else []
-spans_of may (Range span) = span ∷ []
+-- each code point of those sources that a table may hold
+abbrev pub spans_of : (ℕ → Bool) → List (List ℕ) → List Span
+spans_of may sources = flat_map (map (λ c. record { first = c; last = c })) (filter (may_be may) sources)

@@ -2,21 +2,22 @@
 use Rattle.std.specs.Prelude.{◌≡◌, ◌≢◌, ℕ, ◌<◌, ◌↔◌, Bool, IsTrue, IsSome, List, [], ◌∷◌, ◌++◌, Option, Some, None}
 use Rattle.std.specs.Prelude.{All, AllPairs, Contains, length, map}
 use Rattle.std.specs.List.{flat_map}
-use Rattle.lgr_text.specs.Records.{Action, Ruleset}
+use Rattle.lgr_text.specs.Records.{Action, Condition, Ruleset}
 use Rattle.lgr_table.specs.Entries.{AreOfOneType, all_entries, needs_type}
 use Rattle.lgr_table.specs.Meanings.{AreMeaningsOf, Meanings}
 use Rattle.lgr_table.specs.Names.{IsClassOf, IsRuleOf, asked, named_classes, named_rules}
 use Rattle.lgr_table.specs.Numbers.{Numbering, number_among, types_of, types_with}
-use Rattle.lgr_table.specs.Tables.{SayActions, SaysAction, SayRules}
+use Rattle.lgr_table.specs.Tables.{SayActions, SayDemands, SaysAction, SaysDemand, SayRules, acting, demanded}
 use Rattle.ruleset_text.specs.Actions.{NamedAction}
+use Rattle.ruleset_text.specs.Definitions.{Demand}
 use Rattle.variant_table.specs.Entries.{TableValue}
 
 -- the types are defined
-pub record AddsTypes (may : ℕ → Bool) (r : Ruleset) (types : List (Option (List ℕ))) (t u : TableValue) : Type 0 where
+pub record AddsTypes (r : Ruleset) (types : List (Option (List ℕ))) (t u : TableValue) : Type 0 where
   pub others : u ≡ record t { definitions = record t.definitions { types = u.definitions.types } }
   pub count : length u.definitions.types ≡ length types
   pub known : (name : List ℕ) → Contains (types_of r) name → IsSome (number_among types (Some name))
-  pub untyped : Contains types None ↔ IsTrue (needs_type may r.entries)
+  pub untyped : Contains types None ↔ IsTrue (needs_type r.entries)
   pub each_type : AllPairs (λ a b. a ≢ b) (types_with types)
 
 -- the rules are defined, and the sets that they name
@@ -53,10 +54,32 @@ pub record AddsAction (n : Numbering) (action : Action) (t u : TableValue) : Typ
   pub says : SaysAction n t.definitions action named
   pub asked_for : AreAmong n.rules (asked action.condition)
 
--- the actions are defined
-pub record AddsActions (r : Ruleset) (n : Numbering) (t u : TableValue) : Type 0 where
+-- these actions are defined, after t, where none is defined
+pub record HaveDefined (n : Numbering) (t u : TableValue) (actions : List Action) : Type 0 where
   pub others : u ≡ record t { definitions = record t.definitions { actions = u.definitions.actions } }
-  pub say : SayActions n u.definitions r.actions u.definitions.actions
+  pub say : SayActions n t.definitions actions u.definitions.actions
+  pub asked_for : AreAmong n.rules (flat_map (λ a. asked a.condition) actions)
+
+-- a demand is defined
+pub record AddsDemand (n : Numbering) (condition : Condition) (t u : TableValue) : Type 0 where
+  pub demand : Demand
+  pub added : u ≡ record t { definitions = record t.definitions { demands = t.definitions.demands ++ demand ∷ [] } }
+  pub says : SaysDemand n t.definitions condition demand
+  pub asked_for : AreAmong n.rules (condition.rule ∷ [])
+
+-- demands are defined, where none is
+pub record AddsDemands (n : Numbering) (conditions : List Condition) (t u : TableValue) : Type 0 where
+  pub others : u ≡ record t { definitions = record t.definitions { demands = u.definitions.demands } }
+  pub say : SayDemands n t.definitions conditions u.definitions.demands
+  pub asked_for : AreAmong n.rules (map (λ c. c.rule) conditions)
+
+-- the actions are defined, and those of them that are demands
+pub record AddsActions (r : Ruleset) (n : Numbering) (t u : TableValue) : Type 0 where
+  pub others : u ≡ record t {
+    definitions = record t.definitions { demands = u.definitions.demands; actions = u.definitions.actions };
+  }
+  pub demands : SayDemands n u.definitions (demanded r.actions) u.definitions.demands
+  pub say : SayActions n u.definitions (acting r.actions) u.definitions.actions
   pub asked_for : AreAmong n.rules (flat_map (λ a. asked a.condition) r.actions)
 
 -- the entries are added

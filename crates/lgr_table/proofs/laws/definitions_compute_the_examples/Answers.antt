@@ -19,5 +19,6 @@ returns c = record {
   in_order = refl;
   needed = refl;
   not_needed = refl;
-  stays_typed = refl;
+  each_typed = refl;
+  typed_in_no_label = refl;
 }

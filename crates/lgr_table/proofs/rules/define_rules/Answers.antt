@@ -44,6 +44,7 @@ loop-number-preserved c =
           c.take.new.builder.definitions.sets is c.loop-number-test.true c.index-definition.ensures c.loop-number.invariant.taken
           c.in_ok-take.ensures.added;
       sets = c.in_ok-take.ensures.sets;
+      branches = c.in_ok-take.ensures.branches;
       others = others-too c.args.builder.now c.loop-number.builder c.take.new.builder c.loop-number.invariant.others c.in_ok-take.ensures.others;
     }
 

@@ -1,5 +1,6 @@
 use Rattle.std.proofs.Common.{◌≡◌, map, take}
 use Rattle.lgr_text.specs.Records.{definition, entry}
+use Rattle.lgr_text.specs.inner.Branches.{HaveBranches}
 use Rattle.lgr_table.specs.inner.RuleSteps.{HasOtherRules, known_by}
 use Rattle.lgr_table.proofs.TakenLemmas.{AreTaken}
 use Rattle.lgr_table.proofs.TakenOrderLemmas.{chosen}
@@ -13,5 +14,6 @@ invariant-loop-number l = record {
       l.builder.definitions.sets
       (chosen (map definition l.«ruleset».definitions.items) (take l.number-index l.number-items));
   sets : l.made.sets.items ≡ l.builder.definitions.sets;
+  branches : HaveBranches l.builder.definitions.rules;
   others : HasOtherRules l.initial.builder l.builder;
 }

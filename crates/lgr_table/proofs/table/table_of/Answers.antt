@@ -3,17 +3,20 @@ use Rattle.lgr_text.specs.Records.{file}
 use Rattle.lgr_table.specs.Tables.{IsTableOf, may_stand}
 use Rattle.lgr_table.specs.inner.Steps.{AddsRules, AddsTypes}
 use Rattle.variant_table.specs.WellFormed.{IsTable}
-use Rattle.lgr_table.proofs.TableLemmas.{is_table_of, names_still, no_actions, no_entries, no_rules, no_types, rules_counted, types_counted}
+use Rattle.lgr_table.proofs.TableLemmas.{is_table_of, names_still, no_actions, no_demands, no_entries, no_rules, no_types, rules_counted, types_counted}
 use Rattle.lgr_table.proofs.table.table_of.Goals as goal
 
 pub define_types-requires : goal.define_types-requires
 define_types-requires c = no_types c.args.properties c.new-builder.result c.new-builder.ensures
 
 pub define_rules-requires-clause-none : goal.define_rules-requires-clause-none
-define_rules-requires-clause-none c = no_rules _ _ _ _ _ _ c.new-builder.ensures c.in_ok-types.ensures
+define_rules-requires-clause-none c = no_rules _ _ _ _ _ c.new-builder.ensures c.in_ok-types.ensures
 
 pub define_actions-requires-clause-none : goal.define_actions-requires-clause-none
-define_actions-requires-clause-none c = no_actions _ _ _ _ _ _ _ _ _ c.new-builder.ensures c.in_ok-types.ensures c.in_ok-rules.ensures
+define_actions-requires-clause-none c = no_actions _ _ _ _ _ _ _ _ c.new-builder.ensures c.in_ok-types.ensures c.in_ok-rules.ensures
+
+pub define_actions-requires-clause-no_demands : goal.define_actions-requires-clause-no_demands
+define_actions-requires-clause-no_demands c = no_demands _ _ _ _ _ _ _ _ c.new-builder.ensures c.in_ok-types.ensures c.in_ok-rules.ensures
 
 pub define_actions-requires-clause-rules : goal.define_actions-requires-clause-rules
 define_actions-requires-clause-rules c =
@@ -21,11 +24,11 @@ define_actions-requires-clause-rules c =
 
 pub add_entries-requires-clause-none : goal.add_entries-requires-clause-none
 add_entries-requires-clause-none c =
-    no_entries _ _ _ _ _ _ _ _ _ _ _ c.new-builder.ensures c.in_ok-types.ensures c.in_ok-rules.ensures c.in_ok-define_actions.ensures
+    no_entries _ _ _ _ _ _ _ _ _ _ c.new-builder.ensures c.in_ok-types.ensures c.in_ok-rules.ensures c.in_ok-define_actions.ensures
 
 pub add_entries-requires-clause-types : goal.add_entries-requires-clause-types
 add_entries-requires-clause-types c =
-    types_counted _ _ _ _ _ c.new-numbers.result _ _ _ _ c.in_ok-types.ensures c.in_ok-rules.ensures c.in_ok-define_actions.ensures (ap (λ n. n.types) (sym c.new-numbers.ensures))
+    types_counted _ _ _ _ c.new-numbers.result _ _ _ _ c.in_ok-types.ensures c.in_ok-rules.ensures c.in_ok-define_actions.ensures (ap (λ n. n.types) (sym c.new-numbers.ensures))
 
 pub add_entries-requires-clause-rules : goal.add_entries-requires-clause-rules
 add_entries-requires-clause-rules c =
@@ -36,7 +39,7 @@ pub returns : goal.returns
 returns c =
     let r = file c.args.ruleset.now in
     let made = sym c.new-numbers.ensures in
-    let types = subst (λ n. AddsTypes (may_stand c.new-builder.result.definitions.properties) r n.types c.new-builder.result c.define_types.new.builder) made c.in_ok-types.ensures in
+    let types = subst (λ n. AddsTypes r n.types c.new-builder.result c.define_types.new.builder) made c.in_ok-types.ensures in
     let rules = subst (λ n. AddsRules (may_stand c.define_types.new.builder.definitions.properties) r n.rules c.define_types.new.builder c.define_rules.new.builder) made c.in_ok-rules.ensures in
     subst (IsTableOf c.args.properties r) (sym c.finish.ensures)
     (is_table_of c.args.properties r c.new-numbers.result c.new-builder.result c.define_types.new.builder c.define_rules.new.builder c.define_actions.new.builder c.add_entries.new.builder

@@ -65,17 +65,13 @@ all_types : (r : Ruleset) (xs : List held.Action) (types : List (Option (List �
 all_types r xs types t u i has all is =
     subst (λ (l : List held.Action). HasTypes false (flat_map of_entry (file r).entries ++ flat_map of_action (map action l)) types t u) (take_all i xs all ∙ is) has
 
-same_need : (p q : Properties) (xs ys : List held_entry.Entry) → p ≡ q → xs ≡ ys → needs_type (may_stand p) (map entry xs) ≡ needs_type (may_stand q) (map entry ys)
-same_need p q xs ys e f = ap (λ x. needs_type (may_stand x) (map entry xs)) e ∙ ap (λ l. needs_type (may_stand q) (map entry l)) f
-
 pub returns-in_default : goal.returns-in_default
 returns-in_default c =
     let t = c.args.builder.now in
     let r = c.args.ruleset.now in
-    let same : c.properties-properties.result ≡ t.definitions.properties = c.properties-properties.ensures ∙ ap (λ (d : Definitions). d.properties) c.definitions.ensures in
-    let need : is_some c.in_ok-untyped.untyped ≡ needs_type (may_stand t.definitions.properties) (file r).entries =
-    c.in_ok-untyped.ensures ∙ same_need _ _ _ _ same c.deref-2.ensures.value in
-    types_defined (may_stand t.definitions.properties) (file r) false c.loop-action.types.items t c.loop-action.builder
+    let need : is_some c.untyped_line-untyped.result ≡ needs_type (file r).entries =
+    c.untyped_line-untyped.ensures ∙ ap (λ l. needs_type (map entry l)) c.deref-2.ensures.value in
+    types_defined (file r) false c.loop-action.types.items t c.loop-action.builder
     (all_types r c.deref-action-items.result.now c.loop-action.types.items t c.loop-action.builder c.loop-action.action-index c.loop-action.invariant c.loop-action-test.false c.deref-action-items.ensures.value)
     (ap is_some (sym c.in_default.is) ∙ need)
 
@@ -83,10 +79,9 @@ pub returns : goal.returns
 returns c =
     let t = c.args.builder.now in
     let r = c.args.ruleset.now in
-    let same : c.properties-properties.result ≡ t.definitions.properties = c.properties-properties.ensures ∙ ap (λ (d : Definitions). d.properties) c.definitions.ensures in
-    let need : is_some c.in_ok-untyped.untyped ≡ needs_type (may_stand t.definitions.properties) (file r).entries =
-    c.in_ok-untyped.ensures ∙ same_need _ _ _ _ same c.deref-2.ensures.value in
-    types_defined (may_stand t.definitions.properties) (file r) true c.define_untyped.new.types.items t c.define_untyped.new.builder
+    let need : is_some c.untyped_line-untyped.result ≡ needs_type (file r).entries =
+    c.untyped_line-untyped.ensures ∙ ap (λ l. needs_type (map entry l)) c.deref-2.ensures.value in
+    types_defined (file r) true c.define_untyped.new.types.items t c.define_untyped.new.builder
     (c.in_ok-define_untyped.ensures t (types_of (file r))
     (all_types r c.deref-action-items.result.now c.loop-action.types.items t c.loop-action.builder c.loop-action.action-index c.loop-action.invariant c.loop-action-test.false c.deref-action-items.ensures.value))
     (ap is_some (sym c.in-Some.is) ∙ need)

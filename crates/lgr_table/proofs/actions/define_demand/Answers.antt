@@ -1,0 +1,27 @@
+use Rattle.std.proofs.Common.{◌≡◌, ◌<◌, ◌≤◌, ap, get_or, length, map, refl, subst, sym, ◌∙◌, arith}
+use Rattle.std.specs.Prelude.{slice_index_or}
+use Rattle.std.proofs.lemmas.List.{get_or-map}
+use Rattle.label_patterns.specs.Patterns.{Anchor}
+use Rattle.label_patterns.specs.Trees.{pattern}
+use Rattle.ruleset_text.specs.Names.{number_of}
+use Rattle.lgr_text.specs.Records.{condition}
+use Rattle.lgr_table.specs.Tables.{demand_kind}
+use Rattle.lgr_table.proofs.DemandLemmas.{demand-added}
+use Rattle.lgr_table.proofs.actions.define_demand.Goals as goal
+
+pub returns-in-Ok : goal.returns-in-Ok
+returns-in-Ok c =
+    let n = c.args.numbers.now in
+    let t = c.args.builder.now in
+    let asked = condition c.args.condition.now in
+    let number : c.rule_number-number.result ≡ number_of n.rules asked.rule = c.rule_number-number.ensures.is ∙ ap (number_of n.rules) c.as_slice.ensures in
+    let all : map pattern c.rules-rules.result.now ≡ t.definitions.rules = c.rules-rules.ensures.is ∙ ap (λ d. d.rules) c.definitions.ensures in
+    let tree = c.index-rules-number.result in
+    let at : slice_index_or t.definitions.rules (number_of n.rules asked.rule) Anchor ≡ pattern tree =
+    ap (λ l. get_or l (number_of n.rules asked.rule) Anchor) (sym all) ∙ ap (λ k. get_or (map pattern c.rules-rules.result.now) k Anchor) (sym number)
+    ∙ get_or-map pattern c.rules-rules.result.now c.rule_number-number.result tree Anchor c.if-number-rules-2.false ∙ ap pattern (sym c.index-rules-number.is) in
+    demand-added n asked t c.define.new.self (record { kind = c.demand_kind.result; pattern = pattern c.in_ok-pattern.pattern }) _
+    c.in-Ok.ensures.others
+    c.in-Ok.ensures.added.1
+    (record { kind = c.demand_kind.ensures; pattern = c.in_ok-pattern.ensures ∙ sym at })
+    (omega (arith, number, ap length c.rules.ensures, c.if-number-rules.false))

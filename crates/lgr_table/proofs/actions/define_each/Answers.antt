@@ -1,0 +1,22 @@
+use Rattle.std.proofs.Common.{◌≡◌, ◌++◌, ◌∷◌, [], ap, map, subst, sym, take, append_assoc, ◌∙◌}
+use Rattle.lgr_text.specs.Records.{action}
+use Rattle.lgr_table.specs.inner.Steps.{HaveDefined}
+use Rattle.lgr_table.proofs.ActionLemmas.{defined_more, one_more}
+use Rattle.lgr_table.proofs.DemandLemmas.{rules-still, types-still}
+use Rattle.lgr_table.proofs.actions.define_each.Goals as goal
+
+pub loop-action-preserved : goal.loop-action-preserved
+loop-action-preserved c =
+    let n = c.args.numbers.now in
+    let a = action c.action-item.result in
+    let old = c.loop-action.builder in
+    let new = c.define_action.new.builder in
+    let some = map action (take c.loop-action.action-index c.args.actions.now) in
+    let more = one_more c.args.actions.now c.loop-action.action-index c.action-item.result c.loop-action-test.true c.action-item.is in
+    record {
+      rules = rules-still n a old new _ c.in_ok-define_action.ensures c.loop-action.invariant.rules;
+      types = types-still n a old new c.args.types.now c.in_ok-define_action.ensures c.loop-action.invariant.types;
+      defined = λ t before h.
+          subst (HaveDefined n t new) (append_assoc before some (a ∷ []) ∙ ap (λ l. before ++ l) (sym more))
+          (defined_more n t old new (before ++ some) a (c.loop-action.invariant.defined t before h) c.in_ok-define_action.ensures);
+    }

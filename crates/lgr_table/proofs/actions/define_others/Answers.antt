@@ -1,0 +1,41 @@
+use Rattle.std.proofs.Common.{◌≡◌, ◌+◌, ◌++◌, ◌∷◌, [], Some, None, ap, length, map, not, subst, sym, take, ◌∙◌}
+use Rattle.std.specs.Prelude.{filter}
+use Rattle.lgr_text.specs.Records.{action, condition}
+use Rattle.lgr_table.specs.Tables.{rule_alone}
+use Rattle.lgr_table.specs.inner.Steps.{HaveDefined}
+use Rattle.lgr_table.specs.inner.TypeNames.{AreNamesOf}
+use Rattle.lgr_table.proofs.ActionLemmas.{defined_more, one_more}
+use Rattle.lgr_table.proofs.DemandLemmas.{is_other, none-where, other-more, other-same, rules-still, some-where, types-still}
+use Rattle.variant_table.specs.Entries.{TableValue}
+use Rattle.lgr_table.proofs.actions.define_others.Goals as goal
+use Rattle.lgr_table.proofs.actions.define_others.Goals.{then-is_none+in_ok-define_action, else-is_none}
+
+pub loop-action-preserved : goal.loop-action-preserved
+loop-action-preserved c =
+    let n = c.args.numbers.now in
+    let t = c.args.builder.now in
+    let a = action c.action-item.result in
+    let old = c.loop-action.builder in
+    let some = map action (take c.loop-action.action-index c.args.actions.now) in
+    let more = ap (filter is_other) (one_more c.args.actions.now c.loop-action.action-index c.action-item.result c.loop-action-test.true c.action-item.is) in
+    elim c.if-is_none.branch [
+      | then-is_none+in_ok-define_action w ↦
+          (let new = w.define_action.new.builder in
+          let is : rule_alone a ≡ None = sym c.rule_alone.ensures ∙ none-where (λ x. condition x.now) c.rule_alone.result (c.is_none.ensures ∙ ap not w.if-is_none.true) in
+          record {
+            rules = ap (λ (x : TableValue). length x.definitions.rule_names) w.builder-is ∙ rules-still n a old new _ w.in_ok-define_action.ensures c.loop-action.invariant.rules;
+            types = subst (λ (x : TableValue). AreNamesOf n x.definitions c.args.types.now) (sym w.builder-is) (types-still n a old new c.args.types.now w.in_ok-define_action.ensures c.loop-action.invariant.types);
+            defined = subst (λ (x : TableValue). HaveDefined n t x (filter is_other (map action (take (c.loop-action.action-index + 1) c.args.actions.now)))) (sym w.builder-is)
+                (subst (HaveDefined n t new) (sym (more ∙ other-more some a is))
+                (defined_more n t old new (filter is_other some) a c.loop-action.invariant.defined w.in_ok-define_action.ensures));
+          })
+      | else-is_none w ↦
+          (let given = some-where (λ x. condition x.now) c.rule_alone.result (c.is_none.ensures ∙ ap not w.if-is_none.false) in
+          let is : rule_alone a ≡ Some given.0 = sym c.rule_alone.ensures ∙ given.1 in
+          record {
+            rules = ap (λ (x : TableValue). length x.definitions.rule_names) w.builder-is ∙ c.loop-action.invariant.rules;
+            types = subst (λ (x : TableValue). AreNamesOf n x.definitions c.args.types.now) (sym w.builder-is) c.loop-action.invariant.types;
+            defined = subst (λ (x : TableValue). HaveDefined n t x (filter is_other (map action (take (c.loop-action.action-index + 1) c.args.actions.now)))) (sym w.builder-is)
+                (subst (HaveDefined n t old) (sym (more ∙ other-same some a given.0 is)) c.loop-action.invariant.defined);
+          })
+    ]
