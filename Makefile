@@ -34,7 +34,7 @@ run:
 	else \
 	    echo 'builds without a proof, for about a minute' >&2; \
 	    (cd crates/idn2 && $(RT) try -- --variants '$(CURDIR)/tables/german.txt' strasse) && \
-	        echo 'not proved yet: make proves it, in about half an hour'; \
+	        echo 'not proved yet: make proves it, in an hour or two'; \
 	fi
 
 # The gate: proves everything from nothing, tries the mutants, runs the programs and the tests.
@@ -114,7 +114,7 @@ dist:
 	@grep -ao 'GLIBC_[0-9][0-9.]*' $(PROGRAM) | sort -uV | tail -n 1 | grep -Fqx 'GLIBC_$(C_LIBRARY)' || \
 	    { echo 'the program needs another C library than the README says: objdump -T $(PROGRAM)' >&2; exit 1; }
 	find tables -name '*.txt' -o -name '*.py' | xargs -I % install -D -m 644 % $(DIST)/$(PACKED)/%
-	install -D -m 644 -t $(DIST)/$(PACKED)/docs docs/GUIDE.md docs/CONVERSION.md docs/LIBIDN2.md docs/JSON.md docs/answers.schema.json docs/NOTATION.md \
+	install -D -m 644 -t $(DIST)/$(PACKED)/docs docs/GUIDE.md docs/LIBIDN2.md docs/JSON.md docs/answers.schema.json docs/NOTATION.md \
 	    docs/PROFILE.md docs/GLOSSARY.md docs/idn2.1 docs/idn2-registry.1
 	install -D -m 644 -t $(DIST)/$(PACKED)/docs/pictures docs/pictures/*.png
 	install -m 644 -t $(DIST)/$(PACKED) CHANGELOG.md $(wildcard LICENSE* LICENCE* COPYING*)
@@ -129,7 +129,7 @@ check-tables: all
 	for ruleset in tables/rulesets/*.txt; do $(PROGRAM) --check-ruleset $$ruleset || exit 1; done
 
 # Times the program against libidn2's, and prints one table of ratios. Then what a million registered labels take, and
-# what one of what a limit bounds takes at worst, and what idn2-registry and its service take.
+# what one of what a limit bounds takes at worst, what idn2-registry and its service take, and how XML is read.
 bench: all
 	python3 bench/bench.py
 	python3 bench/collisions.py
@@ -137,6 +137,7 @@ bench: all
 	python3 bench/rulesets.py
 	python3 bench/registry.py
 	python3 bench/service.py
+	python3 bench/xml.py
 
 # Compares the program with libidn2, with a reference implementation of the rules and of the table notation, with Unicode's
 # IDNA test file where IDNA_TEST_FILE names it, and, as the reference implementation, with an evaluator of RFC 7940; and
@@ -150,8 +151,8 @@ conformance: all
 	python3 conformance/both_ways.py
 	python3 conformance/published.py --jobs $(LANES)
 
-# Converts the rulesets of a folder, and compares what the program lists under them with the answers of another evaluator of
-# RFC 7940, which the folder has in answers.txt: make evaluator RULESETS=FOLDER
+# Compares what the program lists under the rulesets of a folder, in XML, with the answers of another evaluator of RFC 7940, which
+# the folder has in answers.txt: make evaluator RULESETS=FOLDER
 evaluator: all
 	@test -f '$(RULESETS)/answers.txt' || { echo 'RULESETS names no folder with answers.txt: make evaluator RULESETS=FOLDER' >&2; exit 2; }
 	python3 conformance/evaluator_answers.py '$(RULESETS)'

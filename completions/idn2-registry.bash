@@ -4,13 +4,13 @@ _idn2_registry() {
     local word=${COMP_WORDS[COMP_CWORD]} before=${COMP_WORDS[COMP_CWORD - 1]} job=${COMP_WORDS[1]}
     COMPREPLY=()
     case $before in
-        --config | --idn2 | --verify | --since | --meta) mapfile -t COMPREPLY < <(compgen -f -- "$word"); return ;;
+        --config | --idn2 | --since | --meta) mapfile -t COMPREPLY < <(compgen -f -- "$word"); return ;;
         --as) mapfile -t COMPREPLY < <(compgen -W "xml rfc4290 html" -- "$word"); return ;;
         --holder | --table | --page | --after | --scheduler) return ;;
     esac
     if [ "$COMP_CWORD" -eq 1 ]; then
         mapfile -t COMPREPLY < <(compgen -W "check register release variants tables-of load dump audit change compare join publish
-            convert ask serve check-config --help" -- "$word")
+            ask serve check-config --help" -- "$word")
         return
     fi
     local options="--config --idn2 --json --help"
@@ -22,13 +22,12 @@ _idn2_registry() {
         audit) options+=" --since --resume --scheduler" ;;
         change) options+=" --resume --scheduler" ;;
         publish) options+=" --as --meta" ;;
-        convert) options="--idn2 --help --version --untyped --close-gaps --accept-more --leave-out --standard --verify" ;;
     esac
     case $word in
         -*) mapfile -t COMPREPLY < <(compgen -W "$options" -- "$word") ;;
         *)
             case $job in
-                load | compare | join | publish | convert) mapfile -t COMPREPLY < <(compgen -f -- "$word") ;;
+                load | compare | join | publish) mapfile -t COMPREPLY < <(compgen -f -- "$word") ;;
                 change) mapfile -t COMPREPLY < <(compgen -f -P "${word%%=*}=" -- "${word#*=}") ;;
             esac
             ;;

@@ -6,19 +6,18 @@ function __idn2_registry_of
 end
 
 complete -c idn2-registry -f
-set -l jobs check register release variants tables-of load dump audit change compare join publish convert ask serve check-config
+set -l jobs check register release variants tables-of load dump audit change compare join publish ask serve check-config
 set -l meanings 'Tell which labels are available' 'Register labels that are available' 'Release registered labels' \
     'List the variants of labels' 'Tell which tables admit a label' 'Put labels into the register' \
     'Write the registered labels' 'Tell which registered labels are invalid or collide' 'Tell what a new table changes' \
     'Tell what two tables say otherwise' 'Write the table of the zone' 'Write a table as others read it' \
-    'Make a table from a published ruleset' 'Answer requests' 'Answer over HTTP' 'Check the configuration'
+    'Answer requests' 'Answer over HTTP' 'Check the configuration'
 for number in (seq (count $jobs))
     complete -c idn2-registry -n "not __fish_seen_subcommand_from $jobs" -a $jobs[$number] -d $meanings[$number]
 end
 complete -c idn2-registry -s h -l help -d 'Show the options'
-set -l others (string match -v convert $jobs)
-__idn2_registry_of "$others" -l config -r -F -d 'The configuration'
-__idn2_registry_of "$others" -l json -d 'Answer with objects'
+__idn2_registry_of "$jobs" -l config -r -F -d 'The configuration'
+__idn2_registry_of "$jobs" -l json -d 'Answer with objects'
 __idn2_registry_of "$jobs" -l idn2 -r -F -d 'The program'
 __idn2_registry_of 'check register' -l holder -x -d 'Who asks'
 __idn2_registry_of check -l variants -d 'List the variants, too'
@@ -30,13 +29,6 @@ __idn2_registry_of 'load audit change' -l scheduler -x -d 'Let a cluster do it'
 __idn2_registry_of audit -l since -r -F -d 'Tell only what is new'
 __idn2_registry_of load -l old -d 'Take labels of older rules, too'
 __idn2_registry_of load -l rest -d 'Load the others'
-__idn2_registry_of 'load change compare join publish convert' -F
+__idn2_registry_of 'load change compare join publish' -F
 __idn2_registry_of publish -l as -x -a 'xml rfc4290 html' -d 'In which form'
 __idn2_registry_of publish -l meta -r -F -d 'The metadata'
-__idn2_registry_of convert -l version -x -a '1 2 3' -d 'Of the notation'
-__idn2_registry_of convert -l untyped -x -a 'blocked allocatable' -d 'What variants without a type are'
-__idn2_registry_of convert -l close-gaps -d 'Add missing pairs'
-__idn2_registry_of convert -l accept-more -d 'Drop what a table can not say'
-__idn2_registry_of convert -l leave-out -d 'Leave out what the profile does not have'
-__idn2_registry_of convert -l standard -d 'Test labels by the standards whole'
-__idn2_registry_of convert -l verify -r -F -d 'Verify with these labels, too'

@@ -7,7 +7,7 @@ jobs=(
     'variants:list the variants of labels' 'tables-of:tell which tables admit a label' 'load:put labels into the register'
     'dump:write the registered labels' 'audit:tell which registered labels are invalid or collide'
     'change:tell what a new table changes' 'compare:tell what two tables say otherwise'
-    'publish:write a table as others read it' 'join:write the table of the zone' 'convert:make a table from a published ruleset'
+    'publish:write a table as others read it' 'join:write the table of the zone'
     'ask:answer requests' 'serve:answer over HTTP' 'check-config:check the configuration'
 )
 common=('--config[the configuration]:FILE:_files' '--idn2[the program]:PROGRAM:_files' '--json[answer with objects]'
@@ -30,10 +30,5 @@ case $words[2] in
         '*:TABLE:_files' ;;
     serve) _arguments -S : $common ;;
     join) _arguments -S : $common '*:NAME:_files' ;;
-    convert) _arguments -S : '--idn2[the program]:PROGRAM:_files' '(-h --help)'{-h,--help}'[show the options]' \
-        '--version[of the notation]:N:(1 2 3)' '--untyped[what variants without a type are]:DISPOSITION:(blocked allocatable)' \
-        '--close-gaps[add missing pairs]' '--accept-more[drop what a table can not say]' \
-        '--leave-out[leave out what the profile does not have]' '--standard[test labels by the standards whole]' \
-        '--verify[verify with these labels, too]:LABELS:_files' '*:FILE:_files' ;;
     *) _arguments -S : $common '*:LABEL: ' ;;
 esac

@@ -10,7 +10,7 @@ _idn2() {
         before=${COMP_WORDS[COMP_CWORD - 2]}
     fi
     case $before in
-        --variants | --check-table | --ruleset | --check-ruleset | --among)
+        --variants | --check-table | --ruleset | --check-ruleset | --print-ruleset | --among)
             mapfile -t COMPREPLY < <(compgen -f -- "$word")
             return
             ;;
@@ -24,11 +24,13 @@ _idn2() {
 # The options that may still be given: one mode at most, each option once, none after '--'.
 _idn2_options() {
     local given=" ${COMP_WORDS[*]:1:COMP_CWORD-1} "
-    local modes="-l --lookup -r --register -d --decode --variants --check-table --ruleset --check-ruleset"
+    local modes="-l --lookup -r --register -d --decode --variants --check-table --ruleset --check-ruleset --print-ruleset"
     local options="-N --tr46nt --usestd3asciirules --standard --explain --json --quiet -h --help -V --version" option
     case $given in
         *" -- "*) return ;;
         *" -d "* | *" --decode "*) options="--old $options" ;;
+        *" --json "*) modes=${modes/ --print-ruleset/} ;;
+        *" --print-ruleset "*) options=${options/ --json/} ;;
         *" --variants "* | *" --ruleset "*) modes= options="$(_idn2_beside_variants "$given") $options" ;;
     esac
     for option in $modes; do

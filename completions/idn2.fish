@@ -4,7 +4,7 @@
 function __idn2_has
     set -l given (commandline -opc)
     switch "$given[-1]"
-        case --variants --check-table --ruleset --check-ruleset --among --after --limit --tries --steps
+        case --variants --check-table --ruleset --check-ruleset --print-ruleset --among --after --limit --tries --steps
             set -e given[-1]
     end
     for word in (string replace -r '^(--[^=]*)=.*' '$1' -- $given)
@@ -32,7 +32,7 @@ end
 
 complete -c idn2 -f
 
-set -l modes '-l --lookup -r --register -d --decode --variants --check-table --ruleset --check-ruleset'
+set -l modes '-l --lookup -r --register -d --decode --variants --check-table --ruleset --check-ruleset --print-ruleset'
 __idn2_option $modes -s l -l lookup -d 'Convert each name for a query; the default'
 __idn2_option $modes -s r -l register -d 'Test each line, one label, and print its A-label'
 __idn2_option $modes -s d -l decode -d 'Turn the A-labels of each name into U-labels'
@@ -40,6 +40,7 @@ __idn2_option $modes -l variants -r -F -d "List each label's variants by the tab
 __idn2_option $modes -l check-table -r -F -d 'Print the pairs that the table in FILE lacks'
 __idn2_option $modes -l ruleset -r -F -d "List each label's variants by the ruleset in FILE"
 __idn2_option $modes -l check-ruleset -r -F -d 'Print the pairs that the ruleset in FILE lacks'
+__idn2_option "$modes --json" -l print-ruleset -r -F -d 'Print what the ruleset in FILE says; not as JSON'
 
 __idn2_listing_option '--among --jump --tries --steps' -l among -r -F -d 'With --variants: list labels in FILE that collide'
 __idn2_listing_option '--jump --among --after --limit --tries --steps' -l jump \
@@ -55,7 +56,7 @@ __idn2_option '-N --tr46nt' -s N -l tr46nt -d 'Non-transitional lookup, which lo
 __idn2_option --usestd3asciirules -l usestd3asciirules -d 'Lookup refuses ASCII but letters, digits, hyphens'
 __idn2_option --standard -l standard -d "Test labels by Unicode's own data, not by lists"
 __idn2_option --explain -l explain -d 'Messages of refused lines go on with the cause'
-__idn2_option --json -l json -d 'Answer by objects of JSON, with causes of refusals'
+__idn2_option '--json --print-ruleset' -l json -d 'Answer by objects of JSON, with causes of refusals'
 __idn2_option --quiet -l quiet -d 'Accepted; there is no banner'
 __idn2_option '-h --help' -s h -l help -d 'Print help'
 __idn2_option '-V --version' -s V -l version -d 'Print version'

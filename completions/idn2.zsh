@@ -1,7 +1,7 @@
 #compdef idn2
 # Completes the words of idn2 in zsh, as _idn2 in a folder of $fpath.
 
-local modes='-l --lookup -r --register -d --decode --variants --check-table --ruleset --check-ruleset'
+local modes='-l --lookup -r --register -d --decode --variants --check-table --ruleset --check-ruleset --print-ruleset'
 local -a listing
 # What goes with --variants and --ruleset; each begins with what it bars.
 (( $words[(I)--(variants|ruleset)(|=*)] )) && listing=(
@@ -23,11 +23,12 @@ _arguments -S : $listing \
     "($modes)--check-table=[Print the pairs that the table in FILE lacks]:FILE:_files" \
     "($modes)--ruleset=[List each label's variants by the ruleset in FILE]:FILE:_files" \
     "($modes)--check-ruleset=[Print the pairs that the ruleset in FILE lacks]:FILE:_files" \
+    "($modes --json)--print-ruleset=[Print what the ruleset in FILE says; not as JSON]:FILE:_files" \
     '(-N --tr46nt)'{-N,--tr46nt}'[Non-transitional lookup, which lookup does anyway]' \
     '--usestd3asciirules[Lookup refuses ASCII but letters, digits, hyphens]' \
     "--standard[Test labels by Unicode's own data, not by lists]" \
     '--explain[Messages of refused lines go on with the cause]' \
-    '--json[Answer by objects of JSON, with causes of refusals]' \
+    '(--print-ruleset)--json[Answer by objects of JSON, with causes of refusals]' \
     '--quiet[Accepted; there is no banner]' \
     '(-h --help)'{-h,--help}'[Print help]' \
     '(-V --version)'{-V,--version}'[Print version]' \

@@ -8,16 +8,14 @@ refuses by the number by which the reference implementation does. A demand is an
 many variants or readings is left out. Status 1 where anything differs."""
 
 import collections
-import functools
 import itertools
-import multiprocessing
 import pathlib
 import random
 import sys
 
 sys.path.append(str(pathlib.Path(__file__).resolve().parent.parent / "registry"))
 
-from drawn_rulesets import DrawnRuleset, tell_counts, words_of_drawing
+from drawn_rulesets import DrawnRuleset, counted, tell_counts, words_of_drawing
 from evaluator_answers import answer_of_evaluator, asked_of_program
 from idn2_registry.notation import patterns, reading
 from idn2_registry.notation.faults import TableFault
@@ -170,18 +168,9 @@ def compared(seed: int, number: int) -> collections.Counter[str]:
     return counts
 
 
-def counted(seed: int, count: int, jobs: int) -> collections.Counter[str]:
-    """What is found in so many rulesets."""
-    counts = collections.Counter[str]()
-    with multiprocessing.Pool(jobs) as pool:
-        for found in pool.imap(functools.partial(compared, seed), range(count), chunksize=16):
-            counts += found
-    return counts
-
-
 def main(words: list[str]) -> int:
     given = words_of_drawing("Compares the reference implementation with another.", 7940).parse_args(words)
-    return tell_counts(lambda: counted(given.seed, given.count, given.jobs))
+    return tell_counts(lambda: counted(compared, given.seed, given.count, given.jobs))
 
 
 if __name__ == "__main__":

@@ -2,6 +2,9 @@
 well-formed."""
 
 import argparse
+import functools
+import multiprocessing
+import sys
 from collections import Counter
 from collections.abc import Callable
 
@@ -35,6 +38,17 @@ def words_of_drawing(description: str, seed: int) -> argparse.ArgumentParser:
     words.add_argument("--jobs", type=int, default=1, help="processes side by side")
     words.add_argument("count", metavar="N", type=int, nargs="?", default=6000)
     return words
+
+
+def counted(compared: Callable[[int, int], Counter[str]], seed: int, count: int, jobs: int) -> Counter[str]:
+    """What is found in so many that are drawn, each by the seed and its number. Standard error tells how far it is."""
+    counts = Counter[str]()
+    with multiprocessing.Pool(jobs) as pool:
+        for number, found in enumerate(pool.imap(functools.partial(compared, seed), range(count), chunksize=4), 1):
+            counts += found
+            if number % 500 == 0:
+                print(f"{number} of {count}", file=sys.stderr, flush=True)
+    return counts
 
 
 def tell_counts(count: Callable[[], Counter[str]]) -> int:

@@ -1,30 +1,28 @@
 #!/usr/bin/env python3
-"""Compares converted rulesets with another evaluator of RFC 7940: python3 conformance/evaluator_answers.py FOLDER
+"""Compares what the program says of rulesets in XML with another evaluator of RFC 7940:
+python3 conformance/evaluator_answers.py FOLDER
 
 FOLDER has rulesets in XML, and answers.txt with a line for each label: the ruleset's file, a tab, the label, a tab, and
 'invalid' or the variants that the ruleset finds valid, the label itself among them, each with '=allocatable' or '=blocked',
 parted by blanks. Labels are written as code points in hexadecimal, joined by hyphens. This project's own evaluator,
-idn2_registry.rfc7940, answers from the XML. idn2-registry convert converts each ruleset, and verifies it with drawn labels; the program lists
-its labels; the reference implementation, ruleset_labels.py, tells the same without it. What RFC 5891 refuses is left out on all sides. The
-status is 0 where all answers agree."""
+idn2_registry.rfc7940, answers from the XML, and so does the program; the reference implementation, ruleset_labels.py, answers
+from the ruleset of version 3 that the program prints of it. What RFC 5891 refuses is left out on all sides. The status is 0
+where all answers agree."""
 
 import collections
-import os
 import pathlib
 import re
 import subprocess
 import sys
 import tempfile
 
-from compare import HERE, PROGRAM
+from compare import PROGRAM
 from idn2_registry.notation import reading
 from idn2_registry.rfc7940.drawn_labels import every_variant
 from idn2_registry.rfc7940.reader import read
 from idn2_registry.rfc7940.ruleset import Asked, Verdict
 from ruleset_labels import BLOCKED, UNCLEAR, RulesetLabels
 
-COMMAND = [sys.executable, "-m", "idn2_registry", "convert", "--idn2", PROGRAM]
-ENVIRONMENT = {**os.environ, "PYTHONPATH": str(HERE.parent / "registry")}
 # No answer has so many variants.
 MOST_SPELLED = 1_000_000
 
@@ -43,11 +41,11 @@ def answers_of(folder):
     return answers
 
 
-def converted(path):
-    """The text that the converter makes of a ruleset; None if it is refused, which is told."""
-    done = subprocess.run([*COMMAND, path], env=ENVIRONMENT, capture_output=True, check=False)
+def printed(path):
+    """The ruleset of version 3 that the program prints of one in XML; None if it is refused, which is told."""
+    done = subprocess.run([PROGRAM, "--print-ruleset", path], capture_output=True, check=False)
     if done.returncode:
-        print(done.stderr.decode().strip())
+        print(f"{path.name}: {done.stderr.decode().strip()}")
         return None
     return done.stdout
 
@@ -112,13 +110,13 @@ def differences(wanted, found):
     return [label for label in known.intersection(wanted) if label not in found or asked(wanted[label]) != asked(found[label])]
 
 
-def differing(name, ruleset, text, wanted):
+def differing(name, xml, text, wanted):
     """The labels of a file that the evaluator, the reference implementation or the program answers otherwise; each is told."""
     labels, found = sorted(wanted), set()
     known = sorted(registrable(labels))
-    for who, answers in (("the evaluator", answers_of_evaluator(ruleset, labels)),
+    for who, answers in (("the evaluator", answers_of_evaluator(read(xml), labels)),
                          ("the reference implementation", answers_of_reference(text, labels)),
-                         ("the program", answers_of_program(text, known))):
+                         ("the program", answers_of_program(xml, known))):
         different = differences(wanted, answers)
         found.update(different)
         for label in different:
@@ -130,9 +128,9 @@ def main(folder):
     total = agreeing = 0
     for name, wanted in answers_of(folder).items():
         total += len(wanted)
-        text, ruleset = converted(folder / name), read((folder / name).read_bytes())
+        text = printed(folder / name)
         if text:
-            count = len(wanted) - len(differing(name, ruleset, text, wanted))
+            count = len(wanted) - len(differing(name, (folder / name).read_bytes(), text, wanted))
             agreeing += count
             print(f"{name}: {count} of {len(wanted)} answers agree", flush=True)
     print(f"{agreeing} of {total} answers agree")

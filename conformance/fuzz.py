@@ -33,7 +33,7 @@ from drawn_rulesets import DrawnRuleset, spelled
 from idn2_registry.unicode_data import Classes, version
 from libidn2 import LibIdn2
 from objects import Wrong, as_explained, without_what_objects_leave_out
-from reference_run import LINE_LIMIT, TEXTS, Bad, Options, Reference, Show, Unknown, bodies, explains
+from reference_run import LINE_LIMIT, PRINT, TEXTS, Bad, Options, Reference, Show, Unknown, bodies, explains
 from registration import EMPTY, LABEL_TOO_LONG, a_label
 from rules import UnicodeProperties
 
@@ -54,13 +54,13 @@ PIECES = [b"a", b"b", b".", b"-", b"--", b"xn--", b"XN--", b"\0", b"\r", b"\r\n"
           b"\xf4\x90\x80\x80", b"\xc0\x80", "ß".encode(), "\u0301".encode(), "\U00010ffff".encode(), b"a" * 62, b"b" * 1000]
 WORDS = ["-l", "--lookup", "-r", "--register", "-d", "--decode", "-N", "--tr46nt", "--quiet", "--usestd3asciirules",
          "--explain", "--standard",
-         "-h", "--help", "-V", "--version", "--variants", "--check-table", "--ruleset", "--check-ruleset", "--after", "--limit", "--tries", "--steps", "--",
+         "-h", "--help", "-V", "--version", "--variants", "--check-table", "--ruleset", "--check-ruleset", "--print-ruleset", "--after", "--limit", "--tries", "--steps", "--",
          "--among", "--among=registered", "--among=absent", "--among=table", "--others", "--old", "--jump", "--jump=1", "registered",
          "-", "-rN", "-lr", "-hx", "-xh", "-r=1", "--register=1", "--bogus", "--after=", "--after=-a", "--limit=1",
          "--limit=0", "--tries=2", "--tries=0000000002", "--steps=1", "--steps=2", "--steps=0000000000000000003",
          "--steps=00000000000000000004", "--steps=1000000000000000000", "--steps=1000000000000000001", "--limit=00000000001", "--limit=+1", "--limit= 1", "table", "absent",
          "", "a", "aß", "1", "2", "1000000000", "1000000001", "--variants=table", "--check-table=table",
-         "--ruleset=table", "--check-ruleset=table", "a\nb"]
+         "--ruleset=table", "--check-ruleset=table", "--print-ruleset=table", "a\nb"]
 
 
 LIMITS = ("1", "2", "3", "7")
@@ -118,7 +118,7 @@ class Fuzz:
             return Unknown
         found = self.run(words, given)
         if is_as_wanted(found, wanted):
-            if not explains(words):
+            if not explains(words) or any(word.startswith(PRINT) for word in words):
                 return None
             wanted = wanted[0], wanted[1] and without_what_objects_leave_out(wanted[1]), wanted[2]
             words = ["--json", *words]
@@ -412,7 +412,7 @@ class Fuzz:
             damage = self.chance.choice((b"|", b"-", b":", b" ", b"\t", b"#", b"\n", b"\r\n", b"U+", b"0", b"\0", b"\xff", b".",
                                          b"..", b"!", b"%"))
             table = table[:place] + damage + table[place + self.chance.randint(0, 1):]
-        check = "--check-ruleset" if table.startswith(RULESET) else "--check-table"
+        check = self.chance.choice(("--check-ruleset", PRINT)) if table.startswith(RULESET) else "--check-table"
         return self.compare([check, "table"], b"", table=table)
 
     def words(self):

@@ -2,20 +2,19 @@
 """Publishes tables as XML by idn2-registry and reads them back:
 python3 conformance/published.py [--idn2 PROGRAM] [--seed SEED] [--jobs JOBS] [N]
 
-N tables [default: 6000] are drawn from a seed: rulesets as the converter makes them of random XML (tests/rich_ruleset.py), and
-rulesets and tables of the notation (drawn_rulesets.py). Before them come all tables of tables/ and what becomes of the rulesets
-of tests/. What is published has to read back to the same table, or is refused by a line that names why:
+N tables [default: 6000] are drawn from a seed, rulesets and tables of the notation (drawn_rulesets.py). Before them come all
+tables of tables/ and the rulesets in XML of tests/. The program has to read what is published back to the same table, or the
+table is refused by a line that names why:
 
-    to the letter    the canonical text of what is read back is that of the table, wherever its definitions stand
-    the same         else: what is read back is published to the letter but for names of types, and the program lists the same
-                     under both, of labels that are drawn from the XML; sets lose what no label has, and what nothing names goes.
-                     Where what is read back has a pattern that nothing matches, or a count over the start or the end of a label,
-                     it isn't published again, since XML has no such rule
+    identical    what is read back says the same of each thing, as idn2-registry compare tells it
+    the same     else: what is read back is published and read back identically, and the program lists the same under both, of
+                 labels that are drawn from the XML; groups of a pattern go, and so do code points of sets that no label has.
+                 Where what is read back has a pattern that nothing matches, or a count over the start or the end of a label, it
+                 isn't published again, since XML has no such rule
 
 The counts are printed, and of the refusals those by each reason. Status 1 where anything else comes out."""
 
 import collections
-import dataclasses
 import functools
 import itertools
 import multiprocessing
@@ -27,19 +26,14 @@ import tempfile
 from collections.abc import Iterator
 
 ROOT = pathlib.Path(__file__).resolve().parent.parent
-for folder in ("conformance", "registry", "tests"):
+for folder in ("conformance", "registry"):
     sys.path.append(str(ROOT / folder))
 
 from drawn_rulesets import DrawnRuleset, spelled, tell_counts, words_of_drawing
-from rich_ruleset import RichRuleset
 
+from idn2_registry.compare import Comparison, Relation
 from idn2_registry.faults import Unsayable, Unusable
 from idn2_registry.form import Form
-from idn2_registry.lgr import command, definitions, expressions
-from idn2_registry.lgr.program import Asked
-from idn2_registry.lgr.ruleset import Fault
-from idn2_registry.notation import canonical
-from idn2_registry.notation.ruleset import Action, Entry, Mapped, Ruleset, Types
 from idn2_registry.parsed_table import ParsedTable
 from idn2_registry.program import Program
 from idn2_registry.publish import publish, read_back
@@ -49,30 +43,25 @@ from idn2_registry.tables import Table, checked
 
 PROGRAM = ROOT / "crates/idn2/out/idn2"
 META = 'version = "1"\ndate = 2026-11-28\nlanguage = "und"\nscope = "example"\n'
-WHOLE = '<lgr xmlns="urn:ietf:params:xml:ns:lgr-1.0"><data>{}</data><rules>{}</rules></lgr>'
 ALPHABETS = ("abcd", "sß", "abß-", "qa\u0301", "\u05d0\u05d1", "中国國", "lа·l", "\u0915\u094d\u200d", "\u0627\u200c\u0647")
-LETTER, SAME = "to the letter", "the same"
-# The end of a line that defines a pattern which nothing matches, and the one other reason why what is read back isn't said.
-NOTHING = f" {definitions.WHOLE[expressions.NOTHING]}\n".encode()
+IDENTICAL, SAME = "identical", "the same"
+# What nothing matches, before an anchor and after it, and the one other reason why what is read back isn't said.
+NOTHING = (b". ^", b"$ .")
 COUNTED_SIGN = "rule: a count, and a start, end or anchor in it"
 
 
 class Drawn:
     """Tables that are drawn, each by its number."""
 
-    def __init__(self, program: Program, seed: int) -> None:
-        self.program, self.seed = program, seed
-        self.asked = Asked(program)
+    def __init__(self, seed: int) -> None:
+        self.seed = seed
 
-    def text(self, number: int) -> bytes | None:
-        """The text of one; None if it is none of XML."""
+    def text(self, number: int) -> bytes:
+        """The text of one."""
         chance = random.Random(f"{self.seed} {number}")
-        if number % 3 == 0:
-            rich = RichRuleset(chance.random())
-            return converted(WHOLE.format(rich.data, rich.rules).encode(), self.asked)
         letters = chance.choice(ALPHABETS)
         entries = self.entries(chance, letters)
-        if number % 3 == 1:
+        if number % 2:
             invalid = {source for source in list(entries)[1:] if chance.random() < 0.3}
             return "\n".join(["%version 3", *DrawnRuleset(chance, letters, entries, invalid).lines]).encode()
         version = chance.choice((1, 2))
@@ -96,41 +85,9 @@ class Drawn:
         return entries
 
 
-def converted(xml: bytes, asked: Asked) -> bytes | None:
-    """What the converter makes of a file, before it is verified."""
-    try:
-        return command.made(xml, asked, command.options_of(["drawn.xml"]), lambda _: None)
-    except Fault:
-        return None
-
-
-def with_types_by_use(ruleset: Ruleset) -> Ruleset:
-    """The ruleset with other names of its types: numbers, by what has them and which actions ask for them."""
-    mapped = [each for entry in ruleset.entries.values() for each in entry.mapped()]
-    asked = [action.types.names if action.types else () for action in ruleset.actions]
-    uses = {name: [each.type == name for each in mapped] + [name in names for names in asked] for name in ruleset.types}
-    new = {name: f"t{number}" for number, name in enumerate(sorted(uses, key=uses.__getitem__))}
-
-    def of_mapped(each: Mapped) -> Mapped:
-        return dataclasses.replace(each, type=new.get(each.type, each.type) if each.type else None)
-
-    def of_action(action: Action) -> Action:
-        names = tuple(sorted(new.get(name, name) for name in action.types.names)) if action.types else ()
-        return dataclasses.replace(action, types=Types(action.types.word, names) if action.types else None)
-
-    entries = {points: Entry(of_mapped(entry.source), tuple(map(of_mapped, entry.variants)))
-               for points, entry in ruleset.entries.items()}
-    actions = list(map(of_action, ruleset.actions))
-    return dataclasses.replace(ruleset, types=sorted(new.values()), entries=entries, actions=actions)
-
-
-def is_letter(one: Ruleset, other: Ruleset) -> bool:
-    """Whether both have the same canonical text, wherever their definitions stand."""
-    first, second = (canonical.text_of(each).splitlines() for each in (one, other))
-    is_definition = lambda line: line.startswith(("%type", "%set", "%rule", "%whole"))
-    definitions = [sorted(filter(is_definition, lines)) for lines in (first, second)]
-    rest = [list(itertools.filterfalse(is_definition, lines)) for lines in (first, second)]
-    return definitions[0] == definitions[1] and rest[0] == rest[1]
+def is_identical(one: ParsedTable, other: ParsedTable) -> bool:
+    """Whether both say the same of each thing."""
+    return Comparison.of(one, other).relation is Relation.IDENTICAL
 
 
 class Publishing:
@@ -141,7 +98,7 @@ class Publishing:
         self.path.with_suffix(".toml").write_text(META, "ascii")
 
     def outcome(self, text: bytes) -> str:
-        """What becomes of a table: LETTER, SAME, or why it is refused. Raises AssertionError for anything else."""
+        """What becomes of a table: IDENTICAL, SAME, or why it is refused. Raises AssertionError for anything else."""
         self.path.write_bytes(text)
         table = checked(Table("drawn", self.path, text), self.program)
         try:
@@ -150,38 +107,32 @@ class Publishing:
             assert "\n" not in str(error), error
             return str(error)
         parsed = ParsedTable.read(table)
-        back = self.back(xml, parsed)
-        if is_letter(parsed.ruleset, back.ruleset):
-            return LETTER
+        back = read_back(xml, parsed, self.program)
+        if is_identical(parsed, back):
+            return IDENTICAL
         try:
-            again = publish(Table("drawn", self.path, back.table.data), Form.XML, None, self.program)
+            again = publish(back.table, Form.XML, None, self.program)
         except Unsayable as error:
-            assert NOTHING in back.table.data or str(error).endswith(COUNTED_SIGN), (text, back.table.data, error)
+            is_none_of_xml = any(map(back.table.text.__contains__, NOTHING)) or str(error).endswith(COUNTED_SIGN)
+            assert is_none_of_xml, (text, back.table.text, error)
         else:
-            assert is_letter(*map(with_types_by_use, (back.ruleset, self.back(again, back).ruleset))), (text, back.table.data)
+            assert is_identical(back, read_back(again, back, self.program)), (text, back.table.text)
         labels = [label for label in DrawnLabels(reader.read(xml)).labels() if label[2:4] != "--" and "\n" not in label]
-        assert self.listed(table, labels) == self.listed(back.table, labels), (text, back.table.data)
+        one, other = (self.listed(each, labels, table.version > 1) for each in (table, back.table))
+        assert one == other, (text, back.table.text)
         return SAME
 
-    def back(self, xml: bytes, parsed: ParsedTable) -> ParsedTable:
-        """What the converter reads."""
-        back, told = read_back(xml, parsed, self.program)
-        assert back is not None, told
-        return back
-
-    def listed(self, table: Table, labels: list[str]) -> tuple[bytes, bytes]:
-        """The output and the messages of the program."""
-        words = [table.kind.value[0], table.held.path, "--limit", "100", "--tries", "10000"]
-        done = self.program.run(words, "".join(f"{label}\n" for label in labels).encode(), [table.held.descriptor])
-        return done.stdout, done.stderr
+    def listed(self, table: Table, labels: list[str], has_dispositions: bool) -> tuple[bytes, list[int]]:
+        """What the program lists, with dispositions or without, and the numbers of the labels that it refuses."""
+        given = "".join(f"{label}\n" for label in labels).encode()
+        output, refused = self.program.plain(table.listing("--limit", "100", "--tries", "10000"), given, [table.held.descriptor])
+        return output if has_dispositions else re.sub(rb"\t(allocatable|blocked)$", b"", output, flags=re.MULTILINE), refused
 
 
-def examples(program: Program) -> Iterator[tuple[str, bytes | None]]:
-    """The tables of the repository, and what is made of the rulesets of the tests."""
-    for path in sorted((ROOT / "tables").glob("**/*.txt")):
+def examples() -> Iterator[tuple[str, bytes]]:
+    """The tables of the repository, and the rulesets of the tests."""
+    for path in sorted([*(ROOT / "tables").glob("**/*.txt"), *(ROOT / "tests/rulesets").glob("*.xml")]):
         yield str(path.relative_to(ROOT)), path.read_bytes()
-    for path in sorted((ROOT / "tests/rulesets").iterdir()):
-        yield str(path.relative_to(ROOT)), converted(path.read_bytes(), Asked(program))
 
 
 def reason_of(outcome: str) -> str:
@@ -193,9 +144,7 @@ def reason_of(outcome: str) -> str:
 
 def outcome_of_drawn(program: Program, seed: int, number: int) -> str | None:
     """What becomes of a drawn table; None if it is none. What should not be is told with its number."""
-    text = Drawn(program, seed).text(number)
-    if text is None:
-        return None
+    text = Drawn(seed).text(number)
     with tempfile.TemporaryDirectory() as folder:
         try:
             return Publishing(program, pathlib.Path(folder)).outcome(text)
@@ -218,8 +167,8 @@ def outcomes(program: Program, seed: int, count: int, jobs: int) -> Iterator[str
 def counted(program: Program, seed: int, count: int, jobs: int) -> collections.Counter[str]:
     """What comes of so many drawn tables. What comes of each example is printed before."""
     with tempfile.TemporaryDirectory() as folder:
-        for name, text in examples(program):
-            print(f"{name}: {Publishing(program, pathlib.Path(folder)).outcome(text) if text else 'no table'}", flush=True)
+        for name, text in examples():
+            print(f"{name}: {Publishing(program, pathlib.Path(folder)).outcome(text)}", flush=True)
     return collections.Counter(map(reason_of, outcomes(program, seed, count, jobs)))
 
 

@@ -16,7 +16,7 @@ import old_labels
 import table_places
 from causes import Causes
 from collisions import MOST_SOURCES, Collisions, sources_of
-from idn2_registry.notation import reading
+from idn2_registry.notation import canonical, reading
 from idn2_registry.notation.faults import LIMIT, TableFault
 from idn2_registry.notation.ruleset import BLOCKED, Entry, Mapped, Ruleset
 from registration import Registration, a_label
@@ -38,12 +38,12 @@ FLAGS = {"-l": "lookup", "--lookup": "lookup", "-r": "register", "--register": "
          "--decode": "decode", "-N": "nontransitional", "--tr46nt": "nontransitional", "--quiet": "quiet", "--explain": "explain",
          "--usestd3asciirules": "std3", "--standard": "standard", "--jump": "jump", "--others": "others", "--old": "old",
          "-h": "show", "--help": "show", "-V": "show", "--version": "show"}
-LISTINGS, CHECKS = {"--variants", "--ruleset"}, {"--check-table", "--check-ruleset"}
+LISTINGS, CHECKS, PRINT = {"--variants", "--ruleset"}, {"--check-table", "--check-ruleset"}, "--print-ruleset"
 OF_A_LISTING = ("--after", "--limit", "--tries", "--steps", "--among")
-VALUES = LISTINGS | CHECKS | set(OF_A_LISTING)
+VALUES = LISTINGS | CHECKS | {PRINT} | set(OF_A_LISTING)
 # The long names of flags that have another name here.
 LONG = {"nontransitional": "--tr46nt", "std3": "--usestd3asciirules"}
-MODES = {"lookup", "register", "decode"} | LISTINGS | CHECKS
+MODES = {"lookup", "register", "decode"} | LISTINGS | CHECKS | {PRINT}
 
 
 class Bad(Exception):
@@ -124,6 +124,10 @@ class Options:
             raise Bad(f"--after takes at most {TEXT_LIMIT} bytes")
         if self.mode in CHECKS and self.strings:
             raise Bad("the check of a table takes no STRINGS")
+        if self.mode == PRINT and self.strings:
+            raise Bad("--print-ruleset takes no STRINGS")
+        if self.mode == PRINT and "json" in self.given:
+            raise Bad("--print-ruleset doesn't go with --json")
 
     def obey_rules_of_variants(self):
         """Options of a listing need one, a jump needs a table and is no listing, and `--among` tries and passes over nothing."""
@@ -146,7 +150,7 @@ class Options:
 
     def files(self):
         """The names of the files that are read, in their order."""
-        return [self.given[name] for name in (*LISTINGS, *CHECKS, "--among") if name in self.given]
+        return [self.given[name] for name in (*LISTINGS, *CHECKS, PRINT, "--among") if name in self.given]
 
     def count(self, name, default, digits=10, least=1, most=COUNT_LIMIT):
         text = self.given.get(name)
@@ -213,6 +217,8 @@ class Run:
     def serve(self, options, given, files):
         if options.mode in CHECKS:
             return self.check(options, files[options.given[options.mode]])
+        if options.mode == PRINT:
+            return self.print_ruleset(options, files[options.given[options.mode]])
         try:
             registered, table = self.read_files(options, files)
         except RegisteredFault as fault:
@@ -301,6 +307,12 @@ class Run:
         if fault:
             return b"", f"{lines[0]}{self.tail_of_table(options, text, *map(int, fault.groups()))}\n".encode(), 2
         return "".join(line + "\n" for line in lines).encode(), b"", 0 if is_clean else 1
+
+    def print_ruleset(self, options, text):
+        try:
+            return canonical.text_of(reading.read(text, self.classes.may_stand)).encode(), b"", 0
+        except TableFault as fault:
+            return b"", f"{fault}{self.tail_of_table(options, text, fault.line, fault.number)}\n".encode(), 2
 
     def answer_line(self, options, table, registered, body):
         """The lines of output and no refusal, or none and the number of the refusal."""

@@ -323,6 +323,10 @@ OF_RULESETS = [
      "ba\tba\tallocatable\nbа\txn--b-8sb\tblocked\n#end 2\n", refused((3, "41 not valid under the table")), 1),
     ([*RULESET, "--jump"], ENDS, "ab\tb\n", "аb\tblocked\tblocked\n", "", 0),
     (["--check-ruleset", "t", "--json"], ENDS, "", '{"source":"0062","differs":"0063"}\n{"entries":4,"gaps":0}\n', "", 1),
+    # What a ruleset says, each thing in its one spelling.
+    (["--print-ruleset", "t"], "%version 3\n\n# a comment\n%type t\n%rule end  _ $\nU+0061 | !0430\n0062..0063 as t when end\n!0430|!u+0061\n", "",
+     "%version 3\n%type t\n%rule end _ $\n0061|!0430\n0062 as t when end\n0063 as t when end\n!0430|!0061\n", "", 0),
+    (["--explain", "--print-ruleset", "t"], ENDS + "0062\n", "", "", "idn2: table line 7: 31 source given twice: source at byte 1\n", 2),
     # A byte order mark before the version line.
     ([*RULESET, "--explain"], "\ufeff" + ENDS, "aa\n", "", "idn2: table line 1: 30 table syntax: a byte order mark at byte 1\n", 2),
 ]

@@ -1,9 +1,9 @@
 #!/usr/bin/env python3
-"""Compares a ruleset, which may have been edited, with the file from which it was made, as idn2-registry convert does
-before it prints one: python3 conformance/verified.py [--idn2 PROGRAM] [--all] RULESET FILE [LABELS]
+"""Compares what the program lists under a ruleset with what the evaluator of RFC 7940 says of a published file:
+python3 conformance/verified.py [--idn2 PROGRAM] [--all] RULESET FILE [LABELS]
 
-RULESET is in the notation of docs/NOTATION.md, FILE is a ruleset of RFC 7940 in XML, and LABELS has a label on each
-line. Those are asked about, and labels that are drawn from FILE. The first difference is told, or with --all each.
+FILE is a ruleset in XML, and RULESET the same file, or what --print-ruleset printed of it and somebody edited. LABELS has a label
+on each line. Those are asked about, and labels that are drawn from FILE. The first difference is told, or with --all each.
 
 Status: 0 no difference; 1 a difference; 2 FILE is refused, or the program can't be asked."""
 
@@ -22,7 +22,7 @@ PROGRAM = ROOT / "crates/idn2/out/idn2"
 
 
 def main(words: list[str]) -> int:
-    parser = argparse.ArgumentParser(description="Compares a ruleset with the file from which it was made.")
+    parser = argparse.ArgumentParser(description="Compares what a ruleset and a published file say.")
     parser.add_argument("--idn2", default=str(PROGRAM))
     parser.add_argument("--all", action="store_true")
     parser.add_argument("ruleset", type=pathlib.Path)

@@ -62,13 +62,13 @@ fn add_text(mut sum: u64, text: &[u8]) -> u64 {
 fn add_token(mut sum: u64, token: &Token) -> u64 {
     match token.said() {
         Said::Open(name, attributes) => {
-            sum = add_text(add(add(sum, 1), (token.line() % 251) as u8), name);
+            sum = add_text(add(add(sum, 1), (token.line() % 251) as u8), name.as_slice());
             for attribute in attributes {
                 sum = add_text(add_text(sum, attribute.name()), attribute.value());
             }
             sum
         }
-        Said::Text(bytes) => add_text(add(sum, 2), bytes),
+        Said::Text(bytes) => add_text(add(sum, 2), bytes.as_slice()),
         Said::Close => add(sum, 3),
     }
 }

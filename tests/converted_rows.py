@@ -293,25 +293,6 @@ REFUSALS = [
      "lines 2, 3: char 0061 and 1 more: a null variant, which no table can have\n"
      "line 5: action 'no': a disposition that is none of RFC 7940, section 7.3\n"),
 ]
-# A part of Unicode's data, and what properties say by it of the code points 0061, 0301, 0430, 0628, 0915, 094D and 0149.
-UNICODE_FILES = {
-    "Scripts.txt": "0061..007A ; Latin # a\n0149 ; Latin\n0300..036F ; Inherited\n0430..045F ; Cyrillic\n0628 ; Arabic\n"
-                   "0915..0939 ; Devanagari\n",
-    "IndicSyllabicCategory.txt": "0915..0939 ; Consonant\n094D ; Virama\n",
-    "PropList.txt": "0149 ; Deprecated\n0061 ; Hex_Digit\n",
-    "extracted/DerivedJoiningType.txt": "0628 ; D\n0301 ; T\n",
-    "extracted/DerivedGeneralCategory.txt": "0061 ; Ll\n0378..0379 ; Cn\n",
-    "PropertyValueAliases.txt": "gc ; Ll ; Lowercase_Letter\nsc ; Latn ; Latin\nsc ; Zinh ; Inherited ; Qaai\nsc ; Zzzz ; Unknown\n"
-                                "jt ; D ; Dual_Joining\njt ; U ; Non_Joining\nInSC; Virama ; Virama\nInSC; Other ; Other\n"
-                                "Dep; N ; No ; F ; False\nDep; Y ; Yes ; T ; True\n",
-}
-PROPERTIES = {
-    "sc:Latn": "0061", "Script:latin": "0061", "sc:Qaai": "0301", "sc:Unknown": "094D", "jt:D": "0628",
-    "Joining_Type:Non_Joining": "0061 0430 0915 094D", "InSC:Virama": "094D", "Indic_Syllabic_Category:Other": "0061 0301 0430 0628",
-    "Dep:N": "0061 0301 0430 0628 0915 094D", "gc:Ll": "0061 0430", "gc:Punctuation": "", "General_Category:Dash_Punctuation": "",
-    "gc:Cn": "",
-}
-NO_PROPERTIES = {"sc:Grek": "which has no such value", "jt:X": "which has no such value"}
 # What the file itself has wrong.
 FAULTS = [
     (char("0061", when="r"), "", "line 2: no rule has the name 'r'\n"),
@@ -430,15 +411,6 @@ BY_STANDARD = [
      ["0061|10840 as blocked", "10840|0061 as blocked", "0061-10840"]),
     (char("0061") + char("1E900 1E922"), ["0061"]),
     (char("FB1E 1E922"), ["FB1E-1E922"]),
-]
-# A joiner after some viramas: the data, the rule, and whether the program asks it anyway, with --standard or without it.
-JOINER = '<char cp="200D" when="r"/>'
-AFTER = '<look-behind><class>{}</class></look-behind><anchor/>'
-VIRAMAS = [
-    (char("0915") + char("094D") + JOINER, AFTER.format("094D"), True),
-    (char("0915") + char("094D") + char("1039") + JOINER, AFTER.format("094D"), False),
-    (char("0915") + char("094D") + char("1039") + JOINER, AFTER.format("094D 1039"), True),
-    (char("0915") + char("094D") + char("1039") + JOINER, AFTER.format("1039"), False),
 ]
 # Each limit of the notation.
 TOO_MUCH = "with it the ruleset is past a limit (docs/NOTATION.md)\n"

@@ -373,25 +373,6 @@ def compares_all_that_is_told(folder):
         assert kinds_of(verified.of_refused(Asked(of_file, label))) == wanted, label
 
 
-def tells_what_gives_a_label_away(folder):
-    """What is accepted or allocatable, or isn't listed, where the standard says otherwise; not what is refused or blocked."""
-    after_a = rule("r", f"<look-behind>{literal('a')}</look-behind><anchor/>")
-    of_file = parsed(char("a", "b:blocked c:") + characters("b", "c") + char("d", "", ' when="r"'), after_a)
-    right = {"a": "allocatable", "b": "blocked", "c": "allocatable"}
-    for label, told, wanted in (
-            ("a", right | {"b": "allocatable"}, True),
-            ("a", right | {"d": "allocatable"}, True),
-            ("d", {"d": "blocked"}, True),
-            ("a", right | {"c": "blocked"}, False),
-            ("a", right | {"d": "blocked"}, False)):
-        [difference] = verified.of_block(Asked(of_file, label), Block(told, None))
-        assert difference.gives_away == wanted, str(difference)
-    [refused] = verified.of_refused(Asked(of_file, "a"))
-    assert not refused.gives_away
-    shorter = next(verified.differences([PROGRAM], "--variants", b"%version 2\n0061..0063\n", of_file, ["a"]))
-    assert (shorter.kind, shorter.gives_away) == (Kind.MISSING, True), str(shorter)
-
-
 SAME = (char("a", "b:blocked c:") + char("b", "a:blocked") + characters("c", "d") + char("e", "-:") + char("-")
         + char("f", "", ' when="r"'),
         rule("r", f"<look-behind>{literal('a')}</look-behind><anchor/>") + rule("x", literal("de"))
@@ -464,7 +445,6 @@ TESTS = [
     walks_come_near_to_a_rule,
     drawn_variants_are_spelled,
     compares_all_that_is_told,
-    tells_what_gives_a_label_away,
     program_is_compared,
     compares_files,
 ]

@@ -423,4 +423,6 @@ WORD_ROWS = [
     (["--variants", "t", "--steps", "1", "x"], "--steps takes a number from 2 to 1000000000000000000"),
     (["--variants", "t", "--after", "a" * 1025, "x"], "--after takes at most 1024 bytes"),
     (["--check-table", "t", "x"], "the check of a table takes no STRINGS"),
+    (["--print-ruleset", "t", "x"], "--print-ruleset takes no STRINGS"),
+    (["--json", "--print-ruleset=t"], "--print-ruleset doesn't go with --json"),
 ]

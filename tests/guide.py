@@ -1,6 +1,6 @@
 #!/usr/bin/env python3
-"""Runs what docs/GUIDE.md and docs/CONVERSION.md tell to type where something fails, and the guide's way to set up a registry
-with PostgreSQL; and what docs/LIBIDN2.md says of libidn2's program beside that program, where it is installed.
+"""Runs what docs/GUIDE.md tells to type where something fails, and its way to set up a registry with PostgreSQL; and what
+docs/LIBIDN2.md says of libidn2's program beside that program, where it is installed.
 
 The last line is 'N passed, M failed', and the exit status is 0 where nothing failed. The sessions that the documents show are
 run by program.py, and idn2-registry is tested by registry.py."""
@@ -16,11 +16,11 @@ from postgresql import server
 from program import (LIMIT, PROGRAM, TABLES, is_there, markdown_blocks, markdown_files, pack_registry, run_tests, sessions_of,
                      text_of)
 
-GUIDE, CONVERSION, LIBIDN2_PAGE = (text_of("docs", f"{name}.md") for name in ("GUIDE", "CONVERSION", "LIBIDN2"))
-SAVED = dict(markdown_files(GUIDE) + markdown_files(CONVERSION))
-COMMANDS = [command for text in (GUIDE, CONVERSION) for block in markdown_blocks(text) for command, _ in sessions_of(block)]
+GUIDE, LIBIDN2_PAGE = (text_of("docs", f"{name}.md") for name in ("GUIDE", "LIBIDN2"))
+SAVED = dict(markdown_files(GUIDE))
+COMMANDS = [command for block in markdown_blocks(GUIDE) for command, _ in sessions_of(block)]
 # What makes a file by the output of a command, and the file.
-RECIPES = [(command, made[1]) for command in COMMANDS if (made := re.search(r" && mv (\w+)\.new \1\.txt$", command))]
+RECIPES = [(command, made[1]) for command in COMMANDS if (made := re.search(r" && mv \w+\.new (\w+\.\w+)$", command))]
 
 
 class Kit:
@@ -64,26 +64,26 @@ def on_a_full_disk():
 def makes_each_file_of_an_output_by_its_status(folder):
     """What makes a table goes to a new file, which gets its name only after status 0."""
     for command in COMMANDS:
-        if re.match(r"idn2-registry (convert|join) .*[^2]> ", command):
-            assert re.search(r" > (\w+)\.new && mv \1\.new \1\.txt$|2> told\.txt$", command), command
-    assert len(RECIPES) >= 4, RECIPES
+        if re.match(r"idn2-registry (join|publish) .*> ", command):
+            assert re.search(r" > (\w+\.new) && mv \1 \w+\.\w+$", command), command
+    assert len(RECIPES) >= 2, RECIPES
 
 
 def leaves_a_file_as_it_was_where_its_recipe_fails(folder):
     """What is read is missing; the program fails or is killed; the disk is full. Else it is made."""
     kit = Kit(folder)
-    made = ("latin.txt", "cyrillic.txt", "alike.txt")
-    given = {**SAVED, "latin.txt": "0061\n", "cyrillic.txt": "0062\n", "alike.txt": "0061|0062\n"}
+    given = {"latin.txt": "0061\n", "cyrillic.txt": "0062\n", "alike.txt": "0061|0062\n", "new.txt": "0061\n",
+             "new.toml": 'version = "1"\ndate = 2026-11-28\nlanguage = ["de"]\nscope = ["example"]\n'}
 
     def expect_failure(case, command, name, **more):
-        path = os.path.join(kit.folder, f"{name}.txt")
+        path = os.path.join(kit.folder, name)
         before = text_of(path) if os.path.exists(path) else None
         done = kit.run(command, **more)
         assert done.returncode != 0 and done.stderr, (command, case, done)
         assert (text_of(path) if os.path.exists(path) else None) == before, (command, case, done)
 
     for command, name in RECIPES:
-        for missing in {*SAVED, *made} & set(re.findall(r"\S+\.(?:txt|xml)", command)) - {f"{name}.txt"}:
+        for missing in given.keys() & set(re.findall(r"\S+\.txt", command)) - {name}:
             for file, text in given.items():
                 kit.write(file, text)
             os.remove(os.path.join(kit.folder, missing))

@@ -450,8 +450,10 @@ SHAPES = {
     # Of a name as a whole: a label that is copied may break the Bidi rule.
     17: [PLACED | {"rule", "bidi_class"} | more for more in (set(), {"decoded"}, {"label"}, {"label", "decoded"})],
     19: [shape | more for shape in OF_A_LABELS for more in (set(), {"label"})],
-    20: [set()], 21: [{"octets"}, {"label", "octets"}], 30: [set(), {"byte"}, {"code_point", "byte"}], 31: [{"byte"}], 32: [{"byte"}],
-    33: [{"code_point", "byte"}], 34: [set(), {"byte"}, {"code_point", "byte"}], 35: [{"byte"}], 36: [{"byte"}], 40: [PLACED],
+    20: [set()], 21: [{"octets"}, {"label", "octets"}], 30: [set(), {"byte"}, {"code_point", "byte"}],
+    # Of a ruleset in XML no place is told.
+    31: [set(), {"byte"}], 32: [set(), {"byte"}], 33: [set(), {"code_point", "byte"}], 34: [set(), {"byte"}, {"code_point", "byte"}],
+    35: [set(), {"byte"}], 36: [set(), {"byte"}], 37: [set()], 40: [PLACED],
     41: [PLACED, PLACED | {"condition", "rule"}, {"demand", "kind"}, {"condition", "rule", "action"}, {"action"}, {"unclear"},
          PLACED | {"action", "type"}, PLACED | {"default_action", "type"}],
 }
@@ -464,6 +466,15 @@ RULES = {10: "RFC 5892 2.2", 11: "RFC 5892 2.10", 13: "RFC 5890 2.3.2.1", 15: "R
 OF_NO_TYPE = (None, True, 1.5, [], {})
 
 
+# Data and rules of a ruleset in XML that is refused: with 30, 31, 32, 34, 35, 36 and 37.
+REFUSED_IN_XML = (
+    (b'<letter/>', b''), (b'<char cp="0061"/><char cp="0061"/>', b''),
+    (b'<char cp="0061"><var cp="0062"/><var cp="0062"/></char>', b''), (b'<char cp="%s"/>' % b" ".join([b"0061"] * 9), b''),
+    (b'<char cp="0061" when="x"/>', b''), (b'<char cp="0061"/>', b'<class name="k">0061</class>' * 2),
+    (b'<char cp="0061"><var cp=""/></char>', b''),
+)
+
+
 def written_objects(folder):
     """The objects of all rows, of lines, tables and registered labels, as the program writes them."""
     for line, words, *_ in CAUSES + MORE_ROWS + ROWS:
@@ -474,6 +485,9 @@ def written_objects(folder):
             words = ["--check-ruleset"] if text.startswith(VERSION_3.encode()) else before
             yield from objects_of(run([*words, table_file(folder, text), "--json"]).stdout)
     yield from objects_of(run(["--check-table", table_file(folder, b"0073-0073|00DF\n00DF\n"), "--json"]).stdout)
+    for parts in REFUSED_IN_XML:
+        text = b'<lgr xmlns="urn:ietf:params:xml:ns:lgr-1.0"><data>%s</data><rules>%s</rules></lgr>' % parts
+        yield from objects_of(run(["--check-ruleset", table_file(folder, text), "--json"]).stdout)
     yield from objects_of_types()
     registered = table_file(folder, b"haus\n", "registered.txt")
     yield from objects_of(run([*GERMAN, "--among", registered, "--json", "haus"]).stdout)

@@ -604,7 +604,7 @@ def ends_as_the_readme_shows(folder):
     assert done.stdout == re.sub("(?m)^    ", "", shown) + "proved\n", (shown, done)
 
 
-NOT_PROVED = "not proved yet: make proves it, in about half an hour"
+NOT_PROVED = "not proved yet: make proves it, in an hour or two"
 
 
 def runs_the_main_job_without_a_proof_until_make_has_made_it(folder):

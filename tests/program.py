@@ -90,7 +90,8 @@ REFUSED_WORDS = [
     "--variants|t|--steps|two|x", "--variants|t|--among|r|--steps|2|x", "--jump|--variants|t|--steps|2|x", "--steps|2|x",
     "-l|-d|x", "-l|--variants|t", "--variants|t|--check-table|t", "--variants|t|--ruleset|t|x",
     "--ruleset|t|--check-ruleset|t", "--ruleset|t|--ruleset|t|x", "--check-ruleset|t|x", "--check-ruleset|t|--limit|1",
-    "--check-ruleset|t|--jump", "--ruleset|t|--among|t|x", "--ruleset|t|--tries|0|x", "-r|--register|x",
+    "--check-ruleset|t|--jump", "--print-ruleset|t|x", "--print-ruleset|t|--json", "--print-ruleset|t|--check-ruleset|t",
+    "--print-ruleset|t|--print-ruleset|t", "--print-ruleset|t|--after|a", "--ruleset|t|--among|t|x", "--ruleset|t|--tries|0|x", "-r|--register|x",
     "--quiet|--quiet", "--standard|--standard|x", "--standard=yes|x", "--explain=yes|x", "--json|--json|x", "--json=yes|x",
     "--variants|t|--variants|u", "--variants", "--check-table|t|x", "--check-table|t|", "--after|a|x", "--after||x",
     "--limit|1|x", "-r|--tries|1|x", "--variants|t|--limit|0|x", "--variants|t|--limit|+5|x", "--variants|t|--limit| 5|x",
@@ -145,6 +146,7 @@ Options:
       --check-table <FILE>    Print the pairs that the table in FILE lacks
       --ruleset <FILE>        List each label's variants by the ruleset in FILE
       --check-ruleset <FILE>  Print the pairs that the ruleset in FILE lacks
+      --print-ruleset <FILE>  Print what the ruleset in FILE says; not as JSON
       --among <FILE>          With --variants: list labels in FILE that collide
       --others                With --among: leave out the label itself
       --jump                  With --variants: answer LABEL TAB TEXT by a label
@@ -623,10 +625,9 @@ def prints_in_a_locale_what_the_documents_show(folder, locale):
     os.symlink(TABLES, os.path.join(folder, "tables"))
     pack_registry(folder)
     environment = {**os.environ, "LC_ALL": locale, "PATH": folder + os.pathsep + os.environ["PATH"]}
-    documents = {"README.md": markdown_blocks, "docs/GUIDE.md": markdown_blocks, "docs/CONVERSION.md": markdown_blocks,
-                 "docs/NOTATION.md": markdown_blocks, "docs/DEFINITIONS.md": markdown_blocks, "docs/JSON.md": markdown_blocks,
-                 "docs/idn2.1": manual_blocks}
-    for (name, blocks), least in zip(documents.items(), (8, 60, 8, 7, 14, 2, 6)):
+    documents = {"README.md": markdown_blocks, "docs/GUIDE.md": markdown_blocks, "docs/NOTATION.md": markdown_blocks,
+                 "docs/DEFINITIONS.md": markdown_blocks, "docs/JSON.md": markdown_blocks, "docs/idn2.1": manual_blocks}
+    for (name, blocks), least in zip(documents.items(), (8, 60, 7, 14, 2, 6)):
         with open(os.path.join(ROOT, name), encoding="utf-8") as file:
             text = file.read()
         sessions = [session for block in map(sessions_of, blocks(text)) if is_run(block) for session in block]

@@ -144,6 +144,62 @@ def answer_of_program(path, label):
     return {variant: disposition == "allocatable" for variant, _, disposition in variants}
 
 
+def allocatable_by_evaluator(ruleset, label):
+    """What `answer_of_program` gives, by the evaluator; None of a label that is refused."""
+    wanted = answer_of_evaluator(Asked(ruleset, label))
+    return wanted and {variant: disposition == "allocatable" for variant, disposition in wanted.items()}
+
+
+def reads_a_ruleset_in_xml(folder):
+    """A run by a ruleset in XML answers each label as the evaluator of RFC 7940 does, and so does one by what is printed of it."""
+    compared = 0
+    for number, (xml, text, _) in enumerate(type_rows.from_xml()):
+        if text is None:
+            continue
+        document = f'<lgr xmlns="urn:ietf:params:xml:ns:lgr-1.0">{xml}</lgr>'.encode()
+        path = table_file(folder, document, f"{number}.xml")
+        printed = run(["--print-ruleset", path])
+        assert (printed.stderr, printed.returncode) == (b"", 0), (xml, printed)
+        again = table_file(folder, printed.stdout, f"{number}.txt")
+        assert run(["--print-ruleset", again]).stdout == printed.stdout, (xml, printed)
+        standards = reader.read(document)
+        letters = sorted({letter for source in reading.read(text.encode(), BY_PROGRAM.may_stand).entries for letter in source})
+        for label in ("".join(map(chr, each)) for size in (1, 2) for each in itertools.product(letters, repeat=size)):
+            if BY_PROGRAM.first_fault(label) is None:
+                wanted = allocatable_by_evaluator(standards, label)
+                answers = [answer_of_program(file, label) for file in (path, again)]
+                admitted = [None if isinstance(answer, int) else answer for answer in answers]
+                assert admitted == [wanted, wanted], (xml, label, answers, wanted)
+                compared += 1
+    assert compared > 50, compared
+
+
+LGR = b'<lgr xmlns="urn:ietf:params:xml:ns:lgr-1.0">\n<data>\n%s\n</data></lgr>\n'
+
+# What stands on line 3 of a ruleset in XML that is refused, and with which number.
+REFUSED_IN_XML = [
+    (b'<char cp="61"/>', 30), (b'<letter cp="0061"/>', 30), (b'<char cp="0061"/><char cp="0061"/>', 31),
+    (b'<char cp="0061" when="x"/>', 35), (b'<char cp="0061"><var cp=""/></char>', 37),
+]
+
+
+def tells_the_line_of_what_is_wrong_in_xml(folder):
+    """Blanks or a byte order mark may come before; of no fault a cause is told; and a table of version 1 or 2 is never one in XML."""
+    letters = LGR % b'<char cp="0061"><var cp="0062" type="blocked"/></char><char cp="0062"><var cp="0061"/></char>'
+    for before in (b"", b"\n \t", "\ufeff".encode()):
+        path = table_file(folder, before + letters)
+        assert run(["--print-ruleset", path]).stdout == b"%version 3\n%type type_1\n0061|!0062\n0062|0061 as type_1\n"
+        assert run(["--check-ruleset", path]).stdout == b"idle type_1\n#table 2 0\n"
+        assert run(["--ruleset", path, "a"]).stdout == b"a\ta\tallocatable\nb\tb\tblocked\n#end 2\n"
+    for within, number in REFUSED_IN_XML:
+        for option in ("--ruleset", "--check-ruleset", "--print-ruleset"):
+            done = run([option, table_file(folder, LGR % within), "--explain"], b"a\n")
+            told = re.fullmatch(rb"idn2: table line 3: (\d+) [a-z ]+\n", done.stderr)
+            assert told and int(told.group(1)) == number and (done.stdout, done.returncode) == (b"", 2), (within, done)
+    for option in ("--variants", "--check-table"):
+        assert run([option, table_file(folder, letters)], b"a\n").stderr == b"idn2: table line 1: 30 table syntax\n"
+
+
 def example_rulesets_hold(folder):
     """Each is read, lacks no pair, and says of words what its script or its head says. What can't be registered isn't asked."""
     names = os.listdir(os.path.join(ROOT, "tables", "rulesets"))
@@ -316,6 +372,8 @@ TESTS = [
     reference_implementation_answers,
     reference_implementation_spells,
     reads_xml_as_its_evaluator_does,
+    reads_a_ruleset_in_xml,
+    tells_the_line_of_what_is_wrong_in_xml,
     example_rulesets_hold,
     notation_shows_a_ruleset,
     chinese_ruleset_is_as_others_have_it,

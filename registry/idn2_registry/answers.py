@@ -45,7 +45,7 @@ class ExitStatus(Enum):
 
     def joined(self, other: "ExitStatus") -> "ExitStatus":
         """The exit status of several answers: the one that says least."""
-        return max(self, other, key=lambda status: status.value)
+        return self if self.value >= other.value else other
 
 
 @dataclass(frozen=True)

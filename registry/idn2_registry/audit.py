@@ -48,8 +48,8 @@ class Tested:
     refused: Refused
 
     @classmethod
-    def unread(cls, holdings: Holdings) -> "Tested":
-        """All of them, as if each were tested."""
+    def all_valid(cls, holdings: Holdings) -> "Tested":
+        """All of them, each of which may be registered."""
         return cls(holdings.text, holdings.text, {})
 
     @classmethod
@@ -62,7 +62,7 @@ class Tested:
             refused |= refusals
             old.update(marked)
         if not refused:
-            return cls.unread(holdings)
+            return cls.all_valid(holdings)
         valid = text_of(label for label in holdings.labels if label not in refused)
         registered = (label for label in holdings.labels if label in old or label not in refused)
         return cls(valid, text_of(label + MARK if label in old else label for label in registered), refused)
@@ -166,15 +166,13 @@ class Findings:
 def groups_of(pairs: Iterable[tuple[Each, Each]]) -> list[list[Each]]:
     """Groups of labels, or of sequences, that pairs connect, each in order, and by their first ones."""
     joined: dict[Each, list[Each]] = {}
-    for pair in {(min(pair), max(pair)) for pair in pairs}:
-        groups = {id(group): group for group in (joined.get(label, [label]) for label in pair)}
-        whole = max(groups.values(), key=len)
-        for group in groups.values():
-            if group is not whole:
-                whole.extend(group)
-        for group in (*groups.values(), list(pair)):
-            joined.update(dict.fromkeys(group, whole))
-    return sorted(sorted(set(group)) for group in {id(group): group for group in joined.values()}.values())
+    for first, second in pairs:
+        one, other = joined.setdefault(first, [first]), joined.setdefault(second, [second])
+        if one is not other:
+            less, more = sorted((one, other), key=len)
+            more.extend(less)
+            joined.update(dict.fromkeys(less, more))
+    return sorted(sorted(group) for group in {id(group): group for group in joined.values()}.values())
 
 
 def findings(program: Program, admitting: Sequence[Table], zone: Table, holdings: Holdings, means: Means,
@@ -184,7 +182,7 @@ def findings(program: Program, admitting: Sequence[Table], zone: Table, holdings
     # A label of older rules has a mark after a tab, which no label has.
     if b"\t" not in holdings.text:
         with contextlib.suppress(NotRegistered):
-            return findings_of(program, admitting, zone, Tested.unread(holdings), means, name)
+            return findings_of(program, admitting, zone, Tested.all_valid(holdings), means, name)
     return findings_of(program, admitting, zone, Tested.read(program, holdings, means, name), means, f"{name}-tested")
 
 
@@ -195,7 +193,9 @@ def findings_of(program: Program, admitting: Sequence[Table], zone: Table, teste
     check_for_collisions(zone, program)
     parts = parts_of(tested.valid, means.lines_of_a_part(tested.valid.count(b"\n")))
     task = AuditTask(program, zone, tested.registered)
-    told = [json.loads(result) for result in results(means, name, task, parts, [program.state, zone.data, task.registered])]
+    # Where all labels are valid, the parts are the registered labels.
+    state = [program.state, zone.data, *([] if tested.registered == tested.valid else [tested.registered])]
+    told = [json.loads(result) for result in results(means, name, task, parts, state)]
     pairs = [(first, second) for each in told for first, second in each["pairs"]]
     if list(admitting) == [zone]:
         refused = [label.encode() for each in told for label in each["refused"]]

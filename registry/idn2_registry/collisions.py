@@ -15,8 +15,6 @@ from .tables import Table
 # What a label is to another one, as the program says it.
 NONE, ALLOCATABLE = "none", "allocatable"
 REGARDS = {NONE, "variant", "blocked", ALLOCATABLE}
-# The line that ends a block of an audit, with the number of its lines and its label.
-END = re.compile(r"#end (\d+) (.+)")
 
 
 class Near(NamedTuple):
@@ -110,10 +108,10 @@ def pairs_in(output: bytes) -> list[tuple[str, str]]:
         if not line.startswith("#"):
             others.append(line.partition("\t")[0])
             continue
-        end = END.fullmatch(line)
-        if end is None or not 0 < len(others) == int(end[1]):
+        label = line.removeprefix(f"#end {len(others)} ")
+        if not others or label in ("", line):
             raise Unknown(f"the program gave another answer than it should: {line}")
-        pairs += [(end[2], other) for other in others]
+        pairs += [(label, other) for other in others]
         others = []
     if others or rest:
         raise Unknown(f"the program gave another answer than it should: {[*others, rest]}")

@@ -2,6 +2,7 @@
 
 import argparse
 import contextlib
+import gc
 import os
 import sys
 from collections.abc import Callable, Iterator, Sequence
@@ -64,8 +65,11 @@ def labels_of(words: Words) -> Iterator[str]:
 
 
 def opened(words: Words) -> Zone:
-    """The zone."""
-    return Zone.open(words.config, words.idn2)
+    """The zone. What is there with it stays to the end: else an answer would now and then wait 10 milliseconds or more
+    while Python looks for garbage in it."""
+    zone = Zone.open(words.config, words.idn2)
+    gc.freeze()
+    return zone
 
 
 def answers(words: Words, output: Output, asked: Callable[[Zone, str], Answer]) -> None:
@@ -205,10 +209,6 @@ def compare(words: Words, output: Output) -> None:
     Comparison.of(one, other).tell(output)
 
 
-def convert(words: Words, output: Output) -> None:
-    """Makes a table from a published ruleset; convert --help tells its options."""
-
-
 def parser() -> argparse.ArgumentParser:
     """The options of all jobs."""
     common = argparse.ArgumentParser(add_help=False)
@@ -247,7 +247,7 @@ def parser() -> argparse.ArgumentParser:
     jobs.choices["change"].add_argument("new", metavar="NAME=FILE", help="a name in the configuration, and its new table")
     add("dump", dump, has_labels=False)
     add_jobs_on_tables(add)
-    for name, job in (("convert", convert), ("ask", ask), ("serve", serve), ("check-config", check_config)):
+    for name, job in (("ask", ask), ("serve", serve), ("check-config", check_config)):
         add(name, job, has_labels=False)
     return whole
 
@@ -276,12 +276,6 @@ def hold_streams() -> None:
 def main(given: Sequence[str] | None = None) -> int:
     """Does a job, and gives its exit status."""
     hold_streams()
-    first, *rest = [*(sys.argv[1:] if given is None else given), ""]
-    if first == "convert":
-        # It has its own options, and no other command waits for it.
-        from .lgr.command import main as convert_file
-
-        return guarded(lambda: convert_file(rest[:-1]))
     words = parser().parse_args(given)
     output = Output(words.json)
 

@@ -1,4 +1,4 @@
-"""What the lines of a table say, by the reader of the notation."""
+"""What the lines of a table say, by the reader of the notation; of a ruleset in XML the lines that the program prints."""
 
 from collections.abc import Iterator
 from dataclasses import dataclass, field
@@ -29,7 +29,7 @@ class ParsedTable:
         lines: dict[Points | str, int] = {}
         for number, form in forms_of(table):
             if reader.take(form):
-                raise Unusable(f"{table.path}: line {number}: the program reads it otherwise than idn2_registry.notation")
+                raise Unusable(f"{table.place}: line {number}: the program reads it otherwise than idn2_registry.notation")
             if isinstance(form, EntryLine | RangeLine):
                 lines.update((entry.source.points, number) for entry in form.entries())
             elif isinstance(form, Definition):
@@ -59,12 +59,12 @@ class ParsedTable:
 
     def place(self, said: Points | str) -> str:
         """The file and the line that say something."""
-        return f"{self.table.path}: line {self.lines[said]}"
+        return f"{self.table.place}: line {self.lines[said]}"
 
 
 def forms_of(table: Table) -> Iterator[tuple[int, Form]]:
     """The lines that say something, each with its number and what it is."""
-    for number, raw in enumerate(raw_lines(table.data), 1):
+    for number, raw in enumerate(raw_lines(table.text), 1):
         line = without_return(raw)
         if not (says_nothing(line) or number == 1 and line in VERSION_LINES):
             yield number, form_of(line)

@@ -1,15 +1,14 @@
 """Processes of the program that answer one request after another, and are replaced where they fail."""
 
-import contextlib
 import json
 import os
 import select
 import subprocess
-import threading
 import time
 from collections import deque
 from collections.abc import Iterator, Sequence
 from dataclasses import dataclass
+from queue import Empty, SimpleQueue
 
 from .answers import Object
 from .faults import Unknown
@@ -99,12 +98,15 @@ class Process:
         self._asked += 1
         objects: list[Object] = []
         try:
-            while not objects or not {"input", "input_hex"} & objects[-1].keys():
-                objects.append(json.loads(self._line(until)))
-                if objects[-1].get("line") != self._asked:
-                    raise Unknown(f"the program answered another request: {objects[-1]}")
-            if objects[-1].get("input") not in (None, request.decode("utf-8", "replace")):
-                raise Unknown(f"the program answered another request: {objects[-1]}")
+            told: Object = {}
+            while "input" not in told and "input_hex" not in told:
+                # It is UTF-8, so that json needn't look for the encoding.
+                told = json.loads(self._line(until).decode())
+                if told.get("line") != self._asked:
+                    raise Unknown(f"the program answered another request: {told}")
+                objects.append(told)
+            if told.get("input") not in (None, request.decode("utf-8", "replace")):
+                raise Unknown(f"the program answered another request: {told}")
             return objects
         except (OSError, ValueError, AttributeError) as error:
             raise Unknown(f"the program gave no answer: {error}") from error
@@ -156,7 +158,10 @@ class Pool:
     def __init__(self, program: Program, most: int, seconds: float) -> None:
         self.program = program
         self.seconds = seconds
-        self._places = threading.BoundedSemaphore(most)
+        # One for each that may be asked at once: a semaphore of the standard library takes several times as long.
+        self._places: SimpleQueue[None] = SimpleQueue()
+        for _ in range(most):
+            self._places.put(None)
         self._idle: Idle[Process] = Idle()
 
     def ask(self, question: Question, requests: Sequence[bytes], until: Time) -> list[list[Object] | Unknown]:
@@ -169,25 +174,19 @@ class Pool:
         return told
 
     def _told_by_one(self, question: Question, lines: Sequence[bytes], until: Time) -> list[list[Object] | Unknown]:
-        """What one process answers, up to the line at which it fails."""
+        """What one process, which nobody else asks, answers up to the line at which it fails. One that failed is replaced."""
         told: list[list[Object] | Unknown] = []
         try:
-            with self._process(question, until) as process:
-                for objects in process.ask(lines, until):
-                    told.append(objects)
+            self._places.get(timeout=until.left())
         except Unknown as fault:
-            told.append(fault)
-        return told
-
-    @contextlib.contextmanager
-    def _process(self, question: Question, until: Time) -> Iterator[Process]:
-        """A process that nobody else asks. One that failed is replaced."""
-        if not self._places.acquire(timeout=until.left()):
-            raise busy(self.seconds)
+            return [fault]
+        except Empty:
+            return [busy(self.seconds)]
         try:
             process = self._taken(question)
             try:
-                yield process
+                for objects in process.ask(lines, until):
+                    told.append(objects)
             except BaseException:
                 process.close()
                 raise
@@ -195,8 +194,11 @@ class Pool:
                 self._idle.keep(process, question)
             else:
                 process.close()
+        except Unknown as fault:
+            told.append(fault)
         finally:
-            self._places.release()
+            self._places.put(None)
+        return told
 
     def _taken(self, question: Question) -> Process:
         """A process that nobody else asks."""
@@ -242,6 +244,6 @@ def busy(seconds: float) -> Unknown:
 
 def only(objects: list[Object], *members: str) -> Object:
     """The one object of an answer, which has one of the members or a refusal."""
-    if len(objects) != 1 or not {"refusal", *members} & objects[0].keys():
+    if len(objects) != 1 or not any(member in objects[0] for member in (*members, "refusal")):
         raise Unknown(f"the program gave another answer than it should: {objects[-1]}")
     return objects[0]

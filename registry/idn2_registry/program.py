@@ -45,7 +45,8 @@ class Program:
     def __init__(self, path: str | os.PathLike[str] | None = None, rules: LabelRules = LabelRules.PROFILE) -> None:
         """Finds it, or takes the one at a path. Raises Unusable if it isn't there, is another program, or lacks the rules."""
         name = named()
-        found = [Path(path)] if path else list(candidates(name))
+        # Absolute, since a name without a folder would be looked for on the path.
+        found = [Path(path).absolute()] if path else list(candidates(name))
         self.path = str(next((each for each in found if os.access(each, os.X_OK) and each.is_file()), ""))
         if not self.path:
             raise Unusable(f"{path or name}: no such program: install it beside this one, or name it with --idn2 PROGRAM")

@@ -3,6 +3,7 @@
 import itertools
 import re
 from collections.abc import Callable, Iterator, Sequence
+from dataclasses import replace
 from pathlib import Path
 from typing import Any
 
@@ -10,13 +11,13 @@ from .faults import Unknown, Unsayable
 from .form import Form
 from .metadata import read_metadata
 from .notation.points import Points, spelled
-from .notation.ruleset import BLOCKED, Entry, Mapped
+from .notation.ruleset import BLOCKED, INVALID, Action, Entry, Mapped
 from .parsed_table import ParsedTable
 from .program import Program
-from .publish_xml import Element, ruleset_element
+from .publish_xml import Element, ruleset_element, untyped_of
 from .rfc7940 import reader, verified
 from .rfc7940.ruleset import Ruleset
-from .tables import Table
+from .tables import Faulty, Table, checked
 
 DECLARATION = '<?xml version="1.0" encoding="UTF-8"?>'
 
@@ -31,7 +32,7 @@ def publish(table: Table, form: Form, meta: Path | None, program: Program) -> by
     parsed, path = ParsedTable.read(table), meta or table.path.with_suffix(".toml")
     if form is Form.RFC4290:
         told = read_metadata(path, unicode_of(program)) if meta or path.is_file() else []
-        return Lines(parsed, program).text(told)
+        return Lines(parsed).text(told)
     return Xml(parsed, read_metadata(path, unicode_of(program)), program).text()
 
 
@@ -49,8 +50,10 @@ class Xml:
         self.lines = [(DECLARATION, None), *ruleset_element(parsed, meta).lines()]
 
     def text(self) -> bytes:
-        """The text, after it was read by two readers and the answers of the program were compared with it."""
-        check_variants(self.parsed)
+        """The text, after the program and the evaluator read it, and the program's answers were compared with it."""
+        for source, variant, lost in lost_variants(self.parsed) if self.parsed.table.version < 3 else ():
+            reason = f"by RFC 7940 no label has the variant {spelled(variant)}, since no entry has {lost:04X}"
+            raise Unsayable(f"{self.parsed.place(source)}: {reason}")
         text = "".join(f"{line}\n" for line, _ in self.lines).encode()
         try:
             ruleset = reader.read(text)
@@ -63,16 +66,20 @@ class Xml:
     def unsayable(self, line: int | None, reason: str) -> Unsayable:
         """The reason, with the line of the table for a line of the text."""
         place = self.lines[line - 1][1] if line else None
-        return Unsayable(f"{self.parsed.table.path}: {f'line {place}: ' if place else ''}{reason}")
+        return Unsayable(f"{self.parsed.table.place}: {f'line {place}: ' if place else ''}{reason}")
 
     def check_read_back(self, text: bytes) -> None:
-        """The converter makes the same entries of it."""
-        back, told = read_back(text, self.parsed, self.program)
-        if back is None:
-            found = re.match(r"lines? (\d+)\S*.*?: (.*)", told)
-            raise self.unsayable(int(found[1]) if found else None, f"XML can't say it: {found[2] if found else told}")
-        check_same(self.parsed, back, "XML", lambda entry: (entry.source, frozenset(entry.variants)))
-        if back.ruleset.actions != self.parsed.ruleset.actions:
+        """The program reads the same entries and actions in it."""
+        try:
+            back = read_back(text, self.parsed, self.program)
+        except Faulty as fault:
+            raise self.unsayable(fault.line, f"XML can't say it: the program refuses it: {fault.reason}") from fault
+        untyped = untyped_of(self.parsed)
+        # Where others have one, variants without a type read back with one of their own.
+        own = set(back.ruleset.types).difference(self.parsed.ruleset.types)
+        typed = lambda variant: replace(variant, type=None if variant.type in own else variant.type or untyped)
+        check_same(self.parsed, back, "XML", lambda entry: (entry.source, set(map(typed, entry.variants))))
+        if after_demands(back) != after_demands(self.parsed):
             raise self.unsayable(None, "XML can't say it: the actions read back otherwise")
 
     def check_answers(self, ruleset: Ruleset) -> None:
@@ -87,10 +94,10 @@ class Xml:
 
 
 class Lines:
-    """A table in the lines of RFC 4290: code points with their variants, and nothing else."""
+    """A table in the lines of RFC 4290: code points with their variants, and nothing else. Version 1 has such lines."""
 
-    def __init__(self, parsed: ParsedTable, program: Program) -> None:
-        self.parsed, self.program = parsed, program
+    def __init__(self, parsed: ParsedTable) -> None:
+        self.parsed = parsed
 
     def text(self, meta: Sequence[Element]) -> bytes:
         """The text, after it was read back."""
@@ -104,17 +111,13 @@ class Lines:
             lines.append(f"# All variants are {'blocked' if marks == {True} else 'allocatable'}.")
         lines += map(line_of, self.parsed.ruleset.entries.values())
         text = "".join(f"{line}\n" for line in lines).encode()
-        untyped = "blocked" if marks == {True} else "allocatable"
-        back, told = read_back(text, self.parsed, self.program, "--untyped", untyped)
-        if back is None:
-            raise Unsayable(f"{self.parsed.table.path}: RFC 4290 can't say it: {told}")
-        check_same(self.parsed, back, "RFC 4290",
-                   lambda entry: (entry.source, [(each.points, is_blocked(each)) for each in entry.variants]))
+        back = ParsedTable.read(Table(self.parsed.table.name, self.parsed.table.path, text))
+        check_same(self.parsed, back, "RFC 4290", lambda entry: [each.points for each in entry.mapped()])
         return text
 
     def unsayable(self, line: int, what: str) -> Unsayable:
         """What RFC 4290 doesn't have, on a line of the table."""
-        return Unsayable(f"{self.parsed.table.path}: line {line}: RFC 4290 has no {what}")
+        return Unsayable(f"{self.parsed.table.place}: line {line}: RFC 4290 has no {what}")
 
     def check(self) -> None:
         """It has nothing that RFC 4290 lacks."""
@@ -135,6 +138,8 @@ class Lines:
                 yield lines[source], "types of sources"
             if len(source) > 1:
                 yield lines[source], "sources of several code points"
+        for source, _, _ in lost_variants(self.parsed) if self.parsed.table.version == 3 else ():
+            yield lines[source], "variants that no label has"
 
     def first_line_of_both(self) -> int:
         """The first line by which the dispositions differ."""
@@ -167,32 +172,24 @@ def in_rfc4290(points: Points) -> str:
 # ---- Reading back
 
 
-def read_back(text: bytes, parsed: ParsedTable, program: Program, *words: str) -> tuple[ParsedTable | None, str]:
-    """What the converter makes of a text: a table of the same version; or None, and its reason."""
-    # No other command waits for the converter.
-    from .lgr import command
-    from .lgr.program import Asked
-    from .lgr.ruleset import Fault
-
-    options = command.options_of(["--version", str(parsed.table.version), *words, "published"])
-    told: list[str] = []
-    try:
-        made = command.made(text, Asked(program), options, told.append)
-    except Fault as fault:
-        made, told = None, [str(fault)]
-    if made is None:
-        return None, told[0].split("\n")[0]
-    return ParsedTable.read(Table(parsed.table.name, parsed.table.path, made)), ""
+def read_back(text: bytes, parsed: ParsedTable, program: Program) -> ParsedTable:
+    """What the program reads in XML. Raises Faulty where it refuses the text."""
+    return ParsedTable.read(checked(Table(parsed.table.name, parsed.table.path, text), program))
 
 
-def check_variants(parsed: ParsedTable) -> None:
-    """Before version 3 a variant may have what is in no source; by RFC 7940, section 8.3, no label has it then."""
+def after_demands(parsed: ParsedTable) -> list[Action]:
+    """The actions from the first on that isn't a demand in other words: invalid by a rule alone."""
+    return list(itertools.dropwhile(lambda action: action.disposition == INVALID and not action.types, parsed.ruleset.actions))
+
+
+def lost_variants(parsed: ParsedTable) -> Iterator[tuple[Points, Points, int]]:
+    """Variants with a code point that no source has, each after its source, and with that code point. Before version 3 a
+    label may have them; by RFC 7940, section 8.3, none has."""
     known = {point for source in parsed.ruleset.entries for point in source}
-    for source, entry in parsed.ruleset.entries.items() if parsed.table.version < 3 else ():
+    for source, entry in parsed.ruleset.entries.items():
         for variant in entry.variants:
             if lost := [point for point in variant.points if point not in known]:
-                reason = f"by RFC 7940 no label has the variant {spelled(variant.points)}, since no entry has {lost[0]:04X}"
-                raise Unsayable(f"{parsed.place(source)}: {reason}")
+                yield source, variant.points, lost[0]
 
 
 def check_same(parsed: ParsedTable, back: ParsedTable, form: str, said: Callable[[Entry], Any]) -> None:
@@ -200,7 +197,7 @@ def check_same(parsed: ParsedTable, back: ParsedTable, form: str, said: Callable
     one, other = ({source: said(entry) for source, entry in each.ruleset.entries.items()} for each in (parsed, back))
     for source in [*one, *other]:
         if one.get(source) != other.get(source):
-            place = parsed.place(source) if source in one else str(parsed.table.path)
+            place = parsed.place(source) if source in one else parsed.table.place
             raise Unsayable(f"{place}: {form} can't say it: {spelled(source)} reads back otherwise")
 
 

@@ -66,7 +66,7 @@ def entries(parsed: ParsedTable) -> Iterator[Element]:
             ends = {"first-cp": cp((first.points[0],)), "last-cp": cp((run[-1].source.points[0],))}
             yield Element("range", {**ends, **condition(first)}, line=line)
         else:
-            each = list(variants(run[0], ALLOCATABLE if parsed.table.version < 3 else None))
+            each = list(variants(run[0], untyped_of(parsed)))
             yield Element("char", {"cp": cp(first.points), **condition(first)}, each, line=line)
 
 
@@ -99,6 +99,11 @@ def variants(entry: Entry, untyped: str | None) -> Iterator[Element]:
     for variant in entry.variants:
         kind = variant.type or untyped
         yield Element("var", {"cp": cp(variant.points), **({"type": kind} if kind else {}), **condition(variant)})
+
+
+def untyped_of(parsed: ParsedTable) -> str | None:
+    """The type of variants that have none: before version 3 they are allocatable."""
+    return ALLOCATABLE if parsed.table.version < 3 else None
 
 
 def cp(points: Points) -> str:

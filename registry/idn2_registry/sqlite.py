@@ -134,10 +134,10 @@ class SqliteRegister(Register):
             yield from connection.execute("select label, holder from registered order by label collate binary")
 
     def texts(self) -> tuple[bytes, bytes]:
-        # As rows a million labels take twice the time. The order of a subquery is that of what is put together of it, and what
-        # is put together of no holder is null, which is left out.
-        query = """select count(*), cast(group_concat(label, char(10)) as blob),
-                count(holder), cast(group_concat(label || char(9) || holder, char(10)) as blob)
+        # As rows a million labels take three times the time, and half again with calls of char(). The order of a subquery is
+        # that of what is put together of it, and what is put together of null is left out.
+        query = """select count(*), cast(group_concat(label, '\n') as blob), count(holder),
+                cast(group_concat(case when holder is not null then label || '\t' || holder end, '\n') as blob)
             from (select label, holder from registered order by label collate binary)"""
         with self._connection() as connection:
             row = connection.execute(query).fetchone()

@@ -2,9 +2,10 @@
 
 import json
 from collections.abc import Iterable, Mapping, Sequence
-from dataclasses import dataclass, field
+from dataclasses import dataclass, field, replace
 from enum import Enum
 from pathlib import Path
+from subprocess import CompletedProcess
 from typing import Any
 
 from .answers import Object, Refusal
@@ -13,6 +14,8 @@ from .program import HeldFile, Program, ended
 
 MOST_BYTES = 67_108_864
 VERSION_LINES = {b"%version 2": 2, b"%version 3": 3}
+PRINTS = "--print-ruleset"
+BYTE_ORDER_MARK = b"\xef\xbb\xbf"
 
 
 class Kind(Enum):
@@ -35,8 +38,8 @@ class Kind(Enum):
 @dataclass(frozen=True)
 class Table:
     """A table as it was read, with its gaps as `source|missing`, as `source|differs` the pairs whose conditions one way
-    aren't those of the other way, and the types that no action names. It is asked by its bytes, whatever becomes of its
-    file."""
+    aren't those of the other way, the types that no action names, and of a ruleset in XML (RFC 7940) what the program
+    prints of it. It is asked by its bytes, whatever becomes of its file."""
 
     name: str
     path: Path
@@ -45,12 +48,13 @@ class Table:
     entries: int = 0
     differences: tuple[str, ...] = ()
     idle: tuple[str, ...] = ()
+    printed: bytes = field(default=b"", repr=False)
 
     def __post_init__(self) -> None:
         object.__setattr__(self, "_held", HeldFile(self.data))
 
     def __reduce__(self) -> tuple[type["Table"], tuple[Any, ...]]:
-        return Table, (self.name, self.path, self.data, self.gaps, self.entries, self.differences, self.idle)
+        return Table, (self.name, self.path, self.data, self.gaps, self.entries, self.differences, self.idle, self.printed)
 
     @property
     def held(self) -> HeldFile:
@@ -59,9 +63,24 @@ class Table:
         return held
 
     @property
+    def is_in_xml(self) -> bool:
+        """Whether the program takes it for a ruleset in XML."""
+        return self.data.removeprefix(BYTE_ORDER_MARK).lstrip(b" \t\r\n").startswith(b"<")
+
+    @property
     def version(self) -> int:
-        """The version of its notation."""
-        return VERSION_LINES.get(self.data.split(b"\n", 1)[0].removesuffix(b"\r"), 1)
+        """The version of its notation; that of a ruleset in XML is the one in which it is printed."""
+        return 3 if self.is_in_xml else VERSION_LINES.get(self.data.split(b"\n", 1)[0].removesuffix(b"\r"), 1)
+
+    @property
+    def text(self) -> bytes:
+        """What it says in the notation."""
+        return self.printed or self.data
+
+    @property
+    def place(self) -> str:
+        """Where the lines of this text are."""
+        return f"{self.path}, as {PRINTS} prints it" if self.printed else str(self.path)
 
     @property
     def kind(self) -> Kind:
@@ -77,6 +96,14 @@ class Table:
         return [self.kind.checks, self.held.path]
 
 
+class Faulty(Unusable):
+    """The program refuses a table, by a line and a reason."""
+
+    def __init__(self, table: Table, line: int | None, reason: str) -> None:
+        super().__init__(f"{table.path}: line {line}: {reason}: mend it (docs/NOTATION.md)")
+        self.line, self.reason = line, reason
+
+
 def read_table(name: str, path: Path, program: Program) -> Table:
     """The table in a file. Raises Unusable with the file, the line and the remedy."""
     try:
@@ -86,7 +113,7 @@ def read_table(name: str, path: Path, program: Program) -> Table:
         remedy = "name a table of the configuration, or a file" if name == str(path) else f"mend the path of {name} in [tables]"
         raise Unusable(f"{path}: {error.strerror}: {remedy}") from error
     if len(data) > MOST_BYTES:
-        raise Unusable(f"{path}: more than {MOST_BYTES:,} bytes: a table has at most 1,048,576")
+        raise Unusable(f"{path}: more than {MOST_BYTES:,} bytes, and no table has so many")
     return checked(Table(name, path, data), program)
 
 
@@ -109,19 +136,23 @@ def read_tables(paths: Mapping[str, Path], names: Iterable[str], program: Progra
 
 def answers_about(table: Table, program: Program, words: Sequence[str]) -> list[Object]:
     """What a run under a table tells that is given no line. Raises Unusable for a faulty table."""
-    option = words[0]
-    try:
-        done = program.run(["--json", *words], files=[table.held.descriptor])
-    except Unknown as error:
-        raise Unusable(f"{table.path}: {error}: try it with {option}") from error
+    done = run_about(table, program, words, "--json")
     told = [json.loads(line) for line in done.stdout.splitlines()]
     if told and "refusal" in told[-1]:
         line, refusal = told[-1].get("table_line"), Refusal.read(told[-1]["refusal"])
         at = f" at byte {refusal.details['byte']}" if "byte" in refusal.details else ""
-        raise Unusable(f"{table.path}: line {line}: {refusal}{at}: mend it (docs/NOTATION.md)")
+        raise Faulty(table, line, f"{refusal}{at}")
     if done.returncode not in (0, 1):
-        raise Unusable(f"{table.path}: {ended(done.returncode, done.stderr)}: try it with {option}")
+        raise Unusable(f"{table.path}: {ended(done.returncode, done.stderr)}: try it with {words[0]}")
     return told
+
+
+def run_about(table: Table, program: Program, words: Sequence[str], *more: str) -> CompletedProcess[bytes]:
+    """A run under a table that is given no line. Raises Unusable if it doesn't end."""
+    try:
+        return program.run([*more, *words], files=[table.held.descriptor])
+    except Unknown as error:
+        raise Unusable(f"{table.path}: {error}: try it with {words[0]}") from error
 
 
 def checked(table: Table, program: Program) -> Table:
@@ -134,4 +165,13 @@ def checked(table: Table, program: Program) -> Table:
     gaps, differences = (
         tuple(f"{pair['source']}|{pair[word]}" for pair in told[:-1] if word in pair) for word in ("missing", "differs"))
     idle = tuple(each["idle"] for each in told[:-1] if "idle" in each)
-    return Table(table.name, table.path, table.data, gaps, told[-1]["entries"], differences, idle)
+    printed = printed_by(table, program) if table.is_in_xml else b""
+    return replace(table, gaps=gaps, entries=told[-1]["entries"], differences=differences, idle=idle, printed=printed)
+
+
+def printed_by(table: Table, program: Program) -> bytes:
+    """What the program prints of a ruleset that it has checked. Raises Unusable."""
+    done = run_about(table, program, [PRINTS, table.held.path])
+    if done.returncode != 0 or not done.stdout:
+        raise Unusable(f"{table.path}: {ended(done.returncode, done.stderr)}: try it with {PRINTS}")
+    return done.stdout

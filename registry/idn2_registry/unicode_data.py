@@ -1,5 +1,5 @@
-"""What is read of Unicode's own data, as Debian's package unicode-data holds it: by the converter, and by the scripts that
-check the program from outside. Nothing of the program comes from here, which has its own tables."""
+"""What is read of Unicode's own data, as Debian's package unicode-data holds it, by the scripts that make tables and check the
+program from outside. Nothing of the program comes from here, which has its own tables."""
 
 import bz2
 import copy

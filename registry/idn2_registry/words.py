@@ -5,6 +5,8 @@ from .answers import Answer, RegisteredLabel, Status
 
 def shown(text: str) -> str:
     """A text as a terminal may show it: what isn't printable is escaped."""
+    if text.isprintable():
+        return text
     return "".join(each if each.isprintable() else ascii(each)[1:-1] for each in text)
 
 

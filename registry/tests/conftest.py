@@ -60,7 +60,7 @@ class Place:
         sys.stdin, sys.stdout, sys.stderr = streams
         os.chdir(self.folder)
         try:
-            status = main([*words[:1], *(["--idn2", str(PROGRAM)] if words[0] != "convert" else []), *words[1:]])
+            status = main([*words[:1], "--idn2", str(PROGRAM), *words[1:]])
         except SystemExit as end:
             status = int(end.code or 0)
         finally:

@@ -183,3 +183,14 @@ def test_says_why_a_program_is_of_no_use(bare: Place, script: str, told: str) ->
     path.chmod(0o755)
     with pytest.raises(Unusable, match=told):
         Program(path)
+
+
+def test_takes_a_program_by_its_path_alone(bare: Place, monkeypatch: pytest.MonkeyPatch) -> None:
+    """One in the current folder, too, and no other of this name on the path."""
+    bare.write("program", "#!/bin/sh\necho idn2 7\n").chmod(0o755)
+    (bare.folder / "bin").mkdir()
+    bare.write("bin/program", "#!/bin/sh\necho idn2 8\n").chmod(0o755)
+    monkeypatch.setenv("PATH", f"{bare.folder / 'bin'}:{os.environ['PATH']}")
+    monkeypatch.chdir(bare.folder)
+    for path in ("program", "./program"):
+        assert Program(path).version == "idn2 7", path

@@ -15,7 +15,7 @@ from collections.abc import Iterator
 from pathlib import Path
 
 import pytest
-from conftest import LIMIT, PROGRAM, TABLES, Place
+from conftest import LIMIT, TABLES, Place
 
 from idn2_registry import work
 from idn2_registry.audit import groups_of
@@ -312,14 +312,6 @@ def test_a_cluster_does_the_same(place: Place, cluster: tuple[str, list["subproc
     monkeypatch.setattr("idn2_registry.cluster.SECONDS", 1)
     away = place.run("audit", "--scheduler", "tcp://127.0.0.1:1")
     assert away.returncode == 75 and not away.stdout, away
-
-
-def test_converts(bare: Place) -> None:
-    bare.write("published.txt", "U+0073\nU+0073-U+0073|U+00DF # sharp s\n")
-    words = [sys.executable, "-m", "idn2_registry", "convert", "--idn2", str(PROGRAM), "--version", "2", "published.txt"]
-    done = subprocess.run(words, cwd=bare.folder, env=bare.environment, capture_output=True, timeout=LIMIT, check=False)
-    assert done.returncode == 0 and done.stdout.endswith(b"\n0073\n0073-0073|!00DF\n"), done
-    assert b"blocked, since it has no type" in done.stderr, done
 
 
 def test_joins_to_nothing_that_is_too_large(bare: Place) -> None:

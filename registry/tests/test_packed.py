@@ -17,30 +17,13 @@ from conftest import LIMIT, PACKAGE, PROGRAM, ROOT, Place
 from idn2_registry.command import parser
 
 SHELLS = ("bash", "zsh", "fish")
-# A table of version 2 that is made of it says something else (RFC 7940, section 8.1), so that nothing is printed.
-OVERLAP = ('<lgr xmlns="urn:ietf:params:xml:ns:lgr-1.0"><data><char cp="0061"/><char cp="0061 0062"/><char cp="0062 0063"/>'
-           "</data></lgr>")
 
 
 def jobs() -> Iterator[tuple[str, set[str]]]:
-    """Each job with its options; the converter tells its own."""
+    """Each job with its options."""
     [subparsers] = [action for action in parser()._actions if isinstance(action, argparse._SubParsersAction)]
     for name, job in subparsers.choices.items():
-        if name != "convert":
-            yield name, {option for action in job._actions for option in action.option_strings if option.startswith("--")}
-
-
-def options_of_convert() -> set[str]:
-    """As its help tells them."""
-    done = bare_run("convert", "--help")
-    assert done.returncode == 0 and done.stdout.startswith("usage: idn2-registry convert "), done
-    return set(re.findall(r"^  (?:-h, )?(--[a-z0-9-]+)", done.stdout, re.MULTILINE))
-
-
-def bare_run(*words: str) -> "subprocess.CompletedProcess[str]":
-    """A run of the command as a process of its own."""
-    return subprocess.run([sys.executable, "-m", "idn2_registry", *words], cwd=PACKAGE, capture_output=True, text=True,
-                          timeout=LIMIT, check=False)
+        yield name, {option for action in job._actions for option in action.option_strings if option.startswith("--")}
 
 
 def test_the_packed_file_does_the_same(place: Place) -> None:
@@ -61,18 +44,10 @@ def test_the_packed_file_does_the_same(place: Place) -> None:
 
     assert run("check", "straße").stdout.decode() == "straße: taken by strasse, held by H2\n"
     assert run("check-config").stdout.decode().splitlines()[-1] == f"{folder}/idn2-proved: idn2 0.1.0 (Unicode 18.0.0)"
-    place.write("published.txt", "U+0073\nU+0073-U+0073|U+00DF # sharp s\n")
-    done = run("convert", "--version", "2", "published.txt")
-    assert done.returncode == 0 and done.stdout.endswith(b"\n0073\n0073-0073|!00DF\n"), done
-    place.write("published.xml", OVERLAP)
-    done = run("convert", "--version", "2", "published.xml")
-    assert (done.stdout, done.returncode) == (b"", 1), done
-    assert b"label 0061-0062-0063: accepted, and by RFC 7940 refused" in done.stderr, done
     place.write("table.toml", 'version = "1"\ndate = 2026-11-28\nlanguage = "de"\nscope = "example"\n')
     place.write("table.txt", "0061|0062\n0062|0061\n")
     place.write("back.xml", run("publish", "table.txt", "--as", "xml").stdout)
-    place.write("back.txt", run("convert", "--version", "1", "back.xml").stdout)
-    assert run("compare", "table.txt", "back.txt").stdout == b"table.txt and back.txt: identical, 0 differences\n"
+    assert run("compare", "table.txt", "back.xml").stdout == b"table.txt and back.xml: identical, 0 differences\n"
     assert run("publish", "table.txt", "--as", "html").stdout.startswith(b"<!DOCTYPE html>")
     assert os.access(folder / "idn2-registry", os.X_OK)
     old = "import runpy, sys; sys.version_info = (3, 10, 2); runpy.run_path(sys.argv[1], run_name='__main__')"
@@ -100,7 +75,7 @@ def test_pip_installs_each_file_of_the_package() -> None:
 
 def test_the_page_has_each_job_and_option() -> None:
     page = (ROOT / "docs" / "idn2-registry.1").read_text("ascii").replace("\\-", "-")
-    for name, options in (*jobs(), ("convert", {"--verify"})):
+    for name, options in jobs():
         assert re.search(rf"^\.BR? {name}( |$)", page, re.MULTILINE), name
         for option in options:
             assert option in page, (name, option)
@@ -109,8 +84,7 @@ def test_the_page_has_each_job_and_option() -> None:
 @pytest.mark.parametrize("shell", SHELLS)
 def test_completions_have_each_job_and_option(shell: str) -> None:
     text = (ROOT / "completions" / f"idn2-registry.{shell}").read_text("utf-8")
-    assert len(options_of_convert()) > 7
-    for name, options in (*jobs(), ("convert", options_of_convert())):
+    for name, options in jobs():
         assert re.search(rf"(?<![\w-]){name}(?![\w-])", text), name
         for option in options:
             assert (f"-l {option[2:]} " if shell == "fish" else option) in text, (name, option)

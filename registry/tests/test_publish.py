@@ -249,7 +249,7 @@ def test_publishes_the_lines_of_rfc_4290(with_meta: Place) -> None:
     ("0061\n%action blocked any blocked", "line 3: RFC 4290 has no actions"),
     ("%never 0061 0061\n0061", "line 2: RFC 4290 has no demands"),
     ("0061|!0430\n!0430|!0061", "line 3: RFC 4290 has no types of sources"),
-    ("0061|!0430", "RFC 4290 can't say it: 0430 reads back otherwise"),
+    ("0061|!0430", "line 2: RFC 4290 has no variants that no label has"),
     ("0061\n0061-0061", "line 3: RFC 4290 has no sources of several code points"),
     ("0061|!0062\n0062|0061", "line 3: RFC 4290 has no blocked variants beside allocatable ones"),
 ])

@@ -1,14 +1,13 @@
 -- A run by the bytes of its files.
-use Rattle.std.specs.Prelude.{◌≡◌, ◌⊎◌, ℕ, List, [], Option, Some, None, IfSome, Ok}
+use Rattle.std.specs.Prelude.{◌≡◌, ◌⊎◌, ℕ, List, [], Option, Some, None, IfSome}
 use Rattle.idn_text.specs.Reading.{Reading, IsUnread}
 use Rattle.registered_labels.specs.Texts.{IsFaultOf, IsTextOf}
 use Rattle.registered_labels.specs.declared.labels.RegisteredFileFault.{RegisteredFileFault}
-use Rattle.variant_table.specs.Entries.{TableValue}
 use Rattle.idn2_cli.specs.Settings.{Settings, keeping}
 use Rattle.idn2_output.specs.declared.status.Status.{Status}
 use Rattle.idn2_output.specs.Writing.{Held}
 use Rattle.idn2_cli.specs.Ends.{Ends, TellsUnread, mode_job}
-use Rattle.idn2_cli.specs.Headline.{AnswersLabels, PrintsAnswers}
+use Rattle.idn2_cli.specs.Headline.{AnswersLabels, PrintsByText}
 use Rattle.idn2_answers.specs.Transcript.{TableGiven, IsTableOf}
 
 -- by a table of this text, among these registered labels, if there are some: the input is read from here to there, the
@@ -18,8 +17,8 @@ pub record Runs (o : Settings) (table : List ℕ) (labels : Option (List (List �
     (old new : Held) (status : Status) : Type 0 where
   pub ends : (given : TableGiven) × IsTableOf (keeping labels o) table given
       × Ends (mode_job (keeping labels o) given) start now old new status
-  pub headline : (given : TableValue) → AnswersLabels o.mode → IsTableOf (keeping labels o) table (Ok given)
-      → PrintsAnswers (keeping labels o) given start now old.output.contents new.output.contents status
+  pub headline : AnswersLabels o.mode
+      → PrintsByText (keeping labels o) table start now old.output.contents new.output.contents status
 
 -- the labels are those of which a file of this text has the lines
 pub record RunsAmong (o : Settings) (table text : List ℕ) (start now : Reading)

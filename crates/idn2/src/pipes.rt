@@ -44,7 +44,7 @@ fn is_read_twice(rt: &HostRuntime, options: &Options, has_strings: bool) -> bool
         Some(name) => pipe_at(rt, name),
         None => None,
     };
-    let lines = if has_strings || options.mode == Mode::CheckTable {
+    let lines = if has_strings || matches!(options.mode, Mode::CheckTable | Mode::PrintTable) {
         None
     } else {
         pipe_at(rt, INPUT)

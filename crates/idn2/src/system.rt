@@ -8,8 +8,9 @@ use std::io::{self, BufWriter, Read, Stdout};
 /// One byte more than a table's text may have: no later byte changes what is wrong with it.
 const TABLE_BYTES: u64 = 1_048_577;
 
-/// One byte more than a ruleset's text may have: no later byte changes what is wrong with it.
-const RULESET_BYTES: u64 = 8_388_609;
+/// One byte more than a ruleset in XML may have: no later byte changes what is wrong with it, nor with one of our own
+/// notation, which may have 8 MiB.
+const RULESET_BYTES: u64 = 67_108_865;
 
 /// As many bytes of the file of registered labels as can matter: 2^32, and after these a line of 1,024 bytes with its
 /// line feed, so that the first line that ends too late is there as far as it is tested.
@@ -22,7 +23,7 @@ const OUTPUT_BUFFER_LEN: usize = 65_536;
 pub fn read_table(rt: &HostRuntime, options: &Options) -> Result<Vec<u8>, Fault> {
     match options.mode {
         Mode::Lookup | Mode::Register | Mode::Decode | Mode::DecodeOld => Ok(Vec::new(rt.alloc())),
-        Mode::Variants | Mode::Jump | Mode::CheckTable => {
+        Mode::Variants | Mode::Jump | Mode::CheckTable | Mode::PrintTable => {
             let most = match options.notation {
                 Notation::Table => TABLE_BYTES,
                 Notation::Ruleset => RULESET_BYTES,

@@ -25,7 +25,7 @@ use Rattle.variant_list.specs.Jumps.{IsCandidate, IsLeastFrom, HasNoneFrom, cand
 use Rattle.idn2_options.specs.Settings.{Settings}
 use Rattle.idn2_options.specs.declared.command_line.mode.Mode.{Mode}
 use Rattle.idn2_options.specs.declared.command_line.mode.Mode.TheVariants.{Lookup, Register, Decode, DecodeOld}
-use Rattle.idn2_options.specs.declared.command_line.mode.Mode.TheVariants.{Variants, Jump, CheckTable}
+use Rattle.idn2_options.specs.declared.command_line.mode.Mode.TheVariants.{Variants, Jump, CheckTable, PrintTable}
 use Rattle.answer_json.specs.declared.collision.Regards.{Regards}
 use Rattle.idn2_refusals.specs.Requests.{requested_label, requested_text}
 use Rattle.idn2_answers.specs.Said as said
@@ -98,7 +98,8 @@ jump_answer properties table line =
     unless_fault (first_fault properties (requested_label line))
     (least_answer properties table (requested_label line) (requested_text line))
 
--- the answer of a mode to the code points of a line. The check of a table reads no line
+-- the answer of a mode to the code points of a line. The check of a table and its printing read
+-- no line
 abbrev pub mode_answer : Mode → Settings → TableValue → List ℕ → LineAnswer
 mode_answer Lookup o table name = one_answer LookedUp (lookup_answer name o.std3)
 mode_answer Register o table label =
@@ -108,6 +109,7 @@ mode_answer DecodeOld o table label = zone_line (zone_in_utf8 (zone_answer o.pro
 mode_answer Variants o table label = variants_answer o table label
 mode_answer Jump o table line = jump_answer o.properties table line
 mode_answer CheckTable o table label = Ok []
+mode_answer PrintTable o table label = Ok []
 
 -- the answer to the bytes of a line, of a mode that answers code points: they are UTF-8, and not empty
 abbrev pub text_answer : (List ℕ → LineAnswer) → List ℕ → LineAnswer

@@ -20,7 +20,9 @@ use Rattle.idn_label.specs.FirstFault.{first_fault, IsRegistrable}
 use Rattle.variant_table.specs.declared.version.Notation.{Notation}
 use Rattle.variant_table.specs.Entries.{TableValue}
 use Rattle.valid_labels.specs.Validity.{IsSound}
+use Rattle.variant_table.specs.Texts.{IsTextOf}
 use Rattle.variant_table.proofs.TextLemmas.{one_table, not_both}
+use Rattle.idn2_cli.proofs.TableLemmas.{fault_in_lines, formed, table_in_lines}
 use Rattle.idn2_options.specs.Settings.{Settings}
 use Rattle.idn2_options.specs.declared.command_line.mode.Mode.{Mode}
 use Rattle.idn2_options.specs.declared.command_line.mode.Mode.TheVariants.{Variants, Jump}
@@ -29,16 +31,16 @@ use Rattle.idn2_options.specs.declared.command_line.form.Form.{Form}
 use Rattle.idn2_options.specs.declared.command_line.form.Form.TheVariants.{Plain, Json}
 use Rattle.idn2_answers.specs.Said.{Said, said_text}
 use Rattle.idn2_output.specs.OutputLines.{OutputLine, Output, Message, outputs, output_of}
-use Rattle.idn2_answers.specs.Transcript.{Refuses, TableGiven, AreCrowded, IsListedBy, IsReadAs, IsSearchedAs, IsTableFor, IsTableOf, mode_output, line_output, lines_output, output_line_in, output_for, explained_in}
+use Rattle.idn2_answers.specs.Transcript.{HasFault, Refuses, TableGiven, AreCrowded, IsListedBy, IsReadAs, IsSearchedAs, IsTableFor, IsTableOf, is_in_xml, mode_output, line_output, lines_output, output_line_in, output_for, explained_in}
 use Rattle.idn2_refusals.specs.Messages.{refused_object}
 use Rattle.idn2_refusals.specs.declared.cause.LineCause.{LineCause}
 use Rattle.idn2_refusals.specs.Explained.{Explained, body_cause}
 use Rattle.idn2_output.specs.Writing.{Held, IsCutBy, refusal_of}
 use Rattle.idn2_cli.specs.Ends.{Job, reads_lines, Does, Ends, Stands, Stops, StopsAtLine, StopsUnread, Closes, mode_job}
 use Rattle.idn2_refusals.specs.Reports.{closing_status}
-use Rattle.idn2_cli.specs.Headline.{asked_label, printed_of, printed_refusal, AnswersLabels, IsAnswer, IsLineOf, IsPrintedFor, ArePrintedFor, PrintsAnswers}
+use Rattle.idn2_cli.specs.Headline.{asked_label, printed_of, printed_refusal, AnswersLabels, IsAnswer, IsLineOf, IsPrintedFor, ArePrintedFor, PrintsAnswers, PrintsByText, ReadsNothing}
 use Rattle.idn2_output.specs.declared.status.Status.{Status}
-use Rattle.idn2_output.specs.declared.status.Status.TheVariants.{Clean, Refused, Faulty, OutOfMemory}
+use Rattle.idn2_output.specs.declared.status.Status.TheVariants.{Clean, Refused, Unusable, Faulty, OutOfMemory}
 use Rattle.idn2_output.specs.declared.stop.Stop.{Stop}
 use Rattle.idn2_output.specs.declared.stop.Stop.TheVariants as stop
 use Rattle.idn2_answers.proofs.AdmittedLabels.{sound_table}
@@ -209,6 +211,13 @@ begun-cut stop.Messages output_lines written cut =
     rw (cut.split, cut.cut) (begun-before cut.before (Message cut.text ∷ cut.after) (Message (take cut.taken cut.text) ∷ []) (output_of cut.after, refl))
 begun-cut stop.Memory output_lines written cut = (output_of cut.0, ap output_of cut.1 ∙ output_of-append written cut.0)
 
+-- a run that stopped answers neither 0 nor 1
+stopped-status : (why : Stop) → (closing_status (refusal_of why) ≡ Clean) ⊎ (closing_status (refusal_of why) ≡ Refused) → ⊥
+stopped-status stop.Reading which = elim which [ inl clash ↦ let no : Faulty ≡ Clean = clash in cc | inr clash ↦ let no : Faulty ≡ Refused = clash in cc ]
+stopped-status stop.Output which = elim which [ inl clash ↦ let no : Faulty ≡ Clean = clash in cc | inr clash ↦ let no : Faulty ≡ Refused = clash in cc ]
+stopped-status stop.Messages which = elim which [ inl clash ↦ let no : Faulty ≡ Clean = clash in cc | inr clash ↦ let no : Faulty ≡ Refused = clash in cc ]
+stopped-status stop.Memory which = elim which [ inl clash ↦ let no : OutOfMemory ≡ Clean = clash in cc | inr clash ↦ let no : OutOfMemory ≡ Refused = clash in cc ]
+
 module _ (o : Settings) (table : TableValue) (sound : IsSound table) (rising : HasRising o.registered) (asks : AnswersLabels o.mode) where
   abbrev job : Job
   job = mode_job o (Ok table)
@@ -256,13 +265,6 @@ module _ (o : Settings) (table : TableValue) (sound : IsSound table) (rising : H
   output-stays stop.Messages middle new closes = ap (λ (h : Held). h.output) closes
   output-stays stop.Memory middle new closes = ap (λ (h : Held). h.output) closes.0
 
-  -- a run that stopped answers neither 0 nor 1
-  stopped-status : (why : Stop) → (closing_status (refusal_of why) ≡ Clean) ⊎ (closing_status (refusal_of why) ≡ Refused) → ⊥
-  stopped-status stop.Reading which = elim which [ inl clash ↦ let no : Faulty ≡ Clean = clash in cc | inr clash ↦ let no : Faulty ≡ Refused = clash in cc ]
-  stopped-status stop.Output which = elim which [ inl clash ↦ let no : Faulty ≡ Clean = clash in cc | inr clash ↦ let no : Faulty ≡ Refused = clash in cc ]
-  stopped-status stop.Messages which = elim which [ inl clash ↦ let no : Faulty ≡ Clean = clash in cc | inr clash ↦ let no : Faulty ≡ Refused = clash in cc ]
-  stopped-status stop.Memory which = elim which [ inl clash ↦ let no : OutOfMemory ≡ Clean = clash in cc | inr clash ↦ let no : OutOfMemory ≡ Refused = clash in cc ]
-
   reads-lines : job.reads ≡ true
   reads-lines = by_mode (λ m. reads_lines m (Ok table) ≡ true) refl refl o.mode asks
 
@@ -305,46 +307,81 @@ module _ (o : Settings) (table : TableValue) (sound : IsSound table) (rising : H
   ends-prints start now old new status ends =
       elim ends [ inl does ↦ done-prints start now old new status does | inr stops ↦ stopped-prints start now old new status stops ]
 
-module _ (properties : Properties) where
-  -- the table that a run is given is the one that its text spells
-  same_table : (n : Notation) (text : List ℕ) (given : TableGiven) (table : TableValue) → IsReadAs properties n text given → IsReadAs properties n text (Ok table) → given ≡ Ok table
-  same_table n text (Ok other) table read spelled = ap Ok (one_table properties n text other table read spelled)
-  same_table n text (Err fault) table read spelled = absurd (not_both properties n text table fault.0 read.0 spelled read.2)
+module _ (properties : Properties) (n : Notation) (text : List ℕ) (table : TableValue) where
+  sound_read : IsReadAs properties n text (Ok table) → IsSound table
+  sound_read given = sound_table table (formed properties n text table given)
 
-  -- also where collisions are searched by it
-  same_searched : (n : Notation) (text : List ℕ) (given : TableGiven) (table : TableValue) → IsSearchedAs properties n text given → IsSearchedAs properties n text (Ok table) → given ≡ Ok table
-  same_searched n text (Ok other) table read spelled = ap Ok (one_table properties n text other table read.0 spelled.0)
-  same_searched n text (Err fault) table (inl read) spelled = absurd (not_both properties n text table fault.0 read.0 spelled.0 read.2)
-  same_searched n text (Err fault) table (inr crowd) spelled =
-      let at = crowd.0 in
-      let by = at.source.crowded in
-      let same : at.table ≡ table = one_table properties n text at.table table at.spelled spelled.0 in
-      absurd (spelled.1 (subst (λ (t : TableValue). AreCrowded t.entries) same (by.0, by.1.crowded)))
+  sound_listed : (registered : Option (List (List ℕ))) → IsListedBy registered properties n text (Ok table) → IsSound table
+  sound_listed None given = sound_read given
+  sound_listed (Some labels) given = sound_read given.0
 
-  same_listed : (registered : Option (List (List ℕ))) (n : Notation) (text : List ℕ) (given : TableGiven) (table : TableValue) → IsListedBy registered properties n text given → IsListedBy registered properties n text (Ok table) → given ≡ Ok table
-  same_listed None n text given table read spelled = same_table n text given table read spelled
-  same_listed (Some labels) n text given table read spelled = same_searched n text given table read spelled
+  module _ (lines : is_in_xml n text ≡ false) where
+    spells : (t : TableValue) → IsReadAs properties n text (Ok t) → IsTextOf properties n text t
+    spells t given = table_in_lines properties n text t lines given
 
-  sound_listed : (registered : Option (List (List ℕ))) (n : Notation) (text : List ℕ) (table : TableValue) → IsListedBy registered properties n text (Ok table) → IsSound table
-  sound_listed None n text table spelled = sound_table table spelled.lines.well_formed
-  sound_listed (Some labels) n text table spelled = sound_table table spelled.0.lines.well_formed
+    never-faulty : (fault : ℕ × Refusal × Option LineCause) → HasFault properties n text fault → IsReadAs properties n text (Ok table) → ⊥
+    never-faulty fault has given =
+        let told = fault_in_lines properties n text fault lines has in
+        not_both properties n text table fault.0 told.0 (spells table given) told.2
+
+    -- the table that a run is given is the one that its lines spell
+    same_table : (given : TableGiven) → IsReadAs properties n text given → IsReadAs properties n text (Ok table) → given ≡ Ok table
+    same_table (Ok other) read spelled = ap Ok (one_table properties n text other table (spells other read) (spells table spelled))
+    same_table (Err fault) read spelled = absurd (never-faulty fault read spelled)
+
+    -- also where collisions are searched by it
+    same_searched : (given : TableGiven) → IsSearchedAs properties n text given → IsSearchedAs properties n text (Ok table) → given ≡ Ok table
+    same_searched (Ok other) read spelled = ap Ok (one_table properties n text other table (spells other read.0) (spells table spelled.0))
+    same_searched (Err fault) (inl read) spelled = absurd (never-faulty fault read spelled.0)
+    same_searched (Err fault) (inr crowd) spelled =
+        let at = crowd.0 in
+        let by = at.source.crowded in
+        let same : at.table ≡ table = one_table properties n text at.table table (spells at.table at.given) (spells table spelled.0) in
+        absurd (spelled.1 (subst (λ (t : TableValue). AreCrowded t.entries) same (by.0, by.1.crowded)))
+
+    same_listed : (registered : Option (List (List ℕ))) (given : TableGiven) → IsListedBy registered properties n text given → IsListedBy registered properties n text (Ok table) → given ≡ Ok table
+    same_listed None given read spelled = same_table given read spelled
+    same_listed (Some labels) given read spelled = same_searched given read spelled
 
 module _ (o : Settings) (text : List ℕ) (table : TableValue) where
-  abbrev IsTableIn : Mode → TableGiven → Type 0
-  IsTableIn mode given = IsTableFor mode o.registered o.properties o.notation text given
+  abbrev IsTableBy : Mode → TableGiven → Type 0
+  IsTableBy mode given = IsTableFor mode o.registered o.properties o.notation text given
 
-  same_given : (given : TableGiven) (mode : Mode) → AnswersLabels mode → IsTableIn mode given → IsTableIn mode (Ok table) → given ≡ Ok table
-  same_given given =
-      by_mode (λ m. IsTableIn m given → IsTableIn m (Ok table) → given ≡ Ok table) (same_listed o.properties o.registered o.notation text given table) (same_searched o.properties o.notation text given table)
+  same_given : is_in_xml o.notation text ≡ false → (given : TableGiven) (mode : Mode) → AnswersLabels mode → IsTableBy mode given → IsTableBy mode (Ok table) → given ≡ Ok table
+  same_given lines given =
+      by_mode (λ m. IsTableBy m given → IsTableBy m (Ok table) → given ≡ Ok table) (same_listed o.properties o.notation text table lines o.registered given) (same_searched o.properties o.notation text table lines given)
 
-  sound_given : (mode : Mode) → AnswersLabels mode → IsTableIn mode (Ok table) → IsSound table
+  sound_given : (mode : Mode) → AnswersLabels mode → IsTableBy mode (Ok table) → IsSound table
   sound_given =
-      by_mode (λ m. IsTableIn m (Ok table) → IsSound table) (sound_listed o.properties o.registered o.notation text table) (λ spelled. sound_table table spelled.0.lines.well_formed)
+      by_mode (λ m. IsTableBy m (Ok table) → IsSound table) (sound_listed o.properties o.notation text table o.registered) (λ given. sound_read o.properties o.notation text table given.0)
+
+-- a table that can't be used, or a stop before it was read
+nothing-read : (o : Settings) (fault : ℕ × Refusal × Option LineCause) (start now : Reading) (old new : Held) (status : Status) → Ends (mode_job o (Err fault)) start now old new status → ReadsNothing start now status
+nothing-read o fault start now old new status (inl does) = record {
+  unread = does.unread refl;
+  not_clean = λ is. let no : Unusable ≡ Clean = sym does.ending.answered ∙ is in cc;
+  not_refused = λ is. let no : Unusable ≡ Refused = sym does.ending.answered ∙ is in cc;
+}
+nothing-read o fault start now old new status (inr stops) = record {
+  unread = stops.stopped.unread refl;
+  not_clean = λ is. stopped-status stops.why (inl (sym stops.answered ∙ is));
+  not_refused = λ is. stopped-status stops.why (inr (sym stops.answered ∙ is));
+}
 
 -- the law: what a run ends with is the theorem of its answers
-pub headline : (o : Settings) (text : List ℕ) (table : TableValue) (given : TableGiven) (start now : Reading) (old new : Held) (status : Status)
-    → HasRising o.registered → AnswersLabels o.mode → IsTableOf o text (Ok table) → IsTableOf o text given → Ends (mode_job o given) start now old new status
-    → PrintsAnswers o table start now old.output.contents new.output.contents status
-headline o text table given start now old new status rising asks spelled read ends =
-    ends-prints o table (sound_given o text table o.mode asks spelled) rising asks start now old new status
-    (subst (λ (g : TableGiven). Ends (mode_job o g) start now old new status) (same_given o text table given o.mode asks read spelled) ends)
+pub headline : (o : Settings) (text : List ℕ) (given : TableGiven) (start now : Reading) (old new : Held) (status : Status)
+    → HasRising o.registered → AnswersLabels o.mode → IsTableOf o text given → Ends (mode_job o given) start now old new status
+    → PrintsByText o text start now old.output.contents new.output.contents status
+headline o text given start now old new status rising asks read ends = record { spelled = spelled; said = said given read ends }
+  where
+    prints : (table : TableValue) → IsTableOf o text (Ok table) → Ends (mode_job o (Ok table)) start now old new status → PrintsAnswers o table start now old.output.contents new.output.contents status
+    prints table is ends = ends-prints o table (sound_given o text table o.mode asks is) rising asks start now old new status ends
+
+    spelled : (table : TableValue) → is_in_xml o.notation text ≡ false → IsTableOf o text (Ok table) → PrintsAnswers o table start now old.output.contents new.output.contents status
+    spelled table lines is =
+        prints table is (subst (λ (g : TableGiven). Ends (mode_job o g) start now old new status) (same_given o text table lines given o.mode asks read is) ends)
+
+    said : (given : TableGiven) → IsTableOf o text given → Ends (mode_job o given) start now old new status
+        → ReadsNothing start now status ⊎ ((table : TableValue) × IsTableOf o text (Ok table) × PrintsAnswers o table start now old.output.contents new.output.contents status)
+    said (Ok table) is ends = inr (table, is, prints table is ends)
+    said (Err fault) is ends = inl (nothing-read o fault start now old new status ends)

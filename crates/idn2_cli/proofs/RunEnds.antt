@@ -13,16 +13,15 @@ use Rattle.idn2_options.specs.Settings.{Settings, keeping, tells_causes}
 use Rattle.idn2_cli.specs.Memory.{BlockGoesOn, IsRefusedWithoutMemory, ListsWithoutMemory, reads_table}
 use Rattle.idn2_answers.specs.Answers.{variants_answer}
 use Rattle.idn2_refusals.specs.Explained.{Explained}
-use Rattle.idn2_answers.specs.Transcript.{TableGiven, IsCrowdedIn, IsListedBy, IsReadAs, IsSearchedAs, IsTableFor, IsTableOf, check_output, check_status}
+use Rattle.idn2_answers.specs.Transcript.{TableGiven, IsCrowdedIn, IsListedBy, IsReadAs, IsSearchedAs, IsTableFor, IsTableOf, check_output, check_status, printed_text}
 use Rattle.idn2_refusals.specs.Messages.{fault_piece}
-use Rattle.idn2_refusals.specs.TableCauses.{told_if}
-use Rattle.idn2_output.specs.OutputLines.{OutputLine}
+use Rattle.idn2_output.specs.OutputLines.{Output, OutputLine}
 use Rattle.idn2_output.specs.Writing.{Held, refusal_of, Emits}
 use Rattle.idn2_refusals.specs.Reports.{TakesText, closing_message}
 use Rattle.idn2_cli.specs.Ends.{Job, Does, Ends, EndsEarly, EndsWell, Closes, Stands, StopsAtLine, StopsUnread, at_lines_alone, lines_job, mode_job}
 use Rattle.idn2_options.specs.declared.command_line.form.Form.{Form}
 use Rattle.idn2_options.specs.declared.command_line.mode.Mode.{Mode}
-use Rattle.idn2_options.specs.declared.command_line.mode.Mode.TheVariants.{Variants, CheckTable}
+use Rattle.idn2_options.specs.declared.command_line.mode.Mode.TheVariants.{Variants, CheckTable, PrintTable}
 use Rattle.idn2_cli.specs.inner.ServedModes.{Serves, mode_of, search_mode}
 use Rattle.idn2_cli.specs.declared.session.run.TableMode.{TableMode}
 use Rattle.idn2_cli.specs.declared.session.run.TableMode.TheVariants as work
@@ -31,14 +30,11 @@ use Rattle.idn2_output.specs.declared.stop.Stop.{Stop}
 use Rattle.idn2_output.specs.declared.stop.Stop.TheVariants as stop
 use Rattle.idn2_output.proofs.WrittenOutputLines.{stops_first}
 use Rattle.idn2_cli.proofs.LineSteps.{stands_at}
-use Rattle.idn2_refusals.proofs.ToldRefusals.{IsTold}
-use Rattle.idn2_cli.proofs.TableLemmas.{some_table, some_searched, refused_table}
+use Rattle.idn2_cli.proofs.TableLemmas.{no_cause, some_table, some_searched}
+use Rattle.idn2_cli.specs.inner.UnreadTables.{TellsFault}
 use Rattle.idn2_refusals.specs.declared.cause.LineCause.{LineCause}
 use Rattle.variant_table.specs.declared.version.Notation.{Notation}
-use Rattle.variant_table.specs.Texts.{IsToldOf}
-use Rattle.variant_table.specs.declared.fault.TableFault.{TableFault}
-use Rattle.idn2_refusals.specs.TableFaults.{told_of}
-use Rattle.idn2_output.specs.declared.status.Status.TheVariants.{Unusable}
+use Rattle.idn2_output.specs.declared.status.Status.TheVariants.{Clean, Unusable}
 
 -- ---- a mode that answers lines
 
@@ -121,6 +117,14 @@ checked o table start old new r e unread writes answered =
     let job = mode_job (record o { mode = CheckTable }) (Ok table) in
     does_mode o CheckTable (Ok table) job start start old new r e refl (does_unread job start old new r unread writes (with_false r _ answered) refl)
 
+-- its printing
+pub printed : (o : Settings) (table : TableValue) (start : Reading) (old new : Held) (r : Result Status Stop)
+    → o.mode ≡ PrintTable → IsUnread start → Emits old new (Output (printed_text table) ∷ []) r → IfOk r (λ status. status ≡ Clean)
+    → Does (mode_job o (Ok table)) start start old new r
+printed o table start old new r e unread writes answered =
+    let job = mode_job (record o { mode = PrintTable }) (Ok table) in
+    does_mode o PrintTable (Ok table) job start start old new r e refl (does_unread job start old new r unread writes (with_false r _ answered) refl)
+
 -- lack of memory before any output line
 pub emits_memory : {A : Type 0} (old : Held) (output_lines : List OutputLine) (r : Result A Stop) (why : Stop) → r ≡ Err why → why ≡ stop.Memory → Emits old old output_lines r
 emits_memory {A} old output_lines r why e memory =
@@ -160,6 +164,7 @@ works_by_table o work.Variants is = record {
 }
 works_by_table o work.Jump is = record { named = is; some = λ text. some_searched o.properties o.notation text; faults = λ text told read. inl read; by_table = refl }
 works_by_table o work.CheckTable is = record { named = is; some = λ text. some_table o.properties o.notation text; faults = λ text told read. read; by_table = refl }
+works_by_table o work.PrintTable is = record { named = is; some = λ text. some_table o.properties o.notation text; faults = λ text told read. read; by_table = refl }
 
 -- ---- the table that was read
 
@@ -170,6 +175,9 @@ listed_read o text given is whole read =
 
 pub checked_read : (o : Settings) (text : List ℕ) (given : TableGiven) → o.mode ≡ CheckTable → IsReadAs o.properties o.notation text given → IsTableOf o text given
 checked_read o text given is read = subst (λ (m : Mode). IsTableFor m o.registered o.properties o.notation text given) (sym is) read
+
+pub printed_read : (o : Settings) (text : List ℕ) (given : TableGiven) → o.mode ≡ PrintTable → IsReadAs o.properties o.notation text given → IsTableOf o text given
+printed_read o text given is read = subst (λ (m : Mode). IsTableFor m o.registered o.properties o.notation text given) (sym is) read
 
 module _ (o : Settings) (text : List ℕ) (given : TableGiven) where
   pub searched_for : (among : Option (List (List ℕ))) → IfSome among (λ labels. o.registered ≡ Some labels) → IsSearchedAs o.properties o.notation text given → IsTableFor (search_mode among) o.registered o.properties o.notation text given
@@ -182,11 +190,6 @@ module _ (o : Settings) (text : List ℕ) (given : TableGiven) where
 search_reads : (among : Option (List (List ℕ))) → reads_table (search_mode among) ≡ true
 search_reads None = refl
 search_reads (Some labels) = refl
-
--- no cause is told where there is none
-no_cause : (wanted : Bool) → told_if wanted None ≡ None
-no_cause true = refl
-no_cause false = refl
 
 module _ (o : Settings) (mode : Mode) (works : WorksByTable o mode) (text : List ℕ) (start : Reading) where
   -- memory was refused while the table was read
@@ -209,32 +212,24 @@ module _ (o : Settings) (mode : Mode) (works : WorksByTable o mode) (text : List
       (does_unread job start old new r unread writes (with_false r _ answered) works.by_table)
 
   -- the table is not read
-  pub refused_lines : (fault : TableFault) (old new : Held) (r : Result Status Stop) → IsUnread start → IsToldOf o.properties o.notation text fault
-      → IsTold o.properties o.form (tells_causes o) o.notation text fault old new r (told_of fault)
-      → IfOk r (λ status. status ≡ Unusable)
-      → Serves o text start start old new r
-  refused_lines fault old new r unread is told answered = by (refused_table o.properties o.form (tells_causes o) o.notation text fault old new r is told)
-    where
-      by : ((r ≡ Err stop.Memory) × (new ≡ old)) ⊎ ((told : ℕ × Refusal × Option LineCause) × IsReadAs o.properties o.notation text (Err told) × Emits old new (check_output o.form (tells_causes o) (Err told)) r)
-          → Serves o text start start old new r
-      by (inl memory) =
-          subst (λ (h : Held). Serves o text start start old h r) (sym memory.1)
-          (unread_stopped old r stop.Memory unread memory.0 refl)
-      by (inr t) = faulty t.0 old new r t.1 unread t.2 answered
+  pub refused_text : (old new : Held) (r : Result Status Stop) → IsUnread start → TellsFault o.form (tells_causes o) o.properties o.notation text old new r → Serves o text start start old new r
+  refused_text old new r unread (inl memory) =
+      subst (λ (h : Held). Serves o text start start old h r) (sym memory.1)
+      (unread_stopped old r stop.Memory unread memory.0 refl)
+  refused_text old new r unread (inr t) = faulty t.0 old new r t.1 unread t.2 t.3
 
 -- the same job under another name
 pub ends_as : (job other : Job) (start now : Reading) (old new : Held) (status : Status) → job ≡ other → Ends job start now old new status → Ends other start now old new status
 ends_as job other start now old new status same done = subst (λ (j : Job). Ends j start now old new status) same done
 
-module _ (properties : Properties) where
-  -- the form, whether causes are wanted and the notation, read from the options
-  pub in_form : (text : List ℕ) (fault : TableFault) (f g : Form) (a b : Bool) (m n : Notation) (others : Properties) (old new : Held) (r : Result Status Stop) → f ≡ g → a ≡ b → m ≡ n → others ≡ properties
-      → IsTold others f a m text fault old new r (told_of fault) → IsTold properties g b n text fault old new r (told_of fault)
-  in_form text fault f g a b m n others old new r form wanted notation same told =
-      subst (λ (x : Notation). IsTold properties g b x text fault old new r (told_of fault)) notation
-      (subst (λ (x : Bool). IsTold properties g x m text fault old new r (told_of fault)) wanted
-      (subst (λ (x : Form). IsTold properties x a m text fault old new r (told_of fault)) form
-      (subst (λ (x : Properties). IsTold x f a m text fault old new r (told_of fault)) same told)))
+-- the form, whether causes are wanted and the notation, read from the options
+pub in_form : (text : List ℕ) (f g : Form) (a b : Bool) (p q : Properties) (m n : Notation) (old new : Held) (r : Result Status Stop) → f ≡ g → a ≡ b → p ≡ q → m ≡ n
+    → TellsFault f a p m text old new r → TellsFault g b q n text old new r
+in_form text f g a b p q m n old new r form wanted same notation told =
+    subst (λ (x : Notation). TellsFault g b q x text old new r) notation
+    (subst (λ (x : Properties). TellsFault g b x m text old new r) same
+    (subst (λ (x : Bool). TellsFault g x p m text old new r) wanted
+    (subst (λ (x : Form). TellsFault x a p m text old new r) form told)))
 
 -- ---- the last message
 

@@ -18,7 +18,7 @@ use Rattle.idn2_answers.specs.Answers.{LineAnswer}
 use Rattle.idn2_refusals.specs.Explained.{Explained}
 use Rattle.idn2_cli.specs.Memory.{NeedsNone, ServesWithoutMemory, GoesOnWithoutMemory, BodyNeedsNone, reads_table}
 use Rattle.idn2_options.specs.declared.command_line.mode.Mode.{Mode}
-use Rattle.idn2_options.specs.declared.command_line.mode.Mode.TheVariants.{CheckTable}
+use Rattle.idn2_options.specs.declared.command_line.mode.Mode.TheVariants.{CheckTable, PrintTable}
 use Rattle.idn2_output.specs.declared.stop.Stop.TheVariants as stop
 
 -- ---- what is to be done
@@ -44,10 +44,11 @@ lines_job form explained answer needs_none goes_on = record {
   goes_on = goes_on;
 }
 
--- the input is read in every mode but the check of a table, where no table has a fault
+-- the input is read in every mode but the check of a table and its printing, where no table has a fault
 abbrev pub reads_lines : Mode → TableGiven → Bool
 reads_lines mode (Err fault) = false
 reads_lines CheckTable (Ok table) = false
+reads_lines PrintTable (Ok table) = false
 reads_lines mode (Ok table) = true
 
 -- to serve a mode

@@ -1,5 +1,5 @@
 -- The variant-list theorem in one record, and that of jumps: what stands on the output of a run, line for line.
-use Rattle.std.specs.Prelude.{◌≡◌, ◌⊎◌, ℕ, List, [], ◌∷◌, ◌++◌, Option, Some, Ok, Err}
+use Rattle.std.specs.Prelude.{◌≡◌, ◌≢◌, ◌⊎◌, ℕ, false, List, [], ◌∷◌, ◌++◌, Option, Some, Ok, Err}
 use Rattle.std.specs.List.{concat, flat_map}
 use Rattle.std.specs.Io.KnownBytes.{Appends}
 use Rattle.idn_text.specs.Points.{AreScalarValues, utf8_of}
@@ -13,7 +13,7 @@ use Rattle.idn2_options.specs.declared.command_line.form.Form.{Form}
 use Rattle.idn2_options.specs.declared.command_line.form.Form.TheVariants.{Plain, Json}
 use Rattle.idn_text.specs.declared.refusal.Refusal.{Refusal}
 use Rattle.idn2_refusals.specs.Explained.{Explained, body_cause}
-use Rattle.idn2_answers.specs.Transcript.{explained_in}
+use Rattle.idn2_answers.specs.Transcript.{IsTableOf, explained_in, is_in_xml}
 use Rattle.idn2_options.specs.declared.command_line.mode.Mode.{Mode}
 use Rattle.idn2_options.specs.declared.command_line.mode.Mode.TheVariants.{Variants, Jump}
 use Rattle.idn2_answers.specs.Said.{said_text}
@@ -85,3 +85,18 @@ pub record PrintsAnswers (o : Settings) (table : TableValue) (start now : Readin
   pub joined : concat printed ≡ taken ++ missing
   pub output : Appends old new taken
   pub whole : (status ≡ Clean) ⊎ (status ≡ Refused) → (now.state ≡ Ended) × (missing ≡ [])
+
+-- no line was read: the table can't be used, or the run stopped before
+pub record ReadsNothing (start now : Reading) (status : Status) : Type 0 where
+  pub unread : now ≡ start
+  pub not_clean : status ≢ Clean
+  pub not_refused : status ≢ Refused
+
+-- the same by the text of a table. Lines spell one table at most, and what is printed is by that one. Of a ruleset in
+-- XML it is by a table that says what the ruleset says, unless no line was read
+pub record PrintsByText (o : Settings) (text : List ℕ) (start now : Reading) (old new : Option (List ℕ))
+    (status : Status) : Type 0 where
+  pub spelled : (table : TableValue) → is_in_xml o.notation text ≡ false → IsTableOf o text (Ok table)
+      → PrintsAnswers o table start now old new status
+  pub said : ReadsNothing start now status
+      ⊎ ((table : TableValue) × IsTableOf o text (Ok table) × PrintsAnswers o table start now old new status)

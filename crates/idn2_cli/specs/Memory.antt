@@ -16,7 +16,7 @@ use Rattle.idn2_answers.specs.Transcript.{explained_in, TableGiven}
 use Rattle.idn2_options.specs.Settings.{Settings}
 use Rattle.idn2_options.specs.declared.command_line.mode.Mode.{Mode}
 use Rattle.idn2_options.specs.declared.command_line.mode.Mode.TheVariants.{Lookup, Register, Decode, DecodeOld}
-use Rattle.idn2_options.specs.declared.command_line.mode.Mode.TheVariants.{Variants, Jump, CheckTable}
+use Rattle.idn2_options.specs.declared.command_line.mode.Mode.TheVariants.{Variants, Jump, CheckTable, PrintTable}
 
 -- the bytes of a name of which each label is decoded without memory
 abbrev pub DecodesLineWithoutMemory : List ℕ → Type 0
@@ -35,12 +35,14 @@ AnswersWithoutMemory DecodeOld o line = StandsWithoutMemory (chars line)
 AnswersWithoutMemory Variants o line = IsRefusedWithoutMemory o.properties (chars line)
 AnswersWithoutMemory Jump o line = IsRefusedWithoutMemory o.properties (requested_label (chars line))
 AnswersWithoutMemory CheckTable o line = ⊥
+AnswersWithoutMemory PrintTable o line = ⊥
 
 -- a mode that reads a table, which takes memory before its first line
 abbrev pub reads_table : Mode → Bool
 reads_table Variants = true
 reads_table Jump = true
 reads_table CheckTable = true
+reads_table PrintTable = true
 reads_table mode = false
 
 -- what a search finds of a table once takes no memory: each pair has its reverse, and there are no actions

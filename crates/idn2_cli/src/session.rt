@@ -3,3 +3,4 @@
 pub(crate) mod lines;
 pub(crate) mod report;
 pub(crate) mod run;
+pub(crate) mod table;

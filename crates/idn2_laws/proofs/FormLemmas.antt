@@ -15,14 +15,14 @@ use Rattle.idn2_options.specs.declared.command_line.form.Form.{Form}
 use Rattle.idn2_options.specs.declared.command_line.form.Form.TheVariants.{Plain, Json}
 use Rattle.idn2_options.specs.declared.command_line.mode.Mode.{Mode}
 use Rattle.idn2_options.specs.declared.command_line.mode.Mode.TheVariants.{Lookup, Register, Decode, Variants, Jump}
-use Rattle.idn2_options.specs.declared.command_line.mode.Mode.TheVariants.{CheckTable, DecodeOld}
+use Rattle.idn2_options.specs.declared.command_line.mode.Mode.TheVariants.{CheckTable, DecodeOld, PrintTable}
 use Rattle.valid_labels.specs.Tests.{is_admitted, is_made_of_sources}
 use Rattle.variant_list.specs.Spelled.{spelled}
 use Rattle.idn2_answers.specs.Answers.{LineAnswer, if_admitted, line_answer, mode_answer}
 use Rattle.idn2_answers.specs.Dispositions.{disposition, shown}
 use Rattle.idn2_answers.specs.Listings.{block_to, filter_of, stop_of, variant_by, variants_after}
 use Rattle.idn2_refusals.specs.Explained.{Explained, if_wanted}
-use Rattle.idn2_answers.specs.Transcript.{explained_by_mode, explained_in, Statement, Says, Refuses, Finds, Faults, TableGiven, answer_statements, check_findings, check_output, check_statements, has_refused, lines_output, lines_statements, line_output, mode_output, mode_statements, mode_status, output_line_in, output_for, statements, status_if, status_of, transcript}
+use Rattle.idn2_answers.specs.Transcript.{explained_by_mode, explained_in, Statement, Says, Refuses, Finds, Prints, Faults, TableGiven, answer_statements, check_findings, check_output, check_statements, has_refused, lines_output, lines_statements, line_output, mode_output, mode_statements, mode_status, output_line_in, output_for, statements, status_if, status_of, transcript}
 use Rattle.idn2_answers.specs.Said.{Said, Finding, said_text, finding_text}
 use Rattle.idn2_output.specs.OutputLines.{messages_of, outputs}
 
@@ -54,6 +54,7 @@ check_written form wanted (Ok table) = outputs-found form (check_findings table)
 
 mode_written : (mode : Mode) (o : Settings) (table : TableValue) (lines : List Numbered) → mode_output mode o table lines ≡ map (output_line_in o.form) (mode_statements mode o table lines)
 mode_written CheckTable o table lines = check_written o.form (tells_causes o) (Ok table)
+mode_written PrintTable o table lines = refl
 mode_written Lookup o table lines = lines_written o.form (explained_in Lookup o table) (mode_answer Lookup o table) lines
 mode_written Register o table lines = lines_written o.form (explained_in Register o table) (mode_answer Register o table) lines
 mode_written Decode o table lines = lines_written o.form (explained_in Decode o table) (mode_answer Decode o table) lines
@@ -87,6 +88,7 @@ same_by_listing (Some registered) o table lines =
 same_by_mode : (mode : Mode) (o : Settings) (table : TableValue) (lines : List Numbered)
     → mode_statements mode (record o { form = Json }) table lines ≡ mode_statements mode (record o { form = Plain; explain = true }) table lines
 same_by_mode CheckTable o table lines = refl
+same_by_mode PrintTable o table lines = refl
 same_by_mode Lookup o table lines = ap (λ b. lines_statements (if_wanted b (explained_by_mode Lookup o table)) (mode_answer Lookup o table) lines) (or-true o.explain)
 same_by_mode Register o table lines = ap (λ b. lines_statements (if_wanted b (explained_by_mode Register o table)) (mode_answer Register o table) lines) (or-true o.explain)
 same_by_mode Decode o table lines = ap (λ b. lines_statements (if_wanted b (explained_by_mode Decode o table)) (mode_answer Decode o table) lines) (or-true o.explain)
@@ -138,6 +140,7 @@ status_by_listing (Some registered) o table lines = refl
 status_by_mode : (mode : Mode) (o : Settings) (table : TableValue) (lines : List Numbered)
     → mode_status mode (record o { form = Json }) table lines ≡ mode_status mode (record o { form = Plain }) table lines
 status_by_mode CheckTable o table lines = refl
+status_by_mode PrintTable o table lines = refl
 status_by_mode Lookup o table lines = refl
 status_by_mode Register o table lines = refl
 status_by_mode Decode o table lines = refl
@@ -156,6 +159,7 @@ silent_in_json [] = refl
 silent_in_json (Says line what ∷ said) = silent_in_json said
 silent_in_json (Refuses line refusal cause ∷ said) = silent_in_json said
 silent_in_json (Finds finding ∷ said) = silent_in_json said
+silent_in_json (Prints text ∷ said) = silent_in_json said
 silent_in_json (Faults line refusal cause ∷ said) = silent_in_json said
 
 pub json_silent : (o : Settings) (given : TableGiven) (lines : List Numbered) → o.form ≡ Json → messages_of (transcript o given lines) ≡ []

@@ -49,7 +49,7 @@ use Rattle.idn2_refusals.specs.Requests.{requested_label}
 use Rattle.idn2_refusals.specs.Explained.{Explained, Unexplained, ByLabel, ByName, ByQuery, ByTable, ByRequest, ByRegisteredLine, bad_byte, body_cause, coded_cause, if_wanted, invalid_cause, not_in_table_cause, points_cause, registration_cause, table_cause, u_label_cause, unless_unexplained, validity_cause}
 use Rattle.idn2_answers.specs.Transcript.{explained_by_mode, explained_in, Refuses, output_for, output_line_in}
 use Rattle.idn2_laws.proofs.ZoneAnswers.{zone-refused}
-use Rattle.idn2_laws.specs.LineCauses.{IsBadByte, IsCodedCause, IsInvalidCause, IsLineCause, IsOf, IsNotInTableCause, IsPointsCause, IsRegistrationCause, IsTableCause, IsULabelCause, RefusalsAreExplained}
+use Rattle.idn2_laws.specs.LineCauses.{ReadsLines, IsBadByte, IsCodedCause, IsInvalidCause, IsLineCause, IsOf, IsNotInTableCause, IsPointsCause, IsRegistrationCause, IsTableCause, IsULabelCause, RefusalsAreExplained}
 use Rattle.idn2_answers.specs.Said.{Said}
 use Rattle.idn2_refusals.specs.declared.cause.LineCause.{LineCause}
 use Rattle.idn2_refusals.specs.declared.cause.LineCause.TheVariants.{LongLine, OfLabel, OfALabel, OfName, OfQuery, ALabelOf, NoALabel}
@@ -330,6 +330,7 @@ points-refused modes.DecodeOld o table points refusal formed refused = tt
 points-refused modes.Variants o table points refusal formed refused = refused-under o.properties table points refusal formed (_, refused)
 points-refused modes.Jump o table points refusal formed refused = refused-under o.properties table (requested_label points) refusal formed (_, refused)
 points-refused modes.CheckTable o table points refusal formed refused = tt
+points-refused modes.PrintTable o table points refusal formed refused = tt
 
 points-told : (mode : Mode) (o : Settings) (table : TableValue) (points : List ℕ) (refusal : Refusal) → IsSound table → mode_answer mode o table points ≡ Err refusal → refusal ≢ refusals.Empty → refusal ≢ refusals.LookupInvalid → points_cause (explained_by_mode mode o table) points refusal ≢ None
 unfolding points_cause
@@ -347,6 +348,7 @@ points-told modes.Variants o table points refusal formed refused some other none
 points-told modes.Jump o table points refusal formed refused some other none =
     table-told o.properties table (requested_label points) refusal formed (_, refused) some none
 points-told modes.CheckTable o table points refusal formed refused some other none = let clash : Ok [] ≡ Err refusal = refused in cc
+points-told modes.PrintTable o table points refusal formed refused some other none = let clash : Ok [] ≡ Err refusal = refused in cc
 
 -- ---- bytes that are no UTF-8
 
@@ -444,17 +446,19 @@ empty-refused modes.Register o table points formed = tt
 empty-refused modes.Decode o table points formed = tt
 empty-refused modes.DecodeOld o table points formed = tt
 empty-refused modes.CheckTable o table points formed = tt
+empty-refused modes.PrintTable o table points formed = tt
 
-explains : (mode : Mode) (o : Settings) (table : TableValue) → mode ≢ modes.CheckTable → explained_by_mode mode o table ≢ Unexplained
+explains : (mode : Mode) (o : Settings) (table : TableValue) → ReadsLines mode → explained_by_mode mode o table ≢ Unexplained
 explains modes.Lookup o table other = λ same. let clash : ByQuery o.std3 ≡ Unexplained = same in cc
 explains modes.Register o table other = λ same. let clash : ByLabel o.properties ≡ Unexplained = same in cc
 explains modes.Decode o table other = λ same. let clash : ByName o.properties ≡ Unexplained = same in cc
 explains modes.DecodeOld o table other = λ same. let clash : ByLabel o.properties ≡ Unexplained = same in cc
 explains modes.Variants o table other = λ same. let clash : ByTable o.properties table ≡ Unexplained = same in cc
 explains modes.Jump o table other = λ same. let clash : ByRequest o.properties table ≡ Unexplained = same in cc
-explains modes.CheckTable o table other = absurd (other refl)
+explains modes.CheckTable o table other = absurd (other.0 refl)
+explains modes.PrintTable o table other = absurd (other.1 refl)
 
-line-exactly : (mode : Mode) (o : Settings) (table : TableValue) (body : Option (List ℕ)) (refusal : Refusal) (cause : LineCause) → mode ≢ modes.CheckTable → IsSound table
+line-exactly : (mode : Mode) (o : Settings) (table : TableValue) (body : Option (List ℕ)) (refusal : Refusal) (cause : LineCause) → ReadsLines mode → IsSound table
     → line_answer (mode_answer mode o table) body ≡ Err refusal → IsToldAs (explained_by_mode mode o table) body refusal cause
 line-exactly mode o table None refusal cause other formed refused = long-is (explained_by_mode mode o table) refusal cause (explains mode o table other)
 line-exactly mode o table (Some bytes) refusal cause other formed refused = text-is (explained_by_mode mode o table) bytes refusal cause (explains mode o table other) by
@@ -465,7 +469,7 @@ line-exactly mode o table (Some bytes) refusal cause other formed refused = text
       | inr points ↦ points-refused mode o table (chars bytes) refusal formed points
     ]
 
-line-always : (mode : Mode) (o : Settings) (table : TableValue) (body : Option (List ℕ)) (refusal : Refusal) → mode ≢ modes.CheckTable → IsSound table
+line-always : (mode : Mode) (o : Settings) (table : TableValue) (body : Option (List ℕ)) (refusal : Refusal) → ReadsLines mode → IsSound table
     → line_answer (mode_answer mode o table) body ≡ Err refusal → refusal ≢ refusals.Empty → refusal ≢ refusals.LookupInvalid → body_cause (explained_by_mode mode o table) body refusal ≢ None
 line-always mode o table None refusal other formed refused some lookup none =
     let clash : Some LongLine ≡ None = sym (wanted-told (explained_by_mode mode o table) LongLine (explains mode o table other)) ∙ none in cc

@@ -352,6 +352,7 @@ sound_by modes.DecodeOld o table sound = tt
 sound_by modes.Variants o table sound = sound
 sound_by modes.Jump o table sound = sound
 sound_by modes.CheckTable o table sound = tt
+sound_by modes.PrintTable o table sound = tt
 
 sound_in : (mode : Mode) (o : Settings) (table : TableValue) → IsSound table → IsSoundIn (explained_in mode o table)
 sound_in mode o table sound = by_test (tells_causes o)

@@ -216,6 +216,7 @@ good_refusal refusals.BadClass = record { number = omega arith; words = refl }
 good_refusal refusals.Limit = record { number = omega arith; words = refl }
 good_refusal refusals.NoSuchName = record { number = omega arith; words = refl }
 good_refusal refusals.SameName = record { number = omega arith; words = refl }
+good_refusal refusals.NotSupported = record { number = omega arith; words = refl }
 good_refusal refusals.NotInTable = record { number = omega arith; words = refl }
 good_refusal refusals.NotValid = record { number = omega arith; words = refl }
 good_refusal refusals.Usage = record { number = omega arith; words = refl }

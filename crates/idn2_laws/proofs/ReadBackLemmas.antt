@@ -59,7 +59,7 @@ use Rattle.variant_list.proofs.SpelledByLemmas.{spelled-Spells}
 use Rattle.variant_list.proofs.SpellingLemmas.{Spells-scalar}
 use Rattle.idn2_options.specs.Settings.{IsCount, Settings}
 use Rattle.idn2_options.specs.declared.command_line.mode.Mode.{Mode}
-use Rattle.idn2_options.specs.declared.command_line.mode.Mode.TheVariants.{Lookup, Register, Decode, DecodeOld, Variants, Jump, CheckTable}
+use Rattle.idn2_options.specs.declared.command_line.mode.Mode.TheVariants.{Lookup, Register, Decode, DecodeOld, Variants, Jump, CheckTable, PrintTable}
 use Rattle.answer_json.specs.Answers.{Answer, HasSmallNumbers, IsSmall, json_of}
 use Rattle.answer_json.specs.Hexadecimal.{hex_of, hex_of_byte}
 use Rattle.answer_json.specs.Inputs.{Told, as_text, as_octets, not_kept, input_field, told_of}
@@ -462,6 +462,7 @@ mode-texts Jump o table points said sound kept scalar is =
     admitted-texts table label (Least (least_near o.properties table label request) ∷ []) said (least-text o.properties table label request sound.entries, tt)
     (unless-texts (first_fault o.properties label) (least_answer o.properties table label request) said is)
 mode-texts CheckTable o table points said sound kept scalar is = subst (AllByRecursion HasTexts) (let one : [] ≡ said = cc in one) tt
+mode-texts PrintTable o table points said sound kept scalar is = subst (AllByRecursion HasTexts) (let one : [] ≡ said = cc in one) tt
 
 body-texts : (mode : Mode) (o : Settings) (table : TableValue) (body : Option (List ℕ)) (said : List Said) → IsSound table → IsKeptToFew o.properties o.registered → line_answer (mode_answer mode o table) body ≡ Ok said → AllByRecursion HasTexts said
 body-texts mode o table None said sound kept is = absurd (let clash : Err LineTooLong ≡ Ok said = is in cc)
@@ -528,6 +529,7 @@ mode-few Jump o table points said tries kept is =
     admitted-few o table label (Least (least_near o.properties table label request) ∷ []) said (tt, tt)
     (unless-texts (first_fault o.properties label) (least_answer o.properties table label request) said is)
 mode-few CheckTable o table points said tries kept is = subst (AllByRecursion CountsFew) (let one : [] ≡ said = cc in one) tt
+mode-few PrintTable o table points said tries kept is = subst (AllByRecursion CountsFew) (let one : [] ≡ said = cc in one) tt
 
 body-few : (mode : Mode) (o : Settings) (table : TableValue) (body : Option (List ℕ)) (said : List Said) → IsCount o.tries → IsKeptToFew o.properties o.registered → line_answer (mode_answer mode o table) body ≡ Ok said → AllByRecursion CountsFew said
 body-few mode o table None said tries kept is = absurd (let clash : Err LineTooLong ≡ Ok said = is in cc)

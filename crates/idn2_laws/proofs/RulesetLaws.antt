@@ -62,7 +62,7 @@ use Rattle.answer_json.specs.declared.collision.Regard.TheVariants.{NoVariant}
 use Rattle.answer_json.specs.declared.collision.Regards.{Regards}
 use Rattle.idn2_options.specs.Settings.{Settings, tells_causes}
 use Rattle.idn2_options.specs.declared.command_line.mode.Mode.{Mode}
-use Rattle.idn2_options.specs.declared.command_line.mode.Mode.TheVariants.{Lookup, Register, Decode, Variants, Jump, CheckTable}
+use Rattle.idn2_options.specs.declared.command_line.mode.Mode.TheVariants.{Lookup, Register, Decode, Variants, Jump, CheckTable, PrintTable}
 use Rattle.idn2_answers.specs.Answers.{IsRefusedAs, LineAnswer, block_among, if_admitted, jump_answer, least_answer, least_near, line_answer, variants_answer}
 use Rattle.idn2_answers.specs.Collisions.{IsVariantOf, barred_in, collision_block, collision_by, collisions_after, collisions_to, is_barred, is_either, is_good, is_variant_of, regard_by, regard_of, regards_of}
 use Rattle.idn2_answers.specs.Dispositions.{IsAllocatableIn, IsAllocation, IsClear, IsFieldOf, IsLeftOut, IsReadingFor, disposition, is_left_out, shown}
@@ -536,16 +536,17 @@ module _ (o : Settings) (table : TableValue) (single : IsSingle table) where
   request-cause-same true None refusal = refl
   request-cause-same true (Some bytes) refusal = bytes-cause-same (is_utf8 bytes) (bad_byte bytes) (points_cause (ByRequest o.properties older) (chars bytes) refusal) (points_cause (ByRequest o.properties newer) (chars bytes) refusal) (request-points-same (chars bytes) refusal)
 
-  mode-statements-same : (mode : Mode) (lines : List Numbered) → mode_statements mode o older lines ≡ mode_statements mode o newer lines
-  mode-statements-same Lookup lines = refl
-  mode-statements-same Register lines = refl
-  mode-statements-same Decode lines = refl
-  mode-statements-same DecodeOld lines = refl
-  mode-statements-same Variants lines =
+  mode-statements-same : (mode : Mode) (lines : List Numbered) → mode ≢ PrintTable → mode_statements mode o older lines ≡ mode_statements mode o newer lines
+  mode-statements-same Lookup lines other = refl
+  mode-statements-same Register lines other = refl
+  mode-statements-same Decode lines other = refl
+  mode-statements-same DecodeOld lines other = refl
+  mode-statements-same Variants lines other =
       lines-same (explained_in Variants o older) (explained_in Variants o newer) (variants_answer o older) (variants_answer o newer) (listing-cause-same (tells_causes o)) variants-answer-same lines
-  mode-statements-same Jump lines =
+  mode-statements-same Jump lines other =
       lines-same (explained_in Jump o older) (explained_in Jump o newer) (jump_answer o.properties older) (jump_answer o.properties newer) (request-cause-same (tells_causes o)) jump-answer-same lines
-  mode-statements-same CheckTable lines = refl
+  mode-statements-same CheckTable lines other = refl
+  mode-statements-same PrintTable lines other = absurd (other refl)
 
   mode-status-same : (mode : Mode) (lines : List Numbered) → mode_status mode o older lines ≡ mode_status mode o newer lines
   mode-status-same Lookup lines = refl
@@ -557,12 +558,13 @@ module _ (o : Settings) (table : TableValue) (single : IsSingle table) where
   mode-status-same Jump lines =
       ap status_if (refused-same (explained_in Jump o older) (explained_in Jump o newer) (jump_answer o.properties older) (jump_answer o.properties newer) (request-cause-same (tells_causes o)) jump-answer-same lines)
   mode-status-same CheckTable lines = refl
+  mode-status-same PrintTable lines = refl
 
 pub rulesets-say-the-same : RulesetsSayTheSame
 rulesets-say-the-same = record {
   read = text-as_ruleset;
-  said = λ o table lines single.
-      subst (λ (v : Version). statements o (Ok (table_of v table.definitions table.entries)) lines ≡ statements o (Ok (as_ruleset table)) lines) (sym single.version) (mode-statements-same o table single o.mode lines);
+  said = λ o table lines other single.
+      subst (λ (v : Version). statements o (Ok (table_of v table.definitions table.entries)) lines ≡ statements o (Ok (as_ruleset table)) lines) (sym single.version) (mode-statements-same o table single o.mode lines other);
   status = λ o table lines single.
       subst (λ (v : Version). status_of o (Ok (table_of v table.definitions table.entries)) lines ≡ status_of o (Ok (as_ruleset table)) lines) (sym single.version) (mode-status-same o table single o.mode lines);
   gaps = λ table. refl;

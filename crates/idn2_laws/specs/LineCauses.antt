@@ -20,7 +20,7 @@ use Rattle.valid_labels.specs.Validity.{IsSound}
 use Rattle.valid_labels.specs.Furthest.{IsFurthest}
 use Rattle.idn2_options.specs.Settings.{Settings, tells_causes}
 use Rattle.idn2_options.specs.declared.command_line.mode.Mode.{Mode}
-use Rattle.idn2_options.specs.declared.command_line.mode.Mode.TheVariants.{CheckTable}
+use Rattle.idn2_options.specs.declared.command_line.mode.Mode.TheVariants.{CheckTable, PrintTable}
 use Rattle.idn2_answers.specs.Answers.{line_answer, mode_answer}
 use Rattle.idn2_refusals.specs.Requests.{requested_label}
 use Rattle.idn2_refusals.specs.Explained.{Explained, Unexplained, ByLabel, ByName, ByQuery, ByTable, ByRequest}
@@ -105,10 +105,14 @@ pub record IsExplained (mode : Mode) (o : Settings) (table : TableValue) (line :
       line_output o.form (explained_in mode o table) (mode_answer mode o table) line
       ≡ output_line_in o.form (Refuses line refusal (Some cause)) ∷ []
 
--- so is each line that a mode refuses. The check of a table reads none
+-- the check of a table and its printing read no line
+abbrev pub ReadsLines : Mode → Type 0
+ReadsLines mode = (mode ≢ CheckTable) × (mode ≢ PrintTable)
+
+-- so is each line that a mode refuses
 abbrev pub RefusalsAreExplained : Type 0
 RefusalsAreExplained =
-    (mode : Mode) (o : Settings) (table : TableValue) (line : Numbered) (refusal : Refusal) → mode ≢ CheckTable
+    (mode : Mode) (o : Settings) (table : TableValue) (line : Numbered) (refusal : Refusal) → ReadsLines mode
     → tells_causes o ≡ true →
     IsSound table → line_answer (mode_answer mode o table) line.body ≡ Err refusal
     → IsExplained mode o table line refusal

@@ -28,6 +28,7 @@ use Rattle.variant_list.specs.Spelling.{Spells}
 use Rattle.variant_list.specs.Labels.{IsListOf}
 use Rattle.variant_list.specs.MutualLaws.{IsMutual}
 use Rattle.variant_list.specs.RulesetLaws.{as_ruleset}
+use Rattle.idn2_options.specs.declared.command_line.mode.Mode.TheVariants.{PrintTable}
 use Rattle.idn2_options.specs.Settings.{Settings}
 use Rattle.idn2_refusals.specs.Requests.{requested_label}
 use Rattle.idn2_answers.specs.Dispositions.{IsAllocatable, allocation, disposition}
@@ -96,14 +97,14 @@ pub record IsSingle (table : TableValue) : Type 0 where
 
 -- a text of version 2 spells the ruleset of the same entries once its first line says so (first and second are these
 -- lines). Where each source and variant is one code point and each variant is a source, a run says the same over the
--- table and over that ruleset, in each mode and with the same status: the same listings, gaps, refusals and causes; and
--- the same labels are refused, none of them as not valid, and the same are allocatable
+-- table and over that ruleset, in each mode but the printing, and with the same status: the same listings, gaps,
+-- refusals and causes; and the same labels are refused, none of them as not valid, and the same are allocatable
 pub record RulesetsSayTheSame : Type 0 where
   pub read : (properties : Properties) (text other first second : List ℕ) (lines : List (List ℕ)) (table : TableValue) →
       table.version ≡ Two → raw_lines text ≡ first ∷ lines → raw_lines other ≡ second ∷ lines
       → is_version_line Table first ≡ true → is_version_line Ruleset second ≡ true →
       IsTextOf properties Table text table → IsTextOf properties Ruleset other (as_ruleset table)
-  pub said : (o : Settings) (table : TableValue) (lines : List Numbered) → IsSingle table →
+  pub said : (o : Settings) (table : TableValue) (lines : List Numbered) → o.mode ≢ PrintTable → IsSingle table →
       statements o (Ok table) lines ≡ statements o (Ok (as_ruleset table)) lines
   pub status : (o : Settings) (table : TableValue) (lines : List Numbered) → IsSingle table →
       status_of o (Ok table) lines ≡ status_of o (Ok (as_ruleset table)) lines

@@ -26,7 +26,7 @@ use Rattle.answer_json.specs.Inputs.{told_of}
 use Rattle.answer_json.specs.Objects.{refused, registered_fault, table_fault}
 use Rattle.idn2_options.specs.Settings.{IsCount, Settings, tells_causes}
 use Rattle.idn2_options.specs.declared.command_line.mode.Mode.{Mode}
-use Rattle.idn2_options.specs.declared.command_line.mode.Mode.TheVariants.{CheckTable}
+use Rattle.idn2_laws.specs.LineCauses.{ReadsLines}
 use Rattle.idn2_answers.specs.Answers.{line_answer, mode_answer}
 use Rattle.idn2_refusals.specs.CauseParts.{told_details}
 use Rattle.idn2_refusals.specs.Explained.{body_cause}
@@ -92,7 +92,7 @@ TellsFewOctetsIfAny (Some cause) = TellsFewOctets cause
 -- the object of each line that a mode refuses is read back, whatever the line holds, with the cause that is told
 abbrev pub RefusalsAreReadBack : Type 0
 RefusalsAreReadBack =
-    (mode : Mode) (o : Settings) (table : TableValue) (line : Numbered) (refusal : Refusal) → mode ≢ CheckTable
+    (mode : Mode) (o : Settings) (table : TableValue) (line : Numbered) (refusal : Refusal) → ReadsLines mode
     → tells_causes o ≡ true
     → IsSound table → line.number < 2 ^ 64 → IsShortBody line.body
     → line_answer (mode_answer mode o table) line.body ≡ Err refusal

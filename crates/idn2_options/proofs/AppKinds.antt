@@ -137,7 +137,7 @@ suits-app = record {
                 (
                   λ _. valued refl refl refl refl refl (λ _. refl) (λ _ _. refl) (λ _ _. refl) (λ _. refl) (λ _. refl),
                   (
-                    λ _. flag refl refl refl refl (λ _. refl) (λ _. refl),
+                    λ _. valued refl refl refl refl refl (λ _. refl) (λ _ _. refl) (λ _ _. refl) (λ _. refl) (λ _. refl),
                     (
                       λ _. flag refl refl refl refl (λ _. refl) (λ _. refl),
                       (
@@ -155,7 +155,7 @@ suits-app = record {
                                   (
                                     λ _. flag refl refl refl refl (λ _. refl) (λ _. refl),
                                     (
-                                      λ _. valued refl refl refl refl refl (λ _. refl) (λ _ _. refl) (λ _ _. refl) (λ _. refl) (λ _. refl),
+                                      λ _. flag refl refl refl refl (λ _. refl) (λ _. refl),
                                       (
                                         λ _. valued refl refl refl refl refl (λ _. refl) (λ _ _. refl) (λ _ _. refl) (λ _. refl) (λ _. refl),
                                         (
@@ -163,12 +163,15 @@ suits-app = record {
                                           (
                                             λ _. valued refl refl refl refl refl (λ _. refl) (λ _ _. refl) (λ _ _. refl) (λ _. refl) (λ _. refl),
                                             (
-                                              λ none. absurd (true≢false none),
+                                              λ _. valued refl refl refl refl refl (λ _. refl) (λ _ _. refl) (λ _ _. refl) (λ _. refl) (λ _. refl),
                                               (
-                                                λ _. shows DisplayHelp refl refl refl refl refl (λ _. refl),
+                                                λ none. absurd (true≢false none),
                                                 (
-                                                  λ _. shows DisplayVersion refl refl refl refl refl (λ _. refl),
-                                                  tt,
+                                                  λ _. shows DisplayHelp refl refl refl refl refl (λ _. refl),
+                                                  (
+                                                    λ _. shows DisplayVersion refl refl refl refl refl (λ _. refl),
+                                                    tt,
+                                                  ),
                                                 ),
                                               ),
                                             ),

@@ -12,33 +12,35 @@ use Rattle.idn2_options.specs.Causes.{broken_rule, cause_by, cause_of, misfit_of
 use Rattle.idn2_options.specs.CommandLine.{app}
 use Rattle.idn2_options.specs.Settings.{Settings}
 use Rattle.idn2_options.specs.Uses.{first_misused, front, uses_in, uses_of}
-use Rattle.idn2_options.specs.Words.{answer_of, asks_to_show, bad, checks_alone, chosen, decodes_old, has_among, has_counts, has_short_start, is_allowed, is_refused, jumps_by_table, listing_options_fit, names_one_mode, options_of, settings_of, shown, suits_among}
+use Rattle.idn2_options.specs.Words.{answer_of, asks_to_show, bad, checks_alone, chosen, decodes_old, has_among, has_counts, has_short_start, is_allowed, is_refused, jumps_by_table, listing_options_fit, names_one_mode, options_of, prints_alone, prints_plainly, settings_of, shown, suits_among}
 use Rattle.idn2_options.specs.declared.command_line.broken_rule.BrokenRule.{BrokenRule}
 use Rattle.idn2_options.specs.declared.command_line.broken_rule.BrokenRule.TheVariants as rules
 use Rattle.idn2_options.specs.declared.command_line.usage_cause.UsageCause.{UsageCause}
 use Rattle.idn2_options.proofs.AppKinds.{tells-app, too_many}
 use Rattle.idn2_options.proofs.KindLemmas.{Tells}
 
-none_broken : (a b c d e f g h i : Bool) (r s t u v w x y z : BrokenRule) →
-    is_none (cond (not a) (Some r) (cond (not b) (Some s) (cond (not c) (Some t) (cond (not d) (Some u)
-    (cond (not e) (Some v) (cond (not f) (Some w) (cond (not g) (Some x) (cond (not h) (Some y) (cond (not i) (Some z) None)))))))))
-    ≡ (a && b && c && d && e && f && g && h && i)
-none_broken false b c d e f g h i r s t u v w x y z = refl
-none_broken true false c d e f g h i r s t u v w x y z = refl
-none_broken true true false d e f g h i r s t u v w x y z = refl
-none_broken true true true false e f g h i r s t u v w x y z = refl
-none_broken true true true true false f g h i r s t u v w x y z = refl
-none_broken true true true true true false g h i r s t u v w x y z = refl
-none_broken true true true true true true false h i r s t u v w x y z = refl
-none_broken true true true true true true true false i r s t u v w x y z = refl
-none_broken true true true true true true true true false r s t u v w x y z = refl
-none_broken true true true true true true true true true r s t u v w x y z = refl
+none_broken : (a b c d e f g h i j k : Bool) (p q r s t u v w x y z : BrokenRule) →
+    is_none (cond (not a) (Some p) (cond (not b) (Some q) (cond (not c) (Some r) (cond (not d) (Some s) (cond (not e) (Some t) (cond (not f) (Some u)
+    (cond (not g) (Some v) (cond (not h) (Some w) (cond (not i) (Some x) (cond (not j) (Some y) (cond (not k) (Some z) None)))))))))))
+    ≡ (a && b && c && d && e && f && g && h && i && j && k)
+none_broken false b c d e f g h i j k p q r s t u v w x y z = refl
+none_broken true false c d e f g h i j k p q r s t u v w x y z = refl
+none_broken true true false d e f g h i j k p q r s t u v w x y z = refl
+none_broken true true true false e f g h i j k p q r s t u v w x y z = refl
+none_broken true true true true false f g h i j k p q r s t u v w x y z = refl
+none_broken true true true true true false g h i j k p q r s t u v w x y z = refl
+none_broken true true true true true true false h i j k p q r s t u v w x y z = refl
+none_broken true true true true true true true false i j k p q r s t u v w x y z = refl
+none_broken true true true true true true true true false j k p q r s t u v w x y z = refl
+none_broken true true true true true true true true true false k p q r s t u v w x y z = refl
+none_broken true true true true true true true true true true false p q r s t u v w x y z = refl
+none_broken true true true true true true true true true true true p q r s t u v w x y z = refl
 
 ruled : (rows : List Row) → is_none (broken_rule rows) ≡ is_allowed rows
 ruled rows =
     none_broken (names_one_mode rows) (listing_options_fit rows) (jumps_by_table rows) (decodes_old rows) (has_among rows) (suits_among rows) (has_counts rows)
-    (has_short_start rows) (checks_alone rows) rules.TwoModes (misfit_of rows) rules.JumpWithoutTable rules.OldWithoutDecode rules.OthersWithoutAmong
-    (misfit_of_among rows) (wrong_number rows) rules.LongStart rules.CheckedStrings
+    (has_short_start rows) (checks_alone rows) (prints_alone rows) (prints_plainly rows) rules.TwoModes (misfit_of rows) rules.JumpWithoutTable rules.OldWithoutDecode rules.OthersWithoutAmong
+    (misfit_of_among rows) (wrong_number rows) rules.LongStart rules.CheckedStrings rules.PrintedStrings rules.PrintedObjects
 
 -- ---- a cause
 

@@ -10,7 +10,7 @@ use Rattle.std.proofs.lemmas.Str.{encodes-chars, length-le-encodes, scalars-char
 use Rattle.clap.specs.Words.{Row, Text}
 use Rattle.idn_text.specs.Points.{AreScalarValues, IsScalarValue}
 use Rattle.idn2_options.specs.Settings.{IsBound, IsCount, IsWithinLimits}
-use Rattle.idn2_options.specs.Words.{listing_options_fit, checks_alone, count_of, decodes_old, has_among, has_counts, has_short_start, is_allowed, is_numeral, is_within, jumps_by_table, names_one_mode, settings_of, start_of, steps_of, suits_among, value_of}
+use Rattle.idn2_options.specs.Words.{listing_options_fit, checks_alone, count_of, decodes_old, has_among, has_counts, has_short_start, is_allowed, is_numeral, is_within, jumps_by_table, names_one_mode, prints_alone, prints_plainly, settings_of, start_of, steps_of, suits_among, value_of}
 use Rattle.idn2_options.specs.Names.{limit_name, steps_name, tries_name}
 
 pub le-test : (m n : ℕ) → nat_le m n ≡ true → m ≤ n
@@ -70,7 +70,10 @@ length-chars text is_text =
 short-start : (rows : List Row) → is_allowed rows ≡ true → length (start_of rows) ≤ 1024
 short-start rows allowed =
     let first : Bool = names_one_mode rows && listing_options_fit rows && jumps_by_table rows && decodes_old rows && has_among rows && suits_among rows && has_counts rows in
-    le-test _ _ (right-test first (has_short_start rows) (left-test (first && has_short_start rows) (checks_alone rows) allowed))
+    let short : Bool = first && has_short_start rows in
+    let printed = left-test (short && checks_alone rows && prints_alone rows) (prints_plainly rows) allowed in
+    let checked = left-test (short && checks_alone rows) (prints_alone rows) printed in
+    le-test _ _ (right-test first (has_short_start rows) (left-test short (checks_alone rows) checked))
 
 pub within_limits : (rows : List Row) → IsUtf8 (start_of rows) → is_allowed rows ≡ true → IsWithinLimits (settings_of rows)
 within_limits rows is_text allowed =

@@ -6,16 +6,16 @@ use Rattle.idn2_options.specs.Laws.{is_named}
 use Rattle.idn2_options.specs.Words.{has_flag, is_allowed, lists, mode_of}
 use Rattle.idn2_options.specs.Names.{decode_name, jump_name, old_name}
 use Rattle.idn2_options.specs.declared.command_line.mode.Mode.{Mode}
-use Rattle.idn2_options.specs.declared.command_line.mode.Mode.TheVariants.{Lookup, Register, Decode, DecodeOld, Variants, Jump, CheckTable}
-use Rattle.idn2_options.proofs.SuitLemmas.{IsOne, mode_by, no_weight, rules, variants-alone, check-alone}
+use Rattle.idn2_options.specs.declared.command_line.mode.Mode.TheVariants.{Lookup, Register, Decode, DecodeOld, Variants, Jump, CheckTable, PrintTable}
+use Rattle.idn2_options.proofs.SuitLemmas.{IsOne, mode_by, no_weight, rules, variants-alone, check-alone, print-alone}
 
-lookup-alone : (l r d o v j k : Bool) → IsOne l r d v k → l ≡ true → mode_by r d o v j k ≡ Lookup
-lookup-alone l r d o v j k one is =
+lookup-alone : (l r d o v j k p : Bool) → IsOne l r d v k p → l ≡ true → mode_by r d o v j k p ≡ Lookup
+lookup-alone l r d o v j k p one is =
     let weight : cond {A = ℕ} l 1 0 ≡ 1 = rw is refl in
-    rw (no_weight r (omega arith), no_weight d (omega arith), no_weight v (omega arith), no_weight k (omega arith)) refl
+    rw (no_weight r (omega arith), no_weight d (omega arith), no_weight v (omega arith), no_weight k (omega arith), no_weight p (omega arith)) refl
 
-decode-alone : (l r d o v j k : Bool) → IsOne l r d v k → d ≡ true → mode_by r d o v j k ≡ cond o DecodeOld Decode
-decode-alone l r d o v j k one is =
+decode-alone : (l r d o v j k p : Bool) → IsOne l r d v k p → d ≡ true → mode_by r d o v j k p ≡ cond o DecodeOld Decode
+decode-alone l r d o v j k p one is =
     let weight : cond {A = ℕ} d 1 0 ≡ 1 = rw is refl in
     rw (no_weight r (omega arith), is) refl
 
@@ -31,21 +31,22 @@ named_with false true either is = either
 named_with false false either is = absurd (let bad : false ≡ true = is in cc)
 
 pub mode_of-named : (rows : List Row) (mode : Mode) → is_allowed rows ≡ true → is_named mode rows ≡ true → mode_of rows ≡ mode
-mode_of-named rows Lookup allowed is = lookup-alone _ _ _ _ _ _ _ (rules rows allowed).one is
+mode_of-named rows Lookup allowed is = lookup-alone _ _ _ _ _ _ _ _ (rules rows allowed).one is
 mode_of-named rows Register allowed is = rw is refl
 mode_of-named rows Decode allowed is =
     let two = first_of_two (has_flag decode_name rows) (has_flag old_name rows) is in
-    decode-alone _ _ _ _ _ _ _ (rules rows allowed).one two.0 ∙ ap (λ (o : Bool). cond o DecodeOld Decode) two.1
+    decode-alone _ _ _ _ _ _ _ _ (rules rows allowed).one two.0 ∙ ap (λ (o : Bool). cond o DecodeOld Decode) two.1
 mode_of-named rows DecodeOld allowed is =
     let r = rules rows allowed in
-    decode-alone _ _ _ _ _ _ _ r.one (named_with (has_flag decode_name rows) (has_flag old_name rows) r.old is) ∙ ap (λ (o : Bool). cond o DecodeOld Decode) is
+    decode-alone _ _ _ _ _ _ _ _ r.one (named_with (has_flag decode_name rows) (has_flag old_name rows) r.old is) ∙ ap (λ (o : Bool). cond o DecodeOld Decode) is
 mode_of-named rows Variants allowed is =
     let two = first_of_two (lists rows) (has_flag jump_name rows) is in
-    variants-alone _ _ _ _ _ _ _ (rules rows allowed).one two.0 ∙ ap (λ (j : Bool). cond j Jump Variants) two.1
+    variants-alone _ _ _ _ _ _ _ _ (rules rows allowed).one two.0 ∙ ap (λ (j : Bool). cond j Jump Variants) two.1
 mode_of-named rows Jump allowed is =
     let r = rules rows allowed in
-    variants-alone _ _ _ _ _ _ _ r.one (named_with (lists rows) (has_flag jump_name rows) r.jumps is) ∙ ap (λ (j : Bool). cond j Jump Variants) is
-mode_of-named rows CheckTable allowed is = check-alone _ _ _ _ _ _ _ (rules rows allowed).one is
+    variants-alone _ _ _ _ _ _ _ _ r.one (named_with (lists rows) (has_flag jump_name rows) r.jumps is) ∙ ap (λ (j : Bool). cond j Jump Variants) is
+mode_of-named rows CheckTable allowed is = check-alone _ _ _ _ _ _ _ _ (rules rows allowed).one is
+mode_of-named rows PrintTable allowed is = print-alone _ _ _ _ _ _ _ _ (rules rows allowed).one is
 
 -- of two tests neither the first alone holds, nor the second, so the first doesn't
 not_with : (v j : Bool) → (v && not j) ≡ false → j ≡ false → v ≡ false
@@ -54,7 +55,7 @@ not_with false j listed jumps = refl
 
 pub mode_of-none : (rows : List Row) → ((mode : Mode) → is_named mode rows ≡ false) → mode_of rows ≡ Lookup
 mode_of-none rows none =
-    rw (none Register, not_with (has_flag decode_name rows) (has_flag old_name rows) (none Decode) (none DecodeOld), not_with (lists rows) (has_flag jump_name rows) (none Variants) (none Jump), none CheckTable) refl
+    rw (none Register, not_with (has_flag decode_name rows) (has_flag old_name rows) (none Decode) (none DecodeOld), not_with (lists rows) (has_flag jump_name rows) (none Variants) (none Jump), none CheckTable, none PrintTable) refl
 
 pub not_allowed : (rows : List Row) (mode other : Mode) → mode ≢ other → is_named mode rows ≡ true → is_named other rows ≡ true → is_allowed rows ≡ false
 not_allowed rows mode other differ first second =

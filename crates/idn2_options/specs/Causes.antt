@@ -7,7 +7,7 @@ use Rattle.idn2_options.specs.CommandLine.{app}
 use Rattle.idn2_options.specs.Names.{after_name, limit_name, steps_name, tries_name}
 use Rattle.idn2_options.specs.Uses.{Use, first_wrong, known_rules, told, uses_of}
 use Rattle.idn2_options.specs.Words.{asks_to_show, checks_alone, has_counts, has_short_start, has_value}
-use Rattle.idn2_options.specs.Words.{decodes_old, has_among, is_count_if_given}
+use Rattle.idn2_options.specs.Words.{decodes_old, has_among, is_count_if_given, prints_alone, prints_plainly}
 use Rattle.idn2_options.specs.Words.{jumps_by_table, listing_options_fit, lists, names_one_mode, suits_among}
 use Rattle.idn2_options.specs.declared.command_line.broken_rule.BrokenRule.{BrokenRule}
 use Rattle.idn2_options.specs.declared.command_line.broken_rule.BrokenRule.TheVariants as rules
@@ -56,7 +56,9 @@ broken_rule rows =
     else (if not (suits_among rows) then Some (misfit_of_among rows)
     else (if not (has_counts rows) then Some (wrong_number rows)
     else (if not (has_short_start rows) then Some rules.LongStart
-    else (if not (checks_alone rows) then Some rules.CheckedStrings else None))))))))
+    else (if not (checks_alone rows) then Some rules.CheckedStrings
+    else (if not (prints_alone rows) then Some rules.PrintedStrings
+    else (if not (prints_plainly rows) then Some rules.PrintedObjects else None))))))))))
 
 -- what a cause tells: a rule that is broken, or an option that is used in a wrong way
 pub data Told : Type 0 where

@@ -6,7 +6,8 @@ use Rattle.clap.specs.declared.builder.ArgAction.TheVariants.{SetTrue, Set, Appe
 use Rattle.idn2_options.specs.Names.{after_name, among_name, check_ruleset_name, check_table_name, decode_letter}
 use Rattle.idn2_options.specs.Names.{decode_name, explain_name, json_name, jump_name, limit_name, lookup_letter}
 use Rattle.idn2_options.specs.Names.{lookup_name, old_name, others_name, quiet_name, register_letter, register_name}
-use Rattle.idn2_options.specs.Names.{ruleset_name, standard_name, std3_name, steps_name, strings_name, tr46nt_letter}
+use Rattle.idn2_options.specs.Names.{print_ruleset_name, ruleset_name, standard_name, std3_name, steps_name}
+use Rattle.idn2_options.specs.Names.{strings_name, tr46nt_letter}
 use Rattle.idn2_options.specs.Names.{tr46nt_name, tries_name, variants_name}
 
 -- a flag, `--name`
@@ -35,13 +36,14 @@ with_modes a = with_rule (with_rule (with_rule a
     (short_flag_rule register_name register_letter))
     (short_flag_rule decode_name decode_letter)
 
--- `--variants FILE`, `--check-table FILE`, `--ruleset FILE`, `--check-ruleset FILE`
+-- `--variants FILE`, `--check-table FILE`, `--ruleset FILE`, `--check-ruleset FILE`, `--print-ruleset FILE`
 abbrev pub with_tables : App → App
-with_tables a = with_rule (with_rule (with_rule (with_rule a
+with_tables a = with_rule (with_rule (with_rule (with_rule (with_rule a
     (value_rule variants_name))
     (value_rule check_table_name))
     (value_rule ruleset_name))
-    (value_rule check_ruleset_name)
+    (value_rule check_ruleset_name))
+    (value_rule print_ruleset_name)
 
 -- `--among FILE`, `--others`, `--jump`, `--old`
 abbrev pub with_collisions : App → App

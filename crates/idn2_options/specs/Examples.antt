@@ -11,7 +11,7 @@ use Rattle.idn2_options.specs.declared.command_line.misuse.Misuse.TheVariants.{U
 use Rattle.idn2_options.specs.declared.command_line.misuse.Misuse.TheVariants.{WithValue}
 use Rattle.idn2_options.specs.declared.command_line.mode.Mode.{Mode}
 use Rattle.idn2_options.specs.declared.command_line.mode.Mode.TheVariants.{Lookup, Register, DecodeOld, Variants}
-use Rattle.idn2_options.specs.declared.command_line.mode.Mode.TheVariants.{CheckTable}
+use Rattle.idn2_options.specs.declared.command_line.mode.Mode.TheVariants.{CheckTable, PrintTable}
 
 -- a run of the mode, with no other option
 abbrev pub plain_run : Mode → List (List ℕ) → Settings
@@ -60,6 +60,9 @@ pub record ExamplesOfWords : Type 0 where
       ≡ chosen (record (plain_run Variants (codes "x" ∷ [])) { file = codes "f"; notation = Ruleset })
   pub checked_ruleset : asked (codes "--check-ruleset" ∷ codes "f" ∷ [])
       ≡ chosen (record (plain_run CheckTable []) { file = codes "f"; notation = Ruleset })
+  pub printed_ruleset : asked (codes "--print-ruleset" ∷ codes "f" ∷ [])
+      ≡ chosen (record (plain_run PrintTable []) { file = codes "f"; notation = Ruleset })
+  pub printed_objects : asked (codes "--json" ∷ codes "--print-ruleset=f" ∷ []) ≡ bad
   pub table_and_ruleset : asked (codes "--variants" ∷ codes "f" ∷ codes "--ruleset" ∷ codes "g" ∷ codes "x" ∷ []) ≡ bad
   pub old_labels : asked (codes "-d" ∷ codes "--old" ∷ codes "x" ∷ []) ≡ chosen (plain_run DecodeOld (codes "x" ∷ []))
   pub old_alone : asked (codes "--old" ∷ codes "x" ∷ []) ≡ bad

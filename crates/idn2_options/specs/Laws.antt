@@ -10,12 +10,12 @@ use Rattle.idn2_options.specs.CommandLine.{app}
 use Rattle.idn2_options.specs.Settings.{Settings}
 use Rattle.idn2_options.specs.Uses.{Use, are_of_one, first_misused, known_rules, misuse_in, uses_of}
 use Rattle.idn2_options.specs.Words.{asks_to_show, chosen, has_flag, checks, is_allowed, is_refused, lists, mode_of}
-use Rattle.idn2_options.specs.Words.{options_of}
+use Rattle.idn2_options.specs.Words.{options_of, prints}
 use Rattle.idn2_options.specs.declared.command_line.misuse.Misuse.{Misuse}
 use Rattle.idn2_options.specs.declared.command_line.misuse.Misuse.TheVariants.{Repeated}
 use Rattle.idn2_options.specs.declared.command_line.mode.Mode.{Mode}
 use Rattle.idn2_options.specs.declared.command_line.mode.Mode.TheVariants.{Lookup, Register, Decode, DecodeOld}
-use Rattle.idn2_options.specs.declared.command_line.mode.Mode.TheVariants.{Variants, Jump, CheckTable}
+use Rattle.idn2_options.specs.declared.command_line.mode.Mode.TheVariants.{Variants, Jump, CheckTable, PrintTable}
 use Rattle.idn2_options.specs.Names.{decode_name, jump_name, lookup_name, old_name, register_name}
 
 -- a word of the command line names the mode
@@ -27,6 +27,7 @@ is_named DecodeOld rows = has_flag old_name rows
 is_named Variants rows = lists rows && not (has_flag jump_name rows)
 is_named Jump rows = has_flag jump_name rows
 is_named CheckTable rows = checks rows
+is_named PrintTable rows = prints rows
 
 -- the mode is the one that is named, or lookup where none is; where two are named, the words are refused
 pub record ModeIsTheOneNamed : Type 0 where

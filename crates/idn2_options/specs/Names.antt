@@ -48,6 +48,9 @@ ruleset_name = codes "ruleset"
 abbrev pub check_ruleset_name : Text
 check_ruleset_name = codes "check-ruleset"
 
+abbrev pub print_ruleset_name : Text
+print_ruleset_name = codes "print-ruleset"
+
 abbrev pub after_name : Text
 after_name = codes "after"
 

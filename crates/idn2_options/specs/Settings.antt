@@ -1,13 +1,13 @@
 -- The options of a run, as contracts see them.
-use Rattle.std.specs.Prelude.{◌≡◌, ◌≢◌, ◌≤◌, ℕ, Bool, true, false, ◌||◌, List, [], Option, None, IfSome, length}
+use Rattle.std.specs.Prelude.{◌≡◌, ◌≢◌, ◌⊎◌, ◌≤◌, ℕ, Bool, true, false, ◌||◌, List, [], Option, None, IfSome, length}
 use Rattle.idn_text.specs.Points.{AreScalarValues}
 use Rattle.idn_class.specs.declared.properties.Properties.{Properties}
 use Rattle.idn2_options.specs.declared.command_line.form.Form.{Form}
 use Rattle.idn2_options.specs.declared.command_line.form.Form.TheVariants.{Plain, Json}
 use Rattle.variant_table.specs.declared.version.Notation.{Notation}
-use Rattle.variant_table.specs.declared.version.Notation.TheVariants.{Table}
+use Rattle.variant_table.specs.declared.version.Notation.TheVariants.{Table, Ruleset}
 use Rattle.idn2_options.specs.declared.command_line.mode.Mode.{Mode}
-use Rattle.idn2_options.specs.declared.command_line.mode.Mode.TheVariants.{Variants, Jump, CheckTable}
+use Rattle.idn2_options.specs.declared.command_line.mode.Mode.TheVariants.{Variants, Jump, CheckTable, PrintTable}
 
 -- an `Options`, with the bytes of each text; and the registered labels among which labels are asked, if there are
 -- some. An `Options` has only the name of their file: they are given to a run beside it
@@ -63,5 +63,7 @@ pub record SuitsMode (o : Settings) : Type 0 where
   pub among : o.mode ≢ Variants → o.among ≡ None
   pub others : o.among ≡ None → o.others ≡ false
   pub untried : o.among ≢ None → (o.tries ≡ 1000000) × (o.steps ≡ None)
-  pub file : o.mode ≢ Variants → o.mode ≢ Jump → o.mode ≢ CheckTable → (o.file ≡ []) × (o.notation ≡ Table)
-  pub strings : o.mode ≡ CheckTable → o.strings ≡ []
+  pub file : o.mode ≢ Variants → o.mode ≢ Jump → o.mode ≢ CheckTable → o.mode ≢ PrintTable
+      → (o.file ≡ []) × (o.notation ≡ Table)
+  pub strings : (o.mode ≡ CheckTable) ⊎ (o.mode ≡ PrintTable) → o.strings ≡ []
+  pub printed : o.mode ≡ PrintTable → (o.notation ≡ Ruleset) × (o.form ≡ Plain)

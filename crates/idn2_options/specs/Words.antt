@@ -22,13 +22,13 @@ use Rattle.idn2_options.specs.declared.command_line.form.Form.{Form}
 use Rattle.idn2_options.specs.declared.command_line.form.Form.TheVariants.{Plain, Json}
 use Rattle.idn2_options.specs.declared.command_line.mode.Mode.{Mode}
 use Rattle.idn2_options.specs.declared.command_line.mode.Mode.TheVariants.{Lookup, Register, Decode, DecodeOld}
-use Rattle.idn2_options.specs.declared.command_line.mode.Mode.TheVariants.{Variants, Jump, CheckTable}
+use Rattle.idn2_options.specs.declared.command_line.mode.Mode.TheVariants.{Variants, Jump, CheckTable, PrintTable}
 use Rattle.idn2_options.specs.declared.command_line.usage.Usage.{Usage}
 use Rattle.idn2_options.specs.declared.command_line.usage.Usage.TheVariants.{Bad, Show, Memory}
 use Rattle.idn2_options.specs.Names.{after_name, among_name, check_ruleset_name, check_table_name, decode_name}
 use Rattle.idn2_options.specs.Names.{explain_name, json_name, jump_name, limit_name, lookup_name, old_name, others_name}
-use Rattle.idn2_options.specs.Names.{register_name, ruleset_name, standard_name, std3_name, steps_name, strings_name}
-use Rattle.idn2_options.specs.Names.{tries_name, variants_name}
+use Rattle.idn2_options.specs.Names.{print_ruleset_name, register_name, ruleset_name, standard_name, std3_name}
+use Rattle.idn2_options.specs.Names.{steps_name, strings_name, tries_name, variants_name}
 
 -- ---- what `clap` found
 
@@ -101,13 +101,19 @@ checked_file rows = option_or (value_of check_table_name rows) (value_of check_r
 abbrev pub checks : List Row → Bool
 checks rows = is_some (checked_file rows)
 
+-- there is a ruleset that is printed
+abbrev pub prints : List Row → Bool
+prints rows = has_value print_ruleset_name rows
+
 -- the name of that file; empty where the mode has none
 abbrev pub file_of : List Row → Text
-file_of rows = unwrap_or (listing_file rows) (unwrap_or (checked_file rows) [])
+file_of rows =
+    unwrap_or (listing_file rows) (unwrap_or (checked_file rows) (unwrap_or (value_of print_ruleset_name rows) []))
 
 -- as what it is read
 abbrev pub notation_of : List Row → Notation
-notation_of rows = if has_value ruleset_name rows || has_value check_ruleset_name rows then Ruleset else Table
+notation_of rows =
+    if has_value ruleset_name rows || has_value check_ruleset_name rows || prints rows then Ruleset else Table
 
 -- the name of the file of registered labels; empty where there is none
 abbrev pub among_of : List Row → Text
@@ -115,12 +121,12 @@ among_of rows = unwrap_or (value_of among_name rows) []
 
 -- ---- the program's own rules
 
--- at most one of the seven words that name a mode is given
+-- at most one of the eight words that name a mode is given
 abbrev pub names_one_mode : List Row → Bool
 names_one_mode rows = nat_le (count_by (λ named. named)
     (has_flag lookup_name rows ∷ has_flag register_name rows ∷ has_flag decode_name rows
     ∷ has_value variants_name rows ∷ has_value check_table_name rows
-    ∷ has_value ruleset_name rows ∷ has_value check_ruleset_name rows ∷ [])) 1
+    ∷ has_value ruleset_name rows ∷ has_value check_ruleset_name rows ∷ prints rows ∷ [])) 1
 
 -- `--after`, `--limit`, `--tries`, `--steps` or `--among` is given, which say what a listing has
 abbrev pub has_listing_option : List Row → Bool
@@ -168,12 +174,19 @@ has_short_start rows = nat_le (length (start_of rows)) 1024
 abbrev pub checks_alone : List Row → Bool
 checks_alone rows = not (checks rows) || not (has_strings rows)
 
+-- `--print-ruleset` comes without STRINGS, and without `--json`
+abbrev pub prints_alone : List Row → Bool
+prints_alone rows = not (prints rows) || not (has_strings rows)
+
+abbrev pub prints_plainly : List Row → Bool
+prints_plainly rows = not (prints rows) || not (has_flag json_name rows)
+
 -- all of these rules hold
 abbrev pub is_allowed : List Row → Bool
 is_allowed rows =
     names_one_mode rows && listing_options_fit rows && jumps_by_table rows && decodes_old rows && has_among rows
     && suits_among rows
-    && has_counts rows && has_short_start rows && checks_alone rows
+    && has_counts rows && has_short_start rows && checks_alone rows && prints_alone rows && prints_plainly rows
 
 -- ---- the options
 
@@ -184,7 +197,8 @@ mode_of rows =
     else (if has_flag decode_name rows then (if has_flag old_name rows then DecodeOld else Decode)
     else (if lists rows then (if has_flag jump_name rows then Jump else Variants)
     else (if checks rows then CheckTable
-    else Lookup)))
+    else (if prints rows then PrintTable
+    else Lookup))))
 
 -- objects of JSON if `--json` is given
 abbrev pub form_of : List Row → Form

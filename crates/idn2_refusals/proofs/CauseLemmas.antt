@@ -117,6 +117,7 @@ refusal_text-short refusals.BadClass = omega arith
 refusal_text-short refusals.Limit = omega arith
 refusal_text-short refusals.NoSuchName = omega arith
 refusal_text-short refusals.SameName = omega arith
+refusal_text-short refusals.NotSupported = omega arith
 refusal_text-short refusals.NotInTable = omega arith
 refusal_text-short refusals.NotValid = omega arith
 refusal_text-short refusals.Usage = omega arith

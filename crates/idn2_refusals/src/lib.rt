@@ -20,4 +20,4 @@ pub use closing::report;
 pub use refusing::refuse;
 pub use registered::refuse_registered;
 pub use request::{label_of_request, parts_of};
-pub use table::{refuse_search, refuse_table};
+pub use table::{refuse_table, refuse_table_line};

@@ -11,7 +11,6 @@ ghost use Rattle.idn2_refusals.specs.TableFaults.{told_of};
 ghost use Rattle.idn_class.specs.declared.properties.Properties.{Properties};
 ghost use Rattle.variant_table.specs.FaultyLines.{IsRefusalOf};
 ghost use Rattle.variant_table.specs.declared.version.Notation.{Notation};
-ghost use Rattle.idn_text.specs.declared.refusal.Refusal.TheVariants as refusals;
 ghost use Rattle.idn2_output.specs.declared.status.Status.TheVariants as statuses;
 ghost use Rattle.idn2_output.specs.declared.stop.Stop.TheVariants as stop;
 
@@ -49,16 +48,17 @@ pub fn refuse_table<W: Sink, E: Sink>(
     Ok(Status::Unusable)
 }
 
-/// Tells of a table that is past a limit of a search of collisions, at this line, and gives the status of the run.
-pub fn refuse_search<W: Sink, E: Sink>(
+/// Tells why a line of a table is refused, without a cause, and gives the status of the run.
+pub fn refuse_table_line<W: Sink, E: Sink>(
     form: Form,
     line: u64,
+    refusal: Refusal,
     console: &mut Console<'_, '_, W, E>,
 ) -> Result<Status, Stop>
-    ensures told { Emits console.old console.new (fault_piece form line refusals.Limit None ∷ []) result }
+    ensures told { Emits console.old console.new (fault_piece form line refusal None ∷ []) result }
     ensures status { IfOk result (λ status. status ≡ statuses.Unusable) }
 {
-    write_fault(form, line, Refusal::Limit, None, console)?;
+    write_fault(form, line, refusal, None, console)?;
     Ok(Status::Unusable)
 }
 

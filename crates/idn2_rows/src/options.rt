@@ -69,7 +69,7 @@ fn summary_of(alloc: Global, line: &str) -> Result<String, AllocError> {
 }
 
 /// Words, separated by bars, and what they are read as.
-const READ: [(&str, &str); 28] = [
+const READ: [(&str, &str); 29] = [
     (
         "idn2",
         "Lookup false false \"\" Table [] None 1000000 None None \"none\"",
@@ -169,6 +169,10 @@ const READ: [(&str, &str); 28] = [
     (
         "idn2|--check-ruleset|t",
         "CheckTable false false \"t\" Ruleset [] None 1000000 None None \"none\"",
+    ),
+    (
+        "idn2|--print-ruleset|t",
+        "PrintTable false false \"t\" Ruleset [] None 1000000 None None \"none\"",
     ),
     (
         "idn2|-r|--standard|faß",

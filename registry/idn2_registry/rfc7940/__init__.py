@@ -1,5 +1,4 @@
-"""What a Label Generation Ruleset says of labels by RFC 7940, told apart from the converter: lgr/, which is checked by
-it, shares no line with what stands here.
+"""What a Label Generation Ruleset says of labels by RFC 7940, told apart from the program, which is compared with it.
 
 schema             the elements of a file, as the schema of the standard has them
 reader             reads a file, strictly: what the standard doesn't allow is refused

@@ -24,19 +24,19 @@ COMBINED: dict[str, Callable[[Sequence[bool]], bool]] = {
 }
 
 
-def read(text: bytes, untyped: str | None = None) -> Ruleset:
-    """What a file says, or why it is refused; `untyped` is the predefined type of variants that have none."""
+def read(text: bytes) -> Ruleset:
+    """What a file says, or why it is refused."""
     try:
-        return ruleset_of(text, untyped)
+        return ruleset_of(text)
     except RecursionError as error:
         raise Refused(1, "rules or classes too deep in others") from error
 
 
-def ruleset_of(text: bytes, untyped: str | None) -> Ruleset:
+def ruleset_of(text: bytes) -> Ruleset:
     sections = {section.name: section.children for section in elements_of(text).children}
     data, rules = sections["data"], Rules(sections["data"], sections.get("rules", []))
     bits = dict[str | None, int](PREDEFINED.items())
-    bits[None] = PREDEFINED[untyped] if untyped else UNTYPED
+    bits[None] = UNTYPED
     entries: dict[str, Entry] = {}
     for element in data:
         condition = rules.condition_of(element, "when", "not-when")

@@ -1,4 +1,4 @@
-"""Where a table or a ruleset says something else than the file from which it was made: of each line that the program
+"""Where what the program lists under a table or a ruleset is something else than what a file in XML says: of each line that it
 lists, and of each variant that it should list, the evaluator tells what is right. What RFC 5891 refuses is left out on
 both sides."""
 
@@ -44,12 +44,6 @@ class Difference:
     variant: str
     program: str
     standard: str
-
-    @property
-    def gives_away(self) -> bool:
-        """Whether somebody may have a label by the program who may not have it by the standard: it is accepted or
-        allocatable, or isn't listed, so that nobody is kept from it."""
-        return self.program not in (REFUSED, Verdict.BLOCKED.value)
 
     def __str__(self) -> str:
         about = f"label {spelled(self.label)}"

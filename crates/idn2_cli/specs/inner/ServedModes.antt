@@ -3,7 +3,7 @@ use Rattle.std.specs.Prelude.{ℕ, List, Option, Some, None, Result}
 use Rattle.idn_text.specs.Reading.{Reading}
 use Rattle.idn2_options.specs.Settings.{Settings}
 use Rattle.idn2_options.specs.declared.command_line.mode.Mode.{Mode}
-use Rattle.idn2_options.specs.declared.command_line.mode.Mode.TheVariants.{Variants, Jump, CheckTable}
+use Rattle.idn2_options.specs.declared.command_line.mode.Mode.TheVariants.{Variants, Jump, CheckTable, PrintTable}
 use Rattle.idn2_answers.specs.Transcript.{TableGiven, IsTableOf}
 use Rattle.idn2_output.specs.Writing.{Held}
 use Rattle.idn2_output.specs.declared.status.Status.{Status}
@@ -33,4 +33,5 @@ search_mode (Some registered) = Variants
 abbrev pub mode_of : TableMode → Mode
 mode_of by_table.Variants = Variants
 mode_of by_table.Jump = Jump
-mode_of by_table.CheckTable = CheckTable
+mode_of by_table.Check = CheckTable
+mode_of by_table.Print = PrintTable

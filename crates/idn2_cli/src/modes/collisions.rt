@@ -127,8 +127,9 @@ fn write_found<W: Sink, E: Sink>(
         (lines_to asked.now (told_block options.now label.now registered.now found.now)) result }
     ensures why { IfErr result (λ why. why ≡ stop.Output) }
 {
+    let mut points = ArrayVec::new();
     'lines: for collision in found {
-        write_collision(asked, registered, collision, console)?;
+        write_collision(asked, registered, collision, &mut points, console)?;
     }
     write_ending(asked, options, label, registered, found, console)
 }
@@ -160,11 +161,13 @@ fn write_ending<W: Sink, E: Sink>(
     write_named_end(asked, options.limit, label, registered, found, console)
 }
 
-/// Writes a registered label, its A-label, and what each of it and the label asked about is to the other.
+/// Writes a registered label, its A-label, and what each of it and the label asked about is to the other. `points` is
+/// room for the label, made once for a block since it is cleared when it is made.
 fn write_collision<W: Sink, E: Sink>(
     asked: &Asked<'_>,
     registered: &RegisteredLabels<'_>,
     collision: &Collision,
+    points: &mut ArrayVec<u32, MAX_LINE_LEN>,
     console: &mut Console<'_, '_, W, E>,
 ) -> Result<(), Stop>
     requires all { (properties : Properties) × AreRegistered properties registered.now }
@@ -173,8 +176,7 @@ fn write_collision<W: Sink, E: Sink>(
         (said_to asked.now (said_of registered.now collision.now) ∷ []) result }
     ensures why { IfErr result (λ why. why ≡ stop.Output) }
 {
-    let mut points = ArrayVec::new();
-    registered.decode(collision.number, &mut points);
+    registered.decode(collision.number, points);
     let a_label = encode_label(points.as_slice());
     let u_label = registered.line(collision.number);
     let a_label = a_label.as_str().as_bytes();

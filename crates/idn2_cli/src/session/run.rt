@@ -7,16 +7,15 @@ ghost use Rattle.idn_label.specs.FirstFault.{IsRegistrable};
 ghost use Rattle.registered_labels.specs.Registered.{AreRegistered};
 ghost use Rattle.valid_labels.specs.Validity.{IsSound};
 ghost use Rattle.variant_table.specs.Entries.{TableValue};
-ghost use Rattle.variant_table.specs.Texts.{IsTextOf};
 ghost use Rattle.idn2_options.specs.Settings.{IsWithinLimits, keeping};
 ghost use Rattle.idn2_answers.specs.Answers.{jump_answer, variants_answer, IsJumpAnswer, IsListing};
-ghost use Rattle.idn2_answers.specs.Transcript.{TableGiven, IsCheck, IsReadAs, IsTableOf};
+ghost use Rattle.idn2_answers.specs.Transcript.{TableGiven, IsCheck, IsReadAs, IsTableIn, IsTableOf};
 ghost use Rattle.idn2_answers.specs.Transcript.{check_findings};
 ghost use Rattle.idn2_refusals.specs.Requests.{requested_label};
 ghost use Rattle.idn2_refusals.specs.Reports.{closing_status};
 ghost use Rattle.idn2_output.specs.Writing.{held, refusal_of};
 ghost use Rattle.idn2_cli.specs.Ends.{Does, Ends, Closes, at_lines_alone, mode_job};
-ghost use Rattle.idn2_cli.specs.Headline.{AnswersLabels, PrintsAnswers};
+ghost use Rattle.idn2_cli.specs.Headline.{AnswersLabels, PrintsByText};
 ghost use Rattle.idn2_cli.specs.Memory.{IsFoundWithoutMemory};
 ghost use Rattle.idn2_cli.specs.inner.Searches.{IsReady};
 ghost use Rattle.idn2_cli.specs.inner.ServedModes.{Runs, Serves, mode_of, search_mode};
@@ -25,15 +24,16 @@ ghost use Rattle.idn2_options.specs.declared.command_line.mode.Mode.TheVariants 
 use crate::modes::code_points::ByPoints;
 use crate::modes::{
     Among, Decode, DecodeOld, Dispositions, Jumps, Lookup, Register, Search, Variants, check_table,
-    ruling_of_table,
+    print_table, ruling_of_table,
 };
 use crate::session::lines::serve_lines;
+use crate::session::table::{line_of_entry, read_table, refuse_unread};
 use crate::settings::RunSettings;
 use answer_json::MAX_OBJECT_LEN;
-use idn_text::{Lines, Sink, Source};
+use idn_text::{Lines, Refusal, Sink, Source};
 use idn2_options::{Mode, Options};
 use idn2_output::{Console, Status, Stop};
-use idn2_refusals::{Explaining, refuse_search, refuse_table, report};
+use idn2_refusals::{Explaining, refuse_table_line, report};
 use registered_labels::RegisteredLabels;
 use std::alloc::Global;
 use variant_list::{Reversed, ReversedFault};
@@ -57,9 +57,7 @@ pub fn run<R: Source, W: Sink, E: Sink>(
         × Ends (mode_job options.now given) input.old input.new
         (held (W.state out.old) (E.state err.old)) (held (W.state out.new) (E.state err.new)) result }
     // The theorem of listings and of jumps: these bytes of this output are the answers to these lines.
-    ensures headline { (given : TableValue) → AnswersLabels options.now.mode →
-        IsTableOf options.now table.now (Ok given) →
-        PrintsAnswers options.now given input.old input.new
+    ensures headline { AnswersLabels options.now.mode → PrintsByText options.now table.now input.old input.new
         (W.state out.old).contents (W.state out.new).contents result }
     // What the transcript has for a label that may be registered, for a request, and for the check of a table.
     ensures listing { (given : TableValue) (label : List ℕ) →
@@ -96,9 +94,8 @@ pub fn run_among<R: Source, W: Sink, E: Sink>(
         × IsTableOf (keeping (option_copied registered.entry) options.now) table.now given
         × Ends (mode_job (keeping (option_copied registered.entry) options.now) given) input.old input.new
         (held (W.state out.old) (E.state err.old)) (held (W.state out.new) (E.state err.new)) result }
-    ensures headline { (given : TableValue) → AnswersLabels options.now.mode →
-        IsTableOf (keeping (option_copied registered.entry) options.now) table.now (Ok given) →
-        PrintsAnswers (keeping (option_copied registered.entry) options.now) given input.old input.new
+    ensures headline { AnswersLabels options.now.mode →
+        PrintsByText (keeping (option_copied registered.entry) options.now) table.now input.old input.new
         (W.state out.old).contents (W.state out.new).contents result }
     ensures listing { (given : TableValue) (label : List ℕ) →
         IsReadAs options.now.properties options.now.notation table.now (Ok given) →
@@ -184,14 +181,10 @@ fn serve_mode<R: Source, W: Sink, E: Sink>(
         }
         Mode::Jump => serve_by_table(alloc, settings, TableMode::Jump, table, input, console),
         Mode::CheckTable => {
-            serve_by_table(
-                alloc,
-                settings,
-                TableMode::CheckTable,
-                table,
-                input,
-                console,
-            )
+            serve_by_table(alloc, settings, TableMode::Check, table, input, console)
+        }
+        Mode::PrintTable => {
+            serve_by_table(alloc, settings, TableMode::Print, table, input, console)
         }
     }
 }
@@ -201,10 +194,11 @@ fn serve_mode<R: Source, W: Sink, E: Sink>(
 enum TableMode {
     Variants,
     Jump,
-    CheckTable,
+    Check,
+    Print,
 }
 
-/// Runs a mode by the table that a text spells, or reports the fault of the text.
+/// Runs a mode by the table that a text gives, or reports the fault of the text.
 fn serve_by_table<R: Source, W: Sink, E: Sink>(
     alloc: Global,
     settings: &RunSettings<'_, '_>,
@@ -218,11 +212,11 @@ fn serve_by_table<R: Source, W: Sink, E: Sink>(
     ensures { Serves settings.now text.now input.old input.new console.old console.new result }
 {
     let options = settings.options;
-    let table = match Table::read_by(alloc, options.notation, text, options.properties) {
+    let table = match read_table(alloc, options.notation, text, options.properties) {
         Ok(table) => table,
-        Err(refusal) => {
+        Err(unread) => {
             let wanted = options.tells_causes();
-            return refuse_table(options.form, wanted, text, &refusal, console);
+            return refuse_unread(options.form, wanted, text, &unread, console);
         }
     };
     match mode {
@@ -231,7 +225,8 @@ fn serve_by_table<R: Source, W: Sink, E: Sink>(
             among => serve_search(alloc, settings, among, text, &table, input, console),
         },
         TableMode::Jump => serve_search(alloc, settings, None, text, &table, input, console),
-        TableMode::CheckTable => check_table(alloc, options.form, &table, console),
+        TableMode::Check => check_table(alloc, options.form, &table, console),
+        TableMode::Print => print_table(alloc, &table, console),
     }
 }
 
@@ -277,7 +272,9 @@ fn serve_search<R: Source, W: Sink, E: Sink>(
 ) -> Result<Status, Stop>
     requires mode { settings.now.mode ≡ search_mode (option_copied among) }
     requires among { IfSome (option_copied among) (λ labels. settings.now.registered ≡ Some labels) }
-    requires spelled { IsTextOf settings.now.properties settings.now.notation text.now table.now }
+    requires given { IsTableIn settings.now.properties settings.now.notation text.now table.now }
+    requires properties { table.now.definitions.properties ≡ settings.now.properties }
+    requires sound { IsSound table.now }
     requires unread { IsUnread input.old }
     ensures serves { Serves settings.now text.now input.old input.new console.old console.new result }
     // Where nothing is found of the table with memory, it runs out at a line alone.
@@ -289,8 +286,8 @@ fn serve_search<R: Source, W: Sink, E: Sink>(
         Ok(reversed) => reversed,
         Err(ReversedFault::Memory) => return Err(Stop::Memory),
         Err(ReversedFault::TooManySources { entry }) => {
-            let line = table.line_of_entry(alloc, options.notation, text, entry)?;
-            return refuse_search(options.form, line, console);
+            let line = line_of_entry(alloc, options.notation, text, table, entry)?;
+            return refuse_table_line(options.form, line, Refusal::Limit, console);
         }
     };
     let ruling = ruling_of_table(table);

@@ -20,6 +20,8 @@ pub(crate) const RULESET: &str = "ruleset";
 
 pub(crate) const CHECK_RULESET: &str = "check-ruleset";
 
+pub(crate) const PRINT_RULESET: &str = "print-ruleset";
+
 pub(crate) const AMONG: &str = "among";
 
 pub(crate) const OTHERS: &str = "others";

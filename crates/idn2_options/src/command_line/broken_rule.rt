@@ -35,6 +35,10 @@ pub enum BrokenRule {
     LongStart,
     /// STRINGS stand where a table or ruleset is checked.
     CheckedStrings,
+    /// STRINGS stand where a ruleset is printed.
+    PrintedStrings,
+    /// `--json` stands where a ruleset is printed.
+    PrintedObjects,
 }
 
 impl ListingOption {
@@ -70,6 +74,8 @@ impl BrokenRule {
             }
             BrokenRule::LongStart => ("--after", " takes at most 1024 bytes"),
             BrokenRule::CheckedStrings => ("", "the check of a table takes no STRINGS"),
+            BrokenRule::PrintedStrings => ("--print-ruleset", " takes no STRINGS"),
+            BrokenRule::PrintedObjects => ("--print-ruleset", " doesn't go with --json"),
         }
     }
 }

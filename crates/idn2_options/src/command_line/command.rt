@@ -7,7 +7,8 @@ ghost use Rattle.idn2_options.specs.CommandLine.{with_tables, with_collisions, w
 
 use crate::command_line::arguments::{
     AFTER, AMONG, CHECK_RULESET, CHECK_TABLE, DECODE, EXPLAIN, JSON, JUMP, LIMIT, LOOKUP, OLD,
-    OTHERS, QUIET, REGISTER, RULESET, STANDARD, STD3, STEPS, STRINGS, TR46NT, TRIES, VARIANTS,
+    OTHERS, PRINT_RULESET, QUIET, REGISTER, RULESET, STANDARD, STD3, STEPS, STRINGS, TR46NT, TRIES,
+    VARIANTS,
 };
 use clap::{Arg, ArgAction, ArgMatches, Command, Error};
 use std::alloc::{AllocError, Global};
@@ -118,12 +119,19 @@ fn with_tables<'a>(command: Command<'a>, alloc: Global) -> Result<Command<'a>, A
         "FILE",
         "List each label's variants by the ruleset in FILE",
     )?;
-    with_option(
+    let command = with_option(
         command,
         alloc,
         CHECK_RULESET,
         "FILE",
         "Print the pairs that the ruleset in FILE lacks",
+    )?;
+    with_option(
+        command,
+        alloc,
+        PRINT_RULESET,
+        "FILE",
+        "Print what the ruleset in FILE says; not as JSON",
     )
 }
 

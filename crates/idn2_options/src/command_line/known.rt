@@ -6,7 +6,8 @@ ghost use Rattle.idn2_options.specs.inner.Known.{has_letter, name_of, shown_by, 
 
 use crate::command_line::arguments::{
     AFTER, AMONG, CHECK_RULESET, CHECK_TABLE, DECODE, EXPLAIN, JSON, JUMP, LIMIT, LOOKUP, OLD,
-    OTHERS, QUIET, REGISTER, RULESET, STANDARD, STD3, STEPS, TR46NT, TRIES, VARIANTS,
+    OTHERS, PRINT_RULESET, QUIET, REGISTER, RULESET, STANDARD, STD3, STEPS, TR46NT, TRIES,
+    VARIANTS,
 };
 
 /// An option of the command line, by its name.
@@ -19,7 +20,7 @@ pub(crate) enum Known {
 }
 
 /// The options, and the two that `clap` adds.
-const OPTIONS: [Known; 23] = [
+const OPTIONS: [Known; 24] = [
     Known::Flag(LOOKUP, Some('l')),
     Known::Flag(REGISTER, Some('r')),
     Known::Flag(DECODE, Some('d')),
@@ -27,6 +28,7 @@ const OPTIONS: [Known; 23] = [
     Known::Valued(CHECK_TABLE),
     Known::Valued(RULESET),
     Known::Valued(CHECK_RULESET),
+    Known::Valued(PRINT_RULESET),
     Known::Valued(AMONG),
     Known::Flag(OTHERS, None),
     Known::Flag(JUMP, None),

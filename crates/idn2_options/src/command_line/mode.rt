@@ -18,4 +18,6 @@ pub enum Mode {
     Jump,
     /// A table is checked for the pairs that it lacks.
     CheckTable,
+    /// A table is printed as its canonical text.
+    PrintTable,
 }

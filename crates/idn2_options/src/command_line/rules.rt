@@ -4,13 +4,14 @@ ghost use Rattle.clap.specs.Words.{found_of, rows_of};
 ghost use Rattle.idn2_options.specs.Causes.{broken_rule, listing_option, misfit_of, misfit_of_among, wrong_number};
 ghost use Rattle.idn2_options.specs.Words.{among_of, has_listing_option, listing_options_fit, checked_file, checks};
 ghost use Rattle.idn2_options.specs.Words.{checks_alone, decodes_old, file_of, has_among, has_counts, has_short_start};
-ghost use Rattle.idn2_options.specs.Words.{is_allowed};
+ghost use Rattle.idn2_options.specs.Words.{is_allowed, prints, prints_alone, prints_plainly};
 ghost use Rattle.idn2_options.specs.Words.{is_bound_if_given, is_count_if_given, jumps_by_table, listing_file, lists};
 ghost use Rattle.idn2_options.specs.Words.{names_one_mode, notation_of, start_of, suits_among};
 
 use crate::command_line::arguments::{
-    AFTER, AMONG, CHECK_RULESET, CHECK_TABLE, DECODE, JUMP, LIMIT, LOOKUP, OLD, OTHERS, REGISTER,
-    RULESET, STEPS, TRIES, VARIANTS, has_flag, has_strings, has_value, value_of,
+    AFTER, AMONG, CHECK_RULESET, CHECK_TABLE, DECODE, JSON, JUMP, LIMIT, LOOKUP, OLD, OTHERS,
+    PRINT_RULESET, REGISTER, RULESET, STEPS, TRIES, VARIANTS, has_flag, has_strings, has_value,
+    value_of,
 };
 use crate::command_line::broken_rule::{BrokenRule, ListingOption};
 use crate::command_line::counts::{count_of, steps_of};
@@ -31,6 +32,8 @@ pub(crate) fn is_allowed(matches: &ArgMatches<'_>) -> bool
         && has_counts(matches)
         && has_short_start(matches)
         && checks_alone(matches)
+        && prints_alone(matches)
+        && prints_plainly(matches)
 }
 
 /// The first rule that is broken.
@@ -63,6 +66,12 @@ pub(crate) fn broken_rule(matches: &ArgMatches<'_>) -> Option<BrokenRule>
     }
     if !checks_alone(matches) {
         return Some(BrokenRule::CheckedStrings);
+    }
+    if !prints_alone(matches) {
+        return Some(BrokenRule::PrintedStrings);
+    }
+    if !prints_plainly(matches) {
+        return Some(BrokenRule::PrintedObjects);
     }
     None
 }
@@ -144,6 +153,7 @@ fn names_one_mode(matches: &ArgMatches<'_>) -> bool
         has_value(matches, CHECK_TABLE),
         has_value(matches, RULESET),
         has_value(matches, CHECK_RULESET),
+        prints(matches),
     ];
     count_true(&named) <= 1
 }
@@ -238,11 +248,18 @@ pub(crate) fn checks(matches: &ArgMatches<'_>) -> bool
     checked_file(matches).is_some()
 }
 
+/// Whether there is a file that is printed.
+pub(crate) fn prints(matches: &ArgMatches<'_>) -> bool
+    ensures { result ≡ prints (rows_of (found_of matches.now)) }
+{
+    has_value(matches, PRINT_RULESET)
+}
+
 /// How the file is read: as a table or as a ruleset.
 pub(crate) fn notation_of(matches: &ArgMatches<'_>) -> Notation
     ensures { result ≡ notation_of (rows_of (found_of matches.now)) }
 {
-    if has_value(matches, RULESET) || has_value(matches, CHECK_RULESET) {
+    if has_value(matches, RULESET) || has_value(matches, CHECK_RULESET) || prints(matches) {
         Notation::Ruleset
     } else {
         Notation::Table
@@ -256,7 +273,7 @@ pub(crate) fn file_of<'a>(matches: &ArgMatches<'a>) -> &'a str
     match (listing_file(matches), checked_file(matches)) {
         (Some(file), _) => file,
         (None, Some(file)) => file,
-        (None, None) => "",
+        (None, None) => value_of(matches, PRINT_RULESET).unwrap_or(""),
     }
 }
 
@@ -311,4 +328,18 @@ fn checks_alone(matches: &ArgMatches<'_>) -> bool
     ensures { result ≡ checks_alone (rows_of (found_of matches.now)) }
 {
     !checks(matches) || !has_strings(matches)
+}
+
+/// Whether there are no STRINGS where a ruleset is printed.
+fn prints_alone(matches: &ArgMatches<'_>) -> bool
+    ensures { result ≡ prints_alone (rows_of (found_of matches.now)) }
+{
+    !prints(matches) || !has_strings(matches)
+}
+
+/// Whether no objects are asked for where a ruleset is printed.
+fn prints_plainly(matches: &ArgMatches<'_>) -> bool
+    ensures { result ≡ prints_plainly (rows_of (found_of matches.now)) }
+{
+    !prints(matches) || !has_flag(matches, JSON)
 }

@@ -17,7 +17,7 @@ use crate::command_line::form::Form;
 use crate::command_line::mode::Mode;
 use crate::command_line::options::Options;
 use crate::command_line::rules::{
-    broken_rule, checks, file_of, is_allowed, lists, notation_of, start_of,
+    broken_rule, checks, file_of, is_allowed, lists, notation_of, prints, start_of,
 };
 use crate::command_line::usage::Usage;
 use crate::command_line::usage_cause::{UsageCause, refused_by_clap};
@@ -122,6 +122,8 @@ fn mode_of(matches: &ArgMatches<'_>) -> Mode
         }
     } else if checks(matches) {
         Mode::CheckTable
+    } else if prints(matches) {
+        Mode::PrintTable
     } else {
         Mode::Lookup
     }

@@ -6,6 +6,7 @@ use Rattle.idn2_answers.specs.Transcript.{IsTableOf}
 use Rattle.idn2_cli.proofs.BlockMembers.{HasRising, variants_answer-IsListing}
 use Rattle.idn2_cli.proofs.RunEnds.{ends_as}
 use Rattle.idn2_cli.proofs.HeadlineLemmas.{headline}
+use Rattle.idn2_cli.proofs.TableLemmas.{formed}
 use Rattle.idn2_cli.proofs.session.run.run.Goals as goal
 
 -- options have no registered labels
@@ -19,14 +20,14 @@ returns-clause-ends g c =
     (ended.0, subst (λ (o : Settings). IsTableOf o c.args.table.now ended.0) none ended.1, ends_as _ _ _ _ _ _ c.run_among.result (ap (λ (o : Settings). mode_job o ended.0) none) ended.2)
 
 pub returns-clause-headline : goal.returns-clause-headline
-returns-clause-headline g c = λ table is text.
+returns-clause-headline g c = λ asks.
     let ended = c.run_among.ensures.ends in
     let none : keeping None c.args.options.now ≡ c.args.options.now = ap (keeping None) (sym c.options.view_is) ∙ c.options.view_is in
-    headline c.args.options.now _ table ended.0 _ _ _ _ c.run_among.result (whole_rises c.args.options.now none) is text (subst (λ (o : Settings). IsTableOf o c.args.table.now ended.0) none ended.1)
+    headline c.args.options.now _ ended.0 _ _ _ _ c.run_among.result (whole_rises c.args.options.now none) asks (subst (λ (o : Settings). IsTableOf o c.args.table.now ended.0) none ended.1)
     (ends_as _ _ _ _ _ _ c.run_among.result (ap (λ (o : Settings). mode_job o ended.0) none) ended.2)
 
 pub returns-clause-listing : goal.returns-clause-listing
-returns-clause-listing g c = λ table label text registrable. variants_answer-IsListing c.args.options.now table label (sound_table table text.lines.well_formed) (whole_rises c.args.options.now (ap (keeping None) (sym c.options.view_is) ∙ c.options.view_is)) registrable
+returns-clause-listing g c = λ table label given registrable. variants_answer-IsListing c.args.options.now table label (sound_table table (formed c.args.options.now.properties c.args.options.now.notation c.args.table.now table given)) (whole_rises c.args.options.now (ap (keeping None) (sym c.options.view_is) ∙ c.options.view_is)) registrable
 
 pub returns-clause-jump : goal.returns-clause-jump
 returns-clause-jump g c = c.run_among.ensures.jump

@@ -4,6 +4,7 @@ use Rattle.idn2_options.specs.Settings.{keeping}
 use Rattle.idn2_output.specs.Writing.{Held}
 use Rattle.idn2_cli.proofs.LentWriters.{same_loans, given_back}
 use Rattle.idn2_cli.proofs.HeadlineLemmas.{headline}
+use Rattle.idn2_cli.proofs.TableLemmas.{formed}
 use Rattle.idn2_answers.proofs.AdmittedLabels.{sound_table}
 use Rattle.idn2_cli.proofs.BlockMembers.{rising_some, variants_answer-IsListing, check_findings-IsCheck}
 use Rattle.idn2_cli.proofs.JumpAnswers.{jump_answer-IsJumpAnswer}
@@ -22,15 +23,15 @@ returns-clause-ends g c =
     )
 
 pub returns-clause-headline : goal.returns-clause-headline
-returns-clause-headline g c = λ table is text.
+returns-clause-headline g c = λ asks.
     let ended = returns-clause-ends g c in
-    headline (keeping (option_copied c.args.registered) c.args.options.now) _ table ended.0 _ _ _ _ _ (rising_some c.args.options.now.properties (option_copied c.args.registered) c.requires.registered) is text ended.1 ended.2
+    headline (keeping (option_copied c.args.registered) c.args.options.now) _ ended.0 _ _ _ _ _ (rising_some c.args.options.now.properties (option_copied c.args.registered) c.requires.registered) asks ended.1 ended.2
 
 pub returns-clause-listing : goal.returns-clause-listing
-returns-clause-listing g c = λ table label text registrable. variants_answer-IsListing (keeping (option_copied c.args.registered) c.args.options.now) table label (sound_table table text.lines.well_formed) (rising_some c.args.options.now.properties (option_copied c.args.registered) c.requires.registered) registrable
+returns-clause-listing g c = λ table label given registrable. variants_answer-IsListing (keeping (option_copied c.args.registered) c.args.options.now) table label (sound_table table (formed c.args.options.now.properties c.args.options.now.notation c.args.table.now table given)) (rising_some c.args.options.now.properties (option_copied c.args.registered) c.requires.registered) registrable
 
 pub returns-clause-jump : goal.returns-clause-jump
-returns-clause-jump g c = λ table request text registrable. jump_answer-IsJumpAnswer c.args.options.now table request (sound_table table text.lines.well_formed) registrable
+returns-clause-jump g c = λ table request given registrable. jump_answer-IsJumpAnswer c.args.options.now table request (sound_table table (formed c.args.options.now.properties c.args.options.now.notation c.args.table.now table given)) registrable
 
 pub returns-clause-check : goal.returns-clause-check
-returns-clause-check g c = λ table text. check_findings-IsCheck table text.lines.well_formed.well_formed
+returns-clause-check g c = λ table given. check_findings-IsCheck table (formed c.args.options.now.properties c.args.options.now.notation c.args.table.now table given).well_formed

@@ -98,3 +98,8 @@ pub serve_by_table-requires-in-CheckTable-clause-mode : goal.serve_by_table-requ
 serve_by_table-requires-in-CheckTable-clause-mode g c =
     let seen = ap (keeping (option_copied c.settings.inside.registered)) c.options.view_is ∙ c.settings.view_is in
     sym (ap (λ (v : Settings). v.mode) seen) ∙ c.in-CheckTable.is
+
+pub serve_by_table-requires-in-PrintTable-clause-mode : goal.serve_by_table-requires-in-PrintTable-clause-mode
+serve_by_table-requires-in-PrintTable-clause-mode g c =
+    let seen = ap (keeping (option_copied c.settings.inside.registered)) c.options.view_is ∙ c.settings.view_is in
+    sym (ap (λ (v : Settings). v.mode) seen) ∙ c.in-PrintTable.is
