@@ -163,8 +163,8 @@ works_by_table o work.Variants is = record {
   by_table = refl;
 }
 works_by_table o work.Jump is = record { named = is; some = λ text. some_searched o.properties o.notation text; faults = λ text told read. inl read; by_table = refl }
-works_by_table o work.CheckTable is = record { named = is; some = λ text. some_table o.properties o.notation text; faults = λ text told read. read; by_table = refl }
-works_by_table o work.PrintTable is = record { named = is; some = λ text. some_table o.properties o.notation text; faults = λ text told read. read; by_table = refl }
+works_by_table o work.Check is = record { named = is; some = λ text. some_table o.properties o.notation text; faults = λ text told read. read; by_table = refl }
+works_by_table o work.Print is = record { named = is; some = λ text. some_table o.properties o.notation text; faults = λ text told read. read; by_table = refl }
 
 -- ---- the table that was read
 
