@@ -21,7 +21,7 @@ use Rattle.lgr_text.specs.LabelEnds.{begins_label, ends_label}
 use Rattle.lgr_text.specs.declared.rule_error.RuleError.{RuleError}
 use Rattle.lgr_text.specs.declared.rule_error.RuleFault.{RuleFault}
 use Rattle.lgr_text.specs.declared.rule_error.RuleFault.TheVariants.{Misplaced, NotSupported, Undefined}
-use Rattle.lgr_text.specs.PartMatches.{BeginsWith, IsOf, is_named, parts_label, rule_fault, then_fault, times_fault, has_anchor, rule_named, Matching, Place, Repeats, IsUpTo, StandThere}
+use Rattle.lgr_text.specs.PartMatches.{BeginsWith, IsOf, is_named, name_fault, has_anchor, rule_named, Matching, Place, Repeats, IsUpTo, StandThere}
 use Rattle.lgr_text.specs.Records.{Class, Part, Literal, Any, Of, Start, End, Anchor, OfRule, Then, Choice, Times}
 use Rattle.lgr_text.specs.declared.part_items.Side.{Side}
 use Rattle.lgr_text.specs.declared.part_items.Side.TheVariants.{After, Before}
@@ -36,7 +36,7 @@ use Rattle.lgr_text.proofs.SetNumberLemmas.{begins-length, choice-has, have-join
 use Rattle.lgr_text.proofs.RepeatLemmas.{repeats-join, repeats-map, repeats-split}
 
 abbrev pub AppendsPart : Known → List (List Span) → List (List Span) → List Pattern → List Pattern → Part → Type 0
-AppendsPart known old_sets sets old items p = Appends known.points (has_anchor known p) old_sets sets old items (Matching known p)
+AppendsPart known old_sets sets old items p = Appends known.points old_sets sets old items (Matching known p)
 
 pub begins-so : (sets : List (List Span)) → BeginsWith sets sets
 begins-so sets = ([], sym (append-nil sets))
@@ -61,31 +61,32 @@ anchors-join : (ps qs : List Pattern) → anchors (ps ++ qs) ≡ anchors ps + an
 anchors-join [] qs = omega arith
 anchors-join (p ∷ ps) qs = let e = anchors-join ps qs in omega (arith, e)
 
-one-of-both : (a b : Bool) → (a && b) ≡ false → (if a then 1 else 0) + (if b then 1 else 0) ≡ (if a || b then 1 else 0)
-one-of-both true true e = absurd (cc)
-one-of-both true false e = refl
-one-of-both false true e = refl
-one-of-both false false e = refl
-
-shapes-join : (a b : Bool) (ps qs : List Pattern) → (a && b) ≡ false → HasShape a ps → HasShape b qs → HasShape (a || b) (ps ++ qs)
-shapes-join a b ps qs apart left right = record {
+-- items before others, where the anchor is one of the items, or none
+pub shape-before : (b : Bool) (ps qs : List Pattern) → HasShape false ps → HasShape b qs → HasShape b (ps ++ qs)
+shape-before b ps qs left right = record {
   flat = flat-join ps qs left.flat right.flat;
-  one = anchors-join ps qs ∙ ap (λ n. n + anchors qs) left.one ∙ ap (λ n. (if a then 1 else 0) + n) right.one ∙ one-of-both a b apart;
+  one = let n = anchors-join ps qs in let none : anchors ps ≡ 0 = left.one in
+      let same : anchors (ps ++ qs) ≡ anchors qs = omega (arith, n, none) in same ∙ right.one;
+}
+
+pub shape-after : (b : Bool) (ps qs : List Pattern) → HasShape b ps → HasShape false qs → HasShape b (ps ++ qs)
+shape-after b ps qs left right = record {
+  flat = flat-join ps qs left.flat right.flat;
+  one = let n = anchors-join ps qs in let none : anchors qs ≡ 0 = right.one in
+      let same : anchors (ps ++ qs) ≡ anchors ps = omega (arith, n, none) in same ∙ left.one;
 }
 
 copies-shape : (n : ℕ) (ps : List Pattern) → HasShape false ps → HasShape false (copies n ps)
 copies-shape zero ps shape = record { flat = refl; one = refl }
-copies-shape (suc n) ps shape = shapes-join false false (copies n ps) ps refl (copies-shape n ps shape) shape
+copies-shape (suc n) ps shape = shape-before false (copies n ps) ps (copies-shape n ps shape) shape
 
 further-shape : (most : Option ℕ) (least : ℕ) (ps : List Pattern) → HasShape false (further_up_to most least ps)
 further-shape None least ps = record { flat = refl; one = refl }
 further-shape (Some most) least ps = copies-shape (most - least) (Optional (as_atom ps) ∷ []) (record { flat = refl; one = refl })
 
-times-shape : (count : Count) (a : Bool) (once : List Pattern) → a ≡ false → HasShape a once → HasShape a (copies count.least once ++ further count once)
-times-shape count a once none shape =
-    subst (λ b. HasShape b (copies count.least once ++ further count once)) (sym none)
-    (shapes-join false false (copies count.least once) (further count once) refl
-    (copies-shape count.least once (subst (λ b. HasShape b once) none shape)) (further-shape count.most count.least once))
+times-shape : (count : Count) (once : List Pattern) → HasShape false once → HasShape false (copies count.least once ++ further count once)
+times-shape count once shape =
+    shape-before false (copies count.least once) (further count once) (copies-shape count.least once shape) (further-shape count.most count.least once)
 
 -- ---- a literal
 
@@ -172,7 +173,7 @@ literal-appends side known sets old items points = by-cases (list_all (is_in kno
 -- ---- one item
 
 pub one-appends : (known : Known) (sets : List (List Span)) (old items : List Pattern) (one : Pattern) (q : Part)
-    → HasShape (has_anchor known q) (one ∷ []) → HasItsSets (length sets) one
+    → HasShape false (one ∷ []) → HasItsSets (length sets) one
     → ((s : Seen) (at : Option Place) (i j : ℕ) → ItemMatches s at one i j ↔ Matching known q s at i j)
     → items ≡ old ++ one ∷ [] → AppendsPart known sets sets old items q
 one-appends known sets old items one q shape its_sets match_it e = record {
@@ -199,10 +200,6 @@ start-appends known sets old items e =
 end-appends : (known : Known) (sets : List (List Span)) (old items : List Pattern) → items ≡ old ++ pattern.End ∷ [] → AppendsPart known sets sets old items End
 end-appends known sets old items e =
     one-appends known sets old items pattern.End End (record { flat = refl; one = refl }) tt (λ s at i j. (λ h. h, λ h. h)) e
-
-anchor-appends : (known : Known) (sets : List (List Span)) (old items : List Pattern) → items ≡ old ++ pattern.Anchor ∷ [] → AppendsPart known sets sets old items Anchor
-anchor-appends known sets old items e =
-    one-appends known sets old items pattern.Anchor Anchor (record { flat = refl; one = refl }) tt (λ s at i j. (λ h. h, λ h. h)) e
 
 -- ---- a class
 
@@ -271,14 +268,14 @@ class-kept side known class old_sets sets old items adds = elim adds [
 
 -- ---- a rule that is named
 
-no-context : (named context : Bool) → (if not named then Some Undefined else if context then Some NotSupported else None) ≡ None → context ≡ false
-no-context true true e = absurd (cc)
-no-context true false e = refl
-no-context false context e = absurd (cc)
-
-and-false : (b : Bool) → (b && false) ≡ false
-and-false true = refl
-and-false false = refl
+no-context : (known : Known) (name : List ℕ) → has_anchor known (OfRule name) ≡ false → name_fault known name ≡ None
+    → is_context_rule (rule_named known name) ≡ false
+no-context known name = by (is_named known name)
+  where
+    by : (b : Bool) → (b && is_context_rule (rule_named known name)) ≡ false → (if b then None else Some Undefined) ≡ None
+        → is_context_rule (rule_named known name) ≡ false
+    by true none e = none
+    by false none e = absurd (cc)
 
 -- the value is there where no fault is told
 pub told-none : {X P Q : Type 0} (fault : Option RuleFault) (result : Result X RuleError) → (fault ≡ None → P → Q) → IsFaultOf fault result
@@ -287,13 +284,13 @@ told-none fault (Ok v) f none h = f none h
 told-none fault (Err e) f none h = tt
 
 pub rule-appends : (known : Known) (sets : List (List Span)) (old items : List Pattern) (name : List ℕ)
-    → HaveSets (length sets) known.rules → HaveBranches known.rules → rule_fault known name ≡ None
+    → HaveSets (length sets) known.rules → HaveBranches known.rules → is_context_rule (rule_named known name) ≡ false
     → items ≡ old ++ Group (rule_named known name) ∷ [] → AppendsPart known sets sets old items (OfRule name)
-rule-appends known sets old items name rules have none e = record {
+rule-appends known sets old items name rules have whole e = record {
   kept = begins-so sets;
   added = Group (rule_named known name) ∷ [];
   is = e;
-  shape = record { flat = refl; one = ap (λ b. if b then 1 else 0) (sym unanchored) };
+  shape = record { flat = refl; one = refl };
   known = (rule-has known.rules (number_of known.rule_names name) (length sets) rules, tt);
   match_them = λ all label at i j begins of.
       let s = seen all label in
@@ -301,39 +298,17 @@ rule-appends known sets old items name rules have none e = record {
       let same = whole-around s at (rule_named known name) i j (named-branches known.rules (number_of known.rule_names name) have) whole in
       (λ h. same.0 (item.0 h), λ h. item.1 (same.1 h));
 }
-  where
-    whole : is_context_rule (rule_named known name) ≡ false
-    whole = no-context (is_named known name) (is_context_rule (rule_named known name)) none
-
-    unanchored : has_anchor known (OfRule name) ≡ false
-    unanchored = ap (λ b. is_named known name && b) whole ∙ and-false (is_named known name)
 
 -- ---- one after the other
 
--- what is right has one anchor at most
-pub then-apart : (known : Known) (p q : Part) → then_fault known p q ≡ None → (has_anchor known p && has_anchor known q) ≡ false
-then-apart known p q = by-test (has_anchor known p && has_anchor known q)
-  where
-    by-test : (b : Bool) → (if b then Some NotSupported else if not (parts_label known p q) then None else if has_anchor known p || has_anchor known q then Some NotSupported else Some Misplaced) ≡ None → b ≡ false
-    by-test true e = absurd cc
-    by-test false e = refl
-
--- and none where it is counted
-pub times-unanchored : (known : Known) (p : Part) → times_fault known p ≡ None → has_anchor known p ≡ false
-times-unanchored known p = by-test (has_anchor known p)
-  where
-    by-test : (b : Bool) → (if b then Some NotSupported else if begins_label (rule_named known) p || ends_label (rule_named known) p then Some Misplaced else None) ≡ None → b ≡ false
-    by-test true e = absurd cc
-    by-test false e = refl
-
 pub then-appends : (known : Known) (p q : Part) (first middle last : List (List Span)) (old between items : List Pattern)
-    → (has_anchor known p && has_anchor known q) ≡ false → AppendsPart known first middle old between p → AppendsPart known middle last between items q
+    → AppendsPart known first middle old between p → AppendsPart known middle last between items q
     → AppendsPart known first last old items (Then p q)
-then-appends known p q first middle last old between items apart left right = record {
+then-appends known p q first middle last old between items left right = record {
   kept = begins-too last middle first right.kept left.kept;
   added = left.added ++ right.added;
   is = right.is ∙ ap (λ l. l ++ right.added) left.is ∙ append_assoc old left.added right.added;
-  shape = shapes-join (has_anchor known p) (has_anchor known q) left.added right.added apart left.shape right.shape;
+  shape = shape-before false left.added right.added left.shape right.shape;
   known = have-join left.added right.added (length last)
       (have-more left.added (length middle) (length last) (begins-length last middle right.kept) left.known) right.known;
   match_them = λ all label at i j begins of.
@@ -349,25 +324,23 @@ then-appends known p q first middle last old between items apart left right = re
 -- ---- what has no anchor is about no place
 
 matching-same : (known : Known) (p : Part) (first last all : List (List Span)) (label : List ℕ) (items : List Pattern) (at other : Option Place) (i j : ℕ)
-    → has_anchor known p ≡ false → AppendsPart known first last [] items p → BeginsWith all last → IsOf known.points label
+    → AppendsPart known first last [] items p → BeginsWith all last → IsOf known.points label
     → Matching known p (seen all label) at i j → Matching known p (seen all label) other i j
-matching-same known p first last all label items at other i j none made begins of h =
-    let one : anchors made.added ≡ 0 = made.shape.one ∙ ap (λ b. if b then 1 else 0) none in
+matching-same known p first last all label items at other i j made begins of h =
     (made.match_them all label other i j begins of).0
-    (items-place (seen all label) at other made.added i j one ((made.match_them all label at i j begins of).1 h))
+    (items-place (seen all label) at other made.added i j made.shape.one ((made.match_them all label at i j begins of).1 h))
 
 -- ---- one or the other
 
 pub choice-appends : (known : Known) (p q : Part) (first middle last : List (List Span)) (old items left_items right_items : List Pattern)
-    → has_anchor known p ≡ false → has_anchor known q ≡ false
     → AppendsPart known first middle [] left_items p → AppendsPart known middle last [] right_items q
     → items ≡ old ++ choice_of left_items right_items ∷ []
     → AppendsPart known first last old items (Choice p q)
-choice-appends known p q first middle last old items left_items right_items no_p no_q left right e = record {
+choice-appends known p q first middle last old items left_items right_items left right e = record {
   kept = begins-too last middle first right.kept left.kept;
   added = choice_of left_items right_items ∷ [];
   is = e;
-  shape = record { flat = refl; one = ap (λ b. if b then 1 else 0) (sym (ap (λ b. b || has_anchor known q) no_p ∙ no_q)) };
+  shape = record { flat = refl; one = refl };
   known = choice-has left_items right_items (length last)
       (have-more left_items (length middle) (length last) (begins-length last middle right.kept) (subst (HaveSets (length middle)) (sym left.is) left.known))
       (subst (HaveSets (length last)) (sym right.is) right.known);
@@ -375,12 +348,12 @@ choice-appends known p q first middle last old items left_items right_items no_p
       let s = seen all label in
       let lower = begins-too all last middle begins right.kept in (
         λ h. elim ((choice-is s at left_items right_items i j).0 h) [
-          | inl l ↦ inl (matching-same known p first middle all label left_items None at i j no_p left lower of ((left.match_them all label None i j lower of).0 (subst (λ ps. ItemsMatch s None ps i j) left.is l)))
-          | inr r ↦ inr (matching-same known q middle last all label right_items None at i j no_q right begins of ((right.match_them all label None i j begins of).0 (subst (λ ps. ItemsMatch s None ps i j) right.is r)))
+          | inl l ↦ inl (matching-same known p first middle all label left_items None at i j left lower of ((left.match_them all label None i j lower of).0 (subst (λ ps. ItemsMatch s None ps i j) left.is l)))
+          | inr r ↦ inr (matching-same known q middle last all label right_items None at i j right begins of ((right.match_them all label None i j begins of).0 (subst (λ ps. ItemsMatch s None ps i j) right.is r)))
         ],
         λ h. (choice-is s at left_items right_items i j).1 (elim h [
-          | inl l ↦ inl (subst (λ ps. ItemsMatch s None ps i j) (sym left.is) ((left.match_them all label None i j lower of).1 (matching-same known p first middle all label left_items at None i j no_p left lower of l)))
-          | inr r ↦ inr (subst (λ ps. ItemsMatch s None ps i j) (sym right.is) ((right.match_them all label None i j begins of).1 (matching-same known q middle last all label right_items at None i j no_q right begins of r)))
+          | inl l ↦ inl (subst (λ ps. ItemsMatch s None ps i j) (sym left.is) ((left.match_them all label None i j lower of).1 (matching-same known p first middle all label left_items at None i j left lower of l)))
+          | inr r ↦ inr (subst (λ ps. ItemsMatch s None ps i j) (sym right.is) ((right.match_them all label None i j begins of).1 (matching-same known q middle last all label right_items at None i j right begins of r)))
         ]),
       );
 }
@@ -388,23 +361,23 @@ choice-appends known p q first middle last old items left_items right_items no_p
 -- ---- so many times
 
 pub times-appends : (known : Known) (count : Count) (p : Part) (first last : List (List Span)) (old items once : List Pattern)
-    → has_anchor known p ≡ false → IsUpTo count.least count.most
+    → IsUpTo count.least count.most
     → AppendsPart known first last [] once p
     → items ≡ old ++ (copies count.least once ++ further count once)
     → AppendsPart known first last old items (Times count p)
-times-appends known count p first last old items once none fits appends e = record {
+times-appends known count p first last old items once fits appends e = record {
   kept = appends.kept;
   added = copies count.least once ++ further count once;
   is = e;
-  shape = times-shape count (has_anchor known p) once none (subst (HasShape (has_anchor known p)) (sym appends.is) appends.shape);
+  shape = times-shape count once (subst (HasShape false) (sym appends.is) appends.shape);
   known = times-have count.least count.most once (length last) (subst (HaveSets (length last)) (sym appends.is) appends.known);
   match_them = λ all label at i j begins of.
       let s = seen all label in
       let R : ℕ → ℕ → Type 0 = Matching known p s at in
       let forth : (o : Option Place) (k m : ℕ) → ItemsMatch s o once k m → R k m = λ o k m h.
-      matching-same known p first last all label once o at k m none appends begins of ((appends.match_them all label o k m begins of).0 (subst (λ ps. ItemsMatch s o ps k m) appends.is h)) in
+      matching-same known p first last all label once o at k m appends begins of ((appends.match_them all label o k m begins of).0 (subst (λ ps. ItemsMatch s o ps k m) appends.is h)) in
       let back : (o : Option Place) (k m : ℕ) → R k m → ItemsMatch s o once k m = λ o k m h.
-      subst (λ ps. ItemsMatch s o ps k m) (sym appends.is) ((appends.match_them all label o k m begins of).1 (matching-same known p first last all label once at o k m none appends begins of h)) in (
+      subst (λ ps. ItemsMatch s o ps k m) (sym appends.is) ((appends.match_them all label o k m begins of).1 (matching-same known p first last all label once at o k m appends begins of h)) in (
         λ h.
             let both = items-split s at (copies count.least once) (further count once) i j h in
             let least = repeats-map (ItemsMatch s at once) R (forth at) count.least i both.0 ((copies-are s at once count.least i both.0).0 both.1) in
@@ -432,11 +405,13 @@ literal-part side known old_sets sets old items points p is same e =
     (subst (λ all. AppendsPart known old_sets all old items (Literal points)) (sym same) (literal-appends side known old_sets old items points e))
 
 pub rule-part : (known : Known) (name : List ℕ) (old_sets sets : List (List Span)) (old items : List Pattern) (p : Part)
-    → p ≡ OfRule name → sets ≡ old_sets → HaveSets (length old_sets) known.rules → HaveBranches known.rules → rule_fault known name ≡ None
-    → items ≡ old ++ Group (rule_named known name) ∷ [] → AppendsPart known old_sets sets old items p
-rule-part known name old_sets sets old items p is same rules have none e =
+    → p ≡ OfRule name → sets ≡ old_sets → HaveSets (length old_sets) known.rules → HaveBranches known.rules → has_anchor known p ≡ false
+    → name_fault known name ≡ None → items ≡ old ++ Group (rule_named known name) ∷ [] → AppendsPart known old_sets sets old items p
+rule-part known name old_sets sets old items p is same rules have none found e =
     subst (AppendsPart known old_sets sets old items) (sym is)
-    (subst (λ all. AppendsPart known old_sets all old items (OfRule name)) (sym same) (rule-appends known old_sets old items name rules have none e))
+    (subst (λ all. AppendsPart known old_sets all old items (OfRule name)) (sym same)
+    (rule-appends known old_sets old items name rules have
+    (no-context known name (subst (λ (q : Part). has_anchor known q ≡ false) is none) found) e))
 
 -- sets that stay, in the place of those that were
 same-sets : (known : Known) (old_sets sets : List (List Span)) (old items : List Pattern) (p q : Part) → p ≡ q → sets ≡ old_sets
@@ -456,37 +431,33 @@ pub end-part : (known : Known) (old_sets sets : List (List Span)) (old items : L
     → p ≡ End → sets ≡ old_sets → items ≡ old ++ pattern.End ∷ [] → AppendsPart known old_sets sets old items p
 end-part known old_sets sets old items p is same e = same-sets known old_sets sets old items p End is same (end-appends known old_sets old items e)
 
-pub anchor-part : (known : Known) (old_sets sets : List (List Span)) (old items : List Pattern) (p : Part)
-    → p ≡ Anchor → sets ≡ old_sets → items ≡ old ++ pattern.Anchor ∷ [] → AppendsPart known old_sets sets old items p
-anchor-part known old_sets sets old items p is same e = same-sets known old_sets sets old items p Anchor is same (anchor-appends known old_sets old items e)
-
 pub class-part : (side : Side) (known : Known) (class : Class) (old_sets sets : List (List Span)) (old items : List Pattern) (p : Part)
     → p ≡ Of class → AddsClass side known class old_sets sets old items → AppendsPart known old_sets sets old items p
 class-part side known class old_sets sets old items p is adds =
     subst (AppendsPart known old_sets sets old items) (sym is) (class-appends side known class old_sets sets old items adds)
 
 pub then-part : (known : Known) (p q r : Part) (first middle last : List (List Span)) (old between items : List Pattern)
-    → r ≡ Then p q → (has_anchor known p && has_anchor known q) ≡ false → AppendsPart known first middle old between p → AppendsPart known middle last between items q
+    → r ≡ Then p q → AppendsPart known first middle old between p → AppendsPart known middle last between items q
     → AppendsPart known first last old items r
-then-part known p q r first middle last old between items is apart left right =
-    subst (AppendsPart known first last old items) (sym is) (then-appends known p q first middle last old between items apart left right)
+then-part known p q r first middle last old between items is left right =
+    subst (AppendsPart known first last old items) (sym is) (then-appends known p q first middle last old between items left right)
 
 pub choice-part : (known : Known) (p q r : Part) (first middle last sets : List (List Span)) (old items left_items right_items : List Pattern)
-    → r ≡ Choice p q → sets ≡ last → has_anchor known p ≡ false → has_anchor known q ≡ false
+    → r ≡ Choice p q → sets ≡ last
     → AppendsPart known first middle [] left_items p → AppendsPart known middle last [] right_items q
     → items ≡ old ++ choice_of left_items right_items ∷ []
     → AppendsPart known first sets old items r
-choice-part known p q r first middle last sets old items left_items right_items is same no_p no_q left right e =
+choice-part known p q r first middle last sets old items left_items right_items is same left right e =
     subst (AppendsPart known first sets old items) (sym is)
     (subst (λ all. AppendsPart known first all old items (Choice p q)) (sym same)
-    (choice-appends known p q first middle last old items left_items right_items no_p no_q left right e))
+    (choice-appends known p q first middle last old items left_items right_items left right e))
 
 pub times-part : (known : Known) (count : Count) (p r : Part) (first last sets : List (List Span)) (old items once : List Pattern)
-    → r ≡ Times count p → sets ≡ last → has_anchor known p ≡ false → IsUpTo count.least count.most
+    → r ≡ Times count p → sets ≡ last → IsUpTo count.least count.most
     → AppendsPart known first last [] once p
     → items ≡ old ++ (copies count.least once ++ further count once)
     → AppendsPart known first sets old items r
-times-part known count p r first last sets old items once is same none fits appends e =
+times-part known count p r first last sets old items once is same fits appends e =
     subst (AppendsPart known first sets old items) (sym is)
     (subst (λ all. AppendsPart known first all old items (Times count p)) (sym same)
-    (times-appends known count p first last old items once none fits appends e))
+    (times-appends known count p first last old items once fits appends e))

@@ -131,10 +131,10 @@ whole-around s at p i j has none =
 
 -- where it is one, its branches are rows, in each of which the anchor stands once
 pub record HasRows (p : Pattern) : Type 0 where
-  pub rows : List (List Pattern)
-  pub is : p ≡ in_choice (map in_sequence rows)
-  pub branches_are : branches p ≡ map in_sequence rows
-  pub shapes : AllByRecursion (HasShape true) rows
+  pub row : List Pattern
+  pub others : List (List Pattern)
+  pub is : p ≡ in_choice (map in_sequence (row ∷ others))
+  pub shapes : AllByRecursion (HasShape true) (row ∷ others)
 
 pub context-rows : (p : Pattern) → HasBranches p → is_context_rule p ≡ true → HasRows p
 context-rows p has one = by has.anchored has.rows has.is has.shapes
@@ -143,12 +143,7 @@ context-rows p has one = by has.anchored has.rows has.is has.shapes
     by b [] is shapes = absurd (let e = ap is_context_rule is in cc)
     by false (row ∷ rows) is shapes =
         absurd (let e = ap is_context_rule is in let none = no-anchor-rule (row ∷ rows) shapes in cc)
-    by true (row ∷ rows) is shapes = record {
-      rows = row ∷ rows;
-      is = is;
-      branches_are = ap branches is ∙ all-branches row rows shapes;
-      shapes = shapes;
-    }
+    by true (row ∷ rows) is shapes = record { row = row; others = rows; is = is; shapes = shapes }
 
 -- the sets that they name
 items-have : (ps : List Pattern) (n : ℕ) → HasItsSets n (in_sequence ps) → HaveSets n ps

@@ -134,12 +134,6 @@ has_anchor known End = false
 abbrev pub name_fault : Known → List ℕ → Option RuleFault
 name_fault known name = if is_named known name then None else Some Undefined
 
--- no rule has the name; or one that has an anchor
-abbrev pub rule_fault : Known → List ℕ → Option RuleFault
-rule_fault known name =
-    if not (is_named known name) then Some Undefined else
-    if is_context_rule (rule_named known name) then Some NotSupported else None
-
 -- the end of a label in the first of two parts, or its start in the second
 abbrev pub parts_label : Known → Part → Part → Bool
 parts_label known p q = ends_label (rule_named known) p || begins_label (rule_named known) q
@@ -158,31 +152,27 @@ times_fault known p =
     if has_anchor known p then Some NotSupported else
     if begins_label (rule_named known) p || ends_label (rule_named known) p then Some Misplaced else None
 
--- the first thing that a part names and that isn't there; or a second anchor, or one in a choice, in what is counted or
--- in a rule that is named; or the start or the end of a label where it may not be
+-- a choice of two parts, each of which is a branch of its rule (section 6.4.1): one of them alone has an anchor
+abbrev pub choice_fault : Known → Part → Part → Option RuleFault
+choice_fault known p q =
+    if has_anchor known p && has_anchor known q then None else
+    if has_anchor known p || has_anchor known q then Some NotSupported else None
+
+-- the first thing that a part names and that isn't there; or a second anchor, or one in a part of a choice alone, or in
+-- what is counted; or the start or the end of a label where it may not be
 abbrev pub part_fault : Known → Part → Option RuleFault
 part_fault known (Of class) = class_fault known class
-part_fault known (OfRule name) = rule_fault known name
+part_fault known (OfRule name) = name_fault known name
 part_fault known (Then p q) =
     option_or (then_fault known p q) (option_or (part_fault known p) (part_fault known q))
 part_fault known (Choice p q) =
-    if has_anchor known p || has_anchor known q then Some NotSupported
-    else option_or (part_fault known p) (part_fault known q)
+    option_or (choice_fault known p q) (option_or (part_fault known p) (part_fault known q))
 part_fault known (Times count p) = option_or (times_fault known p) (part_fault known p)
 part_fault known (Literal points) = None
 part_fault known Any = None
 part_fault known Start = None
 part_fault known End = None
 part_fault known Anchor = None
-
--- the first fault of a rule: where the anchor stands in both of two choices, each is a branch of the rule (section
--- 6.4.1), and a rule that is named has its own
-abbrev pub whole_fault : Known → Part → Option RuleFault
-whole_fault known (Choice p q) =
-    if has_anchor known p && has_anchor known q then option_or (whole_fault known p) (whole_fault known q)
-    else part_fault known (Choice p q)
-whole_fault known (OfRule name) = name_fault known name
-whole_fault known p = part_fault known p
 
 -- the spans of its classes are spans of code points, and no count is above what it may be at most
 abbrev pub IsWellFormed : Part → Type 0

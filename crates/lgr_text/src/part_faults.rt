@@ -74,7 +74,7 @@ fn is_named_context(known: Known<'_>, name: &[u8]) -> bool
 }
 
 /// Whether the anchor stands in both parts.
-fn have_anchors(known: Known<'_>, first: &PartTree, rest: &PartTree) -> bool
+pub(crate) fn have_anchors(known: Known<'_>, first: &PartTree, rest: &PartTree) -> bool
     ensures { result ≡ (has_anchor_part (known_of known.entry) (part_of first.now)
         && has_anchor_part (known_of known.entry) (part_of rest.now)) }
 {

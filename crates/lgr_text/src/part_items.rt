@@ -1,11 +1,12 @@
 //! The parts of a rule as items of a pattern (RFC 7940, sections 6.3 and 6.4).
-ghost use Rattle.std.specs.Prelude.{◌≡◌, ◌<◌, ◌+◌, ◌++◌, ◌&&◌, ◌∷◌, ◌⊎◌, [], map, length, slice_index_or, None, IfOk, OnOk};
+ghost use Rattle.std.specs.Prelude.{◌≡◌, ◌<◌, ◌+◌, ◌++◌, ◌&&◌, ◌∷◌, ◌⊎◌, [], false, map, length, slice_index_or, None};
+ghost use Rattle.std.specs.Prelude.{IfOk, OnOk};
 ghost use Rattle.label_patterns.specs.Patterns as patterns;
 ghost use Rattle.label_patterns.specs.Sets.{Rise};
 ghost use Rattle.label_patterns.specs.Trees.{pattern};
 ghost use Rattle.lgr_text.specs.ClassMembers.{class_fault, HasSpans};
 ghost use Rattle.lgr_text.specs.Known.{known as known_of, HaveSpans};
-ghost use Rattle.lgr_text.specs.PartMatches.{has_anchor as has_anchor_part, part_fault, rule_fault, rule_named};
+ghost use Rattle.lgr_text.specs.PartMatches.{has_anchor, name_fault, part_fault, rule_named};
 ghost use Rattle.lgr_text.specs.PartMatches.{BeginsWith, IsWellFormed, Matching};
 ghost use Rattle.lgr_text.specs.Records.{class as class_of, part as part_of};
 ghost use Rattle.lgr_text.specs.inner.Branches.{HaveBranches};
@@ -20,10 +21,10 @@ ghost use Rattle.lgr_text.specs.inner.Items.{AddsChoice, AddsClass, Appends, Fit
 use crate::class_sets::set_of;
 use crate::joins::SetOperation;
 use crate::known::Known;
-use crate::part_faults::{check_then, check_times, has_anchor};
+use crate::part_faults::{check_then, check_times};
 use crate::records::{ClassTree, Count, PartTree};
 use crate::rule_error::{RuleError, RuleFault};
-use label_patterns::{PatternTree, PointSet, Span, is_context_rule};
+use label_patterns::{PatternTree, PointSet, Span};
 use ruleset_text::number_of;
 use std::alloc::{AllocError, Global};
 
@@ -112,17 +113,6 @@ pub(crate) enum Side {
     After,
 }
 
-impl Side {
-    /// Where what follows a part stands.
-    fn after(self, known: Known<'_>, part: &PartTree) -> Self {
-        if has_anchor(known, part) {
-            Side::After
-        } else {
-            self
-        }
-    }
-}
-
 /// What no part of a label matches: a code point before the start, or after the end, since no pattern has the start of a
 /// label after the anchor.
 fn never_on(alloc: Global, side: Side) -> Result<PatternTree, AllocError>
@@ -136,7 +126,7 @@ fn never_on(alloc: Global, side: Side) -> Result<PatternTree, AllocError>
 }
 
 /// What no part of a label matches.
-pub(crate) fn never(alloc: Global) -> Result<PatternTree, AllocError>
+fn never(alloc: Global) -> Result<PatternTree, AllocError>
     ensures { IfOk result (λ tree. pattern tree ≡ never_pattern) }
 {
     never_on(alloc, Side::Before)
@@ -220,7 +210,7 @@ pub(crate) fn push(items: &mut Vec<PatternTree>, item: PatternTree) -> Result<()
 }
 
 /// Appends copies of items.
-fn push_copies(
+pub(crate) fn push_copies(
     alloc: Global,
     items: &mut Vec<PatternTree>,
     others: &[PatternTree],
@@ -310,18 +300,26 @@ fn push_rule(
 ) -> Result<(), RuleError>
     ensures items { OnOk result (map pattern items.new.items ≡
         map pattern items.old.items ++ patterns.Group (rule_named (known_of known.entry) name.now) ∷ []) }
-    ensures fault { IsFaultOf (rule_fault (known_of known.entry) name.now) result }
+    ensures fault { IsFaultOf (name_fault (known_of known.entry) name.now) result }
+{
+    let rule = named_pattern(alloc, known, name)?;
+    push(items, PatternTree::Group(Box::new(alloc, rule)?))
+}
+
+/// The pattern of the rule of this name.
+pub(crate) fn named_pattern(
+    alloc: Global,
+    known: Known<'_>,
+    name: &[u8],
+) -> Result<PatternTree, RuleError>
+    ensures rule { IfOk result (λ tree. pattern tree ≡ rule_named (known_of known.entry) name.now) }
+    ensures fault { IsFaultOf (name_fault (known_of known.entry) name.now) result }
 {
     let number = number_of(known.rule_names, name);
     if number >= known.rules.len() {
         return Err(RuleError::Fault(RuleFault::Undefined));
     }
-    let rule = &known.rules[number];
-    if is_context_rule(rule) {
-        return Err(RuleError::Fault(RuleFault::NotSupported));
-    }
-    let copy = copied(alloc, rule)?;
-    push(items, PatternTree::Group(Box::new(alloc, copy)?))
+    Ok(copied(alloc, &known.rules[number])?)
 }
 
 /// Appends a choice between items and other items.
@@ -387,11 +385,11 @@ pub(crate) fn push_part(
     part: &PartTree,
 ) -> Result<(), RuleError>
     requires part { IsWellFormed (part_of part.now) }
+    requires none { has_anchor (known_of known) (part_of part.now) ≡ false }
     requires entries { HaveSpans (known_of known).entries }
     requires rules { HaveSets (length sets.old.items) (known_of known).rules }
     requires branches { HaveBranches (known_of known).rules }
     ensures items { OnOk result (Appends (known_of known.entry).points
-        (has_anchor_part (known_of known.entry) (part_of part.now))
         sets.old.items sets.new.items (map pattern items.old.items) (map pattern items.new.items)
         (Matching (known_of known.entry) (part_of part.now))) }
     ensures rules { OnOk result (HaveSets (length sets.new.items) (known_of known.entry).rules) }
@@ -408,12 +406,9 @@ pub(crate) fn push_part(
         PartTree::Then(first, rest) => {
             check_then(known, first, rest)?;
             push_part(alloc, known, items, sets, side, first)?;
-            push_part(alloc, known, items, sets, side.after(known, first), rest)
+            push_part(alloc, known, items, sets, side, rest)
         }
         PartTree::Choice(left, right) => {
-            if has_anchor(known, left) || has_anchor(known, right) {
-                return Err(RuleError::Fault(RuleFault::NotSupported));
-            }
             let mut left_items = Vec::new(alloc);
             push_part(alloc, known, &mut left_items, sets, side, left)?;
             let mut right_items = Vec::new(alloc);

@@ -108,13 +108,13 @@ AreItemsFor points sets items R =
     (all : List (List Span)) (label : List ℕ) (at : Option Place) (i j : ℕ) → BeginsWith all sets → IsOf points label
     → ItemsMatch (seen all label) at items i j ↔ R (seen all label) at i j
 
--- such items were appended, and maybe sets
-pub record Appends (points : List Span) (anchored : Bool) (old_sets sets : List (List Span)) (old items : List Pattern)
+-- such items were appended, none of which is the anchor, and maybe sets
+pub record Appends (points : List Span) (old_sets sets : List (List Span)) (old items : List Pattern)
     (R : Seen → Option Place → ℕ → ℕ → Type 0) : Type 0 where
   pub kept : BeginsWith sets old_sets
   pub added : List Pattern
   pub is : items ≡ old ++ added
-  pub shape : HasShape anchored added
+  pub shape : HasShape false added
   pub known : HaveSets (length sets) added
   pub match_them : AreItemsFor points sets added R
 

@@ -1,53 +1,102 @@
-use Rattle.std.proofs.Common.{[], map, sym, subst, length}
+use Rattle.std.proofs.Common.{true, false, length}
+use Rattle.std.specs.Prelude.{Result, Ok, Err, IfOk, OnOk}
+use Rattle.std.proofs.lemmas.Result.{IfOk-weaker}
 use Rattle.label_patterns.specs.Matches.{HasItsSets}
 use Rattle.label_patterns.specs.Trees.{pattern}
 use Rattle.lgr_text.specs.Known.{known as known_of}
-use Rattle.lgr_text.specs.PartMatches.{MatchesAsPart, SaysRule}
+use Rattle.lgr_text.specs.PartMatches.{BeginsWith, MatchesAsPart, SaysRule}
 use Rattle.lgr_text.specs.Records.{part as part_of}
 use Rattle.lgr_text.specs.inner.Branches.{HasBranches}
-use Rattle.lgr_text.proofs.BranchLemmas.{AppendsRule, branches-are, branches-have, branches-match, branches-say}
+use Rattle.lgr_text.proofs.BranchLemmas.{MakesRule, branches-are, branches-have, branches-match, branches-say}
 use Rattle.lgr_text.proofs.branches.pattern_of_rule.Goals as goal
 
-pub returns-clause-pattern : goal.returns-clause-pattern
-returns-clause-pattern c =
+pub returns-then-has_anchor-clause-known : goal.returns-then-has_anchor-clause-known
+returns-then-has_anchor-clause-known c =
     let known = known_of c.args.known in
-    let branches = map pattern c.push_branches.new.branches.items in
     let rule = part_of c.args.rule.now in
-    let appends : AppendsRule known c.args.made.now.sets.items c.push_branches.new.sets.items [] branches rule =
-    subst (λ l. AppendsRule known c.args.made.now.sets.items c.push_branches.new.sets.items (map pattern l) branches rule)
-    c.new-branches.ensures.items c.in_ok-push_branches.ensures.branches in
-    subst (λ p. SaysRule known c.push_branches.new.sets.items p rule) (sym c.in_ok-one_of.ensures)
-    (branches-say known rule c.args.made.now.sets.items c.push_branches.new.sets.items branches appends)
+    let first = c.args.made.now.sets.items in
+    let last = c.anchored_pattern.new.sets.items in
+    IfOk-weaker c.anchored_pattern.result (λ tree. MakesRule known true first last (pattern tree) rule) (λ tree. HasItsSets (length last) (pattern tree))
+    (λ tree made. branches-have known true rule first last (pattern tree) made) c.anchored_pattern.ensures.branches
 
-pub returns-clause-part : goal.returns-clause-part
-returns-clause-part c =
+pub returns-then-has_anchor-clause-branches : goal.returns-then-has_anchor-clause-branches
+returns-then-has_anchor-clause-branches c =
     let known = known_of c.args.known in
-    let branches = map pattern c.push_branches.new.branches.items in
     let rule = part_of c.args.rule.now in
-    let appends : AppendsRule known c.args.made.now.sets.items c.push_branches.new.sets.items [] branches rule =
-    subst (λ l. AppendsRule known c.args.made.now.sets.items c.push_branches.new.sets.items (map pattern l) branches rule)
-    c.new-branches.ensures.items c.in_ok-push_branches.ensures.branches in
-    subst (λ p. MatchesAsPart known c.push_branches.new.sets.items p rule) (sym c.in_ok-one_of.ensures)
-    (branches-match known rule c.args.made.now.sets.items c.push_branches.new.sets.items branches appends)
+    let first = c.args.made.now.sets.items in
+    let last = c.anchored_pattern.new.sets.items in
+    IfOk-weaker c.anchored_pattern.result (λ tree. MakesRule known true first last (pattern tree) rule) (λ tree. HasBranches (pattern tree))
+    (λ tree made. branches-are known true rule first last (pattern tree) made) c.anchored_pattern.ensures.branches
 
-pub returns-clause-known : goal.returns-clause-known
-returns-clause-known c =
+pub returns-then-has_anchor-clause-pattern : goal.returns-then-has_anchor-clause-pattern
+returns-then-has_anchor-clause-pattern c =
     let known = known_of c.args.known in
-    let branches = map pattern c.push_branches.new.branches.items in
     let rule = part_of c.args.rule.now in
-    let sets = c.push_branches.new.sets.items in
-    let appends : AppendsRule known c.args.made.now.sets.items sets [] branches rule =
-    subst (λ l. AppendsRule known c.args.made.now.sets.items sets (map pattern l) branches rule)
-    c.new-branches.ensures.items c.in_ok-push_branches.ensures.branches in
-    subst (HasItsSets (length sets)) (sym c.in_ok-one_of.ensures) (branches-have known rule c.args.made.now.sets.items sets branches appends)
+    let first = c.args.made.now.sets.items in
+    let last = c.anchored_pattern.new.sets.items in
+    IfOk-weaker c.anchored_pattern.result (λ tree. MakesRule known true first last (pattern tree) rule) (λ tree. SaysRule known last (pattern tree) rule)
+    (λ tree made. branches-say known true rule first last (pattern tree) made) c.anchored_pattern.ensures.branches
 
-pub returns-clause-branches : goal.returns-clause-branches
-returns-clause-branches c =
+pub returns-then-has_anchor-clause-part : goal.returns-then-has_anchor-clause-part
+returns-then-has_anchor-clause-part c =
     let known = known_of c.args.known in
-    let branches = map pattern c.push_branches.new.branches.items in
     let rule = part_of c.args.rule.now in
-    let sets = c.push_branches.new.sets.items in
-    let appends : AppendsRule known c.args.made.now.sets.items sets [] branches rule =
-    subst (λ l. AppendsRule known c.args.made.now.sets.items sets (map pattern l) branches rule)
-    c.new-branches.ensures.items c.in_ok-push_branches.ensures.branches in
-    subst HasBranches (sym c.in_ok-one_of.ensures) (branches-are known rule c.args.made.now.sets.items sets branches appends)
+    let first = c.args.made.now.sets.items in
+    let last = c.anchored_pattern.new.sets.items in
+    IfOk-weaker c.anchored_pattern.result (λ tree. MakesRule known true first last (pattern tree) rule) (λ tree. MatchesAsPart known last (pattern tree) rule)
+    (λ tree made. branches-match known true rule first last (pattern tree) made) c.anchored_pattern.ensures.branches
+
+-- what follows from the value holds where there is one
+on-ok : {X Y : Type 0} (r : Result X Y) (P : X → Type 0) (Q : Type 0) → ((x : X) → P x → Q) → IfOk r P → OnOk r Q
+on-ok (Ok x) P Q f h = f x h
+on-ok (Err e) P Q f h = tt
+
+pub returns-then-has_anchor-clause-sets : goal.returns-then-has_anchor-clause-sets
+returns-then-has_anchor-clause-sets c =
+    let first = c.args.made.now.sets.items in
+    let last = c.anchored_pattern.new.sets.items in
+    on-ok c.anchored_pattern.result (λ tree. MakesRule (known_of c.args.known) true first last (pattern tree) (part_of c.args.rule.now))
+    (BeginsWith last first) (λ tree made. made.kept) c.anchored_pattern.ensures.branches
+
+pub returns-else-has_anchor-clause-known : goal.returns-else-has_anchor-clause-known
+returns-else-has_anchor-clause-known c =
+    let known = known_of c.args.known in
+    let rule = part_of c.args.rule.now in
+    let first = c.args.made.now.sets.items in
+    let last = c.plain_pattern.new.sets.items in
+    IfOk-weaker c.plain_pattern.result (λ tree. MakesRule known false first last (pattern tree) rule) (λ tree. HasItsSets (length last) (pattern tree))
+    (λ tree made. branches-have known false rule first last (pattern tree) made) c.plain_pattern.ensures.branches
+
+pub returns-else-has_anchor-clause-branches : goal.returns-else-has_anchor-clause-branches
+returns-else-has_anchor-clause-branches c =
+    let known = known_of c.args.known in
+    let rule = part_of c.args.rule.now in
+    let first = c.args.made.now.sets.items in
+    let last = c.plain_pattern.new.sets.items in
+    IfOk-weaker c.plain_pattern.result (λ tree. MakesRule known false first last (pattern tree) rule) (λ tree. HasBranches (pattern tree))
+    (λ tree made. branches-are known false rule first last (pattern tree) made) c.plain_pattern.ensures.branches
+
+pub returns-else-has_anchor-clause-pattern : goal.returns-else-has_anchor-clause-pattern
+returns-else-has_anchor-clause-pattern c =
+    let known = known_of c.args.known in
+    let rule = part_of c.args.rule.now in
+    let first = c.args.made.now.sets.items in
+    let last = c.plain_pattern.new.sets.items in
+    IfOk-weaker c.plain_pattern.result (λ tree. MakesRule known false first last (pattern tree) rule) (λ tree. SaysRule known last (pattern tree) rule)
+    (λ tree made. branches-say known false rule first last (pattern tree) made) c.plain_pattern.ensures.branches
+
+pub returns-else-has_anchor-clause-part : goal.returns-else-has_anchor-clause-part
+returns-else-has_anchor-clause-part c =
+    let known = known_of c.args.known in
+    let rule = part_of c.args.rule.now in
+    let first = c.args.made.now.sets.items in
+    let last = c.plain_pattern.new.sets.items in
+    IfOk-weaker c.plain_pattern.result (λ tree. MakesRule known false first last (pattern tree) rule) (λ tree. MatchesAsPart known last (pattern tree) rule)
+    (λ tree made. branches-match known false rule first last (pattern tree) made) c.plain_pattern.ensures.branches
+
+pub returns-else-has_anchor-clause-sets : goal.returns-else-has_anchor-clause-sets
+returns-else-has_anchor-clause-sets c =
+    let first = c.args.made.now.sets.items in
+    let last = c.plain_pattern.new.sets.items in
+    on-ok c.plain_pattern.result (λ tree. MakesRule (known_of c.args.known) false first last (pattern tree) (part_of c.args.rule.now))
+    (BeginsWith last first) (λ tree made. made.kept) c.plain_pattern.ensures.branches

@@ -1,10 +1,10 @@
-use Rattle.std.proofs.Common.{◌≡◌, ◌&&◌, false, [], map, refl, sym, ap, subst, ◌∙◌}
+use Rattle.std.proofs.Common.{◌≡◌, true, false, [], map, refl, sym, ap, subst, ◌∙◌}
 use Rattle.std.proofs.lemmas.Result.{on_ok_weaker}
 use Rattle.label_patterns.specs.Trees.{pattern}
 use Rattle.lgr_text.specs.Known.{known as known_of}
-use Rattle.lgr_text.specs.PartMatches.{has_anchor, rule_fault, IsWellFormed}
+use Rattle.lgr_text.specs.PartMatches.{has_anchor, name_fault, IsWellFormed}
 use Rattle.lgr_text.specs.Records.{class as class_of, part as part_of, Literal, Then, Choice, Times, OfRule}
-use Rattle.lgr_text.proofs.PartLemmas.{choice-part, class-kept, class-part, literal-part, then-apart, then-part, times-part, times-unanchored, AppendsPart, anchor-part, any-part, end-part, start-part, rule-part, told-none}
+use Rattle.lgr_text.proofs.PartLemmas.{choice-part, class-kept, class-part, literal-part, then-part, times-part, AppendsPart, any-part, end-part, start-part, rule-part, told-none}
 use Rattle.lgr_text.proofs.SetNumberLemmas.{sets-stay}
 use Rattle.lgr_text.proofs.part_items.+push_part.Goals as goal
 
@@ -28,36 +28,28 @@ pub returns-in_ok-push_part-in-Then-clause-items :
     goal.returns-in_ok-push_part-in-Then-clause-items
 returns-in_ok-push_part-in-Then-clause-items t c =
     let first = c.deref-in-Then-3.result.now in
-    let rest = c.deref-in-Then-5.result.now in
+    let rest = c.deref-in-Then-4.result.now in
     let is : part_of c.args.part.now ≡ Then (part_of first) (part_of rest) =
     ap part_of c.in-Then.is
     ∙ ap (λ q. Then (part_of q) (part_of c.in-Then.rest.value)) (sym c.deref-in-Then-3.ensures)
-    ∙ ap (λ q. Then (part_of first) (part_of q)) (sym c.deref-in-Then-5.ensures) in
-    let apart : (has_anchor (known_of c.args.known) (part_of first) && has_anchor (known_of c.args.known) (part_of rest)) ≡ false =
-    ap (λ q. has_anchor (known_of c.args.known) (part_of q) && has_anchor (known_of c.args.known) (part_of rest)) (c.deref-in-Then-3.ensures ∙ sym c.deref-in-Then.ensures)
-    ∙ ap (λ q. has_anchor (known_of c.args.known) (part_of c.deref-in-Then.result.now) && has_anchor (known_of c.args.known) (part_of q)) (c.deref-in-Then-5.ensures ∙ sym c.deref-in-Then-2.ensures)
-    ∙ then-apart (known_of c.args.known) (part_of c.deref-in-Then.result.now) (part_of c.deref-in-Then-2.result.now) c.in_ok-check_then-in-Then.ensures in
+    ∙ ap (λ q. Then (part_of first) (part_of q)) (sym c.deref-in-Then-4.ensures) in
     on_ok_weaker c.push_part-in-Then.result
     (λ right. then-part (known_of c.args.known) (part_of first) (part_of rest) (part_of c.args.part.now)
     c.args.sets.now.items c.push_part.new.sets.items c.push_part-in-Then.new.sets.items
     (map pattern c.args.items.now.items) (map pattern c.push_part.new.items.items) (map pattern c.push_part-in-Then.new.items.items)
-    is apart c.in_ok-push_part-in-Then.ensures.items right)
+    is c.in_ok-push_part-in-Then.ensures.items right)
     c.push_part-in-Then.ensures.items
 
 pub returns-in_ok-push_part-in-Choice-2-clause-items :
     goal.returns-in_ok-push_part-in-Choice-2-clause-items
 returns-in_ok-push_part-in-Choice-2-clause-items t c =
     let known = known_of c.args.known in
-    let left = c.deref-in-Choice-2.result.now in
-    let right = c.deref-in-Choice-3.result.now in
+    let left = c.deref-in-Choice.result.now in
+    let right = c.deref-in-Choice-2.result.now in
     let is : part_of c.args.part.now ≡ Choice (part_of left) (part_of right) =
     ap part_of c.in-Choice.is
-    ∙ ap (λ q. Choice (part_of q) (part_of c.in-Choice.right.value)) (sym c.deref-in-Choice-2.ensures)
-    ∙ ap (λ q. Choice (part_of left) (part_of q)) (sym c.deref-in-Choice-3.ensures) in
-    let no_left : has_anchor known (part_of left) ≡ false =
-    ap (λ q. has_anchor known (part_of q)) (c.deref-in-Choice-2.ensures ∙ sym c.deref-in-Choice.ensures) ∙ sym c.has_anchor.ensures ∙ c.if-has_anchor.false in
-    let no_right : has_anchor known (part_of right) ≡ false =
-    ap (λ q. has_anchor known (part_of q)) (c.deref-in-Choice-3.ensures ∙ sym c.deref-else-has_anchor.ensures) ∙ sym c.has_anchor-else-has_anchor.ensures ∙ c.if-has_anchor-2.false in
+    ∙ ap (λ q. Choice (part_of q) (part_of c.in-Choice.right.value)) (sym c.deref-in-Choice.ensures)
+    ∙ ap (λ q. Choice (part_of left) (part_of q)) (sym c.deref-in-Choice-2.ensures) in
     let left_items = map pattern c.push_part-in-Choice.new.items.items in
     let right_items = map pattern c.push_part-in-Choice-2.new.items.items in
     let first = c.args.sets.now.items in
@@ -70,7 +62,7 @@ returns-in_ok-push_part-in-Choice-2-clause-items t c =
     on_ok_weaker c.push_choice.result
     (λ e. choice-part known (part_of left) (part_of right) (part_of c.args.part.now) first middle last last
     (map pattern c.args.items.now.items) (map pattern c.push_choice.new.items.items) left_items right_items is
-    refl no_left no_right made_left made_right e)
+    refl made_left made_right e)
     c.push_choice.ensures.items
 
 pub returns-in_ok-push_part-in-Times-clause-items :
@@ -80,9 +72,6 @@ returns-in_ok-push_part-in-Times-clause-items t c =
     let inner = c.deref-in-Times-2.result.now in
     let is : part_of c.args.part.now ≡ Times c.in-Times.count (part_of inner) =
     ap part_of c.in-Times.is ∙ ap (λ q. Times c.in-Times.count (part_of q)) (sym c.deref-in-Times-2.ensures) in
-    let none : has_anchor known (part_of inner) ≡ false =
-    ap (λ q. has_anchor known (part_of q)) (c.deref-in-Times-2.ensures ∙ sym c.deref-in-Times.ensures)
-    ∙ times-unanchored known (part_of c.deref-in-Times.result.now) c.in_ok-check_times-in-Times.ensures in
     let well : IsWellFormed (Times c.in-Times.count (part_of inner)) = subst IsWellFormed is c.requires.part in
     let once = map pattern c.push_part-in-Times.new.items.items in
     let first = c.args.sets.now.items in
@@ -92,16 +81,16 @@ returns-in_ok-push_part-in-Times-clause-items t c =
     on_ok_weaker c.push_times.result
     (λ e. times-part known c.in-Times.count (part_of inner) (part_of c.args.part.now) first last last
     (map pattern c.args.items.now.items) (map pattern c.push_times.new.items.items) once is
-    refl none well.0 made e)
+    refl well.0 made e)
     c.push_times.ensures.items
 
 pub returns-in-OfRule-clause-items : goal.returns-in-OfRule-clause-items
 returns-in-OfRule-clause-items t c =
     let is : part_of c.args.part.now ≡ OfRule c.as_slice.result.now = ap part_of c.in-OfRule.is ∙ ap OfRule (sym c.as_slice.ensures) in
-    told-none (rule_fault (known_of c.args.known) c.as_slice.result.now) c.push_rule.result
-    (λ none e. rule-part (known_of c.args.known) c.as_slice.result.now c.args.sets.now.items c.args.sets.now.items
+    told-none (name_fault (known_of c.args.known) c.as_slice.result.now) c.push_rule.result
+    (λ found e. rule-part (known_of c.args.known) c.as_slice.result.now c.args.sets.now.items c.args.sets.now.items
     (map pattern c.args.items.now.items) (map pattern c.push_rule.new.items.items) (part_of c.args.part.now) is
-    refl c.requires.rules c.requires.branches none e)
+    refl c.requires.rules c.requires.branches c.requires.none found e)
     c.push_rule.ensures.fault c.push_rule.ensures.items
 
 pub returns-in-Any-clause-items : goal.returns-in-Any-clause-items
@@ -129,12 +118,7 @@ returns-in-End-clause-items t c =
     c.push-in-End.ensures.items
 
 pub returns-in-Anchor-clause-items : goal.returns-in-Anchor-clause-items
-returns-in-Anchor-clause-items t c =
-    on_ok_weaker c.push-in-Anchor.result
-    (λ e. anchor-part (known_of c.args.known) c.args.sets.now.items c.args.sets.now.items
-    (map pattern c.args.items.now.items) (map pattern c.push-in-Anchor.new.items.items) (part_of c.args.part.now) (ap part_of c.in-Anchor.is)
-    refl e)
-    c.push-in-Anchor.ensures.items
+returns-in-Anchor-clause-items t c = absurd (let none : true ≡ false = sym (ap (λ p. has_anchor (known_of c.args.known) (part_of p)) c.in-Anchor.is) ∙ c.requires.none in cc)
 
 pub returns-in-Of-clause-rules : goal.returns-in-Of-clause-rules
 returns-in-Of-clause-rules t c =

@@ -1,11 +1,10 @@
-use Rattle.std.proofs.Common.{[], ◌∷◌, ◌++◌, map, ap, subst, ◌∙◌}
-use Rattle.std.proofs.lemmas.Result.{on_ok_weaker}
+use Rattle.std.proofs.Common.{[], map, subst}
 use Rattle.label_patterns.specs.Trees.{pattern}
 use Rattle.lgr_text.specs.Known.{known as known_of}
 use Rattle.lgr_text.specs.Records.{part as part_of}
-use Rattle.lgr_text.proofs.BranchLemmas.{branch-added}
+use Rattle.lgr_text.proofs.BranchLemmas.{plain-made}
 use Rattle.lgr_text.proofs.PartLemmas.{AppendsPart}
-use Rattle.lgr_text.proofs.branches.push_branch.Goals as goal
+use Rattle.lgr_text.proofs.branches.plain_pattern.Goals as goal
 
 pub returns-clause-branches : goal.returns-clause-branches
 returns-clause-branches c =
@@ -16,7 +15,4 @@ returns-clause-branches c =
     let items = map pattern c.push_part.new.items.items in
     let appends : AppendsPart known first last [] items rule =
     subst (λ l. AppendsPart known first last (map pattern l) items rule) c.new-items.ensures.items c.in_ok-push_part.ensures.items in
-    on_ok_weaker c.push.result
-    (λ e. branch-added known rule first last (map pattern c.args.branches.now.items) (map pattern c.push.new.items.items) items
-    (e ∙ ap (λ p. map pattern c.args.branches.now.items ++ p ∷ []) c.in_ok-branch.ensures) appends)
-    c.push.ensures.items
+    plain-made known rule first last items (pattern c.in_ok-sequence_of.field-0) c.in_ok-sequence_of.ensures appends
