@@ -80,10 +80,10 @@ ruleset_refusal lgr.NoSuchName = refusals.NoSuchName
 ruleset_refusal lgr.SameName = refusals.SameName
 ruleset_refusal lgr.NotSupported = refusals.NotSupported
 
--- one that is told as a fault of XML or of its elements is there; which of the others a ruleset has isn't said
+-- the text says no ruleset, or one that has this fault; of a limit nothing is said
 abbrev pub IsFaultOfRuleset : List ℕ → TableFault → ℕ → Type 0
-IsFaultOfRuleset text lgr.Syntax line = IsToldOf text (Fault lgr.Syntax line)
-IsFaultOfRuleset text kind line = Unit {0}
+IsFaultOfRuleset text lgr.Limit line = Unit {0}
+IsFaultOfRuleset text kind line = IsToldOf text (Fault kind line)
 
 -- of a text that is in XML, or isn't: this table says what the ruleset says, or the text spells this table
 abbrev pub GivesTable : Bool → Properties → Notation → List ℕ → TableValue → Type 0

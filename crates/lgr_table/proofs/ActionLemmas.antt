@@ -2,7 +2,7 @@
 use Rattle.std.proofs.Common.{◌≡◌, ℕ, zero, suc, ◌+◌, ◌<◌, ◌≤◌, Bool, true, false, not, cond, List, [], ◌∷◌, ◌++◌, length, map, take, get_or, Option, Some, None, Ok, Decides, refl, sym, ap, subst, ◌∙◌, arith, length-append}
 use Rattle.std.specs.Prelude.{Contains, All, bytes_eq, codes, is_some, nat_lt, position, slice_index_or, unwrap_or}
 use Rattle.std.specs.List.{flat_map, position_or_len}
-use Rattle.std.specs.Option.{option_map, option_or}
+use Rattle.std.specs.Option.{option_map}
 use Rattle.std.proofs.lemmas.Bool.Decides.{nat_tests}
 use Rattle.std.proofs.lemmas.Grind.{flat_map-append}
 use Rattle.std.proofs.lemmas.List.{append-nil, get_or-append-add, get_or_default, length-take-le, map-append, take_all, take_more}
@@ -15,12 +15,10 @@ use Rattle.ruleset_text.specs.Names.{number_of, predefined_types}
 use Rattle.variant_dispositions.specs.declared.disposition.Disposition.{Disposition}
 use Rattle.variant_dispositions.specs.declared.disposition.Disposition.TheVariants.{Invalid, Blocked, Allocatable, Activated, Valid}
 use Rattle.lgr_text.specs.ActionNames as texts
-use Rattle.lgr_text.specs.ActionNames.{action_fault, called, condition_fault, each_once}
+use Rattle.lgr_text.specs.ActionNames.{called, each_once}
 use Rattle.lgr_text.specs.Records.{Action, Condition, Ruleset, Trigger, action}
 use Rattle.lgr_text.specs.declared.actions.Renamed.{Renamed}
 use Rattle.lgr_text.specs.declared.records.Action as held_action
-use Rattle.lgr_text.specs.declared.rule_error.RuleFault.{RuleFault}
-use Rattle.lgr_text.specs.declared.rule_error.RuleFault.TheVariants.{Undefined, NotSupported}
 use Rattle.lgr_table.specs.Names.{asked}
 use Rattle.lgr_table.specs.Numbers.{Numbering, all_types, is_same, type_number}
 use Rattle.lgr_table.specs.Tables.{SayActions, SaysAction, called_condition, called_trigger, called_type}
@@ -153,36 +151,6 @@ says_action n d rules types a b are says = record {
       (λ (t : Trigger). ap (λ (names : List (List ℕ)). record { kind = t.kind; types = names })
       (ap each_once (map_same (called types) (called_type n d) are.types_called t.types))) a.trigger;
 }
-
--- ---- the rule that it asks for
-
-if_none : {X : Type 0} (b : Bool) (x : X) → (cond b None (Some x)) ≡ None → b ≡ true
-if_none true x e = refl
-if_none false x e = absurd cc
-
-first_none : {X : Type 0} (o p : Option X) → option_or o p ≡ None → o ≡ None
-first_none None p e = refl
-first_none (Some x) p e = e
-
-left_none : (b : Bool) (o : Option RuleFault) → cond b o (Some NotSupported) ≡ None → o ≡ None
-left_none true o e = e
-left_none false o e = absurd cc
-
--- it is one of the rules, where each has a name in the ruleset
-pub asked_there : (names : List (List ℕ)) (rules types : Renamed) (a : Action) (b : NamedAction) → texts.SaysAction rules types a b
-    → rules.names.now ≡ names → length rules.written.now ≡ length names → action_fault rules types a ≡ None → AreAmong names (asked a.condition)
-asked_there names rules types a b says same count none = by_condition a.condition (first_none _ _ (left_none _ _ none))
-  where
-    by_condition : (c : Option Condition) → condition_fault rules c ≡ None → AreAmong names (asked c)
-    by_condition None none = λ k d l. absurd (omega (arith, l))
-    by_condition (Some c) none =
-        let below : nat_lt (number_of rules.names.now c.rule) (length rules.written.now) ≡ true = if_none _ _ none in
-        let within : number_of names c.rule < length names = subst (λ (xs : List (List ℕ)). number_of xs c.rule < length names) same (let l = below in grind (arith, nat_tests)) in
-        one (name_there names c.rule within)
-      where
-        one : Contains names c.rule → AreAmong names (c.rule ∷ [])
-        one there zero d l = there
-        one there (suc k) d l = absurd (omega (arith, l))
 
 -- ---- one action after another
 

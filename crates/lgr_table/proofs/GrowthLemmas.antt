@@ -1,5 +1,5 @@
 -- What a class or a rule says stays where more is known.
-use Rattle.std.proofs.Common.{◌≡◌, ℕ, ◌<◌, ◌≤◌, Bool, true, false, not, ◌||◌, ◌&&◌, List, [], ◌∷◌, ◌++◌, length, get_or, Option, Some, None, refl, sym, ap, subst, ◌∙◌, length-append, arith}
+use Rattle.std.proofs.Common.{◌≡◌, ℕ, ◌<◌, ◌≤◌, Bool, true, false, not, List, [], ◌∷◌, ◌++◌, length, get_or, Option, Some, None, refl, sym, ap, subst, ◌∙◌, length-append, arith}
 use Rattle.std.specs.Prelude.{◌↔◌, if◌then◌else◌}
 use Rattle.std.specs.List.{All}
 use Rattle.std.proofs.lemmas.Bool.{lt-ltb, ltb-true}
@@ -17,7 +17,7 @@ use Rattle.lgr_text.proofs.PartLemmas.{begins-too}
 use Rattle.lgr_text.specs.ClassMembers.{class_fault, has, set_fault, set_named, tag_fault}
 use Rattle.lgr_text.specs.CodePoints.{is_joined}
 use Rattle.lgr_text.specs.Known.{Known, tagged}
-use Rattle.lgr_text.specs.PartMatches.{BeginsWith, IsOf, Matching, MatchesAround, MatchesAsPart, Place, SaysRule, has_anchor, name_fault, part_fault, rule_fault, rule_named, whole_fault}
+use Rattle.lgr_text.specs.PartMatches.{BeginsWith, IsOf, Matching, MatchesAround, MatchesAsPart, Place, SaysRule, name_fault, part_fault, rule_named}
 use Rattle.lgr_text.specs.Records.{Class, Listed, OfTag, OfProperty, OfClass, Joined, Complement, Part, Literal, Any, Of, Start, End, Anchor, OfRule, Then, Choice, Times}
 use Rattle.lgr_text.specs.declared.rule_error.RuleFault.{RuleFault}
 use Rattle.lgr_text.specs.declared.rule_error.RuleFault.TheVariants.{Undefined}
@@ -65,10 +65,6 @@ rule-grows known name p each = record {
 
 -- ---- what faults tell
 
-if-none : (b : Bool) (x : RuleFault) (o : Option RuleFault) → (if b then Some x else o) ≡ None → o ≡ None
-if-none true x o e = absurd (cc)
-if-none false x o e = e
-
 pub first-none : (o q : Option RuleFault) → option_or o q ≡ None → o ≡ None
 first-none None q e = refl
 first-none (Some x) q e = absurd (cc)
@@ -80,10 +76,6 @@ second-none (Some x) q e = absurd (cc)
 found-by : (b : Bool) (x : RuleFault) → (if b then None else Some x) ≡ None → b ≡ true
 found-by true x e = refl
 found-by false x e = absurd (cc)
-
-not-by : (b : Bool) (x : RuleFault) (o : Option RuleFault) → (if not b then Some x else o) ≡ None → b ≡ true
-not-by true x o e = refl
-not-by false x o e = absurd (cc)
 
 pub set-found : (known : Known) (name : List ℕ) → set_fault known name ≡ None → number_of known.set_names name < length known.sets
 set-found known name none = ltb-true (number_of known.set_names name) (length known.sets) (found-by _ _ none)
@@ -98,9 +90,6 @@ rule-found known name none = ltb-true (number_of known.rule_names name) (length 
 pub rule-none : (known : Known) (name : List ℕ) → number_of known.rule_names name < length known.rules → name_fault known name ≡ None
 rule-none known name found =
     ap (λ b. if b then None else Some Undefined) (lt-ltb (number_of known.rule_names name) (length known.rules) found)
-
-name-free : (known : Known) (name : List ℕ) → rule_fault known name ≡ None → name_fault known name ≡ None
-name-free known name none = ap (λ b. if b then None else Some Undefined) (not-by _ _ _ none)
 
 -- ---- classes
 
@@ -143,13 +132,7 @@ free-both known p q left right = record {
 free-none : (known : Known) → IsFree known Any
 free-none known = record { classes = All-nil (λ class. class_fault known class ≡ None); rules = All-nil (λ name. name_fault known name ≡ None) }
 
-name-of : (known : Known) (name : List ℕ) → name_fault known name ≡ None → IsFree known (OfRule name)
-name-of known name none = record {
-  classes = (free-none known).classes;
-  rules = All-push (λ n. name_fault known n ≡ None) [] name (free-none known).rules none;
-}
-
-part-free : (known : Known) (p : Part) → part_fault known p ≡ None → IsFree known p
+pub part-free : (known : Known) (p : Part) → part_fault known p ≡ None → IsFree known p
 part-free known (Literal points) none = record { classes = (free-none known).classes; rules = (free-none known).rules }
 part-free known Any none = free-none known
 part-free known (Of class) none = record {
@@ -159,37 +142,19 @@ part-free known (Of class) none = record {
 part-free known Start none = record { classes = (free-none known).classes; rules = (free-none known).rules }
 part-free known End none = record { classes = (free-none known).classes; rules = (free-none known).rules }
 part-free known Anchor none = record { classes = (free-none known).classes; rules = (free-none known).rules }
-part-free known (OfRule name) none = name-of known name (name-free known name none)
+part-free known (OfRule name) none = record {
+  classes = (free-none known).classes;
+  rules = All-push (λ n. name_fault known n ≡ None) [] name (free-none known).rules none;
+}
 part-free known (Then p q) none =
     let both = second-none _ _ none in
     free-both known p q (part-free known p (first-none _ _ both)) (part-free known q (second-none _ _ both))
 part-free known (Choice p q) none =
-    let both = if-none _ _ _ none in
+    let both = second-none _ _ none in
     let free = free-both known p q (part-free known p (first-none _ _ both)) (part-free known q (second-none _ _ both)) in
     record { classes = free.classes; rules = free.rules }
 part-free known (Times count p) none =
     let free = part-free known p (second-none _ _ none) in record { classes = free.classes; rules = free.rules }
-
-pub whole-free : (known : Known) (p : Part) → whole_fault known p ≡ None → IsFree known p
-whole-free known (Choice p q) none = by (has_anchor known p && has_anchor known q) none (whole-free known p) (whole-free known q)
-  where
-    by : (b : Bool)
-        → (if b then option_or (whole_fault known p) (whole_fault known q) else part_fault known (Choice p q)) ≡ None
-        → (whole_fault known p ≡ None → IsFree known p) → (whole_fault known q ≡ None → IsFree known q)
-        → IsFree known (Choice p q)
-    by true both left right =
-        (let free = free-both known p q (left (first-none _ _ both)) (right (second-none _ _ both)) in
-        record { classes = free.classes; rules = free.rules })
-    by false none left right = part-free known (Choice p q) none
-whole-free known (Literal points) none = part-free known (Literal points) none
-whole-free known Any none = part-free known Any none
-whole-free known (Of class) none = part-free known (Of class) none
-whole-free known Start none = part-free known Start none
-whole-free known End none = part-free known End none
-whole-free known Anchor none = part-free known Anchor none
-whole-free known (OfRule name) none = name-of known name none
-whole-free known (Then p q) none = part-free known (Then p q) none
-whole-free known (Times count p) none = part-free known (Times count p) none
 
 pub free-stays : (old new : Known) → Grows old new → (p : Part) → IsFree old p → IsFree new p
 free-stays old new grows p free = record {

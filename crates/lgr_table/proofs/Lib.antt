@@ -3,12 +3,15 @@ pub mod ActionLemmas
 pub mod DemandLemmas
 pub mod TableLemmas
 pub mod AddedLemmas
+pub mod FaultLemmas
 pub mod CalledLemmas
 pub mod EntryLemmas
 pub mod FirstLemmas
 pub mod FreshLemmas
 pub mod NumberTypeLemmas
 pub mod TypeLemmas
+pub mod TableNameLemmas
+pub mod KeptLemmas
 pub mod AgreeLemmas
 pub mod DecisionLemmas
 pub mod GrowthLemmas
@@ -16,6 +19,7 @@ pub mod NumberLemmas
 pub mod OtherRulesLemmas
 pub mod PointLemmas
 pub mod RuleLemmas
+pub mod SourceLemmas
 pub mod StepLemmas
 pub mod TakenLemmas
 pub mod TakenOrderLemmas

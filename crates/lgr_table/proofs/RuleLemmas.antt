@@ -26,8 +26,12 @@ use Rattle.lgr_table.specs.Meanings.{AreMeaningsOf, IsKept, Matches, Meanings, R
 use Rattle.lgr_table.specs.Names.{IsClassOf, IsRuleOf, all_classes, named_classes, named_rules}
 use Rattle.lgr_table.specs.Numbers.{Numbering}
 use Rattle.lgr_table.specs.Tables.{IsOfSources, SayRules, SaysRule, may_stand}
+use Rattle.lgr_table.specs.inner.FaultSteps.{HasRulesOf}
 use Rattle.lgr_table.specs.inner.RuleSteps.{HasOtherRules}
+use Rattle.lgr_table.specs.TableNames.{names_with}
+use Rattle.lgr_table.specs.inner.TableNames.{AreRuleNames}
 use Rattle.lgr_table.specs.inner.Steps.{AddsRules}
+use Rattle.lgr_table.proofs.ActionLemmas.{name_there}
 use Rattle.lgr_table.proofs.AgreeLemmas.{agree-named, parts-agree}
 use Rattle.lgr_table.proofs.DecisionLemmas.{matches_around, around-agrees}
 use Rattle.lgr_table.proofs.NumberLemmas.{number-at}
@@ -37,14 +41,14 @@ use Rattle.lgr_table.proofs.TakenOrderLemmas.{all-chosen, chosen, chosen-all, on
 
 -- ---- labels of code points of sources
 
-in-one : {X Y : Type 0} (f : X → List Y) (xs : List X) (y : Y) → Contains (flat_map f xs) y → (x : X) × Contains xs x × Contains (f x) y
+pub in-one : {X Y : Type 0} (f : X → List Y) (xs : List X) (y : Y) → Contains (flat_map f xs) y → (x : X) × Contains xs x × Contains (f x) y
 in-one f [] y h = absurd (omega (arith, h.1))
 in-one f (x ∷ xs) y h = elim (Contains-append_cases (f x) (flat_map f xs) y h) [
   | inl here ↦ (x, (0, omega arith, refl), here)
   | inr later ↦ (let rest = in-one f xs y later in (rest.0, (suc rest.1.0, omega (arith, rest.1.1), rest.1.2), rest.2))
 ]
 
-of-one : {X Y : Type 0} (f : X → Y) (xs : List X) (y : Y) → Contains (map f xs) y → (x : X) × Contains xs x × (f x ≡ y)
+pub of-one : {X Y : Type 0} (f : X → Y) (xs : List X) (y : Y) → Contains (map f xs) y → (x : X) × Contains xs x × (f x ≡ y)
 of-one f [] y h = absurd (omega (arith, h.1))
 of-one f (x ∷ xs) y h = at h.0 h.1 h.2 (of-one f xs y)
   where
@@ -157,11 +161,19 @@ module _ (properties : Properties) (raw : held.Ruleset) (order : List ℕ) (poin
       let found = rule-taken (file raw).entries points known u.definitions.sets (chosen (file raw).definitions order) name taken none in
       (found.0, chosen-all raw.definitions.items order _ is_order found.1)
 
-  pub adds-rules : AddsRules may (file raw) known.rule_names t u
-  adds-rules = record {
+  -- each rule of the file is one of them
+  pub all-rules : HasRulesOf raw known.rule_names
+  all-rules name is =
+      let meant : IsPatternOf known u.definitions.sets name is.0 = taken.meant (record { name = name; meaning = IsRule is.0 }) (all-chosen raw.definitions.items order _ is_order is.1) in
+      name_there known.rule_names name (omega (arith, meant.found, taken.each_rule))
+
+  pub adds-rules : (types : List (Option (List ℕ))) → AreRuleNames (names_with types (file raw)) known.rule_names u.definitions
+      → AddsRules may (file raw) types known.rule_names t u
+  adds-rules types called = record {
     others = others;
     count = sym (ap length rules) ∙ sym taken.each_rule;
     each_rule = taken.apart;
+    called = called;
     meanings = meanings_by known u.definitions.sets;
     are_meant = are_meant;
     say_rules = say_rules;

@@ -8,8 +8,8 @@ use Rattle.label_patterns.specs.Matches.{HasItsSets}
 use Rattle.label_patterns.specs.Patterns.{Pattern}
 use Rattle.lgr_text.specs.DefinitionOrder.{IsOrder}
 use Rattle.lgr_text.specs.Known.{Known}
-use Rattle.lgr_text.specs.PartAtoms.{fault_within, part_atoms}
-use Rattle.lgr_text.specs.PartMatches.{BeginsWith, MatchesAsPart, SaysRule, whole_fault}
+use Rattle.lgr_text.specs.PartAtoms.{fault_within}
+use Rattle.lgr_text.specs.PartMatches.{part_fault, BeginsWith, MatchesAsPart, SaysRule}
 use Rattle.lgr_text.specs.Records.{Definition, Entry, Part, definition, meaning}
 use Rattle.lgr_text.specs.WellFormed.{IsWellFormedMeaning}
 use Rattle.lgr_text.specs.declared.records.Definition.{Definition as Held}
@@ -57,7 +57,7 @@ pub rule-adds : (known found : Known) (left : ℕ) (sets old made final : List (
     → AddsPattern known sets name rule (record known { rule_names = names; rules = rules }) final
 rule-adds known found left sets old made final name rule p names rules same before after all_names all_rules none has_sets says matches begins = record {
   p = p;
-  no_fault = subst (λ k. whole_fault k rule ≡ None) same (within-none _ _ _ none);
+  no_fault = subst (λ k. part_fault k rule ≡ None) same (within-none _ _ _ none);
   has_sets = subst (λ l. HasItsSets (length l) p) (sym after) has_sets;
   says = subst (λ k. SaysRule k final p rule) same (subst (λ l. SaysRule found l p rule) (sym after) says);
   matches = subst (λ k. MatchesAsPart k final p rule) same (subst (λ l. MatchesAsPart found l p rule) (sym after) matches);

@@ -1,8 +1,8 @@
 -- The steps together: the table says what the file says.
-use Rattle.std.proofs.Common.{◌≡◌, ℕ, zero, suc, ◌<◌, ◌≤◌, ◌↔◌, Bool, Option, List, [], ◌∷◌, ◌++◌, length, refl, sym, ap, subst, ◌∙◌, arith, length-append}
-use Rattle.std.specs.Prelude.{All, Contains, slice_index_or}
+use Rattle.std.proofs.Common.{◌≡◌, ℕ, zero, suc, ◌<◌, ◌≤◌, ◌↔◌, Bool, false, Option, List, [], ◌∷◌, ◌++◌, length, map, refl, sym, ap, subst, ◌∙◌, arith, length-append}
+use Rattle.std.specs.Prelude.{All, Contains, slice_index_or, unwrap_or}
 use Rattle.std.specs.List.{flat_map}
-use Rattle.std.proofs.lemmas.List.{get_or_default}
+use Rattle.std.proofs.lemmas.List.{get_or_default, length-map}
 use Rattle.idn_class.specs.declared.properties.Properties.{Properties}
 use Rattle.label_patterns.specs.declared.span.Span.{Span}
 use Rattle.label_patterns.specs.Laws.{seen}
@@ -17,8 +17,11 @@ use Rattle.lgr_table.specs.Meanings.{Meanings, RuleHolds}
 use Rattle.lgr_table.specs.Names.{IsRuleOf, asked, asked_rules}
 use Rattle.lgr_table.specs.Numbers.{Numbering}
 use Rattle.lgr_table.specs.Tables.{IsOfSources, IsTableOf, SayActions, SayDemands, SayRules, acting, demanded, may_stand}
+use Rattle.lgr_table.specs.TableNames.{AreCalled, has_name, keeps_rule, names_with}
 use Rattle.lgr_table.specs.inner.RuleSteps.{HasNoRules}
 use Rattle.lgr_table.specs.inner.Steps.{AddsActions, AddsEntries, AddsRules, AddsTypes, AreAmong}
+use Rattle.lgr_table.proofs.TableNameLemmas.{called-count}
+use Rattle.ruleset_text.specs.Names.{is_name}
 
 All-append : {X : Type 0} (P : X → Type 0) (xs ys : List X) → All P xs → All P ys → All P (xs ++ ys)
 All-append P [] ys left right = right
@@ -48,10 +51,16 @@ is_rule r m n t say name there =
     let named : slice_index_or n.rules there.0 [] ≡ name = get_or_default n.rules there.0 [] name there.1 ∙ there.2 in
     (said.0, subst (λ (x : List ℕ). Contains r.definitions (record { name = x; meaning = IsRule said.0 })) named said.1)
 
+abbrev name_of : Option (List ℕ) → List ℕ
+name_of type = unwrap_or type []
+
+types_count : (may : ℕ → Bool) (r : Ruleset) (types : List (Option (List ℕ))) (t u : TableValue) → AddsTypes may r types t u → length u.definitions.types ≡ length types
+types_count may r types t u adds = called-count (names_with types r) is_name (map name_of types) u.definitions.types adds.called ∙ length-map types name_of
+
 -- the properties, the file, the numbers; the table at first, and after each step
 module _ (properties : Properties) (r : Ruleset) (n : Numbering) (start a b c e : TableValue) (begins : start ≡ empty_table properties Three)
-    (types : AddsTypes r n.types start a)
-    (rules : AddsRules (may_stand a.definitions.properties) r n.rules a b)
+    (types : AddsTypes (may_stand start.definitions.properties) r n.types start a)
+    (rules : AddsRules (may_stand a.definitions.properties) r n.types n.rules a b)
     (actions : AddsActions r n b c)
     (entries : AddsEntries (may_stand c.definitions.properties) r n c e)
     (is : IsTable e) where
@@ -70,11 +79,11 @@ module _ (properties : Properties) (r : Ruleset) (n : Numbering) (start a b c e 
   abbrev may : ℕ → Bool
   may = may_stand properties
 
-  its_types : AddsTypes r n.types start a
-  its_types = subst (λ (p : Properties). AddsTypes r n.types start a) start_by types
+  its_types : AddsTypes may r n.types start a
+  its_types = subst (λ (p : Properties). AddsTypes (may_stand p) r n.types start a) start_by types
 
-  its_rules : AddsRules may r n.rules a b
-  its_rules = subst (λ (p : Properties). AddsRules (may_stand p) r n.rules a b) a_by rules
+  its_rules : AddsRules may r n.types n.rules a b
+  its_rules = subst (λ (p : Properties). AddsRules (may_stand p) r n.types n.rules a b) a_by rules
 
   its_entries : AddsEntries may r n c e
   its_entries = subst (λ (p : Properties). AddsEntries (may_stand p) r n c e) c_by entries
@@ -84,6 +93,9 @@ module _ (properties : Properties) (r : Ruleset) (n : Numbering) (start a b c e 
 
   same_definitions : e.definitions ≡ c.definitions
   same_definitions = ap (λ (t : TableValue). t.definitions) its_entries.others
+
+  same_types : e.definitions.types ≡ a.definitions.types
+  same_types = ap (λ d. d.types) same_definitions ∙ ap (λ (t : TableValue). t.definitions.types) actions.others ∙ ap (λ (t : TableValue). t.definitions.types) its_rules.others
 
   say_rules : SayRules r its_rules.meanings n e
   say_rules =
@@ -120,13 +132,20 @@ module _ (properties : Properties) (r : Ruleset) (n : Numbering) (start a b c e 
           ∙ ap (λ (t : TableValue). t.version) begins;
       by_these = ap (λ d. d.properties) same_definitions ∙ c_by;
       numbers = record {
-        types = its_types.known;
-        untyped = its_types.untyped;
-        each_type = its_types.each_type;
+        types = its_types.are.known;
+        own = its_types.are.own;
+        untyped = its_types.are.untyped;
+        each_type = its_types.are.each_type;
         each_rule = its_rules.each_rule;
       };
-      types = ap (λ d. length d.types) same_definitions ∙ ap (λ (t : TableValue). length t.definitions.types) actions.others
-          ∙ ap (λ (t : TableValue). length t.definitions.types) its_rules.others ∙ its_types.count;
+      names = record {
+        types = subst (AreCalled (names_with n.types r) is_name (map name_of n.types)) (sym same_types) its_types.called;
+        rules = subst (AreCalled (names_with n.types r) (keeps_rule (names_with n.types r)) n.rules)
+            (sym (ap (λ d. d.rule_names) same_definitions ∙ ap (λ (t : TableValue). t.definitions.rule_names) actions.others)) its_rules.called.rules;
+        sets = subst (All (λ given. has_name (names_with n.types r) given ≡ false))
+            (sym (ap (λ d. d.set_names) same_definitions ∙ ap (λ (t : TableValue). t.definitions.set_names) actions.others)) its_rules.called.sets;
+      };
+      types = ap length same_types ∙ types_count may r n.types start a its_types;
       rules = ap (λ d. length d.rules) same_definitions ∙ ap (λ (t : TableValue). length t.definitions.rules) actions.others ∙ its_rules.count;
       of_one_type = its_entries.of_one_type;
       entries = same_entries;
@@ -141,39 +160,42 @@ module _ (properties : Properties) (r : Ruleset) (n : Numbering) (start a b c e 
 pub no_types : (p : Properties) (start : TableValue) → start ≡ empty_table p Three → start.definitions.types ≡ []
 no_types p start begins = ap (λ (t : TableValue). t.definitions.types) begins
 
-pub no_rules : (p : Properties) (r : Ruleset) (names : List (Option (List ℕ))) (start a : TableValue) → start ≡ empty_table p Three
-    → AddsTypes r names start a → HasNoRules a.definitions
-no_rules p r names start a begins types = record {
-  sets = ap (λ (t : TableValue). t.definitions.sets) types.others ∙ ap (λ (t : TableValue). t.definitions.sets) begins;
-  rules = ap (λ (t : TableValue). t.definitions.rules) types.others ∙ ap (λ (t : TableValue). t.definitions.rules) begins;
+pub no_rules : (p : Properties) (may : ℕ → Bool) (r : Ruleset) (types : List (Option (List ℕ))) (start a : TableValue) → start ≡ empty_table p Three
+    → AddsTypes may r types start a → HasNoRules a.definitions
+no_rules p may r types start a begins adds = record {
+  set_names = ap (λ (t : TableValue). t.definitions.set_names) adds.others ∙ ap (λ (t : TableValue). t.definitions.set_names) begins;
+  sets = ap (λ (t : TableValue). t.definitions.sets) adds.others ∙ ap (λ (t : TableValue). t.definitions.sets) begins;
+  rule_names = ap (λ (t : TableValue). t.definitions.rule_names) adds.others ∙ ap (λ (t : TableValue). t.definitions.rule_names) begins;
+  rules = ap (λ (t : TableValue). t.definitions.rules) adds.others ∙ ap (λ (t : TableValue). t.definitions.rules) begins;
 }
 
-pub no_actions : (p : Properties) (other : ℕ → Bool) (r : Ruleset) (names : List (Option (List ℕ))) (rules : List (List ℕ)) (start a b : TableValue)
-    → start ≡ empty_table p Three → AddsTypes r names start a → AddsRules other r rules a b → b.definitions.actions ≡ []
-no_actions p other r names rules start a b begins types adds =
-    ap (λ (t : TableValue). t.definitions.actions) adds.others ∙ ap (λ (t : TableValue). t.definitions.actions) types.others
-    ∙ ap (λ (t : TableValue). t.definitions.actions) begins
+-- the table, the types and the rules
+module _ (p : Properties) (may other : ℕ → Bool) (r : Ruleset) (types : List (Option (List ℕ))) (rules : List (List ℕ)) (start a b : TableValue)
+    (begins : start ≡ empty_table p Three) (adds : AddsTypes may r types start a) (more : AddsRules other r types rules a b) where
+  pub no_actions : b.definitions.actions ≡ []
+  no_actions =
+      ap (λ (t : TableValue). t.definitions.actions) more.others ∙ ap (λ (t : TableValue). t.definitions.actions) adds.others
+      ∙ ap (λ (t : TableValue). t.definitions.actions) begins
 
-pub no_demands : (p : Properties) (other : ℕ → Bool) (r : Ruleset) (names : List (Option (List ℕ))) (rules : List (List ℕ)) (start a b : TableValue)
-    → start ≡ empty_table p Three → AddsTypes r names start a → AddsRules other r rules a b → b.definitions.demands ≡ []
-no_demands p other r names rules start a b begins types adds =
-    ap (λ (t : TableValue). t.definitions.demands) adds.others ∙ ap (λ (t : TableValue). t.definitions.demands) types.others
-    ∙ ap (λ (t : TableValue). t.definitions.demands) begins
+  pub no_demands : b.definitions.demands ≡ []
+  no_demands =
+      ap (λ (t : TableValue). t.definitions.demands) more.others ∙ ap (λ (t : TableValue). t.definitions.demands) adds.others
+      ∙ ap (λ (t : TableValue). t.definitions.demands) begins
 
-pub rules_counted : (may : ℕ → Bool) (r : Ruleset) (rules : List (List ℕ)) (n : Numbering) (a b : TableValue) → AddsRules may r rules a b → IsTable b → rules ≡ n.rules
-    → length b.definitions.rule_names ≡ length n.rules
-rules_counted may r rules n a b adds is same = is.without_fault.named_rules ∙ adds.count ∙ ap length same
+  pub no_entries : (n : Numbering) (c : TableValue) → AddsActions r n b c → c.entries ≡ []
+  no_entries n c actions =
+      ap (λ (t : TableValue). t.entries) actions.others ∙ ap (λ (t : TableValue). t.entries) more.others ∙ ap (λ (t : TableValue). t.entries) adds.others
+      ∙ ap (λ (t : TableValue). t.entries) begins
 
-pub no_entries : (p : Properties) (other : ℕ → Bool) (r : Ruleset) (names : List (Option (List ℕ))) (rules : List (List ℕ)) (n : Numbering) (start a b c : TableValue)
-    → start ≡ empty_table p Three → AddsTypes r names start a → AddsRules other r rules a b → AddsActions r n b c → c.entries ≡ []
-no_entries p other r names rules n start a b c begins types adds actions =
-    ap (λ (t : TableValue). t.entries) actions.others ∙ ap (λ (t : TableValue). t.entries) adds.others ∙ ap (λ (t : TableValue). t.entries) types.others
-    ∙ ap (λ (t : TableValue). t.entries) begins
+pub rules_counted : (may : ℕ → Bool) (r : Ruleset) (types : List (Option (List ℕ))) (rules : List (List ℕ)) (n : Numbering) (a b : TableValue)
+    → AddsRules may r types rules a b → IsTable b → rules ≡ n.rules → length b.definitions.rule_names ≡ length n.rules
+rules_counted may r types rules n a b adds is same = is.without_fault.named_rules ∙ adds.count ∙ ap length same
 
-pub types_counted : (other : ℕ → Bool) (r : Ruleset) (names : List (Option (List ℕ))) (rules : List (List ℕ)) (n : Numbering) (start a b c : TableValue)
-    → AddsTypes r names start a → AddsRules other r rules a b → AddsActions r n b c → names ≡ n.types → length c.definitions.types ≡ length n.types
-types_counted other r names rules n start a b c types adds actions same =
-    ap (λ (t : TableValue). length t.definitions.types) actions.others ∙ ap (λ (t : TableValue). length t.definitions.types) adds.others ∙ types.count ∙ ap length same
+pub types_counted : (may other : ℕ → Bool) (r : Ruleset) (types : List (Option (List ℕ))) (rules : List (List ℕ)) (n : Numbering) (start a b c : TableValue)
+    → AddsTypes may r types start a → AddsRules other r types rules a b → AddsActions r n b c → types ≡ n.types → length c.definitions.types ≡ length n.types
+types_counted may other r types rules n start a b c adds more actions same =
+    ap (λ (t : TableValue). length t.definitions.types) actions.others ∙ ap (λ (t : TableValue). length t.definitions.types) more.others
+    ∙ types_count may r types start a adds ∙ ap length same
 
 pub names_still : (r : Ruleset) (n : Numbering) (b c : TableValue) → AddsActions r n b c → length c.definitions.rule_names ≡ length b.definitions.rule_names
 names_still r n b c actions = ap (λ (t : TableValue). length t.definitions.rule_names) actions.others

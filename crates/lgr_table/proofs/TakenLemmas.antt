@@ -18,7 +18,7 @@ use Rattle.lgr_text.specs.Records as lgr
 use Rattle.lgr_text.specs.Records.{Class, Definition, Entry, IsClass, IsRule, Meaning, Part}
 use Rattle.lgr_table.specs.Names.{all_classes, classes_in, named_classes, named_rules}
 use Rattle.lgr_table.specs.inner.RuleSteps.{AddsMeaning, AddsPattern, AddsSet}
-use Rattle.lgr_table.proofs.GrowthLemmas.{Grows, IsFree, class-none, class-stays, first-none, free-stays, matches-stay, whole-free, rule-found, rule-grows, says-stays, second-none, set-found, set-grows}
+use Rattle.lgr_table.proofs.GrowthLemmas.{Grows, IsFree, class-none, class-stays, first-none, free-stays, matches-stay, part-free, rule-found, rule-grows, says-stays, second-none, set-found, set-grows}
 use Rattle.lgr_table.proofs.NumberLemmas.{name-there, number-found, number-new, number-stays}
 
 -- ---- what a definition means
@@ -301,7 +301,7 @@ taken-rule entries points known new sets more done name rule taken is_new adds =
     last = named-last known.rule_names known.rules name adds.p pattern.Anchor taken.each_rule other
 
     free : IsFree known rule
-    free = whole-free known rule adds.no_fault
+    free = part-free known rule adds.no_fault
 
     here : IsPatternOf grown more name rule
     here = record {

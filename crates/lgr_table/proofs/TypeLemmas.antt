@@ -1,11 +1,11 @@
--- The types that are defined so far, and one more.
+-- The types that were found so far, and one more.
 use Rattle.std.proofs.Common.{◌≡◌, ◌≢◌, ◌↔◌, ℕ, zero, suc, ◌+◌, ◌<◌, ◌≤◌, inl, inr, Bool, true, false, not, cond, ◌&&◌, ◌||◌, Option, Some, None, List, [], ◌∷◌, ◌++◌, length, map, get_or, take, refl, sym, ap, subst, ◌∙◌, arith, append_assoc}
-use Rattle.std.specs.Prelude.{IsSome, is_some}
+use Rattle.std.specs.Prelude.{IsSome, is_some, unwrap_or}
 use Rattle.std.specs.List.{AllPairs, Contains, flat_map, list_any, position, position_or_len}
 use Rattle.std.proofs.lemmas.Bool.{cases_lt, cases_Bool, and_parts, both_ways, false≢true, lt-ltb, not-true, or_left, or_parts, or_right}
 use Rattle.std.proofs.lemmas.List.{append-nil, get_or_default, length_push, map-append, take_more}
 use Rattle.std.proofs.lemmas.List.Concat.{flat_map-append}
-use Rattle.std.proofs.lemmas.List.Elements.{Contains-append_cases, Contains-get_or, Contains-push, Contains-push_cases}
+use Rattle.std.proofs.lemmas.List.Elements.{Contains-append_cases, Contains-append_left, Contains-get_or, Contains-push, Contains-push_cases}
 use Rattle.std.proofs.lemmas.List.Folds.{Any-from_list_any, list_any-append, list_any_at}
 use Rattle.std.proofs.lemmas.List.Quantifiers.{all_pairs_push, position-Some}
 use Rattle.std.proofs.lemmas.List.Sums.{fails_before_first}
@@ -14,10 +14,9 @@ use Rattle.ruleset_text.specs.Names.{predefined_types}
 use Rattle.lgr_text.specs.Records.{Ruleset}
 use Rattle.lgr_table.specs.Entries.{needs_type}
 use Rattle.lgr_table.specs.Numbers.{is_same, number_among, types_of, types_with}
-use Rattle.lgr_table.specs.inner.Steps.{AddsTypes}
-use Rattle.lgr_table.specs.inner.TypeSteps.{AddsType, HasTypes}
+use Rattle.lgr_table.specs.inner.Steps.{AreFileTypes}
+use Rattle.lgr_table.specs.inner.TypeSteps.{AreTypes}
 use Rattle.lgr_table.proofs.NumberTypeLemmas.{position-none}
-use Rattle.variant_table.specs.Entries.{TableValue}
 
 -- ---- the same type
 
@@ -97,65 +96,45 @@ pairs-apart (t ∷ types) apart =
 none-in : {X : Type 0} (x : X) → Contains [] x → ⊥
 none-in x at = let less = at.1 in omega (arith, less)
 
-pub no_types : (t : TableValue) → t.definitions.types ≡ [] → HasTypes false [] [] t t
-no_types t none = record {
-  others = refl;
-  count = ap length none;
+pub no_types : AreTypes false [] []
+no_types = record {
   known = λ name at. absurd (none-in name at);
+  own = λ name at. absurd (none-in (Some name) at);
   none = (λ at. absurd (none-in None at), λ no. absurd (false≢true no));
   each_type = pairs-apart (types_with []) refl;
 }
 
 -- ---- one more
 
-pub known_already : (b : Bool) (names : List (List ℕ)) (types : List Type') (t u : TableValue) (name : List ℕ) → HasTypes b names types t u
-    → IsSome (number_among types (Some name)) → HasTypes b (names ++ name ∷ []) types t u
-known_already b names types t u name has known = record {
-  others = has.others;
-  count = has.count;
+pub known_already : (b : Bool) (names : List (List ℕ)) (types : List Type') (name : List ℕ) → AreTypes b names types
+    → IsSome (number_among types (Some name)) → AreTypes b (names ++ name ∷ []) types
+known_already b names types name are known = record {
   known = λ other at. elim (Contains-push_cases names name other at) [
-    | inl before ↦ has.known other before
+    | inl before ↦ are.known other before
     | inr is ↦ subst (λ x. IsSome (number_among types (Some x))) is known
   ];
-  none = has.none;
-  each_type = has.each_type;
+  own = λ other at. Contains-append_left names (name ∷ []) other (are.own other at);
+  none = are.none;
+  each_type = are.each_type;
 }
 
-module _ (b : Bool) (names : List (List ℕ)) (types : List Type') (t u v : TableValue) (has : HasTypes b names types t u) (adds : AddsType u v) (new : Type')
-    (apart : (k : ℕ) (d : Type') → k < length (types_with types) → get_or (types_with types) k d ≢ new) where
-  abbrev more : List (List ℕ)
-  more = u.definitions.types ++ adds.0 ∷ []
-
-  types_more : v.definitions.types ≡ more
-  types_more = ap (λ (w : TableValue). w.definitions.types) adds.1
-
-  others_more : v ≡ record t { definitions = record t.definitions { types = v.definitions.types } }
-  others_more =
-      adds.1 ∙ ap (λ (w : TableValue). record w { definitions = record w.definitions { types = more } }) has.others
-      ∙ ap (λ l. record t { definitions = record t.definitions { types = l } }) (sym types_more)
-
-  count_more : length v.definitions.types ≡ length (types ++ new ∷ [])
-  count_more = let count = has.count in omega (arith, count, ap length types_more, length_push u.definitions.types adds.0, length_push types new)
-
-  each_more : AllPairs (λ a b. a ≢ b) (types_with (types ++ new ∷ []))
-  each_more = all_pairs_push (λ a b. a ≢ b) (types_with types) new has.each_type apart
-
-pub type_added : (names : List (List ℕ)) (types : List Type') (t u v : TableValue) (name : List ℕ) → HasTypes false names types t u → AddsType u v
-    → is_some (number_among types (Some name)) ≡ false → HasTypes false (names ++ name ∷ []) (types ++ Some name ∷ []) t v
-type_added names types t u v name has adds fresh =
-    let apart = apart-new types (Some name) fresh in record {
-      others = others_more false names types t u v has adds (Some name) apart;
-      count = count_more false names types t u v has adds (Some name) apart;
-      known = λ other at. elim (Contains-push_cases names name other at) [
-        | inl before ↦ known-push types (Some other) (Some name) (has.known other before)
-        | inr is ↦ subst (λ x. IsSome (number_among (types ++ Some name ∷ []) (Some x))) is (known-new types (Some name))
-      ];
-      none = (
-        λ at. elim (Contains-push_cases types (Some name) None at) [ inl before ↦ has.none.0 before | inr is ↦ absurd (cc) ],
-        λ no. absurd (false≢true no),
-      );
-      each_type = each_more false names types t u v has adds (Some name) apart;
-    }
+pub type_added : (names : List (List ℕ)) (types : List Type') (name : List ℕ) → AreTypes false names types
+    → is_some (number_among types (Some name)) ≡ false → AreTypes false (names ++ name ∷ []) (types ++ Some name ∷ [])
+type_added names types name are fresh = record {
+  known = λ other at. elim (Contains-push_cases names name other at) [
+    | inl before ↦ known-push types (Some other) (Some name) (are.known other before)
+    | inr is ↦ subst (λ x. IsSome (number_among (types ++ Some name ∷ []) (Some x))) is (known-new types (Some name))
+  ];
+  own = λ other at. elim (Contains-push_cases types (Some name) (Some other) at) [
+    | inl before ↦ Contains-append_left names (name ∷ []) other (are.own other before)
+    | inr is ↦ subst (Contains (names ++ name ∷ [])) (ap (λ t. unwrap_or t []) is) (Contains-push names name)
+  ];
+  none = (
+    λ at. elim (Contains-push_cases types (Some name) None at) [ inl before ↦ are.none.0 before | inr is ↦ absurd (cc) ],
+    λ no. absurd (false≢true no),
+  );
+  each_type = all_pairs_push (λ a b. a ≢ b) (types_with types) (Some name) are.each_type (apart-new types (Some name) fresh);
+}
 
 -- no predefined type is that of having none
 none-predefined : (types : List Type') → Contains (types_with types) None → Contains types None
@@ -172,17 +151,15 @@ none-predefined types at = elim (Contains-append_cases (map Some predefined_type
     by (suc (suc (suc (suc zero)))) less is = cc
     by (suc (suc (suc (suc (suc k))))) less is = omega (arith, less)
 
-pub untyped_added : (names : List (List ℕ)) (types : List Type') (t u v : TableValue) → HasTypes false names types t u → AddsType u v
-    → HasTypes true names (types ++ None ∷ []) t v
-untyped_added names types t u v has adds =
+pub untyped_added : (names : List (List ℕ)) (types : List Type') → AreTypes false names types → AreTypes true names (types ++ None ∷ [])
+untyped_added names types are =
     let apart : (k : ℕ) (d : Type') → k < length (types_with types) → get_or (types_with types) k d ≢ None = λ k d less is.
-    false≢true (has.none.0 (none-predefined types (k, less, get_or_default (types_with types) k None d less ∙ is))) in
+    false≢true (are.none.0 (none-predefined types (k, less, get_or_default (types_with types) k None d less ∙ is))) in
     record {
-      others = others_more false names types t u v has adds None apart;
-      count = count_more false names types t u v has adds None apart;
-      known = λ other at. known-push types (Some other) None (has.known other at);
+      known = λ other at. known-push types (Some other) None (are.known other at);
+      own = λ other at. elim (Contains-push_cases types None (Some other) at) [ inl before ↦ are.own other before | inr is ↦ absurd (cc) ];
       none = (λ _. refl, λ _. Contains-push types None);
-      each_type = each_more false names types t u v has adds None apart;
+      each_type = all_pairs_push (λ a b. a ≢ b) (types_with types) None are.each_type apart;
     }
 
 -- ---- the names of a list so far
@@ -201,12 +178,11 @@ names-more before xs i x less is =
 
 -- ---- all types of a file
 
-pub types_defined : (r : Ruleset) (b : Bool) (types : List Type') (t u : TableValue) → HasTypes b (types_of r) types t u
-    → b ≡ needs_type r.entries → AddsTypes r types t u
-types_defined r b types t u has is = record {
-  others = has.others;
-  count = has.count;
-  known = has.known;
-  untyped = subst (λ x. Contains types None ↔ (x ≡ true)) is has.none;
-  each_type = has.each_type;
+pub types_found : (may : ℕ → Bool) (r : Ruleset) (b : Bool) (types : List Type') → AreTypes b (types_of r) types
+    → b ≡ needs_type may r.entries → AreFileTypes may r types
+types_found may r b types are is = record {
+  known = are.known;
+  own = are.own;
+  untyped = subst (λ x. Contains types None ↔ (x ≡ true)) is are.none;
+  each_type = are.each_type;
 }

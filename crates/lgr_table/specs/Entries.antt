@@ -1,6 +1,6 @@
 -- The entries of a table, by those of a file (RFC 7940, section 5).
-use Rattle.std.specs.Prelude.{◌≡◌, ℕ, ◌≤◌, ◌&&◌, Bool, not, Option, None, List, [], ◌∷◌, All, bytes_eq, filter, find}
-use Rattle.std.specs.Prelude.{is_some, length, map, option_and_then}
+use Rattle.std.specs.Prelude.{◌≡◌, ℕ, ◌≤◌, ◌&&◌, ◌||◌, Bool, not, Option, None, List, [], ◌∷◌, All, bytes_eq}
+use Rattle.std.specs.Prelude.{filter, find, is_some, length, map, option_and_then}
 use Rattle.std.specs.List.{flat_map, list_all, list_any, range_with_len}
 use Rattle.std.specs.Option.{option_map}
 use Rattle.lgr_text.specs.Records as lgr
@@ -77,10 +77,24 @@ AreOfOneType may entries = All (λ e. All (HasOneType e) (kept_sources may e)) e
 abbrev pub has_types : List lgr.Entry → Bool
 has_types entries = list_any (λ e. list_any (λ v. is_some v.type_name) e.variants) entries
 
-abbrev pub lacks_types : List lgr.Entry → Bool
-lacks_types entries = list_any (λ e. list_any (λ v. not (is_some v.type_name)) e.variants) entries
+-- a variant has a type, or none; or it has none and is its source
+abbrev pub has_type : List ℕ → lgr.Variant → Bool
+has_type source v = is_some v.type_name
 
--- a variant without a type is told from one that has a type, and from a source that stays as it is (7.2, 8.4), whatever
--- the table leaves out: so it has a type of its own in the table, where some variant has a type
-abbrev pub needs_type : List lgr.Entry → Bool
-needs_type entries = has_types entries && lacks_types entries
+abbrev pub lacks_type : List ℕ → lgr.Variant → Bool
+lacks_type source v = not (is_some v.type_name)
+
+abbrev pub stays_untyped : List ℕ → lgr.Variant → Bool
+stays_untyped source v = lacks_type source v && is_reflexive source v
+
+-- some source and a variant of it that the table keeps are so
+abbrev pub keeps : (ℕ → Bool) → (List ℕ → lgr.Variant → Bool) → List lgr.Entry → Bool
+keeps may is_so entries = list_any
+    (λ e. list_any (λ v. list_any (λ s. may_be may v.points && is_so s v) (kept_sources may e)) e.variants) entries
+
+-- where some variant has a type, whatever the table leaves out, one without a type is told from that one, and from a
+-- source that stays as it is (7.2, 8.4). In a table it is, too, but if it is its source, or if the table keeps no type:
+-- then variants without a type have one of their own
+abbrev pub needs_type : (ℕ → Bool) → List lgr.Entry → Bool
+needs_type may entries = has_types entries
+    && (keeps may stays_untyped entries || (keeps may lacks_type entries && not (keeps may has_type entries)))

@@ -40,12 +40,17 @@ letter = entry (Sequence (0x61 ∷ [])) None (var (0x61 ∷ []) (Some (codes "r-
 abbrev pub untyped_letter : lgr.Entry
 untyped_letter = entry (Sequence (0x62 ∷ [])) None (var (0x62 ∷ []) None ∷ [])
 
--- one whose variants have types, and one that no label has
+-- one whose variants have types
 abbrev pub typed_letter : lgr.Entry
 typed_letter = entry (Sequence (0x61 ∷ [])) None (var (0x62 ∷ []) (Some (codes "blocked")) ∷ [])
 
+-- one whose variant in labels has none, and one that no label has
+abbrev pub mixed_letter : lgr.Entry
+mixed_letter = entry (Sequence (0x61 ∷ [])) None (var (0x62 ∷ []) None ∷ var (0xE9 ∷ []) (Some (codes "blocked")) ∷ [])
+
 abbrev pub outside_letter : lgr.Entry
-outside_letter = entry (Sequence (0xE9 ∷ [])) None (var (0x61 ∷ []) (Some (codes "blocked")) ∷ [])
+outside_letter =
+    entry (Sequence (0xE9 ∷ [])) None (var (0x61 ∷ []) (Some (codes "blocked")) ∷ var (0x62 ∷ []) None ∷ [])
 
 -- three digits, not where the second rule holds
 abbrev pub digits : lgr.Entry
@@ -80,7 +85,9 @@ pub record EntriesOfExamples : Type 0 where
   pub in_order : all_entries ascii some_numbers (digits ∷ untyped_letter ∷ [])
       ≡ digit 0x30 ∷ digit 0x31 ∷ digit 0x32
       ∷ record { source = 0x62 ∷ []; type = Some 7; condition = None; variants = [] } ∷ []
-  pub needed : needs_type (letter ∷ untyped_letter ∷ []) ≡ true
-  pub not_needed : needs_type (untyped_letter ∷ []) ≡ false
-  pub each_typed : needs_type (typed_letter ∷ []) ≡ false
-  pub typed_in_no_label : needs_type (untyped_letter ∷ outside_letter ∷ []) ≡ true
+  pub staying : needs_type ascii (letter ∷ untyped_letter ∷ []) ≡ true
+  pub untyped_beside_types : needs_type ascii (letter ∷ []) ≡ false
+  pub without_any : needs_type ascii (untyped_letter ∷ []) ≡ false
+  pub each_typed : needs_type ascii (typed_letter ∷ []) ≡ false
+  pub types_in_no_label : needs_type ascii (mixed_letter ∷ outside_letter ∷ []) ≡ true
+  pub nothing_in_a_label : needs_type ascii (outside_letter ∷ []) ≡ false

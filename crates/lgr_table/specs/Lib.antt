@@ -2,8 +2,10 @@
 pub mod Numbers
 pub mod Entries
 pub mod Names
+pub mod TableNames
 pub mod Meanings
 pub mod Tables
+pub mod Faults
 pub mod Texts
 pub mod Examples
 pub mod inner

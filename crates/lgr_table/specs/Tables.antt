@@ -16,6 +16,7 @@ use Rattle.lgr_table.specs.Entries.{AreOfOneType, all_entries, needs_type}
 use Rattle.lgr_table.specs.Meanings.{AreMeaningsOf, Meanings, RuleHolds}
 use Rattle.lgr_table.specs.Names.{HasItsNames}
 use Rattle.lgr_table.specs.Numbers.{Numbering, all_types, type_number, types_of}
+use Rattle.lgr_table.specs.TableNames.{AreTableNames, names_with}
 use Rattle.ruleset_text.specs.declared.named_condition.NamedCondition.{NamedCondition}
 use Rattle.ruleset_text.specs.Actions.{NamedAction, NamedTrigger, disposition_word}
 use Rattle.ruleset_text.specs.Classes.{is_bad_point}
@@ -34,10 +35,12 @@ use Rattle.variant_table.specs.WellFormed.{IsTable}
 abbrev pub may_stand : Properties → ℕ → Bool
 may_stand properties c = not (is_bad_point properties c)
 
--- each type of the file has a number, and so has having none, if that has to be a type; no type and no rule has two
-pub record IsNumbering (r : Ruleset) (n : Numbering) : Type 0 where
+-- each type of the file has a number, and so has having none, if that has to be a type, and nothing else but what is
+-- predefined; no type and no rule has two
+pub record IsNumbering (may : ℕ → Bool) (r : Ruleset) (n : Numbering) : Type 0 where
   pub types : (name : List ℕ) → Contains (types_of r) name → IsSome (type_number n (Some name))
-  pub untyped : Contains n.types None ↔ IsTrue (needs_type r.entries)
+  pub own : (name : List ℕ) → Contains n.types (Some name) → Contains (types_of r) name
+  pub untyped : Contains n.types None ↔ IsTrue (needs_type may r.entries)
   pub each_type : AllPairs (λ a b. a ≢ b) (all_types n)
   pub each_rule : AllPairs (λ a b. a ≢ b) n.rules
 
@@ -129,12 +132,13 @@ SayDemands n d (c ∷ conditions) (b ∷ demands) = SaysDemand n d c b × SayDem
 -- ---- the table
 
 -- a well-formed table: its entries are those of the file, less what no label has; and so are its types, rules, demands
--- and actions, by these numbers
+-- and actions, by these numbers and with their names
 pub record Says (properties : Properties) (r : Ruleset) (m : Meanings) (n : Numbering) (t : TableValue) : Type 0 where
   pub well_formed : IsTable t
   pub version : t.version ≡ Three
   pub by_these : t.definitions.properties ≡ properties
-  pub numbers : IsNumbering r n
+  pub numbers : IsNumbering (may_stand properties) r n
+  pub names : AreTableNames (names_with n.types r) n.rules t.definitions
   pub types : length t.definitions.types ≡ length n.types
   pub rules : length t.definitions.rules ≡ length n.rules
   pub of_one_type : AreOfOneType (may_stand properties) r.entries

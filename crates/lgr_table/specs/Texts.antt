@@ -2,8 +2,10 @@
 use Rattle.std.specs.Prelude.{◌≡◌, ◌⊎◌, ℕ, true, List, map}
 use Rattle.idn_class.specs.declared.properties.Properties.{Properties}
 use Rattle.lgr_text.specs.Documents.{Says}
-use Rattle.lgr_text.specs.Records.{Ruleset}
+use Rattle.lgr_text.specs.Records.{Ruleset, file}
 use Rattle.lgr_text.specs.Sizes.{exceeds}
+use Rattle.lgr_text.specs.declared.records.Ruleset as held
+use Rattle.lgr_table.specs.Faults.{IsFaultOfTable}
 use Rattle.lgr_table.specs.Tables.{IsTableOf}
 use Rattle.lgr_table.specs.declared.fault.TableError.{TableError}
 use Rattle.lgr_table.specs.declared.fault.TableError.TheVariants as error
@@ -55,10 +57,14 @@ pub record HasTooMuch (text : List ℕ) (e : TableError) : Type 0 where
   pub line : ℕ
   pub told : e ≡ error.Fault Limit line
 
+-- the text says a ruleset, which has this fault. Which lines its elements have isn't said
+pub record SaysFaulty (text : List ℕ) (e : TableError) : Type 0 where
+  pub ruleset_ : held.Ruleset
+  pub said : SaysRuleset text (file ruleset_)
+  pub told : IsFaultOfTable ruleset_ e
+
 -- the error is told of the text: memory was refused; or it is no document, or one that says no ruleset or has too much
--- in an element; or it says a ruleset. Which of these have no table, and why, is not said
+-- in an element; or it says a ruleset that has a fault
 abbrev pub IsToldOf : List ℕ → TableError → Type 0
 IsToldOf text e =
-    (e ≡ error.Memory)
-    ⊎ (IsNoDocument text e
-    ⊎ (SaysNoRuleset text e ⊎ (HasTooMuch text e ⊎ ((r : Ruleset) × SaysRuleset text r))))
+    (e ≡ error.Memory) ⊎ (IsNoDocument text e ⊎ (SaysNoRuleset text e ⊎ (HasTooMuch text e ⊎ SaysFaulty text e)))

@@ -1,8 +1,10 @@
 -- Definitions of inner functions.
-pub mod FreshNames
+pub mod FaultSteps
 pub mod Points
 pub mod RuleSteps
 pub mod Steps
 pub mod EntrySteps
 pub mod TypeNames
 pub mod TypeSteps
+pub mod TableNames
+pub mod Wanted

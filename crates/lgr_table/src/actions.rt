@@ -1,15 +1,19 @@
 //! The actions of a table (RFC 7940, section 7).
-ghost use Rattle.std.specs.Prelude.{◌≡◌, ◌≤◌, ◌++◌, ◌∷◌, [], List, IfOk, OnOk};
+ghost use Rattle.std.specs.Prelude.{◌≡◌, ◌≤◌, ◌++◌, ◌∷◌, [], List, All, Contains, IfErr, IfOk, IfSome, OnOk};
 ghost use Rattle.std.specs.Prelude.{drop, filter, is_some, length, map, not, take};
 ghost use Rattle.std.specs.List.{filter_map};
 ghost use Rattle.std.specs.Option.{option_map};
 ghost use Rattle.lgr_text.specs.Records as records;
 ghost use Rattle.lgr_text.specs.Records.{action as action_of, condition as condition_of, file};
+ghost use Rattle.lgr_text.specs.declared.records.Ruleset as held;
+ghost use Rattle.lgr_table.specs.Faults.{IsFaultOfTable, conditions, given};
 ghost use Rattle.lgr_table.specs.Tables.{demand_kind, following, leading, makes_invalid, rule_alone};
+ghost use Rattle.lgr_table.specs.inner.FaultSteps.{HasRulesOf};
 ghost use Rattle.lgr_table.specs.inner.Steps.{AddsAction, AddsActions, AddsDemand, AddsDemands, HaveDefined};
 ghost use Rattle.lgr_table.specs.inner.TypeNames.{AreNamesOf};
 ghost use Rattle.variant_table.specs.Entries.{TableValue};
 
+use crate::entries::check_rule;
 use crate::fault::{TableError, TableFault};
 use crate::numbers::Numbers;
 use label_patterns::ConditionKind;
@@ -27,8 +31,8 @@ struct TypeNames {
     written: Vec<Name>,
 }
 
-/// Defines the actions of the file, and as demands those that make labels invalid by a rule alone, before the first that
-/// doesn't make them invalid: which of these is triggered makes no difference.
+/// Defines the actions of the file, and as demands those that make labels invalid by a rule alone, before the first
+/// that doesn't make them invalid: which of these is triggered makes no difference.
 pub(crate) fn define_actions(
     alloc: Global,
     builder: &mut TableBuilder,
@@ -38,7 +42,8 @@ pub(crate) fn define_actions(
     requires no_demands { builder.old.definitions.demands ≡ [] }
     requires none { builder.old.definitions.actions ≡ [] }
     requires rules { length builder.old.definitions.rule_names ≡ length numbers.now.rules }
-    ensures { OnOk result (AddsActions (file ruleset.now) numbers.now builder.old builder.new) }
+    ensures added { OnOk result (AddsActions (file ruleset.now) numbers.now builder.old builder.new) }
+    ensures fault { HasRulesOf ruleset.now numbers.now.rules → IfErr result (IsFaultOfTable ruleset.now) }
 {
     let actions: &[Action] = &ruleset.actions;
     let (leading, following) = actions.split_at(leading_len(actions));
@@ -71,7 +76,8 @@ fn makes_invalid(action: &Action) -> bool
 
 /// The condition of an action that no type triggers.
 fn rule_alone(action: &Action) -> Option<&Condition>
-    ensures { option_map (λ c. condition_of c.now) result ≡ rule_alone (action_of action.now) }
+    ensures is { option_map (λ c. condition_of c.now) result ≡ rule_alone (action_of action.now) }
+    ensures given { IfSome result (λ c. Contains (given action.now.condition) c.now) }
 {
     match &action.trigger {
         Some(_) => None,
@@ -87,8 +93,10 @@ fn define_demands(
     actions: &[Action],
 ) -> Result<(), TableError>
     requires { builder.old.definitions.demands ≡ [] }
-    ensures { OnOk result (AddsDemands numbers.now (filter_map rule_alone (map action_of actions.now))
+    ensures added { OnOk result (AddsDemands numbers.now (filter_map rule_alone (map action_of actions.now))
         builder.old builder.new) }
+    ensures fault { (r : held.Ruleset) → All (Contains r.actions.items) actions.now →
+        HasRulesOf r numbers.now.rules → IfErr result (IsFaultOfTable r) }
 {
     for action in actions {
         if let Some(condition) = rule_alone(action) {
@@ -105,13 +113,19 @@ fn define_demand(
     numbers: &Numbers,
     condition: &Condition,
 ) -> Result<(), TableError>
-    ensures { OnOk result (AddsDemand numbers.now (condition_of condition.now) builder.old builder.new) }
+    ensures added { OnOk result (AddsDemand numbers.now (condition_of condition.now) builder.old builder.new) }
+    ensures fault { (r : held.Ruleset) → Contains (conditions r) condition.now →
+        HasRulesOf r numbers.now.rules → IfErr result (IsFaultOfTable r) }
 {
     let line = condition.rule.line;
     let number = numbers.rule_number(condition.rule.name.as_slice());
     let rules = builder.definitions().rules();
-    if number >= numbers.rules().len() || number >= rules.len() {
+    if number >= numbers.rules().len() {
         return Err(TableFault::NoSuchName.on(line));
+    }
+    if number >= rules.len() {
+        // Never: the table has a pattern for each of these.
+        return Err(TableFault::NotSupported.on(line));
     }
     let pattern = copied_pattern(alloc, &rules[number])?;
     match builder.define(Definition::Demand(demand_kind(condition.kind), pattern)) {
@@ -141,8 +155,10 @@ fn define_others(
     requires none { builder.old.definitions.actions ≡ [] }
     requires rules { length builder.old.definitions.rule_names ≡ length numbers.now.rules }
     requires types { AreNamesOf numbers.now builder.old.definitions types.now }
-    ensures { OnOk result (HaveDefined numbers.now builder.old builder.new
+    ensures defined { OnOk result (HaveDefined numbers.now builder.old builder.new
         (filter (λ a. not (is_some (rule_alone a))) (map action_of actions.now))) }
+    ensures fault { (r : held.Ruleset) → All (Contains r.actions.items) actions.now →
+        HasRulesOf r numbers.now.rules → IfErr result (IsFaultOfTable r) }
 {
     for action in actions {
         if rule_alone(action).is_none() {
@@ -162,8 +178,10 @@ fn define_each(
 ) -> Result<(), TableError>
     requires rules { length builder.old.definitions.rule_names ≡ length numbers.now.rules }
     requires types { AreNamesOf numbers.now builder.old.definitions types.now }
-    ensures { (t : TableValue) (before : List records.Action) → HaveDefined numbers.now t builder.old before →
+    ensures defined { (t : TableValue) (before : List records.Action) → HaveDefined numbers.now t builder.old before →
         OnOk result (HaveDefined numbers.now t builder.new (before ++ map action_of actions.now)) }
+    ensures fault { (r : held.Ruleset) → All (Contains r.actions.items) actions.now →
+        HasRulesOf r numbers.now.rules → IfErr result (IsFaultOfTable r) }
 {
     for action in actions {
         define_action(alloc, builder, numbers, types, action)?;
@@ -181,8 +199,11 @@ fn define_action(
 ) -> Result<(), TableError>
     requires rules { length builder.old.definitions.rule_names ≡ length numbers.now.rules }
     requires types { AreNamesOf numbers.now builder.old.definitions types.now }
-    ensures { OnOk result (AddsAction numbers.now (action_of action.now) builder.old builder.new) }
+    ensures added { OnOk result (AddsAction numbers.now (action_of action.now) builder.old builder.new) }
+    ensures fault { (r : held.Ruleset) → Contains r.actions.items action.now →
+        HasRulesOf r numbers.now.rules → IfErr result (IsFaultOfTable r) }
 {
+    check_rule(numbers, &action.condition)?;
     let rules = Renamed {
         names: numbers.rules(),
         written: builder.definitions().rule_names(),
@@ -197,7 +218,7 @@ fn define_action(
             Ok(()) => Ok(()),
             Err(fault) => Err(TableError::of_definition(fault, line)),
         },
-        Err(error) => Err(TableError::of_rule(error, line)),
+        Err(error) => Err(TableError::of_action(error, line)),
     }
 }
 

@@ -1,13 +1,19 @@
 //! The entries of a table.
-ghost use Rattle.std.specs.Prelude.{◌≡◌, ◌<◌, ◌∷◌, [], OnOk, length, map};
+ghost use Rattle.std.specs.Prelude.{◌≡◌, ◌<◌, ◌∷◌, ◌++◌, [], Contains, IfErr, List, OnOk, length, map};
 ghost use Rattle.std.specs.List.{flat_map};
 ghost use Rattle.std.specs.Option.{option_map};
 ghost use Rattle.lgr_text.specs.Records as records;
 ghost use Rattle.lgr_text.specs.Records.{file};
+ghost use Rattle.lgr_text.specs.Known.{HaveSpans};
+ghost use Rattle.lgr_text.specs.declared.records.Entry as held_entry;
+ghost use Rattle.lgr_text.specs.declared.records.Ruleset as held;
 ghost use Rattle.lgr_table.specs.Entries as words;
+ghost use Rattle.lgr_table.specs.Faults.{IsFaultOfTable, conditions, given};
 ghost use Rattle.lgr_table.specs.Names.{asked, asked_by};
 ghost use Rattle.lgr_table.specs.Tables.{may_stand};
 ghost use Rattle.lgr_table.specs.inner.EntrySteps.{AddsEntry, AddsSources};
+ghost use Rattle.lgr_table.specs.inner.FaultSteps.{AreAllIn, HasOneOf, HasRulesOf, HasSourcesOf, IsOfEntry};
+ghost use Rattle.lgr_table.specs.inner.FaultSteps.{TellsSource, point_count};
 ghost use Rattle.lgr_table.specs.inner.Steps.{AddsEntries, AreAmong};
 
 use crate::fault::{TableError, TableFault};
@@ -32,8 +38,10 @@ pub(crate) fn add_entries(
     requires none { builder.old.entries ≡ [] }
     requires types { length builder.old.definitions.types ≡ length numbers.now.types }
     requires rules { length builder.old.definitions.rule_names ≡ length numbers.now.rules }
-    ensures { OnOk result (AddsEntries (may_stand builder.old.definitions.properties) (file «ruleset».now)
+    ensures added { OnOk result (AddsEntries (may_stand builder.old.definitions.properties) (file «ruleset».now)
         numbers.now builder.old builder.new) }
+    ensures fault { HaveSpans (file «ruleset».now).entries → HasRulesOf «ruleset».now numbers.now.rules →
+        IfErr result (IsFaultOfTable «ruleset».now) }
 {
     check_ranges(&ruleset.entries)?;
     for entry in &ruleset.entries {
@@ -44,7 +52,10 @@ pub(crate) fn add_entries(
 
 /// Refuses ranges that have more code points together than there are: one stands in two of them. So none takes long,
 /// however many code points it has that no label has.
-fn check_ranges(entries: &[Entry]) -> Result<(), TableError> {
+fn check_ranges(entries: &[Entry]) -> Result<(), TableError>
+    ensures { (r : held.Ruleset) → r.entries.items ≡ entries.now → HaveSpans (file r).entries →
+        IfErr result (IsFaultOfTable r) }
+{
     let mut left = CODE_POINTS;
     for entry in entries {
         let more = points_of_range(&entry.source);
@@ -57,7 +68,9 @@ fn check_ranges(entries: &[Entry]) -> Result<(), TableError> {
 }
 
 /// How many code points a range has.
-fn points_of_range(source: &Source) -> u64 {
+fn points_of_range(source: &Source) -> u64
+    ensures { result ≡ point_count (records.source source.now) }
+{
     match source {
         Source::Sequence(_) => 0,
         Source::Range(span) => u64::from(span.last.saturating_sub(span.first)) + 1,
@@ -73,8 +86,11 @@ fn add_entry(
 ) -> Result<(), TableError>
     requires types { length builder.old.definitions.types ≡ length numbers.now.types }
     requires rules { length builder.old.definitions.rule_names ≡ length numbers.now.rules }
-    ensures { OnOk result (AddsEntry (may_stand builder.old.definitions.properties) numbers.now
+    ensures added { OnOk result (AddsEntry (may_stand builder.old.definitions.properties) numbers.now
         (records.entry entry.now) builder.old builder.new) }
+    ensures fault { (r : held.Ruleset) (before after : List held_entry.Entry) →
+        r.entries.items ≡ before ++ entry.now ∷ after → HasSourcesOf before builder.old →
+        HasRulesOf r numbers.now.rules → IfErr result (IsFaultOfTable r) }
 {
     check_rules(numbers, entry)?;
     add_sources(alloc, builder, numbers, entry)?;
@@ -89,9 +105,11 @@ fn add_sources(
 ) -> Result<(), TableError>
     requires types { length builder.old.definitions.types ≡ length numbers.now.types }
     requires rules { length builder.old.definitions.rule_names ≡ length numbers.now.rules }
-    ensures { let e = records.entry entry.now in
+    ensures added { let e = records.entry entry.now in
         OnOk result (AddsSources (may_stand builder.old.definitions.properties) numbers.now
         e (words.sources e.source) builder.old builder.new) }
+    ensures fault { IfErr result (IsOfEntry entry.now) }
+    ensures again { IfErr result (HasOneOf builder.old (words.sources (records.entry entry.now).source)) }
 {
     match &entry.source {
         Source::Sequence(points) => add_source(alloc, builder, numbers, entry, points),
@@ -109,8 +127,10 @@ fn add_range(
 ) -> Result<(), TableError>
     requires types { length builder.old.definitions.types ≡ length numbers.now.types }
     requires rules { length builder.old.definitions.rule_names ≡ length numbers.now.rules }
-    ensures { OnOk result (AddsSources (may_stand builder.old.definitions.properties) numbers.now
+    ensures added { OnOk result (AddsSources (may_stand builder.old.definitions.properties) numbers.now
         (records.entry entry.now) (words.sources (records.Range span)) builder.old builder.new) }
+    ensures fault { IfErr result (IsOfEntry entry.now) }
+    ensures again { IfErr result (HasOneOf builder.old (words.sources (records.Range span))) }
 {
     if span.last < span.first {
         return Ok(());
@@ -133,8 +153,10 @@ fn add_source(
 ) -> Result<(), TableError>
     requires types { length builder.old.definitions.types ≡ length numbers.now.types }
     requires rules { length builder.old.definitions.rule_names ≡ length numbers.now.rules }
-    ensures { OnOk result (AddsSources (may_stand builder.old.definitions.properties) numbers.now
+    ensures added { OnOk result (AddsSources (may_stand builder.old.definitions.properties) numbers.now
         (records.entry entry.now) (source.now ∷ []) builder.old builder.new) }
+    ensures fault { IfErr result (IsOfEntry entry.now) }
+    ensures again { IfErr result (HasOneOf builder.old (source.now ∷ [])) }
 {
     let kept = may_be(alloc, builder.definitions().properties(), source)?;
     if !kept {
@@ -148,13 +170,15 @@ fn add_source(
 }
 
 /// Why an entry isn't added.
-fn not_added(fault: EntryFault, entry: &Entry) -> TableError {
+fn not_added(fault: EntryFault, entry: &Entry) -> TableError
+    ensures fault { IsOfEntry entry.now result }
+    ensures source { TellsSource fault result }
+{
     match fault {
         EntryFault::Memory => TableError::Memory,
-        // A variant of no code points.
-        EntryFault::Syntax => TableFault::NotSupported.on(entry.line),
+        // A variant of no code points: the table has the names of types and rules.
+        EntryFault::Syntax | EntryFault::NoSuchName => TableFault::NotSupported.on(entry.line),
         EntryFault::Limit => TableFault::Limit.on(entry.line),
-        EntryFault::NoSuchName => TableFault::NoSuchName.on(entry.line),
         EntryFault::BadClass => TableFault::BadClass.on(entry.line),
         EntryFault::SameVariant(_) => TableFault::SameVariant.on(repeated_line(entry)),
         EntryFault::SameSource => TableFault::SameSource.on(entry.line),
@@ -198,7 +222,9 @@ fn is_same(earlier: &Variant, variant: &Variant) -> bool {
 
 /// Refuses an entry of which a condition, or that of a variant, asks for a rule that isn't one of these.
 fn check_rules(numbers: &Numbers, entry: &Entry) -> Result<(), TableError>
-    ensures { OnOk result (AreAmong numbers.now.rules (asked_by (records.entry entry.now))) }
+    ensures among { OnOk result (AreAmong numbers.now.rules (asked_by (records.entry entry.now))) }
+    ensures fault { (r : held.Ruleset) → Contains r.entries.items entry.now → HasRulesOf r numbers.now.rules →
+        IfErr result (IsFaultOfTable r) }
 {
     check_rule(numbers, &entry.condition)?;
     check_rules_of_variants(numbers, &entry.variants)?;
@@ -206,8 +232,10 @@ fn check_rules(numbers: &Numbers, entry: &Entry) -> Result<(), TableError>
 }
 
 fn check_rules_of_variants(numbers: &Numbers, variants: &[Variant]) -> Result<(), TableError>
-    ensures { OnOk result (AreAmong numbers.now.rules
+    ensures among { OnOk result (AreAmong numbers.now.rules
         (flat_map (λ v. asked v.condition) (map records.variant variants.now))) }
+    ensures fault { (r : held.Ruleset) → AreAllIn (conditions r) (flat_map (λ v. given v.condition) variants.now) →
+        HasRulesOf r numbers.now.rules → IfErr result (IsFaultOfTable r) }
 {
     for variant in variants {
         check_rule(numbers, &variant.condition)?;
@@ -215,8 +243,11 @@ fn check_rules_of_variants(numbers: &Numbers, variants: &[Variant]) -> Result<()
     Ok(())
 }
 
-fn check_rule(numbers: &Numbers, condition: &Option<Condition>) -> Result<(), TableError>
-    ensures { OnOk result (AreAmong numbers.now.rules (asked (option_map records.condition condition.now))) }
+/// Refuses a condition that asks for a rule that isn't one of these.
+pub(crate) fn check_rule(numbers: &Numbers, condition: &Option<Condition>) -> Result<(), TableError>
+    ensures among { OnOk result (AreAmong numbers.now.rules (asked (option_map records.condition condition.now))) }
+    ensures fault { (r : held.Ruleset) → AreAllIn (conditions r) (given condition.now) →
+        HasRulesOf r numbers.now.rules → IfErr result (IsFaultOfTable r) }
 {
     let Some(condition) = condition else {
         return Ok(());

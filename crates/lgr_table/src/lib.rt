@@ -15,6 +15,7 @@ mod rules;
 mod table;
 mod taken;
 mod types;
+mod untyped;
 
 pub use document::table_of_text;
 pub use fault::{TableError, TableFault};

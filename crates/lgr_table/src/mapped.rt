@@ -1,11 +1,12 @@
 //! An entry of a file with the names that the table has for its types and rules.
-ghost use Rattle.std.specs.Prelude.{◌≡◌, ◌<◌, ◌||◌, ◌∷◌, [], false, true, IfOk, None, OnOk, length, map};
+ghost use Rattle.std.specs.Prelude.{◌≡◌, ◌<◌, ◌||◌, ◌∷◌, [], false, true, IfErr, IfOk, None, OnOk, length, map};
 ghost use Rattle.std.specs.Option.{ForSome, option_map};
 ghost use Rattle.lgr_text.specs.Records as records;
 ghost use Rattle.lgr_table.specs.Entries as words;
 ghost use Rattle.lgr_table.specs.Numbers.{numbered_condition};
 ghost use Rattle.lgr_table.specs.Tables.{may_stand};
 ghost use Rattle.lgr_table.specs.inner.EntrySteps.{PushesVariants};
+ghost use Rattle.lgr_table.specs.inner.FaultSteps.{IsOfTable};
 ghost use Rattle.ruleset_text.specs.Definitions.{type_names, type_number as number_of_type};
 ghost use Rattle.ruleset_text.specs.EntryForms.{mapped as form_of};
 ghost use Rattle.variant_table.specs.Forms.{entry_of, numbered, variant_by, variant_mark};
@@ -31,6 +32,7 @@ pub(crate) fn mapped_of(
     ensures is { IfOk result (λ mapped. entry_of definitions.now (map form_of mapped.items) ≡
         words.entry_with (may_stand definitions.now.properties) numbers.now (records.entry entry.now) source.now) }
     ensures of_one_type { OnOk result (words.HasOneType (records.entry entry.now) source.now) }
+    ensures fault { IfErr result IsOfTable }
 {
     check_reflexive(source, entry)?;
     let points = Vec::from_slice(alloc, source)?;
@@ -57,7 +59,8 @@ pub(crate) fn mapped_of(
 
 /// Refuses a second variant that is the source, and one that has a condition.
 fn check_reflexive(source: &[u32], entry: &Entry) -> Result<(), TableError>
-    ensures { OnOk result (words.HasOneType (records.entry entry.now) source.now) }
+    ensures of_one_type { OnOk result (words.HasOneType (records.entry entry.now) source.now) }
+    ensures fault { IfErr result IsOfTable }
 {
     let mut found = false;
     for variant in &entry.variants {
@@ -73,6 +76,7 @@ fn check_variant(source: &[u32], variant: &Variant, found: bool) -> Result<bool,
     ensures alone { OnOk result (words.is_reflexive source.now (records.variant variant.now) ≡ true → found ≡ false) }
     ensures bare { OnOk result (words.is_reflexive source.now (records.variant variant.now) ≡ true →
         (records.variant variant.now).condition ≡ None) }
+    ensures fault { IfErr result IsOfTable }
 {
     if !is_reflexive(source, variant) {
         return Ok(found);
@@ -109,9 +113,10 @@ fn push_variants(
 ) -> Result<(), TableError>
     requires types { length definitions.now.types ≡ length numbers.now.types }
     requires rules { length definitions.now.rule_names ≡ length numbers.now.rules }
-    ensures { OnOk result (PushesVariants definitions.now mapped.old.items mapped.new.items
+    ensures pushed { OnOk result (PushesVariants definitions.now mapped.old.items mapped.new.items
         (words.variants_of (may_stand definitions.now.properties) numbers.now source.now
         (map records.variant variants.now))) }
+    ensures fault { IfErr result IsOfTable }
 {
     for variant in variants {
         push_variant(alloc, definitions, numbers, source, variant, mapped)?;
@@ -130,9 +135,10 @@ fn push_variant(
 ) -> Result<(), TableError>
     requires types { length definitions.now.types ≡ length numbers.now.types }
     requires rules { length definitions.now.rule_names ≡ length numbers.now.rules }
-    ensures { OnOk result (PushesVariants definitions.now mapped.old.items mapped.new.items
+    ensures pushed { OnOk result (PushesVariants definitions.now mapped.old.items mapped.new.items
         (words.variants_of (may_stand definitions.now.properties) numbers.now source.now
         (records.variant variant.now ∷ []))) }
+    ensures fault { IfErr result IsOfTable }
 {
     if is_reflexive(source, variant) {
         return Ok(());
@@ -155,8 +161,9 @@ fn variant_called(
 ) -> Result<Mapped, TableError>
     requires types { length definitions.now.types ≡ length numbers.now.types }
     requires rules { length definitions.now.rule_names ≡ length numbers.now.rules }
-    ensures { IfOk result (λ mapped. variant_by variant_mark definitions.now (form_of mapped) ≡
+    ensures called { IfOk result (λ mapped. variant_by variant_mark definitions.now (form_of mapped) ≡
         words.variant_of numbers.now (records.variant variant.now)) }
+    ensures fault { IfErr result IsOfTable }
 {
     let points = Vec::from_slice(alloc, &variant.points)?;
     let number = numbers.type_number(&variant.type_name);
@@ -196,8 +203,9 @@ fn condition_called(
     condition: &Option<Condition>,
 ) -> Result<Option<NamedCondition>, TableError>
     requires { length definitions.now.rule_names ≡ length numbers.now.rules }
-    ensures { IfOk result (λ named. option_map (numbered definitions.now) named ≡
+    ensures called { IfOk result (λ named. option_map (numbered definitions.now) named ≡
         option_map (numbered_condition numbers.now) (option_map records.condition condition.now)) }
+    ensures fault { IfErr result IsOfTable }
 {
     let Some(condition) = condition else {
         return Ok(None);
@@ -206,7 +214,8 @@ fn condition_called(
     let number = numbers.rule_number(wanted);
     let names = definitions.rule_names();
     if number >= names.len() {
-        return Err(TableFault::NoSuchName.on(condition.rule.line));
+        // Never: the rules of conditions were looked up before.
+        return Err(TableFault::NotSupported.on(condition.rule.line));
     }
     // Only for the proof: the contract says that no name stands there twice.
     let _names = definitions.set_names();

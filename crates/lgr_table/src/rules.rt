@@ -1,17 +1,21 @@
 //! The rules of a table, and the sets that they name.
-ghost use Rattle.std.specs.Prelude.{◌≡◌, ◌++◌, ◌∷◌, [], IfOk, OnOk, map};
+ghost use Rattle.std.specs.Prelude.{◌≡◌, ◌++◌, ◌∷◌, [], ℕ, List, Contains, IfErr, IfOk, OnOk, map};
 ghost use Rattle.label_patterns.specs.Trees.{pattern};
 ghost use Rattle.lgr_text.specs.Known.{HaveSpans};
 ghost use Rattle.lgr_text.specs.PartMatches.{BeginsWith};
 ghost use Rattle.lgr_text.specs.Records.{entry as entry_of, file, meaning as meaning_of};
 ghost use Rattle.lgr_text.specs.inner.Branches.{HaveBranches};
 ghost use Rattle.lgr_text.specs.WellFormed.{IsWellFormedMeaning, IsWellFormedRuleset};
+ghost use Rattle.lgr_text.specs.declared.records.Ruleset as held;
+ghost use Rattle.lgr_table.specs.Faults.{IsFaultOfTable};
 ghost use Rattle.lgr_table.specs.Tables.{may_stand};
+ghost use Rattle.lgr_table.specs.inner.FaultSteps.{HasRulesOf, IsOfTable};
 ghost use Rattle.lgr_table.specs.inner.RuleSteps.{AddsMeaning, HasNoRules, HasOtherRules, known_by};
 ghost use Rattle.lgr_table.specs.inner.Steps.{AddsRules};
+ghost use Rattle.lgr_table.specs.inner.TableNames.{AreRuleNames, names_by};
 
 use crate::fault::TableError;
-use crate::names::Named;
+use crate::names::{FileNames, Named};
 use crate::points::points_of;
 use crate::taken::{Repertoire, Taken};
 use label_patterns::{PatternTree, PointSet};
@@ -20,17 +24,21 @@ use ruleset_text::{Definition as TableDefinition, Name};
 use std::alloc::Global;
 use variant_table::TableBuilder;
 
-/// Defines the rules of the file, each after those that it names, and tells which numbers they have.
+/// Defines the rules of the file, which has these types, each after those that it names, and tells which numbers they
+/// have.
 pub(crate) fn define_rules(
     alloc: Global,
     builder: &mut TableBuilder,
+    types: &[Option<Name>],
     ruleset: &Ruleset,
 ) -> Result<Vec<Name>, TableError>
     requires none { HasNoRules builder.old.definitions }
     requires well_formed { IsWellFormedRuleset (file ruleset.now) }
-    ensures { IfOk result (λ rules.
-        AddsRules (may_stand builder.old.definitions.properties) (file ruleset.now) rules.items
+    ensures added { IfOk result (λ rules.
+        AddsRules (may_stand builder.old.definitions.properties) (file ruleset.now) types.now rules.items
         builder.old builder.new) }
+    ensures all { IfOk result (λ rules. HasRulesOf ruleset.now rules.items) }
+    ensures fault { IfErr result (IsFaultOfTable ruleset.now) }
 {
     let properties = builder.definitions().properties();
     let points = points_of(alloc, properties, &ruleset.entries)?;
@@ -42,6 +50,10 @@ pub(crate) fn define_rules(
         Ok(order) => order,
         Err(error) => return Err(TableError::of_order(error)),
     };
+    let names = FileNames {
+        types,
+        definitions: &ruleset.definitions,
+    };
     let mut taken = Taken::new(alloc);
     let mut made = Made {
         sets: Vec::new(alloc),
@@ -50,7 +62,7 @@ pub(crate) fn define_rules(
     for number in &order {
         let definition = &ruleset.definitions[*number];
         take(
-            alloc, builder, repertoire, &mut taken, &mut made, definition,
+            alloc, builder, names, repertoire, &mut taken, &mut made, definition,
         )?;
     }
     Ok(taken.rule_names)
@@ -60,6 +72,7 @@ pub(crate) fn define_rules(
 fn take(
     alloc: Global,
     builder: &mut TableBuilder,
+    names: FileNames<'_>,
     repertoire: Repertoire<'_>,
     taken: &mut Taken,
     made: &mut Made,
@@ -77,6 +90,10 @@ fn take(
     ensures sets { OnOk result (made.new.sets.items ≡ builder.new.definitions.sets) }
     ensures branches { OnOk result (HaveBranches builder.new.definitions.rules) }
     ensures others { OnOk result (HasOtherRules builder.old builder.new) }
+    ensures called { AreRuleNames (names_by names.entry) taken.old.rule_names.items builder.old.definitions →
+        OnOk result (AreRuleNames (names_by names.entry) taken.new.rule_names.items builder.new.definitions) }
+    ensures fault { (r : held.Ruleset) → Contains r.definitions.items definition.now →
+        map entry_of r.entries.items ≡ map entry_of repertoire.entry.entries.now → IfErr result (IsFaultOfTable r) }
 {
     let name = definition.name.as_slice();
     match &definition.meaning {
@@ -91,8 +108,8 @@ fn take(
             let known = taken.known(repertoire, builder.definitions().rules());
             match pattern_of_rule(alloc, known, made, rule) {
                 Ok(tree) => {
-                    define_sets(alloc, builder, &made.sets, definition.line)?;
-                    define_rule(alloc, builder, name, tree, definition.line)?;
+                    define_sets(alloc, builder, names, &made.sets, definition.line)?;
+                    define_rule(alloc, builder, names, name, tree, definition.line)?;
                     taken.rule_names.push(Name::copied(alloc, name)?)?;
                     Ok(())
                 }
@@ -106,6 +123,7 @@ fn take(
 fn define_sets(
     alloc: Global,
     builder: &mut TableBuilder,
+    names: FileNames<'_>,
     sets: &[PointSet],
     line: usize,
 ) -> Result<(), TableError>
@@ -113,9 +131,12 @@ fn define_sets(
     ensures sets { OnOk result (builder.new.definitions.sets ≡ sets.now) }
     ensures rules { OnOk result (builder.new.definitions.rules ≡ builder.old.definitions.rules) }
     ensures others { OnOk result (HasOtherRules builder.old builder.new) }
+    ensures called { (rules : List (List ℕ)) → AreRuleNames (names_by names.entry) rules builder.old.definitions →
+        OnOk result (AreRuleNames (names_by names.entry) rules builder.new.definitions) }
+    ensures fault { IfErr result IsOfTable }
 {
     for number in builder.definitions().sets().len()..sets.len() {
-        define_set(alloc, builder, &sets[number], line)?;
+        define_set(alloc, builder, names, &sets[number], line)?;
     }
     Ok(())
 }
@@ -124,14 +145,18 @@ fn define_sets(
 fn define_set(
     alloc: Global,
     builder: &mut TableBuilder,
+    names: FileNames<'_>,
     set: &PointSet,
     line: usize,
 ) -> Result<(), TableError>
     ensures sets { OnOk result (builder.new.definitions.sets ≡ builder.old.definitions.sets ++ set.now ∷ []) }
     ensures rules { OnOk result (builder.new.definitions.rules ≡ builder.old.definitions.rules) }
     ensures others { OnOk result (HasOtherRules builder.old builder.new) }
+    ensures called { (rules : List (List ℕ)) → AreRuleNames (names_by names.entry) rules builder.old.definitions →
+        OnOk result (AreRuleNames (names_by names.entry) rules builder.new.definitions) }
+    ensures fault { IfErr result IsOfTable }
 {
-    let name = Named::Set.fresh_name(alloc, builder.definitions(), b"", line)?;
+    let name = Named::Set.given_name(alloc, names, builder.definitions(), b"", line)?;
     let copy = set.copied(alloc)?;
     match builder.define(TableDefinition::Set(name, copy)) {
         Ok(()) => Ok(()),
@@ -143,6 +168,7 @@ fn define_set(
 fn define_rule(
     alloc: Global,
     builder: &mut TableBuilder,
+    names: FileNames<'_>,
     name: &[u8],
     tree: PatternTree,
     line: usize,
@@ -150,8 +176,11 @@ fn define_rule(
     ensures sets { OnOk result (builder.new.definitions.sets ≡ builder.old.definitions.sets) }
     ensures rules { OnOk result (builder.new.definitions.rules ≡ builder.old.definitions.rules ++ pattern tree ∷ []) }
     ensures others { OnOk result (HasOtherRules builder.old builder.new) }
+    ensures called { (rules : List (List ℕ)) → AreRuleNames (names_by names.entry) rules builder.old.definitions →
+        OnOk result (AreRuleNames (names_by names.entry) (rules ++ name.now ∷ []) builder.new.definitions) }
+    ensures fault { IfErr result IsOfTable }
 {
-    let name = Named::Rule.fresh_name(alloc, builder.definitions(), name, line)?;
+    let name = Named::Rule.given_name(alloc, names, builder.definitions(), name, line)?;
     match builder.define(TableDefinition::Rule(name, tree)) {
         Ok(()) => Ok(()),
         Err(fault) => Err(TableError::of_definition(fault, line)),
@@ -183,7 +212,7 @@ mod tests {
         let tokens = read_document(alloc, TEXT)?;
         let ruleset = read_ruleset(alloc, &tokens)?;
         let mut builder = TableBuilder::new(alloc, Properties::Unicode);
-        let rules = define_rules(alloc, &mut builder, &ruleset)?;
+        let rules = define_rules(alloc, &mut builder, &[], &ruleset)?;
         let definitions = builder.definitions();
         assert_eq!(rt; rules.len(), 3);
         assert_eq!(rt; definitions.rules().len(), 3);
@@ -220,7 +249,7 @@ mod tests {
         let tokens = read_document(alloc, ANCHORED)?;
         let ruleset = read_ruleset(alloc, &tokens)?;
         let mut builder = TableBuilder::new(alloc, Properties::Unicode);
-        let _names = define_rules(alloc, &mut builder, &ruleset)?;
+        let _names = define_rules(alloc, &mut builder, &[], &ruleset)?;
         let rules = builder.definitions().rules();
         assert_eq!(rt; rules.len(), 4);
         assert_eq!(rt; branch_count(&rules[0]), 1);

@@ -1,7 +1,8 @@
 //! From what a ruleset says to its table.
-ghost use Rattle.std.specs.Prelude.{IfOk};
+ghost use Rattle.std.specs.Prelude.{IfErr, IfOk};
 ghost use Rattle.lgr_text.specs.Records.{file};
 ghost use Rattle.lgr_text.specs.WellFormed.{IsWellFormedRuleset};
+ghost use Rattle.lgr_table.specs.Faults.{IsFaultOfTable};
 ghost use Rattle.lgr_table.specs.Tables.{IsTableOf};
 
 use crate::actions::define_actions;
@@ -26,11 +27,15 @@ pub fn table_of(
     ruleset: &Ruleset,
 ) -> Result<Table, TableError>
     requires { IsWellFormedRuleset (file ruleset.now) }
-    ensures { IfOk result (IsTableOf properties (file ruleset.now)) }
+    ensures table { IfOk result (IsTableOf properties (file ruleset.now)) }
+    ensures fault { IfErr result (IsFaultOfTable ruleset.now) }
 {
     let mut builder = TableBuilder::new(alloc, properties);
-    let types = define_types(alloc, &mut builder, ruleset)?;
-    let rules = define_rules(alloc, &mut builder, ruleset)?;
+    let types = match define_types(alloc, &mut builder, ruleset) {
+        Ok(types) => types,
+        Err(error) => return Err(error.as_limit()),
+    };
+    let rules = define_rules(alloc, &mut builder, &types, ruleset)?;
     let numbers = Numbers::new(types, rules);
     define_actions(alloc, &mut builder, &numbers, ruleset)?;
     add_entries(alloc, &mut builder, &numbers, ruleset)?;

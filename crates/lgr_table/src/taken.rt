@@ -1,9 +1,10 @@
 //! The definitions of a file, taken one after the other.
 ghost use Rattle.std.specs.Prelude.{◌≡◌, [], OnOk, map};
 ghost use Rattle.label_patterns.specs.Trees.{pattern};
-ghost use Rattle.lgr_text.specs.ClassMembers.{HasSpans};
+ghost use Rattle.lgr_text.specs.ClassMembers.{HasSpans, class_fault};
 ghost use Rattle.lgr_text.specs.Known.{HaveSpans, known as known_of};
 ghost use Rattle.lgr_text.specs.Records.{class as class_of, entry as entry_of};
+ghost use Rattle.lgr_text.specs.inner.Faults.{IsFaultOf};
 ghost use Rattle.lgr_table.specs.inner.RuleSteps.{AddsSet, known_by};
 
 use label_patterns::PatternTree;
@@ -71,10 +72,14 @@ impl Taken {
     ) -> Result<(), RuleError>
         requires spans { HasSpans (class_of class.now) }
         requires entries { HaveSpans (map entry_of repertoire.entries.now) }
-        ensures { let entries = map entry_of repertoire.entry.entries.now in
+        ensures added { let entries = map entry_of repertoire.entry.entries.now in
             let points = repertoire.entry.points.now in
             OnOk result (AddsSet (known_by entries points self.old (map pattern rules.now)) name.now
             (class_of class.now) (known_by entries points self.new (map pattern rules.now))) }
+        ensures fault { let entries = map entry_of repertoire.entry.entries.now in
+            let points = repertoire.entry.points.now in
+            let known = known_by entries points self.old (map pattern rules.now) in
+            IsFaultOf (class_fault known (class_of class.now)) result }
     {
         let set = set_of(alloc, self.known(repertoire, rules), class)?;
         self.set_names.push(Name::copied(alloc, name)?)?;

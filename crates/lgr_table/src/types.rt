@@ -1,23 +1,27 @@
 //! The types of a table.
-ghost use Rattle.std.specs.Prelude.{◌≡◌, ◌++◌, ◌∷◌, [], false, true, ℕ, List, is_some, map, not, IfOk, OnOk};
-ghost use Rattle.std.specs.List.{flat_map, list_any};
+ghost use Rattle.std.specs.Prelude.{◌≡◌, ◌++◌, ◌∷◌, [], false, ℕ, List, map, unwrap_or, IfOk, OnOk};
+ghost use Rattle.std.specs.List.{flat_map};
+ghost use Rattle.std.specs.Option.{option_map};
 ghost use Rattle.lgr_text.specs.Records as records;
 ghost use Rattle.lgr_text.specs.Records.{file};
-ghost use Rattle.lgr_table.specs.Entries as words;
 ghost use Rattle.lgr_table.specs.Numbers.{trigger_types, variant_type};
 ghost use Rattle.lgr_table.specs.Tables.{may_stand};
-ghost use Rattle.lgr_table.specs.inner.Steps.{AddsTypes};
-ghost use Rattle.lgr_table.specs.inner.TypeSteps.{AddsType, HasTypes};
-ghost use Rattle.std.specs.Option.{option_map};
-ghost use Rattle.variant_table.specs.Entries.{TableValue};
+ghost use Rattle.lgr_table.specs.inner.Steps.{AddsTypes, AreFileTypes};
+ghost use Rattle.lgr_table.specs.inner.TableNames.{DefinesType, DefinesTypes, names_by};
+ghost use Rattle.lgr_table.specs.inner.TypeSteps.{AreTypes};
 
-use crate::fault::TableError;
-use crate::names::Named;
+use crate::fault::{TableError, TableFault};
+use crate::names::{FileNames, Named};
 use crate::numbers::named_in;
-use lgr_text::{Entry, Ruleset, Trigger, Variant};
+use crate::untyped::untyped_line;
+use idn_class::Properties;
+use lgr_text::{Ruleset, Trigger, Variant};
 use ruleset_text::{Definition, Name};
-use std::alloc::{AllocError, Global};
+use std::alloc::Global;
 use variant_table::TableBuilder;
+
+/// How many types a table may have beside those that are predefined.
+const MAX_TYPES: usize = 57;
 
 /// Defines the types of the file, and tells which numbers they have.
 pub(crate) fn define_types(
@@ -26,184 +30,164 @@ pub(crate) fn define_types(
     ruleset: &Ruleset,
 ) -> Result<Vec<Option<Name>>, TableError>
     requires { builder.old.definitions.types ≡ [] }
-    ensures { IfOk result (λ types.
-        AddsTypes (file «ruleset».now) types.items
-        builder.old builder.new) }
+    ensures { IfOk result (λ types. AddsTypes (may_stand builder.old.definitions.properties) (file «ruleset».now)
+        types.items builder.old builder.new) }
 {
-    let mut types = Vec::new(alloc);
-    for entry in &ruleset.entries {
-        define_of_variants(alloc, builder, &mut types, &entry.variants)?;
-    }
-    for action in &ruleset.actions {
-        define_of_trigger(alloc, builder, &mut types, &action.trigger, action.line)?;
-    }
-    let untyped = untyped_line(&ruleset.entries);
-    let Some(line) = untyped else {
-        return Ok(types);
+    let types = types_of(alloc, builder.definitions().properties(), ruleset)?;
+    let names = FileNames {
+        types: &types,
+        definitions: &ruleset.definitions,
     };
-    define_untyped(alloc, builder, &mut types, line)?;
+    define_each(alloc, builder, names)?;
     Ok(types)
 }
 
-/// Defines the types of variants.
-fn define_of_variants(
+/// The types of the file, each once, in the order in which they are named first. The last one is that of variants that
+/// have none, if there is to be one.
+fn types_of(
     alloc: Global,
-    builder: &mut TableBuilder,
+    properties: Properties,
+    ruleset: &Ruleset,
+) -> Result<Vec<Option<Name>>, TableError>
+    ensures { IfOk result (λ types. AreFileTypes (may_stand properties) (file «ruleset».now) types.items) }
+{
+    let mut types = Vec::new(alloc);
+    for entry in &ruleset.entries {
+        add_of_variants(alloc, &mut types, &entry.variants)?;
+    }
+    for action in &ruleset.actions {
+        add_of_trigger(alloc, &mut types, &action.trigger, action.line)?;
+    }
+    let untyped = untyped_line(alloc, properties, &ruleset.entries)?;
+    let Some(line) = untyped else {
+        return Ok(types);
+    };
+    add_type(&mut types, None, line)?;
+    Ok(types)
+}
+
+/// Adds the types of variants.
+fn add_of_variants(
+    alloc: Global,
     types: &mut Vec<Option<Name>>,
     variants: &[Variant],
 ) -> Result<(), TableError>
-    ensures { (t : TableValue) (names : List (List ℕ)) → HasTypes false names types.old.items t builder.old →
-        OnOk result (HasTypes false (names ++ flat_map variant_type (map records.variant variants.now)) types.new.items
-        t builder.new) }
+    ensures { (names : List (List ℕ)) → AreTypes false names types.old.items → OnOk result
+        (AreTypes false (names ++ flat_map variant_type (map records.variant variants.now)) types.new.items) }
 {
     for variant in variants {
-        define_of_variant(alloc, builder, types, variant)?;
+        add_of_variant(alloc, types, variant)?;
     }
     Ok(())
 }
 
-/// Defines the type of a variant, if it has one.
-fn define_of_variant(
+/// Adds the type of a variant, if it has one.
+fn add_of_variant(
     alloc: Global,
-    builder: &mut TableBuilder,
     types: &mut Vec<Option<Name>>,
     variant: &Variant,
 ) -> Result<(), TableError>
-    ensures { (t : TableValue) (names : List (List ℕ)) → HasTypes false names types.old.items t builder.old →
-        OnOk result (HasTypes false (names ++ variant_type (records.variant variant.now)) types.new.items
-        t builder.new) }
+    ensures { (names : List (List ℕ)) → AreTypes false names types.old.items → OnOk result
+        (AreTypes false (names ++ variant_type (records.variant variant.now)) types.new.items) }
 {
     match &variant.type_name {
-        Some(name) => define_named(alloc, builder, types, name.as_slice(), variant.line),
+        Some(name) => add_named(alloc, types, name.as_slice(), variant.line),
         None => Ok(()),
     }
 }
 
-/// Defines the types that an action on this line asks for.
-fn define_of_trigger(
+/// Adds the types that an action on this line asks for.
+fn add_of_trigger(
     alloc: Global,
-    builder: &mut TableBuilder,
     types: &mut Vec<Option<Name>>,
     trigger: &Option<Trigger>,
     line: usize,
 ) -> Result<(), TableError>
-    ensures { (t : TableValue) (names : List (List ℕ)) → HasTypes false names types.old.items t builder.old →
-        OnOk result (HasTypes false (names ++ trigger_types (option_map records.trigger trigger.now)) types.new.items
-        t builder.new) }
+    ensures { (names : List (List ℕ)) → AreTypes false names types.old.items → OnOk result
+        (AreTypes false (names ++ trigger_types (option_map records.trigger trigger.now)) types.new.items) }
 {
     let Some(trigger) = trigger else {
         return Ok(());
     };
     for name in &trigger.types {
-        define_named(alloc, builder, types, name.as_slice(), line)?;
+        add_named(alloc, types, name.as_slice(), line)?;
     }
     Ok(())
 }
 
-/// Defines the type of this name, which stands on this line, if it isn't defined.
-fn define_named(
+/// Adds the type of this name, which stands on this line, if it isn't there.
+fn add_named(
     alloc: Global,
-    builder: &mut TableBuilder,
     types: &mut Vec<Option<Name>>,
     name: &[u8],
     line: usize,
 ) -> Result<(), TableError>
-    ensures { (t : TableValue) (names : List (List ℕ)) → HasTypes false names types.old.items t builder.old →
-        OnOk result (HasTypes false (names ++ name.now ∷ []) types.new.items t builder.new) }
+    ensures { (names : List (List ℕ)) → AreTypes false names types.old.items →
+        OnOk result (AreTypes false (names ++ name.now ∷ []) types.new.items) }
 {
     if named_in(types, name).is_some() {
         return Ok(());
     }
-    define_type(alloc, builder, name, line)?;
-    types.push(Some(Name::copied(alloc, name)?))?;
+    add_type(types, Some(Name::copied(alloc, name)?), line)?;
     Ok(())
 }
 
-/// Defines the type of variants that have none in the file.
-fn define_untyped(
-    alloc: Global,
-    builder: &mut TableBuilder,
+/// Adds a type, which stands on this line.
+fn add_type(
     types: &mut Vec<Option<Name>>,
+    type_name: Option<Name>,
     line: usize,
 ) -> Result<(), TableError>
-    ensures { (t : TableValue) (names : List (List ℕ)) → HasTypes false names types.old.items t builder.old →
-        OnOk result (HasTypes true names types.new.items t builder.new) }
+    ensures { OnOk result (types.new.items ≡ types.old.items ++ type_name ∷ []) }
 {
-    define_type(alloc, builder, b"", line)?;
-    types.push(None)?;
+    if types.len() >= MAX_TYPES {
+        return Err(TableFault::Limit.on(line));
+    }
+    types.push(type_name)?;
     Ok(())
 }
 
-/// Defines one more type, which has this name in the file.
+/// Defines each type of the file.
+fn define_each(
+    alloc: Global,
+    builder: &mut TableBuilder,
+    names: FileNames<'_>,
+) -> Result<(), TableError>
+    requires { builder.old.definitions.types ≡ [] }
+    ensures { OnOk result (DefinesTypes (names_by names.entry) builder.old builder.new) }
+{
+    for type_name in names.types {
+        define_type(alloc, builder, names, type_name)?;
+    }
+    Ok(())
+}
+
+/// Defines one more type. The table takes it, if there is memory: it isn't one too many, and its name is new.
 fn define_type(
     alloc: Global,
     builder: &mut TableBuilder,
-    name: &[u8],
-    line: usize,
+    names: FileNames<'_>,
+    type_name: &Option<Name>,
 ) -> Result<(), TableError>
-    ensures { OnOk result (AddsType builder.old builder.new) }
+    ensures { OnOk result (DefinesType (names_by names.entry) type_name.now builder.old builder.new) }
 {
-    let fresh = Named::Type.fresh_name(alloc, builder.definitions(), name, line)?;
-    match builder.define(Definition::VariantType(fresh)) {
+    let name = name_of(type_name);
+    let given = Named::Type.given_name(alloc, names, builder.definitions(), name, 1)?;
+    match builder.define(Definition::VariantType(given)) {
         Ok(()) => Ok(()),
-        Err(fault) => Err(TableError::of_definition(fault, line)),
+        Err(fault) => Err(TableError::of_definition(fault, 1)),
     }
 }
 
-/// The line of a variant without a type, where some variant has one.
-fn untyped_line(entries: &[Entry]) -> Option<usize>
-    ensures { is_some result ≡ words.needs_type (map records.entry entries.now) }
+/// The name of a type; nothing, if it has none.
+fn name_of(type_name: &Option<Name>) -> &[u8]
+    ensures { result.now ≡ unwrap_or type_name.now [] }
 {
-    if have_types(entries) {
-        first_untyped(entries)
-    } else {
-        None
-    }
-}
-
-/// Whether some variant has a type.
-fn have_types(entries: &[Entry]) -> bool
-    ensures { result ≡ words.has_types (map records.entry entries.now) }
-{
-    for entry in entries {
-        if has_types(&entry.variants) {
-            return true;
+    match type_name {
+        Some(name) => name.as_slice(),
+        None => {
+            let nothing: &[u8] = &[];
+            nothing
         }
     }
-    false
-}
-
-fn has_types(variants: &[Variant]) -> bool
-    ensures { result ≡ list_any (λ v. is_some v.type_name) (map records.variant variants.now) }
-{
-    for variant in variants {
-        if variant.type_name.is_some() {
-            return true;
-        }
-    }
-    false
-}
-
-/// The line of the first variant without a type.
-fn first_untyped(entries: &[Entry]) -> Option<usize>
-    ensures { is_some result ≡ words.lacks_types (map records.entry entries.now) }
-{
-    for entry in entries {
-        let line = untyped_among(&entry.variants);
-        if line.is_some() {
-            return line;
-        }
-    }
-    None
-}
-
-fn untyped_among(variants: &[Variant]) -> Option<usize>
-    ensures { is_some result ≡ list_any (λ v. not (is_some v.type_name)) (map records.variant variants.now) }
-{
-    for variant in variants {
-        if variant.type_name.is_none() {
-            return Some(variant.line);
-        }
-    }
-    None
 }

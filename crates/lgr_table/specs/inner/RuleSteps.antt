@@ -6,7 +6,7 @@ use Rattle.label_patterns.specs.Patterns.{Pattern}
 use Rattle.label_patterns.specs.Sets.{is_in}
 use Rattle.lgr_text.specs.ClassMembers.{class_fault, has}
 use Rattle.lgr_text.specs.Known.{Known}
-use Rattle.lgr_text.specs.PartMatches.{BeginsWith, MatchesAsPart, SaysRule, whole_fault}
+use Rattle.lgr_text.specs.PartMatches.{part_fault, BeginsWith, MatchesAsPart, SaysRule}
 use Rattle.lgr_text.specs.Records.{Class, Entry, IsClass, IsRule, Meaning, Part}
 use Rattle.lgr_table.specs.declared.taken.Taken.{Taken}
 use Rattle.ruleset_text.specs.Definitions.{Definitions}
@@ -34,7 +34,7 @@ pub record AddsSet (known : Known) (name : List ℕ) (class : Class) (new : Know
 pub record AddsPattern (known : Known) (sets : List (List Span)) (name : List ℕ) (rule : Part) (new : Known)
     (more : List (List Span)) : Type 0 where
   pub p : Pattern
-  pub no_fault : whole_fault known rule ≡ None
+  pub no_fault : part_fault known rule ≡ None
   pub has_sets : HasItsSets (length more) p
   pub says : SaysRule known more p rule
   pub matches : MatchesAsPart known more p rule
@@ -60,5 +60,7 @@ HasOtherRules t u =
 
 -- no set and no rule is defined
 pub record HasNoRules (d : Definitions) : Type 0 where
+  pub set_names : d.set_names ≡ []
   pub sets : d.sets ≡ []
+  pub rule_names : d.rule_names ≡ []
   pub rules : d.rules ≡ []

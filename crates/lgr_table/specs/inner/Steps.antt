@@ -1,6 +1,6 @@
 -- What each step makes of a table: the table before it and after it.
 use Rattle.std.specs.Prelude.{◌≡◌, ◌≢◌, ℕ, ◌<◌, ◌↔◌, Bool, IsTrue, IsSome, List, [], ◌∷◌, ◌++◌, Option, Some, None}
-use Rattle.std.specs.Prelude.{All, AllPairs, Contains, length, map}
+use Rattle.std.specs.Prelude.{All, AllPairs, Contains, length, map, unwrap_or}
 use Rattle.std.specs.List.{flat_map}
 use Rattle.lgr_text.specs.Records.{Action, Condition, Ruleset}
 use Rattle.lgr_table.specs.Entries.{AreOfOneType, all_entries, needs_type}
@@ -8,20 +8,29 @@ use Rattle.lgr_table.specs.Meanings.{AreMeaningsOf, Meanings}
 use Rattle.lgr_table.specs.Names.{IsClassOf, IsRuleOf, asked, named_classes, named_rules}
 use Rattle.lgr_table.specs.Numbers.{Numbering, number_among, types_of, types_with}
 use Rattle.lgr_table.specs.Tables.{SayActions, SayDemands, SaysAction, SaysDemand, SayRules, acting, demanded}
+use Rattle.lgr_table.specs.TableNames.{AreCalled, names_with}
+use Rattle.lgr_table.specs.inner.TableNames.{AreRuleNames}
 use Rattle.ruleset_text.specs.Actions.{NamedAction}
 use Rattle.ruleset_text.specs.Definitions.{Demand}
+use Rattle.ruleset_text.specs.Names.{is_name}
 use Rattle.variant_table.specs.Entries.{TableValue}
 
--- the types are defined
-pub record AddsTypes (r : Ruleset) (types : List (Option (List ℕ))) (t u : TableValue) : Type 0 where
-  pub others : u ≡ record t { definitions = record t.definitions { types = u.definitions.types } }
-  pub count : length u.definitions.types ≡ length types
+-- these are the types of the file
+pub record AreFileTypes (may : ℕ → Bool) (r : Ruleset) (types : List (Option (List ℕ))) : Type 0 where
   pub known : (name : List ℕ) → Contains (types_of r) name → IsSome (number_among types (Some name))
-  pub untyped : Contains types None ↔ IsTrue (needs_type r.entries)
+  pub own : (name : List ℕ) → Contains types (Some name) → Contains (types_of r) name
+  pub untyped : Contains types None ↔ IsTrue (needs_type may r.entries)
   pub each_type : AllPairs (λ a b. a ≢ b) (types_with types)
 
--- the rules are defined, and the sets that they name
-pub record AddsRules (may : ℕ → Bool) (r : Ruleset) (rules : List (List ℕ)) (t u : TableValue) : Type 0 where
+-- the types are defined
+pub record AddsTypes (may : ℕ → Bool) (r : Ruleset) (types : List (Option (List ℕ))) (t u : TableValue) : Type 0 where
+  pub others : u ≡ record t { definitions = record t.definitions { types = u.definitions.types } }
+  pub are : AreFileTypes may r types
+  pub called : AreCalled (names_with types r) is_name (map (λ t. unwrap_or t []) types) u.definitions.types
+
+-- the rules are defined, and the sets that they name, where the file has these types
+pub record AddsRules (may : ℕ → Bool) (r : Ruleset) (types : List (Option (List ℕ))) (rules : List (List ℕ))
+    (t u : TableValue) : Type 0 where
   pub others : u ≡ record t {
     definitions = record t.definitions {
       set_names = u.definitions.set_names;
@@ -32,6 +41,7 @@ pub record AddsRules (may : ℕ → Bool) (r : Ruleset) (rules : List (List ℕ)
   }
   pub count : length u.definitions.rules ≡ length rules
   pub each_rule : AllPairs (λ a b. a ≢ b) rules
+  pub called : AreRuleNames (names_with types r) rules u.definitions
   pub meanings : Meanings
   pub are_meant : AreMeaningsOf may r meanings
   pub say_rules : (n : Numbering) → n.rules ≡ rules

@@ -1,15 +1,16 @@
 use Rattle.std.proofs.Common.{◌≡◌, ◌++◌, ap, map, subst, sym, ◌∙◌}
-use Rattle.std.specs.Prelude.{filter}
+use Rattle.std.specs.Prelude.{All, Contains, filter}
 use Rattle.std.specs.List.{filter_map}
-use Rattle.std.proofs.lemmas.Result.{on_ok_weaker}
+use Rattle.std.proofs.lemmas.List.Elements.{All-contains_itself, All-drop, All-take}
+use Rattle.std.proofs.lemmas.Result.{err_from_is_err_and, on_ok_weaker}
 use Rattle.lgr_text.specs.Records.{action, file}
 use Rattle.lgr_table.specs.Tables.{following, leading, rule_alone}
 use Rattle.lgr_table.specs.inner.Steps.{AddsDemands, HaveDefined}
 use Rattle.lgr_table.proofs.DemandLemmas.{all-defined, is_other}
 use Rattle.lgr_table.proofs.actions.define_actions.Goals as goal
 
-pub returns : goal.returns
-returns c =
+pub returns-clause-added : goal.returns-clause-added
+returns-clause-added c =
     let r = file c.args.ruleset.now in
     let n = c.args.numbers.now in
     let t = c.args.builder.now in
@@ -20,9 +21,29 @@ returns c =
     let all = ap (map action) c.deref-actions.ensures.value in
     let first : map action front ≡ leading r.actions = ap (map action) c.split_at.ensures.front ∙ c.leading_len.ensures.leading ∙ ap leading all in
     let last : map action back ≡ following r.actions = ap (map action) c.split_at.ensures.back ∙ c.leading_len.ensures.following ∙ ap following all in
-    let demands = subst (λ l. AddsDemands n (filter_map rule_alone l) t u) first c.in_ok-define_demands.ensures in
+    let demands = subst (λ l. AddsDemands n (filter_map rule_alone l) t u) first c.in_ok-define_demands.ensures.added in
     on_ok_weaker c.define_each.result
     (λ defined. all-defined r n t u v demands
     (subst (λ l. HaveDefined n u v (filter is_other l ++ following r.actions)) first
     (subst (λ l. HaveDefined n u v (filter is_other (map action front) ++ l)) last defined)))
-    (c.define_each.ensures u (filter is_other (map action front)) c.in_ok-define_others.ensures)
+    (c.define_each.ensures.defined u (filter is_other (map action front)) c.in_ok-define_others.ensures.defined)
+
+pub returns-in_err-define_demands-clause-fault : goal.returns-in_err-define_demands-clause-fault
+returns-in_err-define_demands-clause-fault c = λ has.
+    let p = err_from_is_err_and c.from_residual.result c.from_residual.ensures.1 in
+    let own = c.args.ruleset.now.actions.items in
+    let all : All (Contains own) c.deref-actions.result.now = subst (All (Contains own)) (sym c.deref-actions.ensures.value) (All-contains_itself own) in
+    rw (p.1, p.2) (c.in_err-define_demands.ensures.fault c.args.ruleset.now (subst (All (Contains own)) (sym c.split_at.ensures.front) (All-take (Contains own) _ _ all)) has)
+
+pub returns-in_err-define_others-clause-fault : goal.returns-in_err-define_others-clause-fault
+returns-in_err-define_others-clause-fault c = λ has.
+    let p = err_from_is_err_and c.from_residual-in_err-define_others.result c.from_residual-in_err-define_others.ensures.1 in
+    let own = c.args.ruleset.now.actions.items in
+    let all : All (Contains own) c.deref-actions.result.now = subst (All (Contains own)) (sym c.deref-actions.ensures.value) (All-contains_itself own) in
+    rw (p.1, p.2) (c.in_err-define_others.ensures.fault c.args.ruleset.now (subst (All (Contains own)) (sym c.split_at.ensures.front) (All-take (Contains own) _ _ all)) has)
+
+pub returns-clause-fault : goal.returns-clause-fault
+returns-clause-fault c = λ has.
+    let own = c.args.ruleset.now.actions.items in
+    let all : All (Contains own) c.deref-actions.result.now = subst (All (Contains own)) (sym c.deref-actions.ensures.value) (All-contains_itself own) in
+    c.define_each.ensures.fault c.args.ruleset.now (subst (All (Contains own)) (sym c.split_at.ensures.back) (All-drop (Contains own) _ _ all)) has

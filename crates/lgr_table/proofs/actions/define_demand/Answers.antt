@@ -6,11 +6,13 @@ use Rattle.label_patterns.specs.Trees.{pattern}
 use Rattle.ruleset_text.specs.Names.{number_of}
 use Rattle.lgr_text.specs.Records.{condition}
 use Rattle.lgr_table.specs.Tables.{demand_kind}
+use Rattle.lgr_table.specs.Faults.{IsFaultOfTable}
 use Rattle.lgr_table.proofs.DemandLemmas.{demand-added}
+use Rattle.lgr_table.proofs.FaultLemmas.{asks-for-none}
 use Rattle.lgr_table.proofs.actions.define_demand.Goals as goal
 
-pub returns-in-Ok : goal.returns-in-Ok
-returns-in-Ok c =
+pub returns-in-Ok-clause-added : goal.returns-in-Ok-clause-added
+returns-in-Ok-clause-added c =
     let n = c.args.numbers.now in
     let t = c.args.builder.now in
     let asked = condition c.args.condition.now in
@@ -25,3 +27,11 @@ returns-in-Ok c =
     c.in-Ok.ensures.added.1
     (record { kind = c.demand_kind.ensures; pattern = c.in_ok-pattern.ensures ∙ sym at })
     (omega (arith, number, ap length c.rules.ensures, c.if-number-rules.false))
+
+pub returns-then-number-rules-clause-fault : goal.returns-then-number-rules-clause-fault
+returns-then-number-rules-clause-fault c = λ r among has.
+    let rules = c.args.numbers.now.rules in
+    let asks = c.args.condition.now in
+    let number : c.rule_number-number.result ≡ number_of rules asks.rule.name = c.rule_number-number.ensures.is ∙ ap (number_of rules) c.as_slice.ensures in
+    let count : length c.rules.result.now ≡ length rules = ap length c.rules.ensures in
+    subst (IsFaultOfTable r) (sym c.on.ensures) (asks-for-none r rules asks among has (omega (arith, number, count)))

@@ -5,6 +5,10 @@ use Rattle.lgr_text.specs.Records.{action, condition}
 use Rattle.lgr_table.specs.Tables.{rule_alone}
 use Rattle.lgr_table.specs.inner.Steps.{AddsDemands}
 use Rattle.lgr_table.proofs.ActionLemmas.{one_more}
+use Rattle.std.specs.Prelude.{Contains, IfSome}
+use Rattle.std.proofs.lemmas.Result.{err_from_is_err_and}
+use Rattle.lgr_table.specs.Faults.{given}
+use Rattle.lgr_table.proofs.FaultLemmas.{of-action}
 use Rattle.lgr_table.proofs.DemandLemmas.{demanded-more, demanded-same, none-of}
 use Rattle.lgr_table.proofs.actions.define_demands.Goals as goal
 use Rattle.lgr_table.proofs.actions.define_demands.Goals.{in-Some+in_ok-define_demand, in_default}
@@ -20,10 +24,20 @@ loop-action-preserved c =
     (elim c.match-rule_alone.branch [
       | in-Some+in_ok-define_demand w ↦
           (let is : rule_alone a ≡ Some (condition w.in-Some.condition.now) =
-          sym c.rule_alone.ensures ∙ ap (option_map (λ x. condition x.now)) w.in-Some.is in
+          sym c.rule_alone.ensures.is ∙ ap (option_map (λ x. condition x.now)) w.in-Some.is in
           subst (AddsDemands n _ t) (sym w.builder-is)
-          (demanded-more n some a (condition w.in-Some.condition.now) t c.loop-action.builder w.define_demand.new.builder is c.loop-action.invariant w.in_ok-define_demand.ensures))
+          (demanded-more n some a (condition w.in-Some.condition.now) t c.loop-action.builder w.define_demand.new.builder is c.loop-action.invariant w.in_ok-define_demand.ensures.added))
       | in_default w ↦
-          (let is : rule_alone a ≡ None = sym c.rule_alone.ensures ∙ none-of (λ x. condition x.now) c.rule_alone.result w.in_default.not-Some in
+          (let is : rule_alone a ≡ None = sym c.rule_alone.ensures.is ∙ none-of (λ x. condition x.now) c.rule_alone.result w.in_default.not-Some in
           subst (AddsDemands n _ t) (sym w.builder-is) (demanded-same n some a t c.loop-action.builder is c.loop-action.invariant))
     ])
+
+pub returns-in_err-define_demand-clause-fault : goal.returns-in_err-define_demand-clause-fault
+returns-in_err-define_demand-clause-fault c = λ r all has.
+    let p = err_from_is_err_and c.from_residual.result c.from_residual.ensures.1 in
+    let this = c.action-item.result in
+    let there : Contains r.actions.items this =
+    subst (Contains r.actions.items) (sym c.action-item.is) (all c.loop-action.action-index this c.loop-action-test.true) in
+    let own : Contains (given this.condition) c.in-Some.condition.now =
+    subst (λ o. IfSome o (λ x. Contains (given this.condition) x.now)) c.in-Some.is c.rule_alone.ensures.given in
+    rw (p.1, p.2) (c.in_err-define_demand.ensures.fault r (of-action r this there c.in-Some.condition.now own) has)

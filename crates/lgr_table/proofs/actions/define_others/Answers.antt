@@ -1,5 +1,7 @@
 use Rattle.std.proofs.Common.{◌≡◌, ◌+◌, ◌++◌, ◌∷◌, [], Some, None, ap, length, map, not, subst, sym, take, ◌∙◌}
 use Rattle.std.specs.Prelude.{filter}
+use Rattle.std.specs.Prelude.{Contains}
+use Rattle.std.proofs.lemmas.Result.{err_from_is_err_and}
 use Rattle.lgr_text.specs.Records.{action, condition}
 use Rattle.lgr_table.specs.Tables.{rule_alone}
 use Rattle.lgr_table.specs.inner.Steps.{HaveDefined}
@@ -21,17 +23,17 @@ loop-action-preserved c =
     elim c.if-is_none.branch [
       | then-is_none+in_ok-define_action w ↦
           (let new = w.define_action.new.builder in
-          let is : rule_alone a ≡ None = sym c.rule_alone.ensures ∙ none-where (λ x. condition x.now) c.rule_alone.result (c.is_none.ensures ∙ ap not w.if-is_none.true) in
+          let is : rule_alone a ≡ None = sym c.rule_alone.ensures.is ∙ none-where (λ x. condition x.now) c.rule_alone.result (c.is_none.ensures ∙ ap not w.if-is_none.true) in
           record {
-            rules = ap (λ (x : TableValue). length x.definitions.rule_names) w.builder-is ∙ rules-still n a old new _ w.in_ok-define_action.ensures c.loop-action.invariant.rules;
-            types = subst (λ (x : TableValue). AreNamesOf n x.definitions c.args.types.now) (sym w.builder-is) (types-still n a old new c.args.types.now w.in_ok-define_action.ensures c.loop-action.invariant.types);
+            rules = ap (λ (x : TableValue). length x.definitions.rule_names) w.builder-is ∙ rules-still n a old new _ w.in_ok-define_action.ensures.added c.loop-action.invariant.rules;
+            types = subst (λ (x : TableValue). AreNamesOf n x.definitions c.args.types.now) (sym w.builder-is) (types-still n a old new c.args.types.now w.in_ok-define_action.ensures.added c.loop-action.invariant.types);
             defined = subst (λ (x : TableValue). HaveDefined n t x (filter is_other (map action (take (c.loop-action.action-index + 1) c.args.actions.now)))) (sym w.builder-is)
                 (subst (HaveDefined n t new) (sym (more ∙ other-more some a is))
-                (defined_more n t old new (filter is_other some) a c.loop-action.invariant.defined w.in_ok-define_action.ensures));
+                (defined_more n t old new (filter is_other some) a c.loop-action.invariant.defined w.in_ok-define_action.ensures.added));
           })
       | else-is_none w ↦
           (let given = some-where (λ x. condition x.now) c.rule_alone.result (c.is_none.ensures ∙ ap not w.if-is_none.false) in
-          let is : rule_alone a ≡ Some given.0 = sym c.rule_alone.ensures ∙ given.1 in
+          let is : rule_alone a ≡ Some given.0 = sym c.rule_alone.ensures.is ∙ given.1 in
           record {
             rules = ap (λ (x : TableValue). length x.definitions.rule_names) w.builder-is ∙ c.loop-action.invariant.rules;
             types = subst (λ (x : TableValue). AreNamesOf n x.definitions c.args.types.now) (sym w.builder-is) c.loop-action.invariant.types;
@@ -39,3 +41,10 @@ loop-action-preserved c =
                 (subst (HaveDefined n t old) (sym (more ∙ other-same some a given.0 is)) c.loop-action.invariant.defined);
           })
     ]
+
+pub returns-in_err-define_action-clause-fault : goal.returns-in_err-define_action-clause-fault
+returns-in_err-define_action-clause-fault c = λ r all has.
+    let p = err_from_is_err_and c.from_residual.result c.from_residual.ensures.1 in
+    let this = c.action-item.result in
+    rw (p.1, p.2) (c.in_err-define_action.ensures.fault r
+    (subst (Contains r.actions.items) (sym c.action-item.is) (all c.loop-action.action-index this c.loop-action-test.true)) has)

@@ -1,11 +1,13 @@
-use Rattle.std.proofs.Common.{◌≡◌, List, length, map, take, sym, ap, subst, ◌∙◌}
+use Rattle.std.proofs.Common.{◌≡◌, suc, List, drop, length, map, take, sym, ap, subst, ◌∙◌}
 use Rattle.std.proofs.lemmas.List.{take_all}
+use Rattle.std.proofs.lemmas.Result.{err_from_is_err_and}
 use Rattle.lgr_text.specs.Records.{Entry, entry, file}
 use Rattle.lgr_table.specs.Tables.{may_stand}
 use Rattle.lgr_table.specs.inner.EntrySteps.{AddsEntry}
 use Rattle.lgr_table.specs.inner.Steps.{AddsEntries}
 use Rattle.lgr_table.proofs.CalledLemmas.{mapped-more}
 use Rattle.lgr_table.proofs.EntryLemmas.{entries-more, entries-none, with_only}
+use Rattle.lgr_table.proofs.SourceLemmas.{sources-of, split-at}
 use Rattle.ruleset_text.specs.Definitions.{Definitions}
 use Rattle.variant_table.specs.Entries.{TableValue}
 use Rattle.lgr_table.proofs.entries.add_entries.Goals as goal
@@ -35,12 +37,30 @@ loop-entry-preserved c =
     let i = c.loop-entry.entry-index in
     let this = c.entry-item.result in
     let same : u.definitions ≡ t.definitions = ap (λ (w : TableValue). w.definitions) c.loop-entry.invariant.others in
-    let one : AddsEntry may n (entry this) u v = subst (λ (d : Definitions). AddsEntry (may_stand d.properties) n (entry this) u v) same c.in_ok-add_entry.ensures in
+    let one : AddsEntry may n (entry this) u v = subst (λ (d : Definitions). AddsEntry (may_stand d.properties) n (entry this) u v) same c.in_ok-add_entry.ensures.added in
     subst (λ (es : List Entry). AddsEntries may (with_only r es) n t v) (mapped-more entry xs i this c.loop-entry-test.true c.entry-item.is)
     (entries-more may r n (map entry (take i xs)) (entry this) t u v c.loop-entry.invariant one)
 
-pub returns : goal.returns
-returns c =
+pub returns-clause-added : goal.returns-clause-added
+returns-clause-added c =
     let t = c.args.builder.now in
     subst (λ l. AddsEntries (may_stand t.definitions.properties) (with_only (file c.args.ruleset.now) (map entry l)) c.args.numbers.now t c.loop-entry.builder)
     (take_all c.loop-entry.entry-index c.deref-entry-items.result.now c.loop-entry-test.false ∙ c.deref-entry-items.ensures.value) c.loop-entry.invariant
+
+pub returns-in_err-check_ranges-clause-fault : goal.returns-in_err-check_ranges-clause-fault
+returns-in_err-check_ranges-clause-fault c = λ spans rules.
+    let p = err_from_is_err_and c.from_residual.result c.from_residual.ensures.1 in
+    rw (p.1, p.2) (c.in_err-check_ranges.ensures c.args.ruleset.now (sym c.deref.ensures.value) spans)
+
+pub returns-in_err-add_entry-clause-fault : goal.returns-in_err-add_entry-clause-fault
+returns-in_err-add_entry-clause-fault c = λ spans rules.
+    let p = err_from_is_err_and c.from_residual-in_err-add_entry.result c.from_residual-in_err-add_entry.ensures.1 in
+    let t = c.args.builder.now in
+    let u = c.loop-entry.builder in
+    let n = c.args.numbers.now in
+    let xs = c.deref-entry-items.result.now in
+    let i = c.loop-entry.entry-index in
+    let this = c.entry-item.result in
+    rw (p.1, p.2) (c.in_err-add_entry.ensures.fault c.args.ruleset.now (take i xs) (drop (suc i) xs)
+    (sym c.deref-entry-items.ensures.value ∙ split-at xs i this c.loop-entry-test.true c.entry-item.is)
+    (sources-of (may_stand t.definitions.properties) n (take i xs) u (ap (λ (w : TableValue). w.entries) c.loop-entry.invariant.others)) rules)

@@ -1,13 +1,15 @@
 use Rattle.std.proofs.Common.{◌≡◌, ℕ, ◌+◌, ◌-◌, ◌∷◌, [], ◌++◌, List, length, sym, ap, subst, ◌∙◌, arith}
+use Rattle.std.proofs.lemmas.Result.{err_from_is_err_and}
 use Rattle.lgr_text.specs.Records.{entry}
 use Rattle.lgr_table.specs.Tables.{may_stand}
 use Rattle.lgr_table.specs.inner.EntrySteps.{AddsSources}
 use Rattle.lgr_table.proofs.EntryLemmas.{same_definitions, singles, singles-push, sources-more, sources-none}
+use Rattle.lgr_table.proofs.SourceLemmas.{range-again}
 use Rattle.ruleset_text.specs.Definitions.{Definitions}
 use Rattle.lgr_table.proofs.entries.add_range.Goals as goal
 
-pub returns-then-span : goal.returns-then-span
-returns-then-span c =
+pub returns-then-span-clause-added : goal.returns-then-span-clause-added
+returns-then-span-clause-added c =
     let t = c.args.builder.now in
     let may = may_stand t.definitions.properties in
     let first = c.args.span.first in
@@ -42,14 +44,23 @@ loop-offset-preserved c =
     let k = c.loop-offset.offset in
     let here : List (List ℕ) = ((first + k) ∷ []) ∷ [] in
     let same = same_definitions may n e (singles first k) t u c.loop-offset.invariant in
-    let one : AddsSources may n e here u v = subst (λ (d : Definitions). AddsSources (may_stand d.properties) n e here u v) same c.in_ok-add_source.ensures in
+    let one : AddsSources may n e here u v = subst (λ (d : Definitions). AddsSources (may_stand d.properties) n e here u v) same c.in_ok-add_source.ensures.added in
     subst (λ (l : List (List ℕ)). AddsSources may n e l t v) (sym (singles-push first k))
     (sources-more may n e (singles first k) here t u v c.loop-offset.invariant one)
 
-pub returns : goal.returns
-returns c =
+pub returns-clause-added : goal.returns-clause-added
+returns-clause-added c =
     let t = c.args.builder.now in
     let first = c.args.span.first in
     let all : c.loop-offset.offset ≡ c.args.span.last + 1 - first = omega arith in
     subst (λ k. AddsSources (may_stand t.definitions.properties) c.args.numbers.now (entry c.args.entry.now) (singles first k) t c.loop-offset.builder) all
     c.loop-offset.invariant
+
+pub returns-in_err-add_source-clause-again : goal.returns-in_err-add_source-clause-again
+returns-in_err-add_source-clause-again c =
+    let t = c.args.builder.now in
+    let first = c.args.span.first in
+    let p = err_from_is_err_and c.from_residual.result c.from_residual.ensures.1 in
+    let has = range-again (may_stand t.definitions.properties) c.args.numbers.now (entry c.args.entry.now) first (c.args.span.last + 1 - first) c.loop-offset.offset t c.loop-offset.builder c.in_err-add_source.field-0.0
+    c.loop-offset.invariant (omega arith) c.in_err-add_source.ensures.again in
+    rw (p.1, p.2) has

@@ -17,8 +17,10 @@ returns c = record {
   end_of_range = refl;
   no_label_has_it = refl;
   in_order = refl;
-  needed = refl;
-  not_needed = refl;
+  staying = refl;
+  untyped_beside_types = refl;
+  without_any = refl;
   each_typed = refl;
-  typed_in_no_label = refl;
+  types_in_no_label = refl;
+  nothing_in_a_label = refl;
 }

@@ -20,8 +20,8 @@ loop-variant-preserved c =
     (one-more p (map variant (take i xs)) (variant this) c.loop-variant.found c.in_ok-now.now c.loop-variant.invariant
     c.in_ok-now.ensures.found c.in_ok-now.ensures.alone c.in_ok-now.ensures.bare)
 
-pub returns : goal.returns
-returns c =
+pub returns-clause-of_one_type : goal.returns-clause-of_one_type
+returns-clause-of_one_type c =
     let p = is_reflexive c.args.source.now in
     let xs = c.deref-variant-items.result.now in
     let ys = c.args.entry.now.variants.items in

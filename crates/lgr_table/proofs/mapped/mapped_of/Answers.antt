@@ -22,5 +22,5 @@ returns-clause-is c =
     let first : c.push.new.self.items ≡ m ∷ [] = c.in_ok-push.ensures.items ∙ ap (λ l. l ++ m ∷ []) c.new-mapped.ensures.items in
     entry-pushed d c.push.new.self.items c.push_variants.new.mapped.items m s (reflexive_type n s (map variant c.args.entry.now.variants.items)) _
     (variants_of may n s (map variant c.args.entry.now.variants.items)) first refl c.in_ok-points.ensures.items
-    (c.in_ok-type_name.ensures ∙ c.reflexive_type-number.ensures ∙ ap (λ l. reflexive_type n s (map variant l)) c.deref.ensures.value) c.in_ok-condition.ensures
-    (subst (λ l. PushesVariants d c.push.new.self.items c.push_variants.new.mapped.items (variants_of may n s (map variant l))) c.deref-2.ensures.value c.in_ok-push_variants.ensures)
+    (c.in_ok-type_name.ensures ∙ c.reflexive_type-number.ensures ∙ ap (λ l. reflexive_type n s (map variant l)) c.deref.ensures.value) c.in_ok-condition.ensures.called
+    (subst (λ l. PushesVariants d c.push.new.self.items c.push_variants.new.mapped.items (variants_of may n s (map variant l))) c.deref-2.ensures.value c.in_ok-push_variants.ensures.pushed)

@@ -1,21 +1,24 @@
 use Rattle.std.proofs.Common.{◌≡◌, ◌+◌, ◌<◌, ℕ, List, length, get_or, map, take, refl, sym, ap, subst, ◌∙◌}
 use Rattle.std.specs.Prelude.{◌↔◌, IsTrue}
 use Rattle.std.proofs.lemmas.List.{take_all}
+use Rattle.std.proofs.lemmas.Result.{err_from_is_err_and}
 use Rattle.idn_class.specs.declared.properties.Properties.{Properties}
 use Rattle.label_patterns.specs.Sets.{is_in}
 use Rattle.ruleset_text.specs.Definitions.{Definitions}
-use Rattle.lgr_text.specs.DefinitionOrder.{IsOrder}
-use Rattle.lgr_text.specs.Records.{definition, entry}
+use Rattle.lgr_text.specs.DefinitionOrder.{IsOrder, IsOrderFault}
+use Rattle.lgr_text.specs.Records.{definition, entry, file}
 use Rattle.lgr_text.specs.declared.records.Definition.{Definition as Held}
 use Rattle.lgr_text.specs.declared.records.Entry.{Entry as HeldEntry}
 use Rattle.lgr_table.specs.Meanings.{IsKept}
 use Rattle.lgr_table.specs.Tables.{may_stand}
 use Rattle.lgr_table.specs.inner.RuleSteps.{known_by}
+use Rattle.lgr_table.specs.inner.TableNames.{AreRuleNames}
+use Rattle.lgr_table.proofs.TableNameLemmas.{names-none, names-with}
 use Rattle.lgr_table.proofs.OtherRulesLemmas.{others-too}
-use Rattle.lgr_table.proofs.RuleLemmas.{adds-rules}
+use Rattle.lgr_table.proofs.RuleLemmas.{adds-rules, all-rules}
 use Rattle.lgr_table.proofs.StepLemmas.{meaning-formed, taken-step}
 use Rattle.lgr_table.proofs.TakenLemmas.{AreTaken}
-use Rattle.lgr_table.proofs.TakenOrderLemmas.{chosen}
+use Rattle.lgr_table.proofs.TakenOrderLemmas.{chosen, within}
 use Rattle.lgr_table.proofs.rules.define_rules.Goals as goal
 
 pub take-requires-clause-meaning : goal.take-requires-clause-meaning
@@ -46,6 +49,7 @@ loop-number-preserved c =
       sets = c.in_ok-take.ensures.sets;
       branches = c.in_ok-take.ensures.branches;
       others = others-too c.args.builder.now c.loop-number.builder c.take.new.builder c.loop-number.invariant.others c.in_ok-take.ensures.others;
+      called = c.in_ok-take.ensures.called c.loop-number.invariant.called;
     }
 
 pub returns : goal.returns
@@ -74,5 +78,28 @@ returns c =
     (subst (λ (o : List ℕ). AreTaken (map entry c.deref-2.result.now) points
     (known_by (map entry c.deref-2.result.now) points c.loop-number.taken u.definitions.rules) u.definitions.sets
     (chosen (map definition raw) o)) all c.loop-number.invariant.taken) in
-    adds-rules own held order points (known_by (map entry held.entries.items) points c.loop-number.taken u.definitions.rules)
-    c.args.builder.now u is are taken refl c.loop-number.invariant.others
+    let known = known_by (map entry held.entries.items) points c.loop-number.taken u.definitions.rules in
+    let names = names-with c.args.types.now c.args.types.now c.deref-4.result.now held refl c.deref-4.ensures.value in
+    record {
+      added = adds-rules own held order points known c.args.builder.now u is are taken refl c.loop-number.invariant.others c.args.types.now
+          (subst (λ n. AreRuleNames n c.loop-number.taken.rule_names.items u.definitions) names c.loop-number.invariant.called);
+      all = all-rules own held order points known c.args.builder.now u is are taken refl c.loop-number.invariant.others;
+      fault = tt;
+    }
+
+pub returns-in-Err-clause-fault : goal.returns-in-Err-clause-fault
+returns-in-Err-clause-fault c =
+    c.of_order.ensures c.args.«ruleset».now
+    (subst (λ (l : List Held). IsOrderFault l c.in-Err.error) c.deref-3.ensures.value c.in-Err.ensures.fault)
+
+pub returns-in_err-take-clause-fault : goal.returns-in_err-take-clause-fault
+returns-in_err-take-clause-fault c =
+    let p = err_from_is_err_and c.from_residual-in_err-take.result c.from_residual-in_err-take.ensures.1 in
+    let raw = c.args.«ruleset».now.definitions.items in
+    let order = c.deref-number-items.result.now in
+    let is : IsOrder raw order =
+    subst (λ (l : List ℕ). IsOrder raw l) (sym c.deref-number-items.ensures.value)
+    (subst (λ (l : List Held). IsOrder l c.in-Ok.order.items) c.deref-3.ensures.value c.in-Ok.ensures.order) in
+    let i = c.loop-number.number-index in
+    rw (p.1, p.2) (c.in_err-take.ensures.fault c.args.«ruleset».now
+    (get_or order i 0, within raw order i is c.loop-number-test.true, sym c.index-definition.ensures) (ap (map entry) (sym c.deref-2.ensures.value)))

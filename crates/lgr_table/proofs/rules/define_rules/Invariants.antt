@@ -2,6 +2,7 @@ use Rattle.std.proofs.Common.{◌≡◌, map, take}
 use Rattle.lgr_text.specs.Records.{definition, entry}
 use Rattle.lgr_text.specs.inner.Branches.{HaveBranches}
 use Rattle.lgr_table.specs.inner.RuleSteps.{HasOtherRules, known_by}
+use Rattle.lgr_table.specs.inner.TableNames.{AreRuleNames, names_by}
 use Rattle.lgr_table.proofs.TakenLemmas.{AreTaken}
 use Rattle.lgr_table.proofs.TakenOrderLemmas.{chosen}
 use Rattle.lgr_table.proofs.rules.define_rules.Given as goal
@@ -16,4 +17,5 @@ invariant-loop-number l = record {
   sets : l.made.sets.items ≡ l.builder.definitions.sets;
   branches : HaveBranches l.builder.definitions.rules;
   others : HasOtherRules l.initial.builder l.builder;
+  called : AreRuleNames (names_by l.names) l.taken.rule_names.items l.builder.definitions;
 }

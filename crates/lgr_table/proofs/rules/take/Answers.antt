@@ -6,7 +6,9 @@ use Rattle.ruleset_text.specs.Definitions.{Definitions}
 use Rattle.lgr_text.specs.Known.{known as known_of}
 use Rattle.lgr_text.specs.Records.{entry, meaning, part}
 use Rattle.lgr_table.specs.inner.RuleSteps.{AddsMeaning, known_by}
+use Rattle.lgr_table.specs.inner.TableNames.{AreRuleNames, names_by}
 use Rattle.lgr_table.proofs.StepLemmas.{rule-adds}
+use Rattle.lgr_table.proofs.FaultLemmas.{told-class, told-rule}
 use Rattle.lgr_table.proofs.rules.take.Goals as goal
 
 pub returns-in_ok-push-in-Ok-pattern_of_rule-clause-added :
@@ -42,3 +44,28 @@ returns-in_ok-push-in-Ok-pattern_of_rule-clause-added c =
     subst (λ m. AddsMeaning known old.sets c.args.definition.now.name (meaning m)
     (known_by entries points (record taken { rule_names = c.push.new.self }) c.define_rule.new.builder.definitions.rules) final)
     (sym c.in-Rule.is) adds
+
+pub returns-in-Err-clause-fault : goal.returns-in-Err-clause-fault
+returns-in-Err-clause-fault c = λ r among same.
+    let known = known_by (map entry c.args.repertoire.entries.now) c.args.repertoire.points.now c.args.taken.now (map pattern c.rules-rules.result.now) in
+    c.of_rule.ensures r (told-class r c.args.definition.now known _ _ among (sym same) (ap meaning c.in-Class.is) c.in-Err.ensures.fault)
+
+pub returns-in-Err-pattern_of_rule-clause-fault : goal.returns-in-Err-pattern_of_rule-clause-fault
+returns-in-Err-pattern_of_rule-clause-fault c = λ r among same.
+    let entries : (known_of c.known-known.result).entries ≡ map entry r.entries.items = ap (λ k. k.entries) c.known-known.ensures ∙ sym same in
+    c.of_rule-in-Err-pattern_of_rule.ensures r
+    (told-rule r c.args.definition.now (known_of c.known-known.result) c.args.made.now.atoms_left (part c.in-Rule.rule) _ among entries
+    (ap meaning c.in-Rule.is) c.in-Err-pattern_of_rule.ensures.fault)
+
+pub returns-in_ok-push-in-Ok-pattern_of_rule-clause-called :
+    goal.returns-in_ok-push-in-Ok-pattern_of_rule-clause-called
+returns-in_ok-push-in-Ok-pattern_of_rule-clause-called c = λ are.
+    let names = names_by c.args.names in
+    let taken = c.args.taken.now in
+    let name = c.as_slice-name.result.now in
+    let more : c.push.new.self.items ≡ taken.rule_names.items ++ name ∷ [] =
+    c.in_ok-push-in-Ok-pattern_of_rule.ensures.items
+    ∙ ap (λ (n : List ℕ). taken.rule_names.items ++ n ∷ []) c.in_ok-copied-in-Ok-pattern_of_rule.ensures in
+    subst (λ l. AreRuleNames names l c.define_rule.new.builder.definitions) (sym more)
+    (c.in_ok-define_rule-in-Ok-pattern_of_rule.ensures.called taken.rule_names.items
+    (c.in_ok-define_sets-in-Ok-pattern_of_rule.ensures.called taken.rule_names.items are))

@@ -1,47 +1,70 @@
-use Rattle.std.proofs.Common.{ap, subst, sym, ◌∙◌}
+use Rattle.std.proofs.Common.{ℕ, List, Option, ap, subst, sym, ◌∙◌}
+use Rattle.std.proofs.lemmas.Result.{err_from_is_err_and}
 use Rattle.lgr_text.specs.Records.{file}
 use Rattle.lgr_table.specs.Tables.{IsTableOf, may_stand}
 use Rattle.lgr_table.specs.inner.Steps.{AddsRules, AddsTypes}
 use Rattle.variant_table.specs.WellFormed.{IsTable}
 use Rattle.lgr_table.proofs.TableLemmas.{is_table_of, names_still, no_actions, no_demands, no_entries, no_rules, no_types, rules_counted, types_counted}
+use Rattle.lgr_table.specs.inner.FaultSteps.{HasRulesOf}
 use Rattle.lgr_table.proofs.table.table_of.Goals as goal
 
 pub define_types-requires : goal.define_types-requires
 define_types-requires c = no_types c.args.properties c.new-builder.result c.new-builder.ensures
 
 pub define_rules-requires-clause-none : goal.define_rules-requires-clause-none
-define_rules-requires-clause-none c = no_rules _ _ _ _ _ c.new-builder.ensures c.in_ok-types.ensures
+define_rules-requires-clause-none c = no_rules _ _ _ _ _ _ c.new-builder.ensures c.in-Ok.ensures
 
 pub define_actions-requires-clause-none : goal.define_actions-requires-clause-none
-define_actions-requires-clause-none c = no_actions _ _ _ _ _ _ _ _ c.new-builder.ensures c.in_ok-types.ensures c.in_ok-rules.ensures
+define_actions-requires-clause-none c = no_actions _ _ _ _ _ _ _ _ _ c.new-builder.ensures c.in-Ok.ensures
+    (subst (λ (l : List (Option (List ℕ))). AddsRules (may_stand c.define_types.new.builder.definitions.properties) (file c.args.ruleset.now) l
+    c.in_ok-rules.rules.items c.define_types.new.builder c.define_rules.new.builder) c.deref.ensures.value c.in_ok-rules.ensures.added)
 
 pub define_actions-requires-clause-no_demands : goal.define_actions-requires-clause-no_demands
-define_actions-requires-clause-no_demands c = no_demands _ _ _ _ _ _ _ _ c.new-builder.ensures c.in_ok-types.ensures c.in_ok-rules.ensures
+define_actions-requires-clause-no_demands c = no_demands _ _ _ _ _ _ _ _ _ c.new-builder.ensures c.in-Ok.ensures
+    (subst (λ (l : List (Option (List ℕ))). AddsRules (may_stand c.define_types.new.builder.definitions.properties) (file c.args.ruleset.now) l
+    c.in_ok-rules.rules.items c.define_types.new.builder c.define_rules.new.builder) c.deref.ensures.value c.in_ok-rules.ensures.added)
 
 pub define_actions-requires-clause-rules : goal.define_actions-requires-clause-rules
 define_actions-requires-clause-rules c =
-    rules_counted _ _ _ c.new-numbers.result _ _ c.in_ok-rules.ensures (subst IsTable c.builder-2.view_is c.builder-2.invariant.table) (ap (λ n. n.rules) (sym c.new-numbers.ensures))
+    rules_counted _ _ _ _ c.new-numbers.result _ _ c.in_ok-rules.ensures.added (subst IsTable c.builder-2.view_is c.builder-2.invariant.table) (ap (λ n. n.rules) (sym c.new-numbers.ensures))
 
 pub add_entries-requires-clause-none : goal.add_entries-requires-clause-none
 add_entries-requires-clause-none c =
-    no_entries _ _ _ _ _ _ _ _ _ _ c.new-builder.ensures c.in_ok-types.ensures c.in_ok-rules.ensures c.in_ok-define_actions.ensures
+    no_entries _ _ _ _ _ _ _ _ _ c.new-builder.ensures c.in-Ok.ensures
+    (subst (λ (l : List (Option (List ℕ))). AddsRules (may_stand c.define_types.new.builder.definitions.properties) (file c.args.ruleset.now) l
+    c.in_ok-rules.rules.items c.define_types.new.builder c.define_rules.new.builder) c.deref.ensures.value c.in_ok-rules.ensures.added) _ _ c.in_ok-define_actions.ensures.added
 
 pub add_entries-requires-clause-types : goal.add_entries-requires-clause-types
 add_entries-requires-clause-types c =
-    types_counted _ _ _ _ c.new-numbers.result _ _ _ _ c.in_ok-types.ensures c.in_ok-rules.ensures c.in_ok-define_actions.ensures (ap (λ n. n.types) (sym c.new-numbers.ensures))
+    types_counted _ _ _ _ _ c.new-numbers.result _ _ _ _ c.in-Ok.ensures
+    (subst (λ (l : List (Option (List ℕ))). AddsRules (may_stand c.define_types.new.builder.definitions.properties) (file c.args.ruleset.now) l
+    c.in_ok-rules.rules.items c.define_types.new.builder c.define_rules.new.builder) c.deref.ensures.value c.in_ok-rules.ensures.added) c.in_ok-define_actions.ensures.added (ap (λ n. n.types) (sym c.new-numbers.ensures))
 
 pub add_entries-requires-clause-rules : goal.add_entries-requires-clause-rules
 add_entries-requires-clause-rules c =
-    names_still _ _ _ _ c.in_ok-define_actions.ensures
-    ∙ rules_counted _ _ _ c.new-numbers.result _ _ c.in_ok-rules.ensures (subst IsTable c.builder-2.view_is c.builder-2.invariant.table) (ap (λ n. n.rules) (sym c.new-numbers.ensures))
+    names_still _ _ _ _ c.in_ok-define_actions.ensures.added
+    ∙ rules_counted _ _ _ _ c.new-numbers.result _ _ c.in_ok-rules.ensures.added (subst IsTable c.builder-2.view_is c.builder-2.invariant.table) (ap (λ n. n.rules) (sym c.new-numbers.ensures))
 
-pub returns : goal.returns
-returns c =
+pub returns-clause-table : goal.returns-clause-table
+returns-clause-table c =
     let r = file c.args.ruleset.now in
     let made = sym c.new-numbers.ensures in
-    let types = subst (λ n. AddsTypes r n.types c.new-builder.result c.define_types.new.builder) made c.in_ok-types.ensures in
-    let rules = subst (λ n. AddsRules (may_stand c.define_types.new.builder.definitions.properties) r n.rules c.define_types.new.builder c.define_rules.new.builder) made c.in_ok-rules.ensures in
+    let types = subst (λ n. AddsTypes (may_stand c.new-builder.result.definitions.properties) r n.types c.new-builder.result c.define_types.new.builder) made c.in-Ok.ensures in
+    let rules =
+    subst (λ n. AddsRules (may_stand c.define_types.new.builder.definitions.properties) r n.types n.rules c.define_types.new.builder c.define_rules.new.builder) made
+    (subst (λ (l : List (Option (List ℕ))). AddsRules (may_stand c.define_types.new.builder.definitions.properties) (file c.args.ruleset.now) l
+    c.in_ok-rules.rules.items c.define_types.new.builder c.define_rules.new.builder) c.deref.ensures.value c.in_ok-rules.ensures.added) in
     subst (IsTableOf c.args.properties r) (sym c.finish.ensures)
     (is_table_of c.args.properties r c.new-numbers.result c.new-builder.result c.define_types.new.builder c.define_rules.new.builder c.define_actions.new.builder c.add_entries.new.builder
-    c.new-builder.ensures types rules c.in_ok-define_actions.ensures c.in_ok-add_entries.ensures
+    c.new-builder.ensures types rules c.in_ok-define_actions.ensures.added c.in_ok-add_entries.ensures.added
     (subst IsTable c.builder-4.view_is c.builder-4.invariant.table))
+
+pub returns-in_err-define_actions-clause-fault : goal.returns-in_err-define_actions-clause-fault
+returns-in_err-define_actions-clause-fault c =
+    let p = err_from_is_err_and c.from_residual-in_err-define_actions.result c.from_residual-in_err-define_actions.ensures.1 in
+    rw (p.1, p.2) (c.in_err-define_actions.ensures.fault (subst (λ n. HasRulesOf c.args.ruleset.now n.rules) (sym c.new-numbers.ensures) c.in_ok-rules.ensures.all))
+
+pub returns-in_err-add_entries-clause-fault : goal.returns-in_err-add_entries-clause-fault
+returns-in_err-add_entries-clause-fault c =
+    let p = err_from_is_err_and c.from_residual-in_err-add_entries.result c.from_residual-in_err-add_entries.ensures.1 in
+    rw (p.1, p.2) (c.in_err-add_entries.ensures.fault c.requires.entries (subst (λ n. HasRulesOf c.args.ruleset.now n.rules) (sym c.new-numbers.ensures) c.in_ok-rules.ensures.all))
