@@ -150,13 +150,13 @@ module _ (form : Form) (wanted : Bool) (properties : Properties) (n : Notation) 
 
   known : (fault : xml_faults.TableFault) (line : ℕ) → xml.IsToldOf text (Fault fault line) → IsFaultOfRuleset text fault line
   known lgr.Syntax line told = told
-  known lgr.SameSource line told = tt
-  known lgr.SameVariant line told = tt
-  known lgr.BadClass line told = tt
+  known lgr.SameSource line told = told
+  known lgr.SameVariant line told = told
+  known lgr.BadClass line told = told
   known lgr.Limit line told = tt
-  known lgr.NoSuchName line told = tt
-  known lgr.SameName line told = tt
-  known lgr.NotSupported line told = tt
+  known lgr.NoSuchName line told = told
+  known lgr.SameName line told = told
+  known lgr.NotSupported line told = told
 
   -- and of a ruleset in XML
   pub tells_ruleset : (fault : xml_faults.TableFault) (line : ℕ) → is_in_xml n text ≡ true → xml.IsToldOf text (Fault fault line)

@@ -9,7 +9,7 @@ ghost use Rattle.idn_text.specs.Points.{AreScalarValues, utf8_of};
 ghost use Rattle.variant_list.specs.Labels.{label_cmp};
 ghost use Rattle.registered_labels.specs.declared.labels.RegisteredFileFault.TheVariants as faults;
 ghost use Rattle.idn_class.specs.declared.properties.Properties.{Properties};
-ghost use Rattle.registered_labels.specs.Registered.{AreRegistered, IsBetween, IsFirstFrom, IsFirstAfter};
+ghost use Rattle.registered_labels.specs.Registered.{AreRegistered, IsBetween, IsFirstFrom};
 ghost use Rattle.registered_labels.specs.inner.Readings.{IsLineEnd, IsReadAs};
 
 use crate::order::order_of;
@@ -23,6 +23,10 @@ use std::marker::Model;
 
 /// The most bytes of a label in UTF-8.
 const MAX_KEY_LEN: usize = 4 * MAX_LABEL_LEN;
+
+/// How many times as long as the step before each step of a search is. Few steps are made to labels that are far, and
+/// what is left between two of them is halved.
+const STEP_GROWTH: usize = 16;
 
 /// The most bytes of a text, so that 32 bits tell each place in it.
 const MAX_TEXT_LEN: usize = 0xFFFF_FFFF;
@@ -138,8 +142,20 @@ impl<'a> RegisteredLabels<'a> {
         requires { index < length self.now }
         ensures { option_map utf8_of (slice_get self.now index) ≡ Some result.now }
     {
+        let (text, len) = self.text_from(index);
+        &text[..len]
+    }
+
+    /// The text from the label of this number on, and how many of its bytes are the label's.
+    #[inline]
+    fn text_from(&self, index: usize) -> (&[u8], usize)
+        requires { index < length self.now }
+        ensures within { result.1 ≤ length result.0.now }
+        ensures label { option_map utf8_of (slice_get self.now index) ≡ Some (take result.1 result.0.now) }
+    {
         let span = self.spans[index];
-        &self.text[span.start as usize..span.end as usize]
+        let (start, end) = (span.start as usize, span.end as usize);
+        (&self.text[start..], end - start)
     }
 
     /// Leaves the code points of the label of this number in `points`.
@@ -154,29 +170,35 @@ impl<'a> RegisteredLabels<'a> {
         };
     }
 
-    /// Whether the UTF-8 of the label of this number is below this one.
-    fn is_below(&self, index: usize, key: &[u8]) -> bool
-        requires { index < length self.now }
-        ensures { option_map (λ v. is_lt (label_cmp (utf8_of v) key.now)) (slice_get self.now index) ≡ Some result }
+    /// Whether the UTF-8 of the label of this number is below a key, the first `len` bytes of `key`.
+    #[inline]
+    fn is_below(&self, index: usize, key: &[u8], len: usize) -> bool
+        requires index { index < length self.now }
+        requires len { len ≤ length key.now }
+        ensures { option_map (λ v. is_lt (label_cmp (utf8_of v) (take len key.now))) (slice_get self.now index) ≡
+            Some result }
     {
-        self.line(index).cmp(&key).is_lt()
+        let (text, label_len) = self.text_from(index);
+        order_of(text, label_len, key, len).is_lt()
     }
 
-    /// Two numbers between which the first label from number `from` on is that is no less than the label of this UTF-8.
-    /// It looks at one label after each step, and each step is twice as long as the one before.
-    fn enclose(&self, from: usize, key: &[u8]) -> (usize, usize)
-        requires { from ≤ length self.now }
-        ensures { (label : List ℕ) → utf8_of label ≡ key.now → IsBetween self.now from label result.0 result.1 }
+    /// Two numbers between which the first label from number `from` on is that is no less than the label of which the
+    /// first `len` bytes of `key` are the UTF-8. It looks at one label after each step.
+    fn enclose(&self, from: usize, key: &[u8], len: usize) -> (usize, usize)
+        requires from { from ≤ length self.now }
+        requires len { len ≤ length key.now }
+        ensures { (label : List ℕ) → utf8_of label ≡ take len key.now →
+            IsBetween self.now from label result.0 result.1 }
     {
         let mut low = from;
         let mut step = 1;
         while step <= self.len() - low {
             let place = low + step - 1;
-            if !self.is_below(place, key) {
+            if !self.is_below(place, key, len) {
                 return (low, place);
             }
             low = place + 1;
-            step = step.saturating_mul(2);
+            step = step.saturating_mul(STEP_GROWTH);
         }
         (low, self.len())
     }
@@ -191,38 +213,18 @@ impl<'a> RegisteredLabels<'a> {
     {
         // Only for the proof: the contract of `len` says that the labels are in label order.
         let _count = self.len();
-        let mut room = [0; MAX_KEY_LEN];
-        let len = put_points(label, &mut room, 0);
-        let key = &room[..len];
-        let (mut low, mut high) = self.enclose(from, key);
+        let mut key = [0; MAX_KEY_LEN];
+        let len = put_points(label, &mut key, 0);
+        let (mut low, mut high) = self.enclose(from, &key, len);
         while low < high {
             let middle = low + (high - low) / 2;
-            if self.is_below(middle, key) {
+            if self.is_below(middle, &key, len) {
                 low = middle + 1;
             } else {
                 high = middle;
             }
         }
         low
-    }
-
-    /// The number of the first label that is greater than this one, or how many labels there are if none is.
-    pub fn first_after(&self, label: &[u32]) -> usize
-        requires short { length label.now ≤ 63 }
-        requires scalar_values { AreScalarValues label.now }
-        ensures { IsFirstAfter self.now label.now result }
-    {
-        let place = self.first_from(0, label);
-        if place >= self.len() {
-            return place;
-        }
-        let mut points = ArrayVec::new();
-        self.decode(place, &mut points);
-        if points.as_slice() == label {
-            place + 1
-        } else {
-            place
-        }
     }
 }
 

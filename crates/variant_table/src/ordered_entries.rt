@@ -1,5 +1,9 @@
 //! Entries with different sources, and the order of their sources.
-ghost use Rattle.std.specs.Prelude.{◌≡◌, ◌↔◌, ◌<◌, ◌^◌, [], length, slice_get, Some, IfOk, OnErr, false};
+ghost use Rattle.std.specs.Prelude.{◌≡◌, ◌≢◌, ◌↔◌, ◌<◌, ◌^◌, [], length, nat_eq, slice_get, slice_index};
+ghost use Rattle.std.specs.Prelude.{Some, IfOk, IsTrue, OnErr, false};
+ghost use Rattle.std.specs.Cmp.Lexicographic.{slice_cmp};
+ghost use Rattle.std.specs.List.{starts_with};
+ghost use Rattle.std.specs.Ordering.{nat_cmp};
 ghost use Rattle.variant_table.specs.Entries.{entry_from};
 ghost use Rattle.variant_table.specs.inner.Order.{IsOrderOf, IsPlaceFor, begins_at as begins_at_place, HasNoLonger};
 ghost use Rattle.variant_table.specs.Places.{entry_with};
@@ -127,7 +131,7 @@ fn search(entries: &Entries, order: &[u16], source: &[u32]) -> SourcePlace
     // The last source is compared first, since the sources of most tables rise.
     let mut place = high.saturating_sub(1);
     while low < high {
-        match entries.get(order[place] as usize).source().cmp(&source) {
+        match order_of(entries.get(order[place] as usize).source(), source) {
             Ordering::Less => low = place + 1,
             Ordering::Equal => return SourcePlace::Found(place),
             Ordering::Greater => high = place,
@@ -137,14 +141,38 @@ fn search(entries: &Entries, order: &[u16], source: &[u32]) -> SourcePlace
     SourcePlace::Absent(low)
 }
 
+/// The order of two sequences. Most differ in their first code points, which are compared alone first.
+#[inline]
+fn order_of(one: &[u32], other: &[u32]) -> Ordering
+    ensures { result ≡ slice_cmp nat_cmp one.now other.now }
+{
+    if differ_first(one, other) {
+        return one[0].cmp(&other[0]);
+    }
+    one.cmp(&other)
+}
+
+/// Whether two sequences have first code points, and these differ.
+#[inline]
+fn differ_first(one: &[u32], other: &[u32]) -> bool
+    ensures some { IsTrue result → (0 < length one.now) × (0 < length other.now) }
+    ensures differ { IsTrue result → slice_index one.now 0 ≢ slice_index other.now 0 }
+{
+    !one.is_empty() && !other.is_empty() && one[0] != other[0]
+}
+
 /// Whether there is a source at this place of the order that begins with a sequence.
 fn begins_at(entries: &Entries, order: &[u16], place: usize, sequence: &[u32]) -> bool
     requires { IsOrderOf entries.now order.now }
     ensures { result ≡ begins_at_place entries.now order.now place sequence.now }
 {
-    place < order.len()
-        && entries
-            .get(order[place] as usize)
-            .source()
-            .starts_with(sequence)
+    place < order.len() && begins_with(entries.get(order[place] as usize).source(), sequence)
+}
+
+/// Whether a source begins with a sequence.
+#[inline]
+fn begins_with(source: &[u32], sequence: &[u32]) -> bool
+    ensures { result ≡ starts_with nat_eq source.now sequence.now }
+{
+    !differ_first(source, sequence) && source.starts_with(sequence)
 }

@@ -20,7 +20,7 @@ ghost use Rattle.idn2_output.specs.declared.stop.Stop.TheVariants as stop;
 use crate::modes::asked::Asked;
 use crate::modes::block::{is_reached, write_end, write_stop};
 use crate::modes::cached_line::CachedLine;
-use crate::modes::decided::{Decisions, is_either, may_be_registered};
+use crate::modes::decided::{Decisions, is_either};
 use crate::modes::search::Near;
 use answer_json::{Input, Regards};
 use arrayvec::ArrayVec;
@@ -89,8 +89,7 @@ fn find_collisions(
         if is_itself_left_out(options, asked, label) {
             continue;
         }
-        let may_be_registered = may_be_registered(alloc, label, options.properties)?;
-        let regards = decisions.regards(alloc, label, may_be_registered)?;
+        let regards = decisions.regards(alloc, label, options.properties)?;
         if !is_either(regards) {
             continue;
         }
@@ -109,9 +108,32 @@ fn is_itself_left_out(options: &Options, asked: &[u32], label: &[u32]) -> bool
     options.others && label == asked
 }
 
+/// Writes the block of the labels that were found: most have none, and then only its end.
+fn write_found<W: Sink, E: Sink>(
+    asked: &Asked<'_>,
+    options: &Options,
+    label: &[u32],
+    registered: &RegisteredLabels<'_>,
+    found: &[Collision],
+    console: &mut Console<'_, '_, W, E>,
+) -> Result<(), Stop>
+    requires short { length label.now ≤ 63 }
+    requires scalar_values { AreScalarValues label.now }
+    requires all { (properties : Properties) × AreRegistered properties registered.now }
+    requires within { AreWithin registered.now found.now }
+    ensures written { Emits console.old console.new
+        (lines_to asked.now (told_block options.now label.now registered.now found.now)) result }
+    ensures why { IfErr result (λ why. why ≡ stop.Output) }
+{
+    if found.is_empty() {
+        return write_ending(asked, options, label, registered, found, console);
+    }
+    write_lines(asked, options, label, registered, found, console)
+}
+
 /// Writes the lines of a block, and its end. Not inlined, so that what finds them needs no stack space for it.
 #[inline(never)]
-fn write_found<W: Sink, E: Sink>(
+fn write_lines<W: Sink, E: Sink>(
     asked: &Asked<'_>,
     options: &Options,
     label: &[u32],

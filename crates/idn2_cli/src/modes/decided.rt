@@ -99,19 +99,18 @@ impl<'l> Decisions<'l> {
         self.label
     }
 
-    /// What another label of at most 63 code points is to the label, and back, by whether it may be registered; then it
-    /// has some. Of the label itself that takes no memory.
+    /// What another label of at most 63 code points is to the label, and back, by the properties by which labels may be
+    /// registered. Of the label itself that takes no memory.
     pub fn regards(
         &mut self,
         alloc: Global,
         other: &[u32],
-        may_be_registered: bool,
+        properties: Properties,
     ) -> Result<Regards, AllocError>
         requires decides { Decides self.old }
-        requires some { may_be_registered ≡ true → 1 ≤ length other.now }
         requires short { length other.now ≤ 63 }
         ensures regards { IfOk result (λ regards. (o : Settings) → IsGood o self.old.table.now self.old.label.now →
-            (IsTrue may_be_registered ↔ IsRegistrable o.properties other.now) →
+            o.properties ≡ properties →
             regards ≡ regards_of (is_registrable o.properties) self.old.table.now self.old.label.now other.now) }
         ensures no_memory { other.now ≡ self.old.label.now → IsOk result }
         ensures decides { Decides self.new }
@@ -120,6 +119,7 @@ impl<'l> Decisions<'l> {
         if other == self.label {
             return Ok(self.own_regards());
         }
+        let may_be_registered = may_be_registered(alloc, other, properties)?;
         self.make_listing(alloc)?;
         let standing = self.standing_of(alloc, other, may_be_registered)?;
         let there = self.there(alloc, other, standing)?;
@@ -297,7 +297,7 @@ fn is_something(regard: Regard) -> bool
 }
 
 /// Whether a label may be registered.
-pub(crate) fn may_be_registered(
+fn may_be_registered(
     alloc: Global,
     label: &[u32],
     properties: Properties,

@@ -23,7 +23,6 @@ use crate::modes::asked::Asked;
 use crate::modes::cached_line::CachedLine;
 use crate::modes::code_points::PointAnswering;
 use crate::modes::collisions::columns_of;
-use crate::modes::decided::may_be_registered;
 use crate::modes::search::{Near, Search};
 use answer_json::{Input, Regards};
 use idn_class::Properties;
@@ -112,8 +111,7 @@ fn write_least<W: Sink, E: Sink>(
         return write_none(asked, console);
     };
     let label = cursor.last();
-    let may_be_registered = may_be_registered(alloc, label, mode.properties)?;
-    let regards = decisions.regards(alloc, label, may_be_registered)?;
+    let regards = decisions.regards(alloc, label, mode.properties)?;
     write_label(asked, label, regards, console)
 }
 

@@ -12,5 +12,5 @@ get-requires c = number_below c.args.entries.now c.args.order.now c.requires c.a
 pub returns-then-place-order : goal.returns-then-place-order
 returns-then-place-order c =
     let source : source_at c.args.entries.now c.args.order.now c.args.place ≡ c.source.result.now = source-read c.args.entries.now c.args.order.now c.args.place c.get.result c.get.ensures ∙ sym c.source.ensures in
-    c.starts_with.ensures.value ∙ ap (λ s. starts_with nat_eq s c.args.sequence.now) (sym source)
+    c.begins_with.ensures ∙ ap (λ s. starts_with nat_eq s c.args.sequence.now) (sym source)
     ∙ ap (λ b. b && starts_with nat_eq (source_at c.args.entries.now c.args.order.now c.args.place) c.args.sequence.now) (sym (lt-ltb c.args.place (length c.args.order.now) c.if-place-order.true))

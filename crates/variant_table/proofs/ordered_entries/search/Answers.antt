@@ -26,8 +26,8 @@ loop-low-preserved c =
     let place : ℕ = c.loop-low.place in
     let between = c.loop-low.invariant.between c.loop-low-test.true in
     let within : place < length order = omega (arith, c.loop-low.invariant.within, between.1) in
-    let is : slice_cmp nat_cmp (source_at table order place) s ≡ c.cmp.result = ap (λ r. slice_cmp nat_cmp r s) (source-read table order place c.get.result c.get.ensures ∙ sym c.source.ensures) ∙ sym c.cmp.ensures in
-    elim c.match-cmp.branch [
+    let is : slice_cmp nat_cmp (source_at table order place) s ≡ c.order_of.result = ap (λ r. slice_cmp nat_cmp r s) (source-read table order place c.get.result c.get.ensures ∙ sym c.source.ensures) ∙ sym c.order_of.ensures in
+    elim c.match-order_of.branch [
       | in-Less w ↦ record {
         in_order = omega (arith, between.1, w.low-is, w.high-is);
         within = omega (arith, c.loop-low.invariant.within, w.high-is);

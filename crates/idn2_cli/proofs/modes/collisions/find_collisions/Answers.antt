@@ -1,17 +1,14 @@
-use Rattle.std.proofs.Common.{◌≡◌, ◌≤◌, ◌<◌, ◌+◌, ◌∙◌, ◌↔◌, ℕ, zero, suc, List, [], ◌∷◌, Option, Some, None, IfSome, Bool, true, false, length, refl, sym, ap, subst, arith, length-append}
-use Rattle.std.specs.Prelude.{slice_get, IsTrue}
+use Rattle.std.proofs.Common.{◌≡◌, ◌≤◌, ◌<◌, ◌+◌, ◌∙◌, ℕ, zero, suc, List, [], ◌∷◌, Option, Some, None, IfSome, Bool, true, false, length, refl, sym, ap, subst, arith, length-append}
+use Rattle.std.specs.Prelude.{slice_get}
 use Rattle.std.specs.List.{filter}
 use Rattle.std.proofs.lemmas.Option.{get_or_from_slice_get, slice_get_within}
 use Rattle.std.proofs.lemmas.List.Elements.{All-push}
 use Rattle.idn_class.specs.declared.properties.Properties.{Properties}
-use Rattle.idn_label.specs.FirstFault.{IsRegistrable}
-use Rattle.idn_label.proofs.RequirementLemmas.{MeetsRequirements-registrable}
 use Rattle.registered_labels.proofs.LabelLists.{short_at}
 use Rattle.registered_labels.specs.Collisions.{Matching, collisions_ahead}
 use Rattle.variant_table.specs.Entries.{TableValue}
 use Rattle.idn2_options.specs.Settings.{Settings, IsCount}
 use Rattle.answer_json.specs.declared.collision.Regards.{Regards}
-use Rattle.idn2_answers.proofs.AdmittedLabels.{some-length}
 use Rattle.idn2_answers.specs.Said as said
 use Rattle.idn2_answers.specs.Listings.{is_registrable}
 use Rattle.idn2_answers.specs.Collisions.{IsGood, is_found, is_itself_left_out, regards_of}
@@ -52,18 +49,12 @@ regards-requires-clause-short c =
     subst (λ (v : List ℕ). length v ≤ 63) (sym c.label-label.ensures)
     (short_at c.args.options.now.properties c.args.walk.now.registered c.in-Some.number c.advance.new.self.label c.requires.all at)
 
-pub regards-requires-clause-some : goal.regards-requires-clause-some
-regards-requires-clause-some c = λ may.
-    some-length c.label-label.result.now (MeetsRequirements-registrable c.options.inside.properties c.label-label.result.now (c.in_ok-may_be_registered.ensures.0 may)).some
-
 -- what is told of a registered label
-told-here : (o : Settings) (properties : Properties) (table : TableValue) (label u v : List ℕ) (d : Decisions) (may_be : Bool) (told : Regards) → IsOfPair table label d → u ≡ v → o.properties ≡ properties → IsGood o table label
-    → IsTrue may_be ↔ IsRegistrable properties u
-    → (IsGood o d.table.now d.label.now → IsTrue may_be ↔ IsRegistrable o.properties u → told ≡ regards_of (is_registrable o.properties) d.table.now d.label.now u)
+told-here : (o : Settings) (properties : Properties) (table : TableValue) (label u v : List ℕ) (d : Decisions) (told : Regards) → IsOfPair table label d → u ≡ v → o.properties ≡ properties → IsGood o table label
+    → (IsGood o d.table.now d.label.now → o.properties ≡ properties → told ≡ regards_of (is_registrable o.properties) d.table.now d.label.now u)
     → told ≡ regards_of (is_registrable o.properties) table label v
-told-here o properties table label u v d may_be told pair same by good may from =
-    let at : told ≡ regards_of (is_registrable o.properties) table label u =
-    told-of o table label u d told (IsTrue may_be ↔ IsRegistrable o.properties u) pair from good (subst (λ (p : Properties). IsTrue may_be ↔ IsRegistrable p u) (sym by) may) in
+told-here o properties table label u v d told pair same by good from =
+    let at : told ≡ regards_of (is_registrable o.properties) table label u = told-of o table label u d told (o.properties ≡ properties) pair from good by in
     at ∙ ap (regards_of (is_registrable o.properties) table label) same
 
 -- whether it is left out
@@ -105,7 +96,7 @@ near-preserved-then-not-is_either c =
       going = c.near.invariant.going;
       under_way =
           let kept = left-here o label c.label-asked.result.now next.label c.label-label.result.now false c.label-asked.ensures c.label-label.ensures (sym c.is_itself_left_out.ensures ∙ c.if-is_itself_left_out.false) in
-          let told = told-here o c.options.inside.properties table label c.label-label.result.now next.label c.near.decisions c.in_ok-may_be_registered.may_be_registered c.in_ok-regards.regards c.near.invariant.pair c.label-label.ensures (ap (λ (s : Settings). s.properties) (sym c.options.view_is)) c.requires.good c.in_ok-may_be_registered.ensures (c.in_ok-regards.ensures.regards o) in
+          let told = told-here o c.options.inside.properties table label c.label-label.result.now next.label c.near.decisions c.in_ok-regards.regards c.near.invariant.pair c.label-label.ensures (ap (λ (s : Settings). s.properties) (sym c.options.view_is)) c.requires.good (c.in_ok-regards.ensures.regards o) in
           under_way-passed o table label c.args.options.now.limit registered c.args.walk.now c.near.walk next c.near.found.items c.near.invariant.under_way c.in-Some.ensures.goes_on.found
           (test-other o table label next.label c.in_ok-regards.regards kept told ∙ sym c.is_either.ensures ∙ c.if-not-is_either.true);
     }
@@ -128,7 +119,7 @@ returns-then-is_reached-clause-block c =
     let one : Collision = record { number = c.in-Some.number; regards = c.in_ok-regards.regards } in
     let at = subst (λ (ls : List (List ℕ)). slice_get ls c.in-Some.number ≡ Some next.label) c.near.invariant.registered c.in-Some.ensures.number in
     let kept = left-here o label c.label-asked.result.now next.label c.label-label.result.now false c.label-asked.ensures c.label-label.ensures (sym c.is_itself_left_out.ensures ∙ c.if-is_itself_left_out.false) in
-    let told = told-here o c.options.inside.properties table label c.label-label.result.now next.label c.near.decisions c.in_ok-may_be_registered.may_be_registered c.in_ok-regards.regards c.near.invariant.pair c.label-label.ensures (ap (λ (s : Settings). s.properties) (sym c.options.view_is)) c.requires.good c.in_ok-may_be_registered.ensures (c.in_ok-regards.ensures.regards o) in
+    let told = told-here o c.options.inside.properties table label c.label-label.result.now next.label c.near.decisions c.in_ok-regards.regards c.near.invariant.pair c.label-label.ensures (ap (λ (s : Settings). s.properties) (sym c.options.view_is)) c.requires.good (c.in_ok-regards.ensures.regards o) in
     let count : c.len.result ≡ length c.near.found.items + 1 = omega (arith, c.len.ensures, c.push.new.self.ok, ap length c.in_ok-push.ensures.items, length-append c.near.found.items (one ∷ [])) in
     let reached : reaches c.args.options.now.limit (length c.near.found.items + 1) ≡ true = ap (reaches c.args.options.now.limit) (sym count) ∙ ap (λ (n : Option ℕ). reaches n c.len.result) (sym (ap (λ (s : Settings). s.limit) c.options.view_is)) ∙ sym c.is_reached.ensures ∙ c.if-is_reached.true in
     subst (λ (items : List Collision). found_block c.args.options.now.limit registered items ≡ lines_from (collision_line_by o table label) c.args.options.now.limit 0 (filter (is_found o table label) (collisions_ahead c.args.walk.now))) (sym c.in_ok-push.ensures.items)
@@ -157,7 +148,7 @@ near-preserved c =
       going = ap (λ (l : List Collision). reaches c.args.options.now.limit (length l)) items ∙ ap (reaches c.args.options.now.limit) (length-append c.near.found.items (one ∷ [])) ∙ going;
       under_way =
           let kept = left-here o label c.label-asked.result.now next.label c.label-label.result.now false c.label-asked.ensures c.label-label.ensures (sym c.is_itself_left_out.ensures ∙ c.if-is_itself_left_out.false) in
-          let told = told-here o c.options.inside.properties table label c.label-label.result.now next.label c.near.decisions c.in_ok-may_be_registered.may_be_registered c.in_ok-regards.regards c.near.invariant.pair c.label-label.ensures (ap (λ (s : Settings). s.properties) (sym c.options.view_is)) c.requires.good c.in_ok-may_be_registered.ensures (c.in_ok-regards.ensures.regards o) in
+          let told = told-here o c.options.inside.properties table label c.label-label.result.now next.label c.near.decisions c.in_ok-regards.regards c.near.invariant.pair c.label-label.ensures (ap (λ (s : Settings). s.properties) (sym c.options.view_is)) c.requires.good (c.in_ok-regards.ensures.regards o) in
           subst (IsUnderWay o table label c.args.options.now.limit registered c.args.walk.now next) (sym items)
           (under_way-found o table label c.args.options.now.limit registered c.args.walk.now c.near.walk next c.near.found.items one c.near.invariant.under_way c.in-Some.ensures.goes_on.found
           (test-other o table label next.label c.in_ok-regards.regards kept told ∙ sym c.is_either.ensures ∙ c.if-not-is_either.false) (said-found o table label registered one next.label at (ap (λ (r : Regards). said.Collision r next.label) told)) going);

@@ -1,8 +1,6 @@
-use Rattle.std.proofs.Common.{[], ◌∷◌, ◌≡◌, ◌∙◌, ℕ, List, Option, Some, ap, subst}
+use Rattle.std.proofs.Common.{[], ◌∷◌, ◌≡◌, ◌∙◌, ℕ, List, Option, Some, refl, ap, subst}
 use Rattle.std.specs.Prelude.{Contains}
 use Rattle.std.proofs.lemmas.Result.{err_from_is_err_and}
-use Rattle.idn_label.proofs.RequirementLemmas.{MeetsRequirements-registrable}
-use Rattle.idn2_answers.proofs.AdmittedLabels.{some-length}
 use Rattle.variant_table.specs.Entries.{TableValue}
 use Rattle.variant_list.specs.Positions.{Built, Position}
 use Rattle.variant_list.specs.Jumps.{HasNoneFrom, IsCandidate, IsLeastFrom}
@@ -21,11 +19,6 @@ returns-in_err-cursor-clause-written g c =
     let p = err_from_is_err_and c.from_residual.result c.from_residual.ensures.1 in
     rw (p.1, p.2) (stops_first _ _)
 
-pub returns-in_err-may_be_registered-clause-written : goal.returns-in_err-may_be_registered-clause-written
-returns-in_err-may_be_registered-clause-written g c =
-    let p = err_from_is_err_and c.from_residual-in_err-may_be_registered.result c.from_residual-in_err-may_be_registered.ensures.1 in
-    rw (p.1, p.2) (stops_first _ _)
-
 pub returns-in_err-regards-clause-written : goal.returns-in_err-regards-clause-written
 returns-in_err-regards-clause-written g c =
     let p = err_from_is_err_and c.from_residual-in_err-regards.result c.from_residual-in_err-regards.ensures.1 in
@@ -41,10 +34,6 @@ returns-in_default-clause-written g c =
     subst (λ (o : Option (List ℕ × Regards)). Emits c.args.console.now c.write_none.new.console (said_to c.args.asked.now (Least o) ∷ []) c.write_none.result)
     (least_near-none c.args.mode.now.properties table label net.spelled c.requires.sound.entries c.requires.near.spelled c.args.text.now none) c.write_none.ensures.written
 
-pub regards-requires-clause-some : goal.regards-requires-clause-some
-regards-requires-clause-some g c = λ may.
-    some-length c.last-label.result.now (MeetsRequirements-registrable c.args.mode.now.properties c.last-label.result.now (c.in_ok-may_be_registered.ensures.0 may)).some
-
 pub returns-clause-written : goal.returns-clause-written
 returns-clause-written g c =
     let net : Built = c.args.near.net in
@@ -55,7 +44,7 @@ returns-clause-written g c =
     let good : IsGood o table label = record { registrable = c.requires.registrable; admitted = c.requires.admitted } in
     let least : IsLeastFrom (IsCandidate (Contains net.spelled)) c.args.text.now found =
     jumped_to net _ c.in_ok-cursor.cursor c.jump.new.self c.args.text.now found c.in_ok-cursor.ensures c.in-Some.ensures.jumps.found c.last-label.ensures.value in
-    let told = c.in_ok-regards.ensures.regards o good c.in_ok-may_be_registered.ensures in
+    let told = c.in_ok-regards.ensures.regards o good refl in
     subst (λ (r : Option (List ℕ × Regards)). Emits c.args.console.now c.write_label.new.console (said_to c.args.asked.now (Least r) ∷ []) c.write_label.result)
     (ap (λ (r : Regards). let s : Option (List ℕ × Regards) = Some (found, r) in s) told
     ∙ least_near-found c.args.mode.now.properties table label net.spelled c.requires.sound.entries c.requires.near.spelled c.args.text.now found least)
