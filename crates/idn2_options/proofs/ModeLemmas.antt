@@ -1,5 +1,5 @@
 -- The mode that the words name.
-use Rattle.std.proofs.Common.{◌≡◌, ◌≢◌, ◌&&◌, ◌||◌, ℕ, Bool, List, true, false, cond, not, ap, refl, sym, ◌∙◌, arith}
+use Rattle.std.proofs.Common.{◌≡◌, ◌≢◌, ◌&&◌, ℕ, Bool, List, true, false, cond, not, ap, refl, sym, ◌∙◌, arith}
 use Rattle.std.proofs.lemmas.Bool.{false_from_ne_true}
 use Rattle.clap.specs.Words.{Row}
 use Rattle.idn2_options.specs.Laws.{is_named}
@@ -7,7 +7,7 @@ use Rattle.idn2_options.specs.Words.{has_flag, is_allowed, lists, mode_of}
 use Rattle.idn2_options.specs.Names.{decode_name, jump_name, old_name}
 use Rattle.idn2_options.specs.declared.command_line.mode.Mode.{Mode}
 use Rattle.idn2_options.specs.declared.command_line.mode.Mode.TheVariants.{Lookup, Register, Decode, DecodeOld, Variants, Jump, CheckTable, PrintTable}
-use Rattle.idn2_options.proofs.SuitLemmas.{IsOne, mode_by, no_weight, rules, variants-alone, check-alone, print-alone}
+use Rattle.idn2_options.proofs.SuitLemmas.{IsOne, mode_by, no_weight, rules, second-test, variants-alone, check-alone, print-alone}
 
 lookup-alone : (l r d o v j k p : Bool) → IsOne l r d v k p → l ≡ true → mode_by r d o v j k p ≡ Lookup
 lookup-alone l r d o v j k p one is =
@@ -25,11 +25,6 @@ first_of_two true true both = absurd (let bad : false ≡ true = both in cc)
 first_of_two true false both = (refl, refl)
 first_of_two false b both = absurd (let bad : false ≡ true = both in cc)
 
-named_with : (v j : Bool) → (v || not j) ≡ true → j ≡ true → v ≡ true
-named_with true j either is = refl
-named_with false true either is = either
-named_with false false either is = absurd (let bad : false ≡ true = is in cc)
-
 pub mode_of-named : (rows : List Row) (mode : Mode) → is_allowed rows ≡ true → is_named mode rows ≡ true → mode_of rows ≡ mode
 mode_of-named rows Lookup allowed is = lookup-alone _ _ _ _ _ _ _ _ (rules rows allowed).one is
 mode_of-named rows Register allowed is = rw is refl
@@ -38,13 +33,13 @@ mode_of-named rows Decode allowed is =
     decode-alone _ _ _ _ _ _ _ _ (rules rows allowed).one two.0 ∙ ap (λ (o : Bool). cond o DecodeOld Decode) two.1
 mode_of-named rows DecodeOld allowed is =
     let r = rules rows allowed in
-    decode-alone _ _ _ _ _ _ _ _ r.one (named_with (has_flag decode_name rows) (has_flag old_name rows) r.old is) ∙ ap (λ (o : Bool). cond o DecodeOld Decode) is
+    decode-alone _ _ _ _ _ _ _ _ r.one (second-test (not (has_flag old_name rows)) (has_flag decode_name rows) r.old (ap not is)) ∙ ap (λ (o : Bool). cond o DecodeOld Decode) is
 mode_of-named rows Variants allowed is =
     let two = first_of_two (lists rows) (has_flag jump_name rows) is in
     variants-alone _ _ _ _ _ _ _ _ (rules rows allowed).one two.0 ∙ ap (λ (j : Bool). cond j Jump Variants) two.1
 mode_of-named rows Jump allowed is =
     let r = rules rows allowed in
-    variants-alone _ _ _ _ _ _ _ _ r.one (named_with (lists rows) (has_flag jump_name rows) r.jumps is) ∙ ap (λ (j : Bool). cond j Jump Variants) is
+    variants-alone _ _ _ _ _ _ _ _ r.one (second-test (not (has_flag jump_name rows)) (lists rows) r.jumps (ap not is)) ∙ ap (λ (j : Bool). cond j Jump Variants) is
 mode_of-named rows CheckTable allowed is = check-alone _ _ _ _ _ _ _ _ (rules rows allowed).one is
 mode_of-named rows PrintTable allowed is = print-alone _ _ _ _ _ _ _ _ (rules rows allowed).one is
 

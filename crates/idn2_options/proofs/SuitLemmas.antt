@@ -40,7 +40,11 @@ no-strings (s ∷ ss) none =
     let bad : length (s ∷ ss) ≡ 0 = no-length (length (s ∷ ss)) none in
     absurd (omega arith)
 
-second-test : (a b : Bool) → a || b ≡ true → a ≡ false → b ≡ true
+first-test : (a b : Bool) → a || b ≡ true → b ≡ false → a ≡ true
+first-test true b either second = refl
+first-test false b either second = absurd (let bad : false ≡ true = sym second ∙ either in cc)
+
+pub second-test : (a b : Bool) → a || b ≡ true → a ≡ false → b ≡ true
 second-test true b either first = absurd (let bad : true ≡ false = first in cc)
 second-test false b either first = either
 
@@ -163,7 +167,7 @@ none-given rows r other =
     let tries = has_value tries_name rows in
     let among = has_value among_name rows in
     let steps = has_value steps_name rows in
-    let none = neither (after || limit || tries || steps) among (second-test (lists rows && not (has_flag jump_name rows)) (not (after || limit || tries || steps || among)) r.bounds (no-listing rows r other)) in
+    let none = neither (after || limit || tries || steps) among (first-test (not (after || limit || tries || steps || among)) (lists rows && not (has_flag jump_name rows)) r.bounds (no-listing rows r other)) in
     let third = neither (after || limit || tries) steps (ap not none.0) in
     let second = neither (after || limit) tries (ap not third.0) in
     let first = neither after limit (ap not second.0) in
@@ -202,11 +206,7 @@ untried rows r named =
 
 -- where they aren't, the label itself is not left out
 with-others : (rows : List Row) → Rules rows → value_of among_name rows ≡ None → has_flag others_name rows ≡ false
-with-others rows r none = by_test (has_flag others_name rows) (second-test (has_value among_name rows) (not (has_flag others_name rows)) r.others (ap is_some none))
-  where
-    by_test : (b : Bool) → not b ≡ true → b ≡ false
-    by_test true never = absurd (let bad : false ≡ true = never in cc)
-    by_test false none = refl
+with-others rows r none = not-true (has_flag others_name rows) (first-test (not (has_flag others_name rows)) (has_value among_name rows) r.others (ap is_some none))
 
 no-variants : (rows : List Row) → Rules rows → mode_of rows ≢ Variants → mode_of rows ≢ Jump → lists rows ≡ false
 no-variants rows r other jump = false_from_ne_true (lists rows) (λ named. either (has_flag jump_name rows) (variants-alone _ _ _ _ _ _ _ _ r.one named))

@@ -136,19 +136,19 @@ has_listing_option rows =
 
 -- these come with `--variants` or `--ruleset` alone, and not with `--jump`, which lists nothing
 abbrev pub listing_options_fit : List Row → Bool
-listing_options_fit rows = (lists rows && not (has_flag jump_name rows)) || not (has_listing_option rows)
+listing_options_fit rows = not (has_listing_option rows) || (lists rows && not (has_flag jump_name rows))
 
 -- `--jump` comes with `--variants` or `--ruleset` alone
 abbrev pub jumps_by_table : List Row → Bool
-jumps_by_table rows = lists rows || not (has_flag jump_name rows)
+jumps_by_table rows = not (has_flag jump_name rows) || lists rows
 
 -- `--old` comes with `--decode` alone
 abbrev pub decodes_old : List Row → Bool
-decodes_old rows = has_flag decode_name rows || not (has_flag old_name rows)
+decodes_old rows = not (has_flag old_name rows) || has_flag decode_name rows
 
 -- `--others` comes with `--among` alone
 abbrev pub has_among : List Row → Bool
-has_among rows = has_value among_name rows || not (has_flag others_name rows)
+has_among rows = not (has_flag others_name rows) || has_value among_name rows
 
 -- with `--among` nothing is tried, and no label is passed over, so `--tries` and `--steps` do not come with it; and its
 -- file is not that of the table

@@ -5,6 +5,7 @@ pub(crate) mod broken_rule;
 pub(crate) mod command;
 pub(crate) mod counts;
 pub(crate) mod form;
+pub(crate) mod given;
 pub(crate) mod known;
 pub(crate) mod misuse;
 pub(crate) mod mode;

@@ -1,87 +1,85 @@
 //! The program's own rules on its options, which `clap` does not know.
-ghost use Rattle.std.specs.Prelude.{◌≡◌, count_by, option_map};
+ghost use Rattle.std.specs.Prelude.{◌≡◌, count_by};
 ghost use Rattle.clap.specs.Words.{found_of, rows_of};
 ghost use Rattle.idn2_options.specs.Causes.{broken_rule, listing_option, misfit_of, misfit_of_among, wrong_number};
-ghost use Rattle.idn2_options.specs.Words.{among_of, has_listing_option, listing_options_fit, checked_file, checks};
-ghost use Rattle.idn2_options.specs.Words.{checks_alone, decodes_old, file_of, has_among, has_counts, has_short_start};
-ghost use Rattle.idn2_options.specs.Words.{is_allowed, prints, prints_alone, prints_plainly};
-ghost use Rattle.idn2_options.specs.Words.{is_bound_if_given, is_count_if_given, jumps_by_table, listing_file, lists};
-ghost use Rattle.idn2_options.specs.Words.{names_one_mode, notation_of, start_of, suits_among};
+ghost use Rattle.idn2_options.specs.Words.{among_of, checks_alone, decodes_old, has_among, has_counts};
+ghost use Rattle.idn2_options.specs.Words.{has_listing_option, has_short_start, is_allowed, is_bound_if_given};
+ghost use Rattle.idn2_options.specs.Words.{is_count_if_given, jumps_by_table, listing_options_fit, names_one_mode};
+ghost use Rattle.idn2_options.specs.Words.{prints_alone, prints_plainly, start_of, suits_among};
 
 use crate::command_line::arguments::{
-    AFTER, AMONG, CHECK_RULESET, CHECK_TABLE, DECODE, JSON, JUMP, LIMIT, LOOKUP, OLD, OTHERS,
-    PRINT_RULESET, REGISTER, RULESET, STEPS, TRIES, VARIANTS, has_flag, has_strings, has_value,
-    value_of,
+    AFTER, AMONG, DECODE, JSON, JUMP, LIMIT, LOOKUP, OLD, OTHERS, REGISTER, STEPS, TRIES, has_flag,
+    has_strings, has_value, value_of,
 };
 use crate::command_line::broken_rule::{BrokenRule, ListingOption};
 use crate::command_line::counts::{count_of, steps_of};
+use crate::command_line::given::Given;
 use clap::ArgMatches;
 use idn_text::MAX_LINE_LEN;
-use variant_table::Notation;
 
 /// Whether the options may stand together, and their values are in their ranges.
-pub(crate) fn is_allowed(matches: &ArgMatches<'_>) -> bool
-    ensures { result ≡ is_allowed (rows_of (found_of matches.now)) }
+pub(crate) fn is_allowed(given: &Given<'_, '_>) -> bool
+    ensures { result ≡ is_allowed given.now }
 {
-    names_one_mode(matches)
-        && listing_options_fit(matches)
-        && jumps_by_table(matches)
-        && decodes_old(matches)
-        && has_among(matches)
-        && suits_among(matches)
-        && has_counts(matches)
-        && has_short_start(matches)
-        && checks_alone(matches)
-        && prints_alone(matches)
-        && prints_plainly(matches)
+    names_one_mode(given)
+        && listing_options_fit(given)
+        && jumps_by_table(given)
+        && decodes_old(given.matches)
+        && has_among(given.matches)
+        && suits_among(given)
+        && has_counts(given.matches)
+        && has_short_start(given.matches)
+        && checks_alone(given)
+        && prints_alone(given)
+        && prints_plainly(given)
 }
 
 /// The first rule that is broken.
-pub(crate) fn broken_rule(matches: &ArgMatches<'_>) -> Option<BrokenRule>
-    ensures { result ≡ broken_rule (rows_of (found_of matches.now)) }
+pub(crate) fn broken_rule(given: &Given<'_, '_>) -> Option<BrokenRule>
+    ensures { result ≡ broken_rule given.now }
 {
-    if !names_one_mode(matches) {
+    if !names_one_mode(given) {
         return Some(BrokenRule::TwoModes);
     }
-    if !listing_options_fit(matches) {
-        return Some(misfit_of(matches));
+    if !listing_options_fit(given) {
+        return Some(misfit_of(given));
     }
-    if !jumps_by_table(matches) {
+    if !jumps_by_table(given) {
         return Some(BrokenRule::JumpWithoutTable);
     }
-    if !decodes_old(matches) {
+    if !decodes_old(given.matches) {
         return Some(BrokenRule::OldWithoutDecode);
     }
-    if !has_among(matches) {
+    if !has_among(given.matches) {
         return Some(BrokenRule::OthersWithoutAmong);
     }
-    if !suits_among(matches) {
-        return Some(misfit_of_among(matches));
+    if !suits_among(given) {
+        return Some(misfit_of_among(given.matches));
     }
-    if !has_counts(matches) {
-        return Some(wrong_number(matches));
+    if !has_counts(given.matches) {
+        return Some(wrong_number(given.matches));
     }
-    if !has_short_start(matches) {
+    if !has_short_start(given.matches) {
         return Some(BrokenRule::LongStart);
     }
-    if !checks_alone(matches) {
+    if !checks_alone(given) {
         return Some(BrokenRule::CheckedStrings);
     }
-    if !prints_alone(matches) {
+    if !prints_alone(given) {
         return Some(BrokenRule::PrintedStrings);
     }
-    if !prints_plainly(matches) {
+    if !prints_plainly(given) {
         return Some(BrokenRule::PrintedObjects);
     }
     None
 }
 
 /// How the options of a listing do not fit, where they do not.
-fn misfit_of(matches: &ArgMatches<'_>) -> BrokenRule
-    ensures { result ≡ misfit_of (rows_of (found_of matches.now)) }
+fn misfit_of(given: &Given<'_, '_>) -> BrokenRule
+    ensures { result ≡ misfit_of given.now }
 {
-    let option = listing_option(matches);
-    if lists(matches) {
+    let option = listing_option(given.matches);
+    if given.lists() {
         BrokenRule::NotWithJump(option)
     } else {
         BrokenRule::GoesWithVariants(option)
@@ -142,18 +140,18 @@ pub(crate) fn start_of<'a>(matches: &ArgMatches<'a>) -> &'a str
 }
 
 /// Whether the words name one mode at most.
-fn names_one_mode(matches: &ArgMatches<'_>) -> bool
-    ensures { result ≡ names_one_mode (rows_of (found_of matches.now)) }
+fn names_one_mode(given: &Given<'_, '_>) -> bool
+    ensures { result ≡ names_one_mode given.now }
 {
     let named = [
-        has_flag(matches, LOOKUP),
-        has_flag(matches, REGISTER),
-        has_flag(matches, DECODE),
-        has_value(matches, VARIANTS),
-        has_value(matches, CHECK_TABLE),
-        has_value(matches, RULESET),
-        has_value(matches, CHECK_RULESET),
-        prints(matches),
+        has_flag(given.matches, LOOKUP),
+        has_flag(given.matches, REGISTER),
+        has_flag(given.matches, DECODE),
+        given.listing_table.is_some(),
+        given.checked_table.is_some(),
+        given.listing_ruleset.is_some(),
+        given.checked_ruleset.is_some(),
+        given.prints(),
     ];
     count_true(&named) <= 1
 }
@@ -166,10 +164,10 @@ fn count_true(tests: &[bool]) -> usize
 }
 
 /// Whether options of a listing are given only where variants are listed.
-fn listing_options_fit(matches: &ArgMatches<'_>) -> bool
-    ensures { result ≡ listing_options_fit (rows_of (found_of matches.now)) }
+fn listing_options_fit(given: &Given<'_, '_>) -> bool
+    ensures { result ≡ listing_options_fit given.now }
 {
-    lists(matches) && !has_flag(matches, JUMP) || !has_listing_option(matches)
+    !has_listing_option(given.matches) || given.lists() && !has_flag(given.matches, JUMP)
 }
 
 /// Whether an option of a listing is given: `--after`, `--limit`, `--tries`, `--steps` or `--among`.
@@ -184,97 +182,34 @@ fn has_listing_option(matches: &ArgMatches<'_>) -> bool
 }
 
 /// Whether `--jump` is given only with a table or ruleset.
-fn jumps_by_table(matches: &ArgMatches<'_>) -> bool
-    ensures { result ≡ jumps_by_table (rows_of (found_of matches.now)) }
+fn jumps_by_table(given: &Given<'_, '_>) -> bool
+    ensures { result ≡ jumps_by_table given.now }
 {
-    lists(matches) || !has_flag(matches, JUMP)
+    !has_flag(given.matches, JUMP) || given.lists()
 }
 
 /// Whether `--old` is given only with `--decode`.
 fn decodes_old(matches: &ArgMatches<'_>) -> bool
     ensures { result ≡ decodes_old (rows_of (found_of matches.now)) }
 {
-    has_flag(matches, DECODE) || !has_flag(matches, OLD)
+    !has_flag(matches, OLD) || has_flag(matches, DECODE)
 }
 
 /// Whether `--others` is given only with `--among`.
 fn has_among(matches: &ArgMatches<'_>) -> bool
     ensures { result ≡ has_among (rows_of (found_of matches.now)) }
 {
-    has_value(matches, AMONG) || !has_flag(matches, OTHERS)
+    !has_flag(matches, OTHERS) || has_value(matches, AMONG)
 }
 
 /// Whether what stands with `--among` suits it: neither `--tries` nor `--steps`, and not the same file twice.
-fn suits_among(matches: &ArgMatches<'_>) -> bool
-    ensures { result ≡ suits_among (rows_of (found_of matches.now)) }
+fn suits_among(given: &Given<'_, '_>) -> bool
+    ensures { result ≡ suits_among given.now }
 {
-    !has_value(matches, AMONG)
-        || !has_value(matches, TRIES)
-            && !has_value(matches, STEPS)
-            && file_of(matches) != among_of(matches)
-}
-
-/// The file by which variants are listed or requests are answered: a table or a ruleset.
-fn listing_file<'a>(matches: &ArgMatches<'a>) -> Option<&'a str>
-    ensures { option_map (λ file. file.now) result ≡ listing_file (rows_of (found_of matches.now)) }
-{
-    match value_of(matches, VARIANTS) {
-        Some(file) => Some(file),
-        None => value_of(matches, RULESET),
-    }
-}
-
-/// The file that is checked: a table or a ruleset.
-fn checked_file<'a>(matches: &ArgMatches<'a>) -> Option<&'a str>
-    ensures { option_map (λ file. file.now) result ≡ checked_file (rows_of (found_of matches.now)) }
-{
-    match value_of(matches, CHECK_TABLE) {
-        Some(file) => Some(file),
-        None => value_of(matches, CHECK_RULESET),
-    }
-}
-
-/// Whether there is a file by which variants are listed or requests are answered.
-pub(crate) fn lists(matches: &ArgMatches<'_>) -> bool
-    ensures { result ≡ lists (rows_of (found_of matches.now)) }
-{
-    listing_file(matches).is_some()
-}
-
-/// Whether there is a file that is checked.
-pub(crate) fn checks(matches: &ArgMatches<'_>) -> bool
-    ensures { result ≡ checks (rows_of (found_of matches.now)) }
-{
-    checked_file(matches).is_some()
-}
-
-/// Whether there is a file that is printed.
-pub(crate) fn prints(matches: &ArgMatches<'_>) -> bool
-    ensures { result ≡ prints (rows_of (found_of matches.now)) }
-{
-    has_value(matches, PRINT_RULESET)
-}
-
-/// How the file is read: as a table or as a ruleset.
-pub(crate) fn notation_of(matches: &ArgMatches<'_>) -> Notation
-    ensures { result ≡ notation_of (rows_of (found_of matches.now)) }
-{
-    if has_value(matches, RULESET) || has_value(matches, CHECK_RULESET) || prints(matches) {
-        Notation::Ruleset
-    } else {
-        Notation::Table
-    }
-}
-
-/// The name of the file of the table or ruleset, which is empty where the mode has none.
-pub(crate) fn file_of<'a>(matches: &ArgMatches<'a>) -> &'a str
-    ensures { result.now ≡ file_of (rows_of (found_of matches.now)) }
-{
-    match (listing_file(matches), checked_file(matches)) {
-        (Some(file), _) => file,
-        (None, Some(file)) => file,
-        (None, None) => value_of(matches, PRINT_RULESET).unwrap_or(""),
-    }
+    !has_value(given.matches, AMONG)
+        || !has_value(given.matches, TRIES)
+            && !has_value(given.matches, STEPS)
+            && given.file() != among_of(given.matches)
 }
 
 /// The name of the file of registered labels, which is empty where there is none.
@@ -324,22 +259,22 @@ fn has_short_start(matches: &ArgMatches<'_>) -> bool
 }
 
 /// Whether there are no STRINGS where a table is checked.
-fn checks_alone(matches: &ArgMatches<'_>) -> bool
-    ensures { result ≡ checks_alone (rows_of (found_of matches.now)) }
+fn checks_alone(given: &Given<'_, '_>) -> bool
+    ensures { result ≡ checks_alone given.now }
 {
-    !checks(matches) || !has_strings(matches)
+    !given.checks() || !has_strings(given.matches)
 }
 
 /// Whether there are no STRINGS where a ruleset is printed.
-fn prints_alone(matches: &ArgMatches<'_>) -> bool
-    ensures { result ≡ prints_alone (rows_of (found_of matches.now)) }
+fn prints_alone(given: &Given<'_, '_>) -> bool
+    ensures { result ≡ prints_alone given.now }
 {
-    !prints(matches) || !has_strings(matches)
+    !given.prints() || !has_strings(given.matches)
 }
 
 /// Whether no objects are asked for where a ruleset is printed.
-fn prints_plainly(matches: &ArgMatches<'_>) -> bool
-    ensures { result ≡ prints_plainly (rows_of (found_of matches.now)) }
+fn prints_plainly(given: &Given<'_, '_>) -> bool
+    ensures { result ≡ prints_plainly given.now }
 {
-    !prints(matches) || !has_flag(matches, JSON)
+    !given.prints() || !has_flag(given.matches, JSON)
 }

@@ -14,11 +14,10 @@ use crate::command_line::arguments::{
 use crate::command_line::command;
 use crate::command_line::counts::{count_of, steps_of};
 use crate::command_line::form::Form;
+use crate::command_line::given::Given;
 use crate::command_line::mode::Mode;
 use crate::command_line::options::Options;
-use crate::command_line::rules::{
-    broken_rule, checks, file_of, is_allowed, lists, notation_of, prints, start_of,
-};
+use crate::command_line::rules::{broken_rule, is_allowed, start_of};
 use crate::command_line::usage::Usage;
 use crate::command_line::usage_cause::{UsageCause, refused_by_clap};
 use crate::command_line::uses::front;
@@ -42,10 +41,11 @@ pub fn read_options(alloc: Global, words: &[String]) -> Result<Options, Usage>
         Ok(matches) => matches,
         Err(error) => return Err(usage_of(alloc, &error)),
     };
-    if !is_allowed(&matches) {
+    let given = Given::of(&matches);
+    if !is_allowed(&given) {
         return Err(Usage::Bad);
     }
-    Ok(settings_of(alloc, &matches)?)
+    Ok(settings_of(alloc, &given)?)
 }
 
 /// Why words are refused, if they are; the first word is the program's name. `clap`'s refusal comes first.
@@ -54,7 +54,7 @@ pub fn usage_cause(alloc: Global, words: &[String]) -> Result<Option<UsageCause>
     ensures refused { IfOk result (λ cause. is_some cause ≡ is_refused (options_of (map string_bytes words.now))) }
 {
     match command::matches(alloc, words) {
-        Ok(matches) => match broken_rule(&matches) {
+        Ok(matches) => match broken_rule(&Given::of(&matches)) {
             Some(rule) => Ok(Some(UsageCause::Rule(rule))),
             None => Ok(None),
         },
@@ -81,18 +81,19 @@ fn usage_of(alloc: Global, error: &Error) -> Usage
     }
 }
 
-fn settings_of(alloc: Global, matches: &ArgMatches<'_>) -> Result<Options, AllocError>
-    ensures value { IfOk result (λ options. options ≡ settings_of (rows_of (found_of matches.now))) }
-    ensures is_text { OnOk result (IsUtf8 (start_of (rows_of (found_of matches.now)))) }
+fn settings_of(alloc: Global, given: &Given<'_, '_>) -> Result<Options, AllocError>
+    ensures value { IfOk result (λ options. options ≡ settings_of given.now) }
+    ensures is_text { OnOk result (IsUtf8 (start_of given.now)) }
 {
+    let matches = given.matches;
     Ok(Options {
-        mode: mode_of(matches),
+        mode: mode_of(given),
         std3: has_flag(matches, STD3),
         properties: properties_of(matches),
         explain: has_flag(matches, EXPLAIN),
         form: form_of(matches),
-        file: String::from_str(alloc, file_of(matches))?,
-        notation: notation_of(matches),
+        file: String::from_str(alloc, given.file())?,
+        notation: given.notation(),
         strings: strings_of(alloc, matches)?,
         after: points_of(alloc, start_of(matches))?,
         limit: count_at(matches, LIMIT),
@@ -103,26 +104,26 @@ fn settings_of(alloc: Global, matches: &ArgMatches<'_>) -> Result<Options, Alloc
     })
 }
 
-fn mode_of(matches: &ArgMatches<'_>) -> Mode
-    ensures { result ≡ mode_of (rows_of (found_of matches.now)) }
+fn mode_of(given: &Given<'_, '_>) -> Mode
+    ensures { result ≡ mode_of given.now }
 {
-    if has_flag(matches, REGISTER) {
+    if has_flag(given.matches, REGISTER) {
         Mode::Register
-    } else if has_flag(matches, DECODE) {
-        if has_flag(matches, OLD) {
+    } else if has_flag(given.matches, DECODE) {
+        if has_flag(given.matches, OLD) {
             Mode::DecodeOld
         } else {
             Mode::Decode
         }
-    } else if lists(matches) {
-        if has_flag(matches, JUMP) {
+    } else if given.lists() {
+        if has_flag(given.matches, JUMP) {
             Mode::Jump
         } else {
             Mode::Variants
         }
-    } else if checks(matches) {
+    } else if given.checks() {
         Mode::CheckTable
-    } else if prints(matches) {
+    } else if given.prints() {
         Mode::PrintTable
     } else {
         Mode::Lookup

@@ -1,6 +1,5 @@
 use Rattle.std.proofs.Common.{◌∙◌, ap, cond, map, subst, sym}
 use Rattle.std.specs.Prelude.{string_bytes}
-use Rattle.clap.specs.Words.{found_of, rows_of}
 use Rattle.idn2_options.specs.Settings.{IsWithinLimits, SuitsMode}
 use Rattle.idn2_options.specs.Words.{bad, chosen, settings_of}
 use Rattle.idn2_options.proofs.AnswerLemmas.{answer-Err, answer-Ok}
@@ -15,24 +14,24 @@ returns-in-Err-clause-answer c =
 
 pub returns-then-not-is_allowed-clause-answer : goal.returns-then-not-is_allowed-clause-answer
 returns-then-not-is_allowed-clause-answer c =
-    let rows = rows_of (found_of c.in-Ok.matches) in
-    answer-Ok (map string_bytes c.args.words.now) rows c.in-Ok.ensures.fault c.in-Ok.ensures.ok
+    let rows = c.of-given.result in
+    answer-Ok (map string_bytes c.args.words.now) rows c.in-Ok.ensures.fault (c.of-given.ensures ∙ c.in-Ok.ensures.ok)
     ∙ ap (λ test. cond test (chosen (settings_of rows)) bad) (sym c.is_allowed.ensures ∙ c.if-not-is_allowed.true)
 
 pub returns-clause-answer : goal.returns-clause-answer
 returns-clause-answer c =
-    let rows = rows_of (found_of c.in-Ok.matches) in
-    answer-Ok (map string_bytes c.args.words.now) rows c.in-Ok.ensures.fault c.in-Ok.ensures.ok
+    let rows = c.of-given.result in
+    answer-Ok (map string_bytes c.args.words.now) rows c.in-Ok.ensures.fault (c.of-given.ensures ∙ c.in-Ok.ensures.ok)
     ∙ (ap (λ test. cond test (chosen (settings_of rows)) bad) (sym c.is_allowed.ensures ∙ c.if-not-is_allowed.false)
     ∙ ap chosen (sym c.in_ok-settings_of.ensures.value))
 
 pub returns-clause-limits : goal.returns-clause-limits
 returns-clause-limits c =
-    let rows = rows_of (found_of c.in-Ok.matches) in
+    let rows = c.of-given.result in
     subst IsWithinLimits (sym c.in_ok-settings_of.ensures.value)
     (within_limits rows c.in_ok-settings_of.ensures.is_text (sym c.is_allowed.ensures ∙ c.if-not-is_allowed.false))
 
 pub returns-clause-suits : goal.returns-clause-suits
 returns-clause-suits c =
     subst SuitsMode (sym c.in_ok-settings_of.ensures.value)
-    (suits_mode (rows_of (found_of c.in-Ok.matches)) (sym c.is_allowed.ensures ∙ c.if-not-is_allowed.false))
+    (suits_mode c.of-given.result (sym c.is_allowed.ensures ∙ c.if-not-is_allowed.false))

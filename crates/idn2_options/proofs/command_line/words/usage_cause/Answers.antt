@@ -1,7 +1,7 @@
 use Rattle.std.proofs.Common.{◌≡◌, ◌≢◌, Some, None, [], ◌∷◌, ap, map, sym, ◌∙◌}
 use Rattle.std.specs.Prelude.{string_bytes}
 use Rattle.std.proofs.lemmas.Result.{IfOk-weaker}
-use Rattle.clap.specs.Words.{found_of, kind_of, rows_of}
+use Rattle.clap.specs.Words.{kind_of}
 use Rattle.clap.specs.declared.error.ErrorKind.{ErrorKind}
 use Rattle.clap.specs.declared.error.ErrorKind.TheVariants.{OutOfMemory}
 use Rattle.idn2_options.proofs.AnswerLemmas.{kind-Err}
@@ -11,19 +11,19 @@ use Rattle.idn2_options.proofs.command_line.words.usage_cause.Goals as goal
 
 pub returns-in-Some-clause-cause : goal.returns-in-Some-clause-cause
 returns-in-Some-clause-cause c =
-    cause-Ok (map string_bytes c.args.words.now) (Some c.in-Some.rule) (rows_of (found_of c.in-Ok.matches)) c.in-Ok.ensures.fault c.in-Ok.ensures.ok c.in-Some.ensures
+    cause-Ok (map string_bytes c.args.words.now) (Some c.in-Some.rule) c.of.result c.in-Ok.ensures.fault (c.of.ensures ∙ c.in-Ok.ensures.ok) c.in-Some.ensures
 
 pub returns-in-Some-clause-refused : goal.returns-in-Some-clause-refused
 returns-in-Some-clause-refused c =
-    rule-refused (map string_bytes c.args.words.now) (rows_of (found_of c.in-Ok.matches)) (Some c.in-Some.rule) c.in-Ok.ensures.fault c.in-Ok.ensures.ok c.in-Some.ensures
+    rule-refused (map string_bytes c.args.words.now) c.of.result (Some c.in-Some.rule) c.in-Ok.ensures.fault (c.of.ensures ∙ c.in-Ok.ensures.ok) c.in-Some.ensures
 
 pub returns-in-Ok-clause-cause : goal.returns-in-Ok-clause-cause
 returns-in-Ok-clause-cause c =
-    cause-Ok (map string_bytes c.args.words.now) None (rows_of (found_of c.in-Ok.matches)) c.in-Ok.ensures.fault c.in-Ok.ensures.ok c.in-None.ensures
+    cause-Ok (map string_bytes c.args.words.now) None c.of.result c.in-Ok.ensures.fault (c.of.ensures ∙ c.in-Ok.ensures.ok) c.in-None.ensures
 
 pub returns-in-Ok-clause-refused : goal.returns-in-Ok-clause-refused
 returns-in-Ok-clause-refused c =
-    rule-refused (map string_bytes c.args.words.now) (rows_of (found_of c.in-Ok.matches)) None c.in-Ok.ensures.fault c.in-Ok.ensures.ok c.in-None.ensures
+    rule-refused (map string_bytes c.args.words.now) c.of.result None c.in-Ok.ensures.fault (c.of.ensures ∙ c.in-Ok.ensures.ok) c.in-None.ensures
 
 pub returns : goal.returns
 returns c =
