@@ -3,6 +3,7 @@ why a table refuses a label, which the same process tells."""
 
 import json
 import re
+from collections.abc import Iterator, Sequence
 from typing import NamedTuple
 
 from .answers import NOT_MADE, NOT_VALID, Object, Refusal
@@ -15,6 +16,10 @@ from .tables import Table
 # What a label is to another one, as the program says it.
 NONE, ALLOCATABLE = "none", "allocatable"
 REGARDS = {NONE, "variant", "blocked", ALLOCATABLE}
+# No label has a greater code point.
+LAST = "\U0010FFFF"
+# A search for collisions is in one span for so many turns, and then in about so many at once.
+WHOLE_TURNS, MOST_SPANS = 2, 16
 
 
 class Near(NamedTuple):
@@ -30,6 +35,27 @@ class Near(NamedTuple):
         return (self.there, self.back) != (NONE, NONE)
 
 
+class Span(NamedTuple):
+    """The texts from one on, and before another one if there is one."""
+
+    start: str = ""
+    end: str | None = None
+
+    def has(self, text: str) -> bool:
+        """Whether a text from its start on is in it."""
+        return self.end is None or text < self.end
+
+    def parts(self, label: str) -> Iterator["Span"]:
+        """Parts of it, of which each has all its texts that begin as a label up to one place, and no further."""
+        start = self.start
+        for place in range(len(label) - 1, 0, -1):
+            cut = label[:place] + LAST
+            if start < cut and self.has(cut):
+                yield Span(start, cut)
+                start = cut
+        yield Span(start, self.end)
+
+
 class Collisions:
     """Collisions under one table, whichever of two labels is a variant of the other."""
 
@@ -41,21 +67,22 @@ class Collisions:
         """The registered labels that collide with a label, in label order, each with its holder; itself among them.
         Raises Unknown if the table refuses the label."""
         found: list[Row] = []
-        near, first = await self._first_near(label, "", questions), None
-        # The program and the register take turns: each goes on from what the other has.
-        while near is not None:
-            if first is None or first[0] < near.label:
-                first = await transaction.first_from(near.label)
-            if first is None:
-                break
-            if first[0] != near.label:
-                near = await self._first_near(label, first[0], questions)
-                continue
-            if near.collides:
-                found.append(first)
-            # The least text above it.
-            near = await self._first_near(label, near.label + "\0", questions)
-        return found
+        spans, turn = [Span()], 0
+        # The program and the register take turns: each goes on from what the other has, in all spans at once.
+        while asked := await self._first_in_each(label, spans, questions):
+            rows = await transaction.first_from_each([near.label for _, near in asked])
+            spans, turn = [], turn + 1
+            for (span, near), row in zip(asked, rows, strict=True):
+                if row is None or not span.has(row[0]):
+                    continue
+                is_there = row[0] == near.label
+                if is_there and near.collides:
+                    found.append(row)
+                # The least text above it, or the next that is registered.
+                left = Span(near.label + "\0" if is_there else row[0], span.end)
+                # Most searches end before that, and what is asked of each part would be asked in vain.
+                spans += left.parts(near.label) if turn > WHOLE_TURNS and len(spans) < MOST_SPANS else [left]
+        return sorted(found)
 
     async def refusal(self, label: str, questions: Questions) -> Refusal | None:
         """Why the table refuses a label that may be registered; None if it admits it."""
@@ -73,12 +100,18 @@ class Collisions:
 
     async def is_offered(self, label: str, registered: str, questions: Questions) -> bool:
         """Whether the holder of a registered label may have the label, too: it is one of its allocatable variants."""
-        near = await self._first_near(label, registered, questions)
-        return near is not None and (near.label, near.back) == (registered, ALLOCATABLE)
+        asked = await self._first_in_each(label, [Span(registered)], questions)
+        return any((near.label, near.back) == (registered, ALLOCATABLE) for _, near in asked)
 
-    async def _first_near(self, label: str, text: str, questions: Questions) -> Near | None:
-        """The first label at or after a text that may collide."""
-        answer = only(await questions.ask(self._jump, (f"{label}\t{text}" if text else label).encode()), "ulabel")
+    async def _first_in_each(self, label: str, spans: Sequence[Span], questions: Questions) -> list[tuple[Span, Near]]:
+        """The first label that may collide in each of some spans, where there is one."""
+        lines = ((f"{label}\t{span.start}" if span.start else label).encode() for span in spans)
+        told = await questions.ask_each(self._jump, lines)
+        found = ((span, self._near(only(objects, "ulabel"), span.start)) for span, objects in zip(spans, told, strict=True))
+        return [(span, near) for span, near in found if near is not None and span.has(near.label)]
+
+    def _near(self, answer: Object, text: str) -> Near | None:
+        """The first label at or after a text that may collide, as the program tells it."""
         if "refusal" in answer:
             refusal = answer["refusal"]
             raise Unknown(f"the table {self._table.name} refuses it: {refusal['number']} {refusal['text']}")

@@ -11,13 +11,11 @@ from pathlib import Path
 from .answers import Answer, ExitStatus
 from .audit import audit as audit_all
 from .change import change as change_all
-from .check_config import check_configuration
 from .co_process import CoProcess
 from .configuration import DEFAULT_PATH, Configuration, read_configuration
 from .faults import Fault, Unsayable, Unusable
 from .form import Form
 from .holdings import Holdings
-from .join import join as joined
 from .load import dump as dump_register
 from .load import load as load_file
 from .output import Output, complain
@@ -123,6 +121,8 @@ def serve(words: Words, output: Output) -> None:
 
 def check_config(words: Words, output: Output) -> None:
     """Checks the configuration, its tables and its register."""
+    from .check_config import check_configuration
+
     configuration = read_configuration(words.config)
     check_configuration(configuration, program(words, configuration), output)
 
@@ -187,12 +187,14 @@ def named_tables(words: Words, names: Sequence[str]) -> tuple[list[Table], Progr
 
 def join(words: Words, output: Output) -> None:
     """Writes the table of the zone, joined from others by their names in the configuration, or by their paths."""
+    # No other job waits for what reads tables.
+    from .join import join as joined
+
     output.text(joined(*named_tables(words, words.names)))
 
 
 def publish(words: Words, output: Output) -> None:
     """Writes a table as others read it: XML of RFC 7940, lines of RFC 4290, or a page."""
-    # No other job waits for what reads tables.
     from .publish import publish as published
 
     [table], asked = named_tables(words, [words.table])

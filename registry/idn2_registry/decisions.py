@@ -1,13 +1,13 @@
 """What is said of a label under the tables, as they were read at one time. All of it is asked of the program."""
 
 import contextlib
+from collections.abc import Sequence
 from dataclasses import replace
 
 from .answers import Answer, Object, Refusal, RegisteredLabel, Status, Variant, bytes_of, furthest_first
 from .collisions import Collisions
 from .configuration import Configuration
 from .faults import Unknown
-from .join import lacking
 from .old_labels import alabel_of
 from .processes import Pool, Question, Questions, only
 from .program import Program
@@ -30,8 +30,7 @@ class Tables:
         self.admitting = {name: tables[name] for name in configuration.admitting}
         self._asked = {name: Collisions(table) for name, table in tables.items()}
         self.collisions = self._asked[configuration.zone]
-        # Why a label without a found collision may still have one under a table that isn't that of the zone.
-        self.doubt = lacking(tables[configuration.zone], list(self.admitting.values()))
+        self.doubt = doubt_of(tables[configuration.zone], list(self.admitting.values()))
         self.pool = Pool(program, configuration.processes, configuration.limits.seconds)
         self._listing = {name: self.question(table, *self.bounds(self.limits.limit))
                          for name, table in self.admitting.items()}
@@ -96,8 +95,9 @@ class Tables:
         """Whether an admitted label is available to a holder, as the register stands in a transaction."""
         assert tested.ulabel is not None
         label = tested.ulabel
-        taken_by = tuple([RegisteredLabel(each, await self.alabel_of(each, questions), held)
-                          for each, held in await self.collisions.of(label, transaction, questions)])
+        rows = await self.collisions.of(label, transaction, questions)
+        alabels = await self.alabels_of([each for each, _ in rows], questions)
+        taken_by = tuple(RegisteredLabel(each, alabel, held) for (each, held), alabel in zip(rows, alabels, strict=True))
         is_own = holder is not None and all(each.ulabel != label and each.holder == holder for each in taken_by)
         is_offered = is_own and all([await self.is_offered(tested, each.ulabel, questions) for each in taken_by])
         if taken_by and not is_offered:
@@ -106,9 +106,11 @@ class Tables:
             return replace(tested, status=Status.UNKNOWN, reason=self.doubt, lasts=True)
         return replace(tested, status=Status.AVAILABLE)
 
-    async def alabel_of(self, ulabel: str, questions: Questions) -> str:
-        """The A-label of a registered label."""
-        return alabel_of(ulabel, only(await questions.ask(REGISTER, ulabel.encode()), "alabel"))
+    @staticmethod
+    async def alabels_of(ulabels: Sequence[str], questions: Questions) -> list[str]:
+        """The A-labels of registered labels."""
+        told = await questions.ask_each(REGISTER, [ulabel.encode() for ulabel in ulabels])
+        return [alabel_of(ulabel, only(objects, "alabel")) for ulabel, objects in zip(ulabels, told, strict=True)]
 
     async def is_offered(self, tested: Answer, registered: str, questions: Questions) -> bool:
         """Whether the holder of a registered label may have an admitted label, too: under each table that admits both,
@@ -118,6 +120,16 @@ class Tables:
         asked = [self._asked[name] for name in tested.tables or ()]
         both = [each for each in asked if await each.admits(registered, questions)]
         return bool(both) and all([await each.is_offered(label, registered, questions) for each in both])
+
+
+def doubt_of(zone: Table, admitting: list[Table]) -> str | None:
+    """Why a label without a found collision may still have one under a table that isn't that of the zone; None if it hasn't."""
+    if admitting == [zone]:
+        return None
+    # A zone of one table doesn't wait for what reads tables.
+    from .join import lacking
+
+    return lacking(zone, admitting)
 
 
 def variant_of(told: Object) -> Variant:

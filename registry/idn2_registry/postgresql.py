@@ -32,6 +32,8 @@ FIRST = 'select label, holder from registered where label >= {} collate "C" orde
 # at a value is a call of libpq, at which another thread may go on in place of this one.
 FIRST_ROWS = f"""select json_agg(json_build_array(number, label, holder)) from json_array_elements_text($1)
     with ordinality as asked(text, number) cross join lateral ({FIRST.format("asked.text")}) as found"""
+# A socket takes a statement with so many texts at once.
+MOST_TEXTS = 16
 INSERT = "insert into registered (label, holder) values ($1, $2)"
 DELETE = 'delete from registered where label = $1 collate "C"'
 # What PostgreSQL says to a transaction that another one got in the way of. It says so of a key that both insert, too.
@@ -99,7 +101,7 @@ class Session:
             self._send(self._first, ())
         self._send(statement, given)
         self._libpq.send_flush_request()
-        # No statement is longer than what a socket takes at once.
+        # A socket takes each statement at once.
         self._libpq.flush()
         result = self._result()
         self._is_answered = True
@@ -182,8 +184,10 @@ class PostgresqlTransaction(Transaction):
 
     def first_rows(self, texts: Sequence[str]) -> list[Row | None]:
         rows: list[Row | None] = [None] * len(texts)
-        for number, label, holder in self._session.value(FIRST_ROWS, json.dumps(texts)) or []:
-            rows[number - 1] = checked_row(label, holder, texts[number - 1])
+        for start in range(0, len(texts), MOST_TEXTS):
+            some = texts[start:start + MOST_TEXTS]
+            for number, label, holder in self._session.value(FIRST_ROWS, json.dumps(some)) or []:
+                rows[start + number - 1] = checked_row(label, holder, some[number - 1])
         return rows
 
     def insert(self, label: str, holder: str | None) -> None:

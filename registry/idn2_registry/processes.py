@@ -6,7 +6,7 @@ import select
 import subprocess
 import time
 from collections import deque
-from collections.abc import Iterator, Sequence
+from collections.abc import Iterable, Iterator, Sequence
 from dataclasses import dataclass
 from queue import Empty, SimpleQueue
 
@@ -224,7 +224,12 @@ class Questions:
 
     async def ask(self, question: Question, request: bytes) -> list[Object]:
         """The objects that answer one line. Raises Unknown."""
-        return await Ask(self._tell, (question, request))
+        [told] = await self.ask_each(question, [request])
+        return told
+
+    async def ask_each(self, question: Question, requests: Iterable[bytes]) -> list[list[Object]]:
+        """The objects that answer each line. Raises Unknown."""
+        return await Ask(self._tell, [(question, request) for request in requests])
 
     def _tell(self, asked: Sequence[tuple[Question, bytes]]) -> list[list[Object] | Unknown]:
         new: dict[Question, dict[bytes, None]] = {}

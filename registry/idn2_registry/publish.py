@@ -75,9 +75,7 @@ class Xml:
         except Faulty as fault:
             raise self.unsayable(fault.line, f"XML can't say it: the program refuses it: {fault.reason}") from fault
         untyped = untyped_of(self.parsed)
-        # Where others have one, variants without a type read back with one of their own.
-        own = set(back.ruleset.types).difference(self.parsed.ruleset.types)
-        typed = lambda variant: replace(variant, type=None if variant.type in own else variant.type or untyped)
+        typed = lambda variant: replace(variant, type=variant.type or untyped)
         check_same(self.parsed, back, "XML", lambda entry: (entry.source, set(map(typed, entry.variants))))
         if after_demands(back) != after_demands(self.parsed):
             raise self.unsayable(None, "XML can't say it: the actions read back otherwise")

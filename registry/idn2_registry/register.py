@@ -24,13 +24,13 @@ NO_HOLDER = re.compile(rf"{CONTROL_CHARACTER.pattern}|[\ud800-\udfff]")
 class Transaction(abc.ABC):
     """What can be done in one transaction."""
 
-    async def first_from(self, text: str) -> Row | None:
-        """The first registered label at or after a text, in label order, with its holder."""
-        return await Ask(self.first_rows, text)
+    async def first_from_each(self, texts: Sequence[str]) -> list[Row | None]:
+        """The first registered label at or after each of some texts, in label order, with its holder."""
+        return await Ask(self.first_rows, texts)
 
     @abc.abstractmethod
     def first_rows(self, texts: Sequence[str]) -> list[Row | None]:
-        """The same for several texts."""
+        """The same, asked at once."""
 
     @abc.abstractmethod
     def insert(self, label: str, holder: str | None) -> None:

@@ -134,14 +134,11 @@ class SqliteRegister(Register):
             yield from connection.execute("select label, holder from registered order by label collate binary")
 
     def texts(self) -> tuple[bytes, bytes]:
-        # As rows a million labels take three times the time, and half again with calls of char(). The order of a subquery is
-        # that of what is put together of it, and what is put together of null is left out.
-        query = """select count(*), cast(group_concat(label, '\n') as blob), count(holder),
-                cast(group_concat(case when holder is not null then label || '\t' || holder end, '\n') as blob)
-            from (select label, holder from registered order by label collate binary)"""
         with self._connection() as connection:
-            row = connection.execute(query).fetchone()
-        labels, holders = (checked_lines((text or b"") + b"\n" * bool(count), count) for count, text in (row[:2], row[2:]))
+            connection.execute("begin")
+            labels = text(connection, "label", "true", "(select count(*) from registered)")
+            holders = text(connection, "label || '\t' || holder", "holder is not null", "count(*)")
+            connection.execute("commit")
         return labels, holders
 
     def load(self, rows: Iterable[Row]) -> None:
@@ -173,3 +170,16 @@ class SqliteRegister(Register):
 
     def close(self) -> None:
         self._idle.close()
+
+
+def text(connection: sqlite3.Connection, line: str, where: str, number: str) -> bytes:
+    """A line of each of some rows, of which there is a number, in label order."""
+    # As rows a million labels take several times the time. What is put together has the order of a search of the primary key,
+    # or of a subquery, which takes twice the time.
+    query = f"""select {number}, cast(group_concat({line}, '\n') as blob) from {{}}
+        where label >= '' collate binary and {where}"""
+    plan = [row[-1] for row in connection.execute("explain query plan " + query.format("registered"))]
+    is_in_order = "SEARCH registered USING PRIMARY KEY (label>?)" in plan
+    rows = "registered" if is_in_order else "(select label, holder from registered order by label collate binary)"
+    count, found = connection.execute(query.format(rows)).fetchone()
+    return checked_lines((found or b"") + b"\n" * bool(count), count)

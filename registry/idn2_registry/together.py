@@ -14,14 +14,14 @@ Result = TypeVar("Result")
 
 @dataclass(frozen=True)
 class Ask(Generic[Given, Told]):
-    """What is asked of a teller. It is asked several at once, and gives for each, in their order, what it tells or what
-    went wrong."""
+    """What is asked of a teller in one turn. It is asked several at once, and gives for each, in their order, what it tells or
+    what went wrong."""
 
     teller: Callable[[Sequence[Given]], Sequence[Told | Fault]]
-    given: Given
+    given: Sequence[Given]
 
-    def __await__(self) -> Generator["Ask[Given, Told]", Any, Told]:
-        told: Told = yield self
+    def __await__(self) -> Generator["Ask[Given, Told]", Any, list[Told]]:
+        told: list[Told] = yield self
         return told
 
 
@@ -42,8 +42,15 @@ def together(requests: Iterable[Request[Result]]) -> Iterator[tuple[int, Result 
                 yield number, end.value
             except Fault as fault:
                 yield number, fault
-        due = [(number, request, told) for teller, each in asked.items()
-               for (number, request, _), told in zip(each, teller([given for *_, given in each]), strict=True)]
+        due = []
+        for teller, each in asked.items():
+            tells = iter(teller([one for *_, given in each for one in given]))
+            due += [(number, request, all_told([next(tells) for _ in given])) for number, request, given in each]
+
+
+def all_told(told: list[Any]) -> list[Any] | Fault:
+    """What was told of all that a request asked; else the first fault."""
+    return next((one for one in told if isinstance(one, Fault)), told)
 
 
 def alone(request: Request[Result]) -> Result:

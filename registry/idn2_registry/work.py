@@ -115,7 +115,8 @@ def results(means: Means, name: str, task: Task, parts: Sequence[bytes], state: 
     kept = Kept(means, name, [name.encode(), *state, *parts])
     found = {number: result for number in range(len(parts)) if (result := kept.result(number)) is not None}
     open_parts = {number: part for number, part in enumerate(parts) if number not in found}
-    lines = [part.count(b"\n") for part in parts]
+    # Only a bar shows how many lines are done.
+    lines = [part.count(b"\n") if sys.stderr.isatty() else 0 for part in parts]
     progress = Progress(name, sum(lines), sum(lines[number] for number in found))
     try:
         for number, result in done_parts(means, task, open_parts):

@@ -1,6 +1,8 @@
 """Collisions beside whole sets of what labels spell, and tables that are joined. Disks that are full, and streams that are
 closed."""
 
+import bisect
+import itertools
 import json
 import os
 import random
@@ -8,7 +10,7 @@ import resource
 import signal
 import sqlite3
 import subprocess
-from collections.abc import Iterable
+from collections.abc import Iterable, Sequence
 from pathlib import Path
 
 import pytest
@@ -16,7 +18,9 @@ from conftest import LIMIT, PROGRAM, TABLES, Place
 from program import is_registrable, spelled
 
 from idn2_registry import Check, Status
-from idn2_registry.register import Register, Transaction
+from idn2_registry.processes import Questions
+from idn2_registry.register import Register, Row, Transaction
+from idn2_registry.together import alone
 
 Sets = dict[str, list[str]]
 
@@ -145,6 +149,38 @@ def test_finds_what_the_whole_listings_of_both_sides_have(kind: Place) -> None:
                 assert told == (expected, Status.TAKEN if expected else Status.AVAILABLE), (kept, label, answer.reason)
                 collisions += len(expected)
     assert collisions > 100, collisions
+
+
+class InMemory(Transaction):
+    """Labels in label order, and how often it was asked for some."""
+
+    def __init__(self, labels: list[str]) -> None:
+        self.labels, self.turns = labels, 0
+
+    def first_rows(self, texts: Sequence[str]) -> list[Row | None]:
+        self.turns += 1
+        places = [bisect.bisect_left(self.labels, text) for text in texts]
+        return [(self.labels[place], None) if place < len(self.labels) else None for place in places]
+
+    def insert(self, label: str, holder: str | None) -> None:
+        raise NotImplementedError
+
+    def delete(self, label: str) -> bool:
+        raise NotImplementedError
+
+
+def test_a_search_takes_few_turns(place: Place) -> None:
+    """Also where between each two labels that may collide another one is registered."""
+    place.write("table.txt", "0061|0062\n0062|0061\n0063\n")
+    place.configure(own="table.txt")
+    spelled_alike = ["".join(letters) for letters in itertools.product("ab", repeat=8)]
+    between = [label[:-1] + "c" for label in spelled_alike if label.endswith("b")]
+    with place.zone() as zone:
+        for registered in (between, sorted([*between, *spelled_alike])):
+            transaction = InMemory(registered)
+            found = alone(zone.tables.collisions.of("abababab", transaction, Questions(zone.tables.pool)))
+            assert [label for label, _ in found] == [label for label in spelled_alike if label in registered]
+            assert transaction.turns <= 32
 
 
 def reset(register: Register, labels: set[str]) -> None:
