@@ -140,12 +140,14 @@ bench: all
 	python3 bench/xml.py
 
 # Compares the program with libidn2, with a reference implementation of the rules and of the table notation, with Unicode's
-# IDNA test file where IDNA_TEST_FILE names it, and, as the reference implementation, with an evaluator of RFC 7940; and
-# publishes six thousand tables and reads them back.
+# IDNA test file where IDNA_TEST_FILE names it, and, as the reference implementation, with an evaluator of RFC 7940, also on
+# rulesets in XML; documents of XML with Python's expat; and publishes six thousand tables and reads them back.
 conformance: all
 	python3 conformance/compare.py
 	python3 conformance/worked_rows.py
 	python3 conformance/beside_evaluator.py --jobs $(LANES)
+	python3 conformance/xml_beside_evaluator.py --jobs $(LANES)
+	python3 conformance/xml_beside_expat.py
 	python3 conformance/check_tables.py
 	python3 conformance/idna_test.py
 	python3 conformance/both_ways.py

@@ -1,4 +1,4 @@
-"""Causes of refusals written a second time, from docs/idn2.1 and the RFCs alone: what `--explain` tells after a message.
+"""Causes of refusals in the reference implementation, from docs/idn2.1 and the RFCs alone: what `--explain` tells after a message.
 
 A cause is the text after the colon, or None where none is told. Places and labels are counted from 1 in texts.
 """

@@ -1,4 +1,4 @@
-"""Which labels collide, and what each is to the other, written a second time from docs/NOTATION.md: by whole sets.
+"""Which labels collide, and what each is to the other, in the reference implementation, from docs/NOTATION.md: by whole sets.
 
 Two labels that are accepted today collide if the listing of one has the other. A label that isn't has no listing: with it,
 a label collides that arises from it, or it from that one, whatever is asked of sources."""

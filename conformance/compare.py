@@ -4,8 +4,8 @@
 For registration and decoding, without `--standard` and with it, and for lookup, both are asked about the same names
 (names.py). Where both refuse, or both give the same text, they agree; every other case is a difference. Each difference
 must be of a known kind (kinds.py), of which the script prints the number, the reason and an example. Our answers for
-registration and decoding, the numbers of refusals too, must also be those of the rules as they are written down a
-second time (registration.py), for all names without a code point newer than the data here. Any other difference fails
+registration and decoding, the numbers of refusals too, must also be those of the reference implementation
+(registration.py), for all names without a code point newer than the data here. Any other difference fails
 the run: status 1.
 
 Our program is run once for each mode; libidn2 is asked through its library, with the calls of its program. The

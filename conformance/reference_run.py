@@ -1,4 +1,4 @@
-"""A run of the program written a second time, from docs/idn2.1, docs/NOTATION.md and the README alone.
+"""A run of the reference implementation, from docs/idn2.1, docs/NOTATION.md and the README alone.
 
 Given the words, standard input and the files, it tells what stands on the output, on the messages and as the status.
 Where it does not know, since a code point is newer than the data here, or since a name is to be looked up, it says so by

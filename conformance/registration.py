@@ -1,5 +1,5 @@
-"""Registration and decoding written a second time, from RFC 5891, 5892 and 5893, over this project's range lists or, as with
-`--standard`, over Unicode's properties alone.
+"""Registration and decoding in the reference implementation, from RFC 5891, 5892 and 5893, over this project's range lists or, as
+with `--standard`, over Unicode's properties alone.
 
 It tells which of libidn2's answers ours may differ from, and which number a refused label must have. Its Unicode
 data are those of unicode-data and of Python, which may be older than the program's: `knows` tells whether all code

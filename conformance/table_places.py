@@ -1,4 +1,4 @@
-"""Where a line of a table has its fault, written a second time, from docs/idn2.1 and docs/NOTATION.md alone.
+"""Where a line of a table has its fault, in the reference implementation, from docs/idn2.1 and docs/NOTATION.md alone.
 
 `of_fault` gives what the message of a faulty line goes on with where causes are told, or None. A lexeme can't stand where it is if
 no line of the version begins with the lexemes up to it: whether one does is tried out by what may come after."""

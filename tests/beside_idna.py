@@ -1,5 +1,5 @@
 #!/usr/bin/env python3
-"""Runs the program with --standard beside Python's `idna`, which is another writing of RFC 5891, 5892 and 5893.
+"""Runs the program with --standard beside Python's `idna`, which is another implementation of RFC 5891, 5892 and 5893.
 
 Each code point alone, pairs and triples of code points of each Bidi class and joining type, and whole names: the two may differ
 only where a code point is newer than the other's Unicode version, by its age in Unicode's data, or had other properties then.

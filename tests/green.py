@@ -1,6 +1,6 @@
 #!/usr/bin/env python3
-"""What the last green run of the gate was made of: a digest of each crate, in out/green.json. By hand the gate plants wrong
-bodies only in crates that have another digest now.
+"""What the last green run of the gate was made of: a digest of each crate, in out/green.json. By hand the gate tries
+mutants only in crates that have another digest now.
 
   tests/green.py digests    prints the digests of the crates as they stand
   tests/green.py keep TEXT  keeps these as those of a green run, if the crates still stand so

@@ -144,8 +144,9 @@ def names_no_module_as_a_library(folder):
 
 
 def leads_a_label_through_functions_that_are_there(folder):
-    """Each function of the tables that follow a label stands in the file beside it."""
-    rows = re.findall(r"^\| \d+ \| (.*?) \| `(\w+)/([\w/]+\.rt)` \|", text_of("docs", "ARCHITECTURE.md"), re.MULTILINE)
+    """Where docs/ARCHITECTURE.md follows a label, each function stands in the file that is named after it."""
+    ways = " ".join("".join(re.findall(r"^## The way of .*?(?=^## )", text_of("docs", "ARCHITECTURE.md"), re.M | re.S)).split())
+    rows = re.findall(r"((?:`[\w:]+`(?:, | and )?)+) \(`(\w+)/([\w/]+\.rt)`\)", ways)
     named = [(name, text_of("crates", crate, "src", file), file) for names, crate, file in rows
              for name in re.findall(r"`(?:\w+::)?(\w+)`", names)]
     absent = [(name, file) for name, text, file in named if not re.search(rf"\bfn {name}\b", text)]

@@ -44,6 +44,11 @@ BOUNDS = {
     ("docs/DECISIONS.md", "A name of at most 254 ASCII letters"): ("crates/idn_label/src/query/ldh.rt", "len ≤ 254"),
     ("docs/PROOFS.md", "how many edges its variant graph has, at most 326,592"): EDGES,
     ("docs/LISTING.md", "at most 326,592 edges"): EDGES,
+    ("docs/LISTING.md", "A board takes at most 66,048 bytes more"): ("crates/reading_kinds/src/board.rt", "size.columns ≤ 64"),
+    ("docs/NOTATION.md", "A ruleset in XML has at most 67,108,864 bytes"): ("crates/xml_text/specs/Files.antt", "max_bytes = 67108864"),
+    ("docs/NOTATION.md", "8,192 elements within an entry"): ("crates/lgr_text/specs/Sizes.antt", "max_elements = 8192"),
+    ("docs/NOTATION.md", "1,024 classes and rules"): ("crates/lgr_text/specs/DefinitionOrder.antt", "max_definitions = 1024"),
+    ("docs/NOTATION.md", "where elements stand more than 64 deep"): ("crates/xml_text/specs/Documents.antt", "IsElement 64 element"),
     ("docs/PROOFS.md", "tests at most 256 times as many edges"):
         ("crates/variant_list/src/cursor.rt", "≤ 256 * self.old.net.edges"),
     ("docs/PROOFS.md", "126 times are proved of one search"):

@@ -188,8 +188,8 @@ def tells_the_line_of_what_is_wrong_in_xml(folder):
     letters = LGR % b'<char cp="0061"><var cp="0062" type="blocked"/></char><char cp="0062"><var cp="0061"/></char>'
     for before in (b"", b"\n \t", "\ufeff".encode()):
         path = table_file(folder, before + letters)
-        assert run(["--print-ruleset", path]).stdout == b"%version 3\n%type type_1\n0061|!0062\n0062|0061 as type_1\n"
-        assert run(["--check-ruleset", path]).stdout == b"idle type_1\n#table 2 0\n"
+        assert run(["--print-ruleset", path]).stdout == b"%version 3\n0061|!0062\n0062|0061\n"
+        assert run(["--check-ruleset", path]).stdout == b"#table 2 0\n"
         assert run(["--ruleset", path, "a"]).stdout == b"a\ta\tallocatable\nb\tb\tblocked\n#end 2\n"
     for within, number in REFUSED_IN_XML:
         for option in ("--ruleset", "--check-ruleset", "--print-ruleset"):

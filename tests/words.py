@@ -12,7 +12,7 @@ from program import ROOT, run_tests, text_of
 
 DOCUMENTS = ("*.md", "docs/*")
 SOURCES = ("crates/*/src/**/*.rt", "crates/*/specs/**/*.antt", "crates/*/proofs/**/*.antt", "bench/*.py", "conformance/*.py",
-           "registry/**/*.py", "tables/*.py", "tests/*.py", "Makefile")
+           "registry/**/*.py", "tables/*.py", "tests/*.py", "tests/gate", "Makefile")
 GLOSSARY = os.path.join(ROOT, "docs", "GLOSSARY.md")
 # What begins a comment, by the ending of a file.
 COMMENT = {".rt": r"//[/!]?(.*)$", ".antt": r"--(.*)$", ".py": r"(?:^|\s)#(.*)$", "": r"(?:^|\s)#(.*)$"}
@@ -37,9 +37,9 @@ def unused():
 
 @functools.cache
 def pattern(*words):
-    """Any of the words, as they stand or with a capital, one or several of the thing."""
-    forms = (f"[{word[0].upper()}{word[0]}]{re.escape(word[1:])}" for word in words)
-    return re.compile(rf"\b(?:{'|'.join(forms)})(?:e?s)?(?!\w)")
+    """Any of the words, as they stand or with a capital, one or several of the thing, also where a line ends within them."""
+    forms = (f"[{word[0].upper()}{word[0]}]{re.escape(word[1:])}".replace(r"\ ", r"\s+") for word in words)
+    return re.compile(rf"\b(?:{'|'.join(re.sub('y$', '(?:y|ie)', form) for form in forms)})(?:e?s)?(?!\w)")
 
 
 def unused_in(text):

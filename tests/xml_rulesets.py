@@ -1,6 +1,6 @@
 #!/usr/bin/env python3
 """Gives the program rulesets in XML as they are published (RFC 7940): --ruleset, --check-ruleset and --print-ruleset of the
-file itself. Each has the answers that were worked out by hand (converted_rows.py, evaluator_rows.py), others those of the evaluator
+file itself. Each has the answers that were worked out by hand (xml_rows.py, evaluator_rows.py), others those of the evaluator
 (idn2_registry.rfc7940); what isn't as the standard has it is refused by its line, and nothing else is said. The last line is
 'N passed, M failed', and the exit status is 0 where nothing failed."""
 
@@ -11,14 +11,14 @@ import random
 import re
 import sys
 
-from converted_rows import (ABC, BY_STANDARD, DIFFERENCES, FAULTS, LABELS, LIMITS, PROFILE, REFUSALS, ROWS, VERIFIED,
-                            WITH_CONDITION, WITH_RULE, WITH_VARIANT, long_set, many_entries, refusing, rule)
 from evaluator_rows import ANSWERS, DATA, DOCUMENTS, PROPERTIES, ROOT as HEAD, RULES, SPELLINGS
 from evaluator_rows import ruleset as document
 from evaluator import all_verdicts
 from program import ROOT, run, run_tests, table_file
 from rich_ruleset import RichRuleset
 from rulesets import registrable, ruleset, stored
+from xml_rows import (ABC, BY_STANDARD, FAULTS, LABELS, LIMITS, LONGEST_FIRST, OF_EACH_KIND, PROFILE, REFUSALS, ROWS,
+                      WITH_CONDITION, WITH_RULE, WITH_VARIANT, char, long_set, many_entries, refusing, rule)
 
 sys.path += [os.path.join(ROOT, folder) for folder in ("conformance", "registry")]
 
@@ -74,7 +74,7 @@ def expect_same_printed(folder, path, answers):
 
 
 def wanted(text):
-    """The answer that a row of converted_rows has."""
+    """The answer that a row of xml_rows has."""
     if text == "invalid":
         return None
     return {word.lstrip("!"): BLOCKED if word.startswith("!") else "allocatable" for word in text.split()}
@@ -100,16 +100,9 @@ def expect_as_evaluated(path, chosen, count=40):
     return expect_answers(path, {label: all_verdicts(of_file, label) for label in each}, path)
 
 
-# Rows that no table says, with the line that tells it and the number.
-NOT_SAID = {"parts beside a choice of anchors": (4, 37)}
-
-
 def says_each_part(folder):
-    for name, data, rules, _, answers in ROWS:
+    for name, data, rules, answers in ROWS:
         path = ruleset(folder, data, rules)
-        if name in NOT_SAID:
-            assert fault_of(path) == NOT_SAID[name], name
-            continue
         answers = {label: wanted(row) for label, row in answers.items()}
         expect_answers(path, answers, name)
         expect_same_printed(folder, path, answers)
@@ -126,11 +119,56 @@ def says_what_was_worked_out(folder):
         expect_same_printed(folder, path, answers)
 
 
+def behind(cp):
+    return f'<rule><look-behind><char cp="{cp}"/></look-behind><anchor/></rule>'
+
+
+def ahead(cp):
+    return f'<rule><anchor/><look-ahead><char cp="{cp}"/></look-ahead></rule>'
+
+
+A, C, END = '<char cp="0061"/>', '<char cp="0063"/>', "<end/>"
+PLAIN, NAMED = "<rule><anchor/></rule>", '<rule by-ref="s"/>'
+CHOICE = f"<choice>{PLAIN}<rule>{C}{PLAIN}</rule><rule>{PLAIN}{A}</rule></choice>"
+# Rules in which other parts stand before a choice with anchors, after it, or both; in a choice within another, too, and by
+# the name of a rule.
+BESIDE = [
+    f"<choice>{behind('0061')}{behind('0063')}</choice>{END}",
+    f"<choice>{behind('0061')}<rule>{C}{C}{PLAIN}</rule></choice><any/>{C}",
+    f"{A}<choice>{ahead('0061')}{ahead('0063')}<rule>{PLAIN}{END}</rule></choice>",
+    f'<start/><any count="0+"/>{C}<choice>{PLAIN}<rule>{A}{PLAIN}</rule></choice>{A}',
+    f"{A}<choice>{PLAIN}<rule>{C}{CHOICE}{C}</rule></choice>{A}",
+    f"{A}{NAMED}<choice>{A}{C}</choice>",
+    f"<choice><rule>{A}{NAMED}</rule><rule>{C}{NAMED}{END}</rule></choice>",
+]
+
+
+def says_what_stands_beside_a_choice(folder):
+    """As the evaluator does: in each branch of its rule. The branches are bounded by what they take together."""
+    data = ABC.replace('"0062"', '"0062" when="r"')
+    labels = ["".join(some) for size in range(1, 6) for some in itertools.product("abc", repeat=size)]
+    for within in BESIDE:
+        path = ruleset(folder, data, rule(CHOICE, "s") + rule(within))
+        of_file = read(contents(path))
+        answers = {label: all_verdicts(of_file, label) for label in labels}
+        with_condition = [answer for label, answer in answers.items() if "b" in label]
+        assert None in with_condition and any(with_condition), within
+        expect_answers(path, answers, within)
+        expect_same_printed(folder, path, answers)
+    # What stands beside a choice of four takes eight bytes more of a line of the ruleset, of 8,192 bytes.
+    for count, fault in ((1_021, None), (1_022, (5, 34))):
+        within = f"<choice>{PLAIN * 4}</choice>" + "\n<any/>" * count
+        assert fault_of(ruleset(folder, data, "\n" + rule(within))) == fault, count
+    twice = lambda number: f'<choice><rule by-ref="r{number}"/><rule by-ref="r{number}"/></choice>'
+    rules = rule("<anchor/>", "r0") + "".join("\n" + rule(twice(number), f"r{number + 1}") for number in range(200))
+    # The line of 2,048 branches, each the anchor alone, is too long.
+    assert fault_of(ruleset(folder, ABC, rules)) == (15, 34)
+
+
 def says_other_rows_as_the_evaluator_does(folder):
-    """What loses code points that no label has; what versions 1 and 2 read in another way; and what is converted before it is
-    verified."""
-    rows = [(data, rules) for data, rules, _, _ in LABELS] + [(data, "") for data, _ in DIFFERENCES]
-    for number, (data, rules) in enumerate([*rows, VERIFIED, WITH_CONDITION, WITH_RULE, WITH_VARIANT]):
+    """What loses code points that no label has; what versions 1 and 2 read in another way; and something of each kind."""
+    rows = [*LABELS, LONGEST_FIRST, OF_EACH_KIND, WITH_CONDITION, WITH_RULE, WITH_VARIANT]
+    for number, (data, rules) in enumerate(rows):
         expect_as_evaluated(ruleset(folder, data, rules), random.Random(number))
 
 
@@ -143,13 +181,59 @@ def expect_printed(folder, path, lines, words=()):
 
 def leaves_out_what_no_label_has(folder):
     """By the profile, and less of it with --standard."""
-    for data, lines, _ in PROFILE:
+    for data, lines in PROFILE:
         expect_printed(folder, ruleset(folder, data), lines or [])
     for data, lines in BY_STANDARD:
         expect_printed(folder, ruleset(folder, data), lines, ["--standard"])
     nothing = ruleset(folder, '<char cp="0041"/>')
     assert run(["--check-ruleset", nothing]).stdout == b"#table 0 0\n"
     assert run(["--ruleset", nothing, "a"]).stderr == b"idn2: line 1: 40 not made of table entries\n"
+
+
+UNTYPED = char("0062", ("0061",))
+# Variants with types, and without; what is printed of them, and which type no action names.
+TYPES_BESIDE_NONE = [
+    (char("0061", ("0062", "blocked")) + UNTYPED, ["0061|!0062", "0062|0061"], []),
+    (char("0061", ("0061",), ("0062", "blocked")) + UNTYPED,
+     ["%type type_1", "0061 as type_1|!0062", "0062|0061 as type_1"], ["type_1"]),
+    # All types are left out, with a variant or with an entry.
+    (char("0061", ("0062",), ("0041", "blocked")) + UNTYPED,
+     ["%type type_1", "0061|0062 as type_1", "0062|0061 as type_1"], ["type_1"]),
+    (char("0061", ("0062",)) + char("0041", ("0061", "blocked")) + UNTYPED,
+     ["%type type_1", "0061|0062 as type_1", "0062|0061 as type_1"], ["type_1"]),
+    # So are all variants, or all that are their own sources.
+    (char("0061") + char("0041", ("0061", "blocked"), ("0062",)), ["0061"], []),
+    (char("0061", ("0062", "blocked")) + char("0041", ("0041",)) + UNTYPED, ["0061|!0062", "0062|0061"], []),
+    # A type that the file has is idle, too.
+    (char("0061", ("0062", "x")) + UNTYPED, ["%type x", "0061|0062 as x", "0062|0061"], ["x"]),
+]
+
+
+def types_what_has_no_type_only_where_it_must(folder):
+    for data, lines, idle in TYPES_BESIDE_NONE:
+        path = ruleset(folder, data)
+        expect_printed(folder, path, lines)
+        printed = table_file(folder, run(["--print-ruleset", path]).stdout, "printed.txt")
+        for file in (path, printed):
+            told = run(["--check-ruleset", file]).stdout.decode().splitlines()
+            assert [line for line in told if line.startswith("idle")] == [f"idle {name}" for name in idle], (data, told)
+
+
+def gives_no_name_that_the_file_has(folder):
+    """Each type and rule keeps its name if the notation has that; others have names that neither the file nor another has."""
+    look = lambda within: f"<look-behind>{within}</look-behind><anchor/>"
+    path = ruleset(folder, char("0061", ("0062", "r-x"), ("0063", "type_1"))
+                   + '<char cp="0062" when="after-a"/><char cp="0063" when="rule_1"/>',
+                   rule(look('<char cp="0061"/>'), "after-a") + rule(look('<class by-ref="set_1"/>'), "rule_1")
+                   + '<class name="set_1">0063</class>' + rule("<any/>", "type_2") + rule("<any/>", "type_1")
+                   + rule("<any/>", "blocked") + '<action disp="blocked" any-variant="r-x type_1"/>')
+    expect_printed(folder, path, [
+        "%type type_3", "%type type_1", "%set set_2 0063", "%rule rule_2 0061 _", "%rule rule_1 @set_2 _", "%whole type_2 .",
+        "%whole rule_3 .", "%whole rule_4 .", "%action blocked any type_3,type_1",
+        "0061|0062 as type_3:0063 as type_1", "0062 when rule_2", "0063 when rule_1"])
+    for label, cause in (("b", "U+0062 at place 1: when rule_2"), ("c", "U+0063 at place 1: when rule_1")):
+        told = run(["--explain", "--ruleset", path, label]).stderr.decode()
+        assert told == f"idn2: line 1: 41 not valid under the table: {cause}\n", told
 
 
 def says_large_rulesets(folder):
@@ -221,8 +305,7 @@ def refuses_what_no_table_says(folder):
 
 def refuses_faults(folder):
     for data, rules, message in FAULTS:
-        if message.startswith("line "):
-            expect_refused(folder, contents(ruleset(folder, data, rules)), int(re.match(r"line (\d+)", message)[1]))
+        expect_refused(folder, contents(ruleset(folder, data, rules)), int(re.match(r"line (\d+)", message)[1]))
 
 
 # Where the program tells another line than the evaluator, by the reason that this has: a text by its own line, a circle by
@@ -352,8 +435,11 @@ if __name__ == "__main__":
     sys.exit(run_tests("xml_rulesets", [
         says_each_part,
         says_what_was_worked_out,
+        says_what_stands_beside_a_choice,
         says_other_rows_as_the_evaluator_does,
         leaves_out_what_no_label_has,
+        types_what_has_no_type_only_where_it_must,
+        gives_no_name_that_the_file_has,
         says_large_rulesets,
         knows_properties,
         reads_each_spelling,

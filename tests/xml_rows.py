@@ -1,4 +1,4 @@
-"""Small rulesets of RFC 7940: what each becomes in version 3 of the table notation, and what the RFC says of labels.
+"""Small rulesets of RFC 7940, and what the RFC says of labels; and rulesets that the program refuses.
 
 The entries of a ruleset are on line 2 of the file, the rules and actions on line 4. An answer is 'invalid', or the variants of
 a label, with '!' before those that are blocked.
@@ -39,226 +39,189 @@ HAN_ACTIONS = ('<action disp="valid" only-variants="r-simp r-trad"/>'
                '<action disp="allocatable" only-variants="simp r-simp"/>'
                '<action disp="allocatable" only-variants="trad r-trad"/>'
                '<action disp="blocked" any-variant="simp trad"/>')
-HAN_LINES = ["%type r_simp", "%type trad", "%type r_trad", "%type simp", "%action valid only r_simp,r_trad",
-             "%action allocatable only simp,r_simp", "%action allocatable only trad,r_trad", "%action blocked any simp,trad",
-             "56FD as r_simp|570B as trad", "570B as r_trad|56FD as simp", "5B66 as r_simp|5B78 as trad",
-             "5B78 as r_trad|5B66 as simp"]
-
 TWO = char("0061", ("0062", "x"), ("0063", "valid")) + char("0062") + char("0063")
 
-# What is shown, the data, the rules, the lines without comments, and answers.
+# What is shown, the data, the rules, and answers.
 ROWS = [
     # Section 5: entries.
     ("a code point, a sequence and a range", char("0061") + char("0062 0063") + '<range first-cp="0030" last-cp="0032"/>', "",
-     ["0061", "0062-0063", "0030..0032"],
      {"abc1": "abc1", "b": "invalid", "bca": "bca", "3": "invalid"}),
     ("a context before", ABC.replace('"0062"', '"0062" when="r"'), rule(BEHIND_A),
-     ["%rule r 0061 _", "0061", "0062 when r", "0063"],
      {"ab": "ab", "b": "invalid", "abb": "invalid", "cab": "cab", "acb": "invalid"}),
     ("a context of a range, the other way round", char("0061") + '<range first-cp="0062" last-cp="0063" not-when="r"/>',
-     rule(BEHIND_A), ["%rule r 0061 _", "0061", "0062..0063 unless r"],
+     rule(BEHIND_A),
      {"ba": "ba", "ab": "invalid", "bc": "bc", "abc": "invalid", "bac": "invalid"}),
     ("a context after", ABC.replace('"0062"', '"0062" when="r"'),
      rule('<anchor/><look-ahead><char cp="0063"/><end/></look-ahead>'),
-     ["%rule r _ 0063 $", "0061", "0062 when r", "0063"], {"bc": "bc", "bca": "invalid", "abc": "abc", "b": "invalid"}),
+     {"bc": "bc", "bca": "invalid", "abc": "abc", "b": "invalid"}),
     ("both sides of a sequence", char("0061") + char("0062 0063", when="r"),
      rule('<look-behind><start/><char cp="0061"/></look-behind><anchor/><look-ahead><char cp="0061"/></look-ahead>'),
-     ["%rule r ^ 0061 _ 0061", "0061", "0062-0063 when r"], {"abca": "abca", "aabca": "invalid", "abc": "invalid"}),
+     {"abca": "abca", "aabca": "invalid", "abc": "invalid"}),
     ("anchors in a choice, by their names, too", ABC.replace('"0062"', '"0062" not-when="r"'),
      rule("<look-behind><start/></look-behind><anchor/>", "first")
      + rule(f'<choice><rule by-ref="first"/><rule>{BEHIND_A}</rule></choice>'),
-     ["%rule r ^ _ / 0061 _", "0061", "0062 unless r", "0063"],
      {"b": "invalid", "ab": "invalid", "cb": "cb", "cbb": "cbb"}),
     ("parts beside a choice of anchors", ABC.replace('"0062"', '"0062" when="r"'),
      rule(f'<choice><rule>{BEHIND_A}</rule><rule><look-behind><char cp="0063"/></look-behind><anchor/></rule></choice>'
-          "<end/>"),
-     ["%rule r 0061 _ $ / 0063 _ $", "0061", "0062 when r", "0063"], {"ab": "ab", "cb": "cb", "aba": "invalid"}),
+          "<end/>"), {"ab": "ab", "cb": "cb", "aba": "invalid"}),
     # Section 6.2: classes.
     ("tags", CONSONANTS + char("0061", tag="vowel sign", when="r") + char("0065", tag="vowel"),
      rule('<look-behind><class from-tag="consonant"/></look-behind><anchor/>'),
-     ["%set r 0062..0064", "%rule r_2 @r _", "0062..0064", "0061 when r_2", "0065"],
      {"ba": "ba", "ea": "invalid", "da": "da"}),
     ("a class by its code points, by a name", ABC,
      '<class name="two">0061 0063-0070</class>' + refusing('<class by-ref="two"/><end/>'),
-     ["%set two 0061 0063", "%never @two $", "0061..0063"], {"b": "b", "ab": "ab", "ba": "invalid", "bc": "invalid"}),
+     {"b": "b", "ab": "ab", "ba": "invalid", "bc": "invalid"}),
     ("classes by a combining class and a category", char("0061") + char("0915") + char("094D") + char("0301"),
      refusing('<start/><class property="gc:Mn"/>')
      + rule('<class property="ccc:9"/><class property="General_Category:Lo"/>', "s")
      + '<action disp="invalid" match="s"/>',
-     ["%set r 0301 094D", "%never ^ @r", "%never 094D 0915", "0061", "0915", "094D", "0301"],
      {"a\u0301": "a\u0301", "\u0301a": "invalid", "\u0915\u094D\u0915": "invalid", "\u0915\u094Da": "\u0915\u094Da"}),
     ("a class by a class of the Bidi rule", char("0061") + char("0628") + char("0661"),
      refusing('<start/><class property="bc:AL"/><class property="Bidi_Class:AN"/>'),
-     ["%never ^ 0628 0661", "0061", "0628", "0661"], {"\u0628\u0661": "invalid", "\u0628\u0628\u0661": "\u0628\u0628\u0661"}),
+     {"\u0628\u0661": "invalid", "\u0628\u0628\u0661": "\u0628\u0628\u0661"}),
     ("a union", ABC, refusing("<start/><union><class>0061</class><class>0062</class></union>"),
-     ["%set r 0061..0062", "%never ^ @r", "0061..0063"], {"a": "invalid", "b": "invalid", "ca": "ca"}),
+     {"a": "invalid", "b": "invalid", "ca": "ca"}),
     ("an intersection", ABC, refusing("<intersection><class>0061-0062</class><class>0062-0063</class></intersection>"),
-     ["%never 0062", "0061..0063"], {"ac": "ac", "ab": "invalid"}),
+     {"ac": "ac", "ab": "invalid"}),
     ("a difference", ABC, refusing("<difference><class>0061-0063</class><class>0062</class></difference><end/>"),
-     ["%set r 0061 0063", "%never @r $", "0061..0063"], {"ab": "ab", "c": "invalid"}),
+     {"ab": "ab", "c": "invalid"}),
     ("a symmetric difference", ABC,
      refusing("<symmetric-difference><class>0061-0062</class><class>0062-0063</class></symmetric-difference><end/>"),
-     ["%set r 0061 0063", "%never @r $", "0061..0063"], {"ab": "ab", "c": "invalid"}),
+     {"ab": "ab", "c": "invalid"}),
     ("a complement, of what labels can have", ABC, refusing("<complement><class>0061 0078</class></complement><end/>"),
-     ["%set r 0062..0063", "%never @r $", "0061..0063"], {"ba": "ba", "c": "invalid"}),
+     {"ba": "ba", "c": "invalid"}),
     # Section 6.3: rules.
     ("any, the start and the end", ABC, refusing('<start/><any/><any/><char cp="0063"/><end/>'),
-     ["%never ^ . . 0063 $", "0061..0063"], {"abc": "invalid", "cabc": "cabc", "abca": "abca", "c": "c"}),
-    ("a count", ABC, refusing('<char cp="0061" count="3"/>'), ["%never 0061 0061 0061", "0061..0063"],
+     {"abc": "invalid", "cabc": "cabc", "abca": "abca", "c": "c"}),
+    ("a count", ABC, refusing('<char cp="0061" count="3"/>'),
      {"aa": "aa", "aaa": "invalid", "baaab": "invalid", "aaba": "aaba"}),
     ("a count from one to three", ABC, refusing('<start/><char cp="0061" count="1:3"/><char cp="0062"/>'),
-     ["%never ^ 0061 0061? 0061? 0062", "0061..0063"], {"ab": "invalid", "aaab": "invalid", "aaaab": "aaaab", "b": "b"}),
+     {"ab": "invalid", "aaab": "invalid", "aaaab": "aaaab", "b": "b"}),
     ("a count from two on", ABC, refusing('<start/><char cp="0061" count="2+"/><char cp="0062"/>'),
-     ["%never ^ 0061 0061 0061* 0062", "0061..0063"], {"ab": "ab", "aab": "invalid", "aaaaab": "invalid"}),
+     {"ab": "ab", "aab": "invalid", "aaaaab": "invalid"}),
     ("a count from none on, of a sequence", ABC, refusing('<start/><char cp="0061 0062" count="0+"/><char cp="0063"/>'),
-     ["%never ^ (0061 0062)* 0063", "0061..0063"], {"c": "invalid", "ababc": "invalid", "abac": "abac"}),
+     {"c": "invalid", "ababc": "invalid", "abac": "abac"}),
     ("a count of choices", ABC,
      refusing('<start/><choice count="2"><char cp="0061"/><rule><char cp="0062"/><char cp="0063"/></rule></choice><end/>'),
-     ["%never ^ (0061 / 0062 0063) (0061 / 0062 0063) $", "0061..0063"],
      {"aa": "invalid", "abc": "invalid", "bcbc": "invalid", "a": "a", "aaa": "aaa", "ba": "ba"}),
     ("a choice that may match nothing", ABC,
      refusing('<char cp="0061"/><choice><char cp="0062" count="0:1"/><char cp="0063"/></choice><end/>'),
-     ["%never 0061 (0062? / 0063) $", "0061..0063"], {"a": "invalid", "ab": "invalid", "ac": "invalid", "abb": "abb"}),
+     {"a": "invalid", "ab": "invalid", "ac": "invalid", "abb": "abb"}),
     ("a rule within a rule", ABC, rule('<char cp="0061"/><char cp="0062"/>', "ab") + refusing('<rule by-ref="ab" count="2"/>'),
-     ["%never 0061 0062 0061 0062", "0061..0063"], {"abab": "invalid", "ab": "ab", "cabab": "invalid"}),
-    ("what has to match", ABC, refusing("<class>0061-0062</class>", "not-match"),
-     ["%set r 0061..0062", "%always @r", "0061..0063"], {"c": "invalid", "ca": "ca", "b": "b"}),
+     {"abab": "invalid", "ab": "ab", "cabab": "invalid"}),
+    ("what has to match", ABC, refusing("<class>0061-0062</class>", "not-match"), {"c": "invalid", "ca": "ca", "b": "b"}),
     ("more than a label can have", ABC, refusing('<char cp="0061" count="1:63"/><char cp="0063" count="64"/>')
      + rule('<start/><char cp="0061" count="1:99"/><end/>', "s") + '<action disp="invalid" match="s"/>',
-     ["%never ^ 0061 0061* $", "0061..0063"], {"aaa": "invalid", "ab": "ab"}),
+     {"aaa": "invalid", "ab": "ab"}),
     ("a rule without an anchor, for a code point anywhere", char("00B7", when="r") + ABC, rule("<class>0061-0062</class>"),
-     ["%set r 0061..0062", "%whole r_2 @r", "00B7 when r_2", "0061..0063"],
      {"\u00B7ca": "\u00B7ca", "c\u00B7": "invalid", "bc\u00B7": "bc\u00B7", "c": "c"}),
     ("the same, said of the whole label", char("00B7", when="r") + ABC,
      rule('<start/><any count="0+"/><class>0061-0062</class><any count="0+"/><end/>'),
-     ["%set r 0061..0062", "%whole r_2 ^ .* @r .* $", "00B7 when r_2", "0061..0063"],
      {"\u00B7ca": "\u00B7ca", "c\u00B7": "invalid", "bc\u00B7": "bc\u00B7", "c": "c"}),
     ("the same, for a code point that is one of them", char("0061", when="r") + char("0062", not_when="r") + char("0063"),
-     rule("<class>0061-0062</class>"), ["%set r 0061..0062", "%whole r_2 @r", "0061 when r_2", "0062 unless r_2", "0063"],
+     rule("<class>0061-0062</class>"),
      {"a": "a", "ac": "ac", "b": "invalid", "c": "c"}),
     # Section 5.3: variants.
     ("types of section 7.3",
      char("0061", ("0062", "allocatable"), ("0063", "blocked"), ("0064", "activated"), ("0065", "valid"))
-     + "".join(map(char, ("0062", "0063", "0064", "0065"))), "",
-     ["0061|0062 as allocatable:0063 as blocked:0064 as activated:0065 as valid", "0062..0065"], {"a": "a b !c d e", "b": "b"}),
-    ("no type", char("0061", ("0062",)) + char("0062"), "", ["0061|0062", "0062"], {"a": "a b"}),
+     + "".join(map(char, ("0062", "0063", "0064", "0065"))), "", {"a": "a b !c d e", "b": "b"}),
+    ("no type", char("0061", ("0062",)) + char("0062"), "", {"a": "a b"}),
     ("a type 'invalid', which makes no variant",
      char("0061", ("0062", "invalid"), ("0063", "blocked")) + char("0062") + char("0063"), "",
-     ["0061|0062 as invalid:0063 as blocked", "0062..0063"], {"a": "a !c", "aa": "aa !ac !ca !cc"}),
+     {"a": "a !c", "aa": "aa !ac !ca !cc"}),
     ("each variant is a label of its own", char("0061", ("0062", "blocked")) + char("0062", when="r") + char("0063"),
-     rule('<look-behind><char cp="0063"/></look-behind><anchor/>'),
-     ["%rule r 0063 _", "0061|0062 as blocked", "0062 when r", "0063"], {"a": "a", "ca": "ca !cb", "caa": "caa !cba"}),
+     rule('<look-behind><char cp="0063"/></look-behind><anchor/>'), {"a": "a", "ca": "ca !cb", "caa": "caa !cba"}),
     ("a demand on variants", char("0061", ("0062", "allocatable")) + char("0062"),
-     refusing('<char cp="0062"/><char cp="0062"/>'),
-     ["%never 0062 0062", "0061|0062 as allocatable", "0062"], {"aa": "aa ab ba", "ab": "ab"}),
+     refusing('<char cp="0062"/><char cp="0062"/>'), {"aa": "aa ab ba", "ab": "ab"}),
     ("a variant in a context, asked where its source stands",
      char("0061", ("0062", "allocatable", ' when="r"')) + char("0062"),
-     rule(BEHIND_A), ["%rule r 0061 _", "0061|0062 as allocatable when r", "0062"], {"aa": "aa ab", "aaa": "aaa aab aba abb", "ba": "ba"}),
+     rule(BEHIND_A), {"aa": "aa ab", "aaa": "aaa aab aba abb", "ba": "ba"}),
     ("one variant in two contexts",
      char("0061", ("0062", "allocatable", ' when="r"'), ("0062", "blocked", ' not-when="r"')) + char("0062"),
-     rule("<anchor/><look-ahead><end/></look-ahead>"), ["%rule r _ $", "0061|0062 as allocatable when r:0062 as blocked unless r", "0062"],
+     rule("<anchor/><look-ahead><end/></look-ahead>"),
      {"a": "a b", "aa": "aa ab !ba !bb"}),
     ("a variant in a context that holds nowhere, and in the opposite one",
      char("0061", ("0062", "allocatable", ' when="none"'), ("0062", "blocked", ' not-when="none"')) + char("0062"),
      rule('<look-behind><char cp="0078"/></look-behind><anchor/>', "none"),
-     ["%whole none . ^", "0061|0062 as allocatable when none:0062 as blocked unless none", "0062"],
      {"a": "a !b", "aa": "aa !ab !ba !bb"}),
     ("a sequence for a code point", char("0061 0065", ("00E4", "allocatable")) + char("00E4", ("0061 0065", "blocked"))
-     + char("0061") + char("0065"), "", ["0061-0065|00E4 as allocatable", "00E4|0061-0065 as blocked", "0061", "0065"],
+     + char("0061") + char("0065"), "",
      {"aea": "aea \u00E4a", "\u00E4": "\u00E4 !ae"}),
     ("an out-of-repertoire variant", char("0061", ("0430", "blocked")) + char("0062")
      + char("0430", ("0430", "out-of-repertoire-var"), ("0061", "blocked")),
      '<action disp="invalid" any-variant="out-of-repertoire-var"/>',
-     ["%type out_of_repertoire_var", "%action invalid any out_of_repertoire_var", "0061|0430 as blocked", "0062",
-      "0430 as out_of_repertoire_var|0061 as blocked"],
      {"ab": "ab !\u0430b", "\u0430b": "invalid", "\u0430": "invalid"}),
     ("the same in a context", char("0061", ("0430", "blocked")) + char("0062")
      + char("0430", ("0430", "x"), not_when="r"),
      '<action disp="invalid" any-variant="x"/>' + rule("<anchor/><look-ahead><end/></look-ahead>"),
-     ["%type x", "%rule r _ $", "%action invalid any x", "0061|0430 as blocked", "0062", "0430 as x unless r"], {"aba": "aba !\u0430ba", "a": "a"}),
+     {"aba": "aba !\u0430ba", "a": "a"}),
     # Section 7: actions on types.
-    ("types that go together", han(), HAN_ACTIONS, HAN_LINES,
+    ("types that go together", han(), HAN_ACTIONS,
      {"国学": "国学 !国學 !國学 國學", "國學": "國學 国学 !国學 !國学", "国學": "国學 国学 國學 !國学"}),
     ("sources without a reflexive variant, under only-variants", han() + char("0061"), HAN_ACTIONS,
-     [*HAN_LINES, "0061"], {"国a": "国a !國a", "国": "国 國", "a": "a"}),
+     {"国a": "国a !國a", "国": "国 國", "a": "a"}),
     ("the same under all-variants, which looks at what is mapped", han() + char("0061"), HAN_ACTIONS.replace("only", "all"),
-     [line.replace("only", "all") for line in [*HAN_LINES, "0061"]],
      {"国a": "国a 國a", "国学": "国学 !国學 !國学 國學", "a": "a"}),
     ("the first action decides", char("0061", ("0062", "x"), ("0063", "y")) + char("0062") + char("0063"),
      '<action disp="allocatable" all-variants="x"/><action disp="blocked" any-variant="x y"/>',
-     ["%type x", "%type y", "%action allocatable all x", "%action blocked any x,y", "0061|0062 as x:0063 as y", "0062..0063"],
      {"aa": "aa ab ba bb !ac !bc !ca !cb !cc"}),
     ("the same actions the other way round", char("0061", ("0062", "x"), ("0063", "y")) + char("0062") + char("0063"),
      '<action disp="blocked" any-variant="x y"/><action disp="allocatable" all-variants="x"/>',
-     ["%type x", "%type y", "%action blocked any x,y", "%action allocatable all x", "0061|0062 as x:0063 as y", "0062..0063"],
      {"a": "a !b !c"}),
     ("explicit actions before those of the standard", char("0061", ("0062", "blocked")) + char("0062"),
-     '<action disp="valid" any-variant="blocked"/>', ["%action valid any blocked", "0061|0062 as blocked", "0062"],
+     '<action disp="valid" any-variant="blocked"/>',
      {"a": "a b"}),
     ("a refusal by a rule after an action of another disposition", char("0061", ("0062", "x")) + char("0062"),
      '<action disp="blocked" any-variant="x"/>' + refusing('<char cp="0062"/>'),
-     ["%type x", "%whole r 0062", "%action blocked any x", "%action invalid when r", "0061|0062 as x", "0062"],
      {"a": "a !b", "b": "invalid"}),
     ("a refusal by a rule after one by types, and one of no rule and no types", char("0061", ("0062", "x")) + char("0062"),
      '<action disp="invalid" any-variant="y"/>' + refusing('<char cp="0062"/><char cp="0062"/>') + '<action disp="blocked"/>',
-     ["%type x", "%type y", "%never 0062 0062", "%action invalid any y", "%action blocked", "0061|0062 as x", "0062"],
      {"a": "!a !b", "aa": "!aa !ab !ba", "bb": "invalid"}),
     ("a label that is blocked by a rule", ABC, rule('<char cp="0061"/>') + '<action disp="blocked" match="r"/>',
-     ["%whole r 0061", "%action blocked when r", "0061..0063"], {"a": "!a", "b": "b", "ba": "!ba"}),
+     {"a": "!a", "b": "b", "ba": "!ba"}),
     ("variants that are blocked by a type and a rule that doesn't match", TWO,
      rule('<char cp="0063"/>') + '<action disp="blocked" any-variant="x" not-match="r"/>',
-     ["%type x", "%whole r 0063", "%action blocked unless r any x", "0061|0062 as x:0063 as valid", "0062..0063"],
      {"a": "a !b c", "aa": "aa !ab !ba !bb ac ca bc cb cc"}),
     ("an action that lets through what another would refuse", ABC, '<action disp="valid"/>' + refusing('<char cp="0062"/>'),
-     ["%whole r 0062", "%action valid", "%action invalid when r", "0061..0063"], {"b": "b"}),
+     {"b": "b"}),
     ("rules that each label matches, or none", ABC, refusing('<any count="0+"/>') + '<action disp="invalid" not-match="s"/>'
-     + rule('<char cp="0078"/>', "s"), ["%never .*", "%always . ^", "0061..0063"], {"a": "invalid", "abc": "invalid"}),
-    ("every label is blocked", ABC, '<action disp="blocked"/>', ["%action blocked", "0061..0063"], {"a": "!a"}),
+     + rule('<char cp="0078"/>', "s"), {"a": "invalid", "abc": "invalid"}),
+    ("every label is blocked", ABC, '<action disp="blocked"/>', {"a": "!a"}),
     ("a label that is invalid by its reflexive types alone", char("0061", ("0061", "x")) + char("0062", ("0062", "valid")),
      '<action disp="invalid" only-variants="x"/><action disp="valid" any-variant="x"/>',
-     ["%type x", "%action invalid only x", "%action valid any x", "0061 as x", "0062 as valid"],
      {"a": "invalid", "aa": "invalid", "ab": "ab", "b": "b"}),
     ("variants that are invalid by types together", TWO,
      '<action disp="blocked" all-variants="x"/><action disp="invalid" any-variant="x"/>',
-     ["%type x", "%action blocked all x", "%action invalid any x", "0061|0062 as x:0063 as valid", "0062..0063"],
      {"aa": "aa !ab !ba !bb ac ca cc"}),
     ("a part without a type isn't among all", char("0061", ("0062", "x"), ("0063",)) + char("0062") + char("0063"),
      '<action disp="valid" all-variants="x"/><action disp="blocked" any-variant="x"/>',
-     ["%type x", "%action valid all x", "%action blocked any x", "0061|0062 as x:0063", "0062..0063"],
      {"aa": "aa ab ba bb ac ca cc !bc !cb"}),
     ("an action by a rule and types", char("0061", ("0062", "allocatable")) + char("0062"),
-     '<action disp="allocatable" all-variants="allocatable" not-match="r"/>' + rule('<char cp="0062"/>'),
-     ["%whole r 0062", "%action allocatable unless r all allocatable", "0061|0062 as allocatable", "0062"], {"a": "a b"}),
+     '<action disp="allocatable" all-variants="allocatable" not-match="r"/>' + rule('<char cp="0062"/>'), {"a": "a b"}),
     ("a reflexive variant without a type, beside types", char("0061", ("0061",), ("0062", "x"), ("0063",)) + char("0062")
      + char("0063"), '<action disp="valid" all-variants="x"/><action disp="blocked" any-variant="x"/>',
-     ["%type x", "%type untyped", "%action valid all x", "%action blocked any x",
-      "0061 as untyped|0062 as x:0063 as untyped", "0062..0063"], {"a": "a b c", "aa": "aa bb cc !ab ac !ba ca !bc !cb"}),
-    ("the same without types", char("0061", ("0061",), ("0062",)) + char("0062"), "", ["0061|0062", "0062"], {"aa": "aa ab ba bb"}),
+     {"a": "a b c", "aa": "aa bb cc !ab ac !ba ca !bc !cb"}),
+    ("the same without types", char("0061", ("0061",), ("0062",)) + char("0062"), "", {"aa": "aa ab ba bb"}),
     # Sections 8.1, 8.3 and 8.4.
-    ("a variant that isn't made of entries", char("0061", ("0062", "blocked")) + char("0062 0063"), "",
-     ["0061|0062 as blocked", "0062-0063"], {"a": "a", "bc": "bc"}),
+    ("a variant that isn't made of entries", char("0061", ("0062", "blocked")) + char("0062 0063"), "", {"a": "a", "bc": "bc"}),
     ("one that is together with what stands beside it", char("0061") + char("0062")
      + char("0063", ("0061 0063 0062", "blocked"), ("0061 0064", "blocked")) + char("0064 0062"), "",
-     ["0061..0062", "0063|0061-0063-0062 as blocked:0061-0064 as blocked", "0064-0062"],
      {"c": "c !acb", "cb": "cb !acbb !adb", "db": "db"}),
     ("a source that no label has, within sources", char("0061 0061", ("0061 0061", "x"), ("0062", "blocked")) + char("0061")
-     + char("0062"), '<action disp="invalid" any-variant="x"/>',
-     ["%type x", "%action invalid any x", "0061-0061 as x|0062 as blocked", "0061..0062"], {"a": "a", "aa": "invalid"}),
+     + char("0062"), '<action disp="invalid" any-variant="x"/>', {"a": "a", "aa": "invalid"}),
     ("the longest entry, with no way back", char("0061") + char("0061 0062") + char("0062 0063"), "",
-     ["0061", "0061-0062", "0062-0063"], {"aab": "aab", "abc": "invalid", "bcab": "bcab"}),
+     {"aab": "aab", "abc": "invalid", "bcab": "bcab"}),
     # Names of the notation.
     ("names", char("0061", tag="0-vowel") + char("0062", when="a-rule-with-a-very-long-name-for-two") + char("0063", when="c.d")
      + char("0064", when="a-rule-with-a-very-long-name-for-three"),
      rule('<look-behind><complement><class from-tag="0-vowel"/></complement></look-behind><anchor/>', "c.d")
      + rule(BEHIND_A, "a-rule-with-a-very-long-name-for-two")
      + rule('<look-behind><char cp="0061"/><any/></look-behind><anchor/>', "a-rule-with-a-very-long-name-for-three"),
-     ["%set c_d 0062..0064", "%rule c_d_2 @c_d _", "%rule a_rule_with_a_very_long_name_for 0061 _",
-      "%rule a_rule_with_a_very_long_nam_2 0061 . _", "0061", "0062 when a_rule_with_a_very_long_name_for", "0063 when c_d_2",
-      "0064 when a_rule_with_a_very_long_nam_2"], {"ab": "ab", "abc": "abc", "abd": "abd", "ad": "invalid"}),
+     {"ab": "ab", "abc": "abc", "abd": "abd", "ad": "invalid"}),
 ]
 
 WITH_RULE = "line 4: rule 'r': "
-# The data, the rules, and the messages.
+# The data, the rules, and what is wrong, with its line; of several the last.
 REFUSALS = [
     # Mappings.
     (char("0061", ("",)), "", "line 2: char 0061: a null variant, which no table can have\n"),
@@ -288,7 +251,7 @@ REFUSALS = [
       for name, count in (("union", 0), ("complement", 2), ("difference", 1), ("symmetric-difference", 3))),
     (ABC, refusing("<choice><any/><rule><any/><any/></rule></choice>" * 1100),
      "line 4: action 'invalid': a rule that takes more than 4,096 parts to write\n"),
-    # All of them are told.
+    # Several things.
     (char("0061", ("",)) + "\n" + char("0062", ("",)), '<action disp="no" any-variant="x"/>',
      "lines 2, 3: char 0061 and 1 more: a null variant, which no table can have\n"
      "line 5: action 'no': a disposition that is none of RFC 7940, section 7.3\n"),
@@ -356,53 +319,31 @@ FAULTS = [
     (char("0061", ("0062", "_x")) + char("0062"), "", "line 2: '_x' is not a type\n"),
     (ABC, '<action disp="invalid" any-variant=""/>', "line 4: 'any-variant' names no type\n"),
     (ABC, '<action disp="invalid" only-variants="x _y"/>', "line 4: '_y' is not a type\n"),
-    (char("0041"), "", "no entry of it can stand in a table\n"
-     "line 2: char 0041: left out, since it has a code point that no label can have\n"),
 ]
-# What is left out, or makes no difference, is told: the data, the rules, the lines, and the messages.
+# Something is left out, or makes no difference: the data and the rules.
 LABELS = [
     # A class by a tag that only a code point has which no label has; and classes that lose code points.
     (char("0041", tag="a") + ABC.replace('"0062"', '"0062" not-when="r"'),
-     rule('<look-behind><class from-tag="a"/></look-behind><anchor/>'),
-     ["%whole r . ^", "0061", "0062 unless r", "0063"],
-     "line 2: char 0041: left out, since it has a code point that no label can have\n"
-     "line 4: class: 'a' loses 1 code point that no label of these entries has, first 0041\n"),
+     rule('<look-behind><class from-tag="a"/></look-behind><anchor/>')),
     (ABC, '<class name="c">0061 0070-0072</class><class name="d">0061-0062</class><class name="e" property="gc:Ll"/>'
-     + refusing('<class by-ref="c"/><class by-ref="d"/><class by-ref="e"/><class>0070</class>'),
-     ["0061..0063"], "line 4: action 'invalid': no label of these entries triggers it\n"
-     "line 4: class: 'c' loses 3 code points that no label of these entries has, first 0070\n"
-     "line 4: class: it loses 1 code point that no label of these entries has, first 0070\n"),
-    (char("0061", when="r") + char("0062", not_when="r"), rule("<class>0078</class>"),
-     ["%whole r . ^", "0061 when r", "0062 unless r"],
-     "line 4: class: it loses 1 code point that no label of these entries has, first 0078\n"),
+     + refusing('<class by-ref="c"/><class by-ref="d"/><class by-ref="e"/><class>0070</class>')),
+    (char("0061", when="r") + char("0062", not_when="r"), rule("<class>0078</class>")),
     (ABC, refusing('<class count="0+">0078</class>', "not-match") + rule('<choice><class count="0:1">0078</class><any/></choice>', "s")
-     + '<action disp="blocked" match="s"/>', ["%whole s .?", "%always .*", "%action blocked when s", "0061..0063"],
-     "line 4: class: it loses 1 code point that no label of these entries has, first 0078\n"),
-    ('<range first-cp="0060" last-cp="0062"/>' + char("0063", ("0041", "blocked"), ("0064", "blocked")), "",
-     ["0061..0062", "0063|0064 as blocked"],
-     "line 2: 0060 of range 0060..0062 and 1 more: left out, since it has a code point that no label can have\n"
-     "the table has 1 gap: idn2 --check-ruleset prints them\n"),
+     + '<action disp="blocked" match="s"/>'),
+    ('<range first-cp="0060" last-cp="0062"/>' + char("0063", ("0041", "blocked"), ("0064", "blocked")), ""),
     (char("0061", ("0062", "bloked"), ("0063", "valid")) + char("0062") + char("0063"),
      rule("<any/>") + '<class name="c">0061</class>' + refusing('<char cp="0078"/>').replace('"r"', '"s"')
-     + refusing("<start/><class property='gc:Mn'/>").replace('"r"', '"leading-combining-mark"'),
-     ["%type bloked", "0061|0062 as bloked:0063 as valid", "0062..0063"],
-     "line 4: action 'invalid': no label of these entries triggers it\n"
-     "line 2: type 'bloked': no action names it, so that it refuses and blocks no label\n"
-     "line 4: rule 'r' and 1 more: it makes no difference\n"
-     "the table has 2 gaps: idn2 --check-ruleset prints them\n"),
+     + refusing("<start/><class property='gc:Mn'/>").replace('"r"', '"leading-combining-mark"')),
 ]
-# What RFC 5892 allows and the program doesn't register: the data, the lines with --leave-out, and what is told of it.
-OUTSIDE = "left out, since the profile of idn2 has no such code point (docs/PROFILE.md), though RFC 5892 allows it\n"
+# What RFC 5892 allows and the program doesn't register: the data, and the lines of what is left.
 PROFILE = [
     # Adlam letters and digits; a capital one is barred by RFC 5892.
-    (char("0061") + '<range first-cp="1E922" last-cp="1E943"/><range first-cp="1E950" last-cp="1E959"/>', ["0061"],
-     "line 2: 1E922 of range 1E922..1E943 and 43 more: " + OUTSIDE),
-    (char("0061", ("10840", "blocked"), ("0062", "blocked")) + char("0062") + char("0061 10840"), ["0061|0062 as blocked", "0062"],
-     "line 2: char 0061, variant 10840 and 1 more: " + OUTSIDE),
-    (char("0061") + char("1E900"), ["0061"], ""),
-    (char("0061") + char("1E900 1E922"), ["0061"], ""),
-    (char("0061") + char("FB50"), ["0061"], ""),
-    (char("FB1E 1E922"), None, "line 2: char FB1E-1E922: " + OUTSIDE),
+    (char("0061") + '<range first-cp="1E922" last-cp="1E943"/><range first-cp="1E950" last-cp="1E959"/>', ["0061"]),
+    (char("0061", ("10840", "blocked"), ("0062", "blocked")) + char("0062") + char("0061 10840"), ["0061|0062 as blocked", "0062"]),
+    (char("0061") + char("1E900"), ["0061"]),
+    (char("0061") + char("1E900 1E922"), ["0061"]),
+    (char("0061") + char("FB50"), ["0061"]),
+    (char("FB1E 1E922"), None),
 ]
 # The same with --standard: the lines.
 BY_STANDARD = [
@@ -447,9 +388,9 @@ def long_set():
             f'<class name="many">{points}</class>' + rule('<look-behind><class by-ref="many"/></look-behind><anchor/>'))
 
 
-# What is verified: a ruleset with something of each kind; and what a table can say but for one condition, one rule or a type.
+# A ruleset with something of each kind; and what a table of version 2 can say but for one condition, one rule or a type.
 AFTER_A = rule(BEHIND_A)
-VERIFIED = (
+OF_EACH_KIND = (
     char("0061", ("0062", "blocked"), ("0430", "blocked")) + char("0062", ("0061", "blocked"))
     + char("0063", ("0062", "x"), ("0061", "y")) + char("0430", ("0430", "out-of-repertoire-var"), ("0061", "blocked"))
     + char("0064") + char("0065") + char("00E4") + char("0066", when="r"),
@@ -460,8 +401,5 @@ WITH_CONDITION = ABC + char("0064", when="r"), AFTER_A
 WITH_RULE = ABC, refusing('<char cp="0061 0062"/>')
 WITH_VARIANT = char("0061", ("0062", "blocked")) + char("0062", ("0061", "blocked")), ""
 
-# What versions 1 and 2 read in another way than RFC 7940: the data, and the difference.
-LONGEST = "it can be cut into entries, but not by the longest at each place (8.1)"
-DIFFERENCES = [
-    (char("0061") + char("0061 0062") + char("0062 0063"), f"accepted, and by RFC 7940 refused: {LONGEST}"),
-]
+# What versions 1 and 2 read in another way than RFC 7940.
+LONGEST_FIRST = char("0061") + char("0061 0062") + char("0062 0063"), ""
