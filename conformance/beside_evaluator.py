@@ -15,7 +15,7 @@ import sys
 
 sys.path.append(str(pathlib.Path(__file__).resolve().parent.parent / "registry"))
 
-from drawn_rulesets import DrawnRuleset, counted, tell_counts, words_of_drawing
+from drawn_rulesets import DrawnRuleset, compare_drawn, count_answer
 from evaluator_answers import answer_of_evaluator, asked_of_program
 from idn2_registry.notation import patterns, reading
 from idn2_registry.notation.faults import TableFault
@@ -163,14 +163,12 @@ def compared(seed: int, number: int) -> collections.Counter[str]:
         said = listed.get(label), refused.get(label)
         assert said == (wanted, refusal), f"number {number}, label {label}: {said} by the program, and {wanted}\n{drawn.text}"
         assert refusal != NOT_VALID or labels.cause(label), f"number {number}, label {label}: no cause\n{drawn.text}"
-        counts[f"labels refused with {refusal}" if refusal else "labels accepted"] += 1
-        counts.update(f"variants: {told}" for told in (answer or {}).values())
+        count_answer(counts, refusal, answer)
     return counts
 
 
 def main(words: list[str]) -> int:
-    given = words_of_drawing("Compares the reference implementation with another.", 7940).parse_args(words)
-    return tell_counts(lambda: counted(compared, given.seed, given.count, given.jobs))
+    return compare_drawn("Compares the reference implementation with another.", compared, words)
 
 
 if __name__ == "__main__":

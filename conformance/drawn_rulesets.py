@@ -6,7 +6,7 @@ import functools
 import multiprocessing
 import sys
 from collections import Counter
-from collections.abc import Callable
+from collections.abc import Callable, Mapping
 
 from idn2_registry.notation.points import spelled as spelled_points
 from idn2_registry.notation.ruleset import DISPOSITIONS
@@ -49,6 +49,18 @@ def counted(compared: Callable[[int, int], Counter[str]], seed: int, count: int,
             if number % 500 == 0:
                 print(f"{number} of {count}", file=sys.stderr, flush=True)
     return counts
+
+
+def count_answer(counts: Counter[str], refusal: int | None, variants: Mapping[str, str] | None) -> None:
+    """Counts a label that is refused with a number or accepted, and its variants by what is told of them."""
+    counts[f"labels refused with {refusal}" if refusal else "labels accepted"] += 1
+    counts.update(f"variants: {told}" for told in (variants or {}).values())
+
+
+def compare_drawn(description: str, compared: Callable[[int, int], Counter[str]], words: list[str]) -> int:
+    """Runs a script that compares what is drawn, and gives its status."""
+    given = words_of_drawing(description, 7940).parse_args(words)
+    return tell_counts(lambda: counted(compared, given.seed, given.count, given.jobs))
 
 
 def tell_counts(count: Callable[[], Counter[str]]) -> int:

@@ -23,7 +23,7 @@ ROOT = pathlib.Path(__file__).resolve().parent.parent
 sys.path += [str(ROOT / folder) for folder in ("registry", "tests")]
 
 from compare import PROGRAM
-from drawn_rulesets import counted, tell_counts, words_of_drawing
+from drawn_rulesets import compare_drawn, count_answer
 from evaluator_answers import asked_of_program, registrable
 from idn2_registry.notation import reading
 from idn2_registry.rfc7940.drawn_labels import every_variant
@@ -129,14 +129,12 @@ def compared(seed: int, number: int) -> collections.Counter[str]:
         found = listed.get(label), refused.get(label), of_labels(by_reference)
         right = of_labels(answer), refusal_of(ruleset, label, answer), of_labels(answer)
         assert found == right, told(label.encode("unicode_escape"), found, right)
-        counts[f"labels refused with {right[1]}" if right[1] else "labels accepted"] += 1
-        counts.update(f"variants: {kind}" for kind in (right[0] or {}).values())
+        count_answer(counts, right[1], right[0])
     return counts
 
 
 def main(words: list[str]) -> int:
-    given = words_of_drawing("Compares the program with the evaluator on rulesets in XML.", 7940).parse_args(words)
-    return tell_counts(lambda: counted(compared, given.seed, given.count, given.jobs))
+    return compare_drawn("Compares the program with the evaluator on rulesets in XML.", compared, words)
 
 
 if __name__ == "__main__":
