@@ -1,5 +1,5 @@
--- What is told of a ruleset that has no table: what is wrong with it, and the line of the element that has it. Lines are
--- those that its elements have in memory, beside what they say.
+-- What is told of a ruleset that has no table: what is wrong with it, and the line of the element that has it. Lines
+-- are those that its elements have in memory, beside what they say.
 use Rattle.std.specs.Prelude.{◌≡◌, ◌≢◌, ◌⊎◌, ℕ, List, [], ◌∷◌, ◌++◌, Option, Some, None, AllPairs, Contains, map}
 use Rattle.std.specs.List.{flat_map}
 use Rattle.lgr_text.specs.ClassMembers.{class_fault}
@@ -81,8 +81,8 @@ pub record HasSourceTwice (r : Ruleset) (line : ℕ) : Type 0 where
   pub here : line ≡ this.line
   pub twice : AllPairs (λ a b. a ≢ b) (all_sources (before ++ this ∷ [])) → ⊥
 
--- 'Syntax' is a start or an end of labels that stands where it may not (section 6.3.8). Of a variant that is given again,
--- a code point that no label has, a limit, and what no table says, neither the fault nor its line is said
+-- 'Syntax' is a start or an end of labels that stands where it may not (section 6.3.8). Of a variant that is given
+-- again, a code point that no label has, a limit, and what no table says, neither the fault nor its line is said
 abbrev pub HasFault : Ruleset → TableFault → ℕ → Type 0
 HasFault r Syntax line = HasWrongDefinition r rule.Misplaced line
 HasFault r SameName line = IsOrderFault r.definitions.items (Repeated line)

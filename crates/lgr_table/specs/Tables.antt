@@ -1,6 +1,6 @@
 -- Which table of version 3 says what a file says (RFC 7940).
-use Rattle.std.specs.Prelude.{◌≡◌, ℕ, ◌<◌, ◌≤◌, ◌↔◌, Bool, IsTrue, not, if◌then◌else◌, List, [], ◌∷◌, ◌++◌, Option, Some}
-use Rattle.std.specs.Prelude.{None, All, AllPairs, Contains, IsSome, bytes_eq, filter, is_some, length, map}
+use Rattle.std.specs.Prelude.{◌≡◌, ℕ, ◌<◌, ◌≤◌, ◌↔◌, Bool, IsTrue, not, if◌then◌else◌, List, [], ◌∷◌, ◌++◌, Option}
+use Rattle.std.specs.Prelude.{Some, None, All, AllPairs, Contains, IsSome, bytes_eq, filter, is_some, length, map}
 use Rattle.std.specs.Prelude.{slice_index_or, ◌≢◌, unwrap_or}
 use Rattle.std.specs.List.{filter_map}
 use Rattle.std.specs.Option.{option_map}

@@ -110,8 +110,8 @@ SaysRule known sets p rule =
 -- stands for the same, whatever sets follow these
 abbrev pub MatchesAsPart : Known → List (List Span) → Pattern → Part → Type 0
 MatchesAsPart known sets p rule =
-    (all : List (List Span)) (label : List ℕ) (at : Option Place) (k l : ℕ) → BeginsWith all sets → IsOf known.points label
-    → MatchesAround (seen all label) at p k l ↔ Matching known rule (seen all label) at k l
+    (all : List (List Span)) (label : List ℕ) (at : Option Place) (k l : ℕ) → BeginsWith all sets
+    → IsOf known.points label → MatchesAround (seen all label) at p k l ↔ Matching known rule (seen all label) at k l
 
 -- there is a rule of this name
 abbrev pub is_named : Known → List ℕ → Bool

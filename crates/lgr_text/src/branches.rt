@@ -1,5 +1,5 @@
-//! The branches of a rule (RFC 7940, sections 6.3.4 and 6.4.1): a choice in which the anchor stands is one of patterns, each
-//! of which has the anchor, by itself or from a rule that is named.
+//! The branches of a rule (RFC 7940, sections 6.3.4 and 6.4.1): a choice in which the anchor stands is one of patterns,
+//! each of which has the anchor, by itself or from a rule that is named.
 ghost use Rattle.std.specs.Prelude.{◌≡◌, ◌+◌, false, true, map, length, None, IfOk, OnOk};
 ghost use Rattle.label_patterns.specs.Matches.{HasItsSets};
 ghost use Rattle.label_patterns.specs.Trees.{pattern};
@@ -162,8 +162,8 @@ fn anchored_pattern(
     }
 }
 
-/// The pattern of a rule. The anchor of a condition may stand in it, once in each of its branches, one after the other with
-/// other parts.
+/// The pattern of a rule. The anchor of a condition may stand in it, once in each of its branches, one after the other
+/// with other parts.
 pub fn pattern_of_rule(
     alloc: Global,
     known: Known<'_>,

@@ -113,8 +113,8 @@ pub(crate) enum Side {
     After,
 }
 
-/// What no part of a label matches: a code point before the start, or after the end, since no pattern has the start of a
-/// label after the anchor.
+/// What no part of a label matches: a code point before the start, or after the end, since no pattern has the start of
+/// a label after the anchor.
 fn never_on(alloc: Global, side: Side) -> Result<PatternTree, AllocError>
     ensures { IfOk result (λ tree. pattern tree ≡ never_pattern_on side) }
 {

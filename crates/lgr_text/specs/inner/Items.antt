@@ -146,8 +146,8 @@ pub record AddsSets (known : Known) (class : Class) (old_sets sets : List (List 
   pub members : (c : ℕ) → c ≤ 0x10FFFF → is_in spans c ≡ is_member known class c
 
 -- what matches nothing was appended, since none of a class is in labels
-pub record AddsNever (side : Side) (known : Known) (class : Class) (old_sets sets : List (List Span)) (old items : List Pattern)
-    : Type 0 where
+pub record AddsNever (side : Side) (known : Known) (class : Class) (old_sets sets : List (List Span))
+    (old items : List Pattern) : Type 0 where
   pub same : sets ≡ old_sets
   pub is : items ≡ old ++ Group (never_on side) ∷ []
   pub members : (c : ℕ) → c ≤ 0x10FFFF → is_member known class c ≡ false
