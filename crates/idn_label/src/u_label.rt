@@ -14,7 +14,7 @@ ghost use Rattle.idn_label.specs.Steps.{begins_with_prefix, lowercase};
 
 use crate::a_label::ascii_text;
 use crate::code_points::points_of;
-use crate::first_fault::{check_label, test_label_by};
+use crate::first_fault::{check_label, check_registrable};
 use crate::unit::{Unit, is_all_ascii, to_lowercase};
 use arrayvec::{ArrayString, ArrayVec};
 use idn_class::{Facts, MAX_LABEL_LEN, Properties};
@@ -132,7 +132,7 @@ pub(crate) fn refuse<U: Unit, T>(
         u_label_answer properties (U.codes given.now) ≡ Err refusal) }
 {
     if let Some(label) = decoded_code(alloc, code_of(given))? {
-        test_label_by(alloc, &label, properties)?;
+        check_registrable(alloc, &label, properties)?;
     }
     Err(Refusal::BadALabel)
 }

@@ -20,7 +20,7 @@ use crate::modes::asked::Asked;
 use crate::modes::code_points::PointAnswering;
 use crate::modes::collisions::write_collisions;
 use crate::modes::search::Search;
-use idn_label::test_label_by;
+use idn_label::check_registrable;
 use idn_text::Sink;
 use idn2_options::Options;
 use idn2_output::Console;
@@ -52,8 +52,8 @@ impl<'t, 'r> PointAnswering for Among<'t, 'r> {
         console: &mut Console<'_, '_, W, E>,
     ) -> Served {
         let options = self.options;
-        match test_label_by(alloc, points, options.properties) {
-            Ok(_) => answer_label(alloc, self, asked, points, console),
+        match check_registrable(alloc, points, options.properties) {
+            Ok(()) => answer_label(alloc, self, asked, points, console),
             Err(refusal) => refused(refusal),
         }
     }

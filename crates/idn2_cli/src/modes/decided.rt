@@ -21,7 +21,7 @@ use crate::modes::listed::{Listed, regard_of};
 use crate::modes::matched_rules::MatchedRules;
 use answer_json::{Regard, Regards};
 use idn_class::Properties;
-use idn_label::test_label_by;
+use idn_label::check_registrable;
 use idn_text::Refusal;
 use reading_kinds::Readings;
 use std::alloc::{AllocError, Global};
@@ -304,8 +304,8 @@ fn may_be_registered(
 ) -> Result<bool, AllocError>
     ensures { IfOk result (λ told. IsTrue told ↔ IsRegistrable properties label.now) }
 {
-    match test_label_by(alloc, label, properties) {
-        Ok(_) => Ok(true),
+    match check_registrable(alloc, label, properties) {
+        Ok(()) => Ok(true),
         Err(Refusal::Memory) => Err(AllocError),
         Err(_) => Ok(false),
     }

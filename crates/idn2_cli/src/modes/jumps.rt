@@ -26,7 +26,7 @@ use crate::modes::collisions::columns_of;
 use crate::modes::search::{Near, Search};
 use answer_json::{Input, Regards};
 use idn_class::Properties;
-use idn_label::test_label_by;
+use idn_label::check_registrable;
 use idn_text::Sink;
 use idn2_options::Form;
 use idn2_output::{Console, Object, Stop};
@@ -55,8 +55,8 @@ impl<'t> PointAnswering for Jumps<'t> {
         points: &[u32],
         console: &mut Console<'_, '_, W, E>,
     ) -> Served {
-        match test_label_by(alloc, label_of_request(points), self.properties) {
-            Ok(_) => answer_least(alloc, self, asked, points, console),
+        match check_registrable(alloc, label_of_request(points), self.properties) {
+            Ok(()) => answer_least(alloc, self, asked, points, console),
             Err(refusal) => refused(refusal),
         }
     }

@@ -21,7 +21,7 @@ use crate::modes::block::write_block;
 use crate::modes::code_points::PointAnswering;
 use crate::modes::dispositions::Dispositions;
 use crate::modes::label_dispositions::LabelDispositions;
-use idn_label::test_label_by;
+use idn_label::check_registrable;
 use idn_text::Sink;
 use idn2_options::Options;
 use idn2_output::{Console, Stop};
@@ -57,8 +57,8 @@ impl<'t, 'p> PointAnswering for Variants<'t, 'p> {
         console: &mut Console<'_, '_, W, E>,
     ) -> Served {
         let options = self.options;
-        match test_label_by(alloc, points, options.properties) {
-            Ok(_) => list(alloc, self, asked, points, console),
+        match check_registrable(alloc, points, options.properties) {
+            Ok(()) => list(alloc, self, asked, points, console),
             Err(refusal) => refused(refusal),
         }
     }

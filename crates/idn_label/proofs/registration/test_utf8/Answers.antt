@@ -1,4 +1,4 @@
-use Rattle.std.proofs.Common.{◌≡◌, ℕ, Bool, true, false, List, [], ◌∷◌, length, Option, Some, None, Err, refl, sym, ap, ap₂, subst, ◌∙◌}
+use Rattle.std.proofs.Common.{◌≡◌, ℕ, Bool, true, false, List, [], ◌∷◌, length, Option, Some, None, Err, refl, sym, ap, ap₂, subst, ◌∙◌, arith}
 use Rattle.std.specs.List.{list_all}
 use Rattle.std.proofs.lemmas.Bool.{not-false, not-true}
 use Rattle.std.proofs.lemmas.Result.{IfErr-weaker, err_from_is_err_and, on_ok_weaker}
@@ -51,7 +51,7 @@ returns-in_err-check_label-clause-no_memory c =
     (λ none is. c.in_err-check_label.ensures.no_memory (subst NeedsNoMemory points none) (let same : c.in_err-check_label.field-0.0 ≡ Memory = cc in ap Err same))
 
 pub is_short-requires : goal.is_short-requires
-is_short-requires c = ap length c.in-Some.ensures.points.encoded
+is_short-requires c = omega (arith, ap length c.in-Some.ensures.points.encoded)
 
 pub returns-then-is_short-clause-passes : goal.returns-then-is_short-clause-passes
 returns-then-is_short-clause-passes c = measured c.args.properties c.args.label.now _ None false c.in-Some.ensures.points c.in_ok-check_label.ensures.passes (not-true _ (sym c.is_short.ensures ∙ c.if-is_short.true))

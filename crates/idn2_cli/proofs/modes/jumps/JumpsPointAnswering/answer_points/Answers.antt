@@ -24,4 +24,4 @@ returns-in-Err-clause-kept g c = kept_as_it_was _ c.refused.result
 pub returns-in-Err-clause-no_memory : goal.returns-in-Err-clause-no_memory
 returns-in-Err-clause-no_memory g c none =
     refused_without c.in-Err.refusal c.refused.result
-    (λ memory. c.test_label_by.ensures.no_memory (subst NeedsNoMemory (sym c.label_of_request.ensures.label) none.0) (c.in-Err.is ∙ ap Err memory)) c.refused.ensures.refused
+    (λ memory. c.check_registrable.ensures.no_memory (subst NeedsNoMemory (sym c.label_of_request.ensures.label) none.0) (c.in-Err.is ∙ ap Err memory)) c.refused.ensures.refused

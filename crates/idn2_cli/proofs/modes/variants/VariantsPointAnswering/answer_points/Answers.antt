@@ -23,7 +23,7 @@ returns-in-Err-clause-kept g c = kept_as_it_was _ c.refused.result
 
 pub returns-in-Err-clause-no_memory : goal.returns-in-Err-clause-no_memory
 returns-in-Err-clause-no_memory g c none =
-    refused_without c.in-Err.refusal c.refused.result (λ memory. c.test_label_by.ensures.no_memory none.0 (c.in-Err.is ∙ ap Err memory)) c.refused.ensures.refused
+    refused_without c.in-Err.refusal c.refused.result (λ memory. c.check_registrable.ensures.no_memory none.0 (c.in-Err.is ∙ ap Err memory)) c.refused.ensures.refused
 
 pub list-requires-clause-registrable : goal.list-requires-clause-registrable
 list-requires-clause-registrable g c = subst (λ (o : Settings). IsRegistrable o.properties c.args.points.now) c.options.view_is c.in-Ok.ensures.registrable
