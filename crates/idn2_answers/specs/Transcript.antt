@@ -33,7 +33,7 @@ use Rattle.idn2_answers.specs.Answers.{LineAnswer, mode_answer, line_answer}
 use Rattle.idn2_refusals.specs.Explained.{Unexplained, ByLabel, ByName, ByQuery, ByTable, ByRequest, if_wanted}
 use Rattle.idn2_refusals.specs.Explained.{Explained, body_cause}
 use Rattle.idn2_refusals.specs.TableCauses.{fault_cause, told_if}
-use Rattle.idn2_refusals.specs.Messages.{refusal_piece, fault_piece}
+use Rattle.idn2_refusals.specs.Messages.{refusal_line, fault_line}
 use Rattle.idn2_output.specs.OutputLines.{OutputLine, Output, outputs}
 use Rattle.idn2_answers.specs.Said.{Said, Finding, Found, Idle, Counted, said_text, finding_text}
 use Rattle.idn2_refusals.specs.declared.cause.LineCause.{LineCause}
@@ -170,8 +170,8 @@ abbrev pub output_line_in : Form → Statement → OutputLine
 output_line_in form (Says line said) = Output (said_text form line said)
 output_line_in form (Finds finding) = Output (finding_text form finding)
 output_line_in form (Prints text) = Output text
-output_line_in form (Refuses line refusal cause) = refusal_piece form line refusal cause
-output_line_in form (Faults line refusal cause) = fault_piece form line refusal cause
+output_line_in form (Refuses line refusal cause) = refusal_line form line refusal cause
+output_line_in form (Faults line refusal cause) = fault_line form line refusal cause
 
 -- ---- the lines of the input
 

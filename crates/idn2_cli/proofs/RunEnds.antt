@@ -14,7 +14,7 @@ use Rattle.idn2_cli.specs.Memory.{BlockGoesOn, IsRefusedWithoutMemory, ListsWith
 use Rattle.idn2_answers.specs.Answers.{variants_answer}
 use Rattle.idn2_refusals.specs.Explained.{Explained}
 use Rattle.idn2_answers.specs.Transcript.{TableGiven, IsCrowdedIn, IsListedBy, IsReadAs, IsSearchedAs, IsTableFor, IsTableOf, check_output, check_status, printed_text}
-use Rattle.idn2_refusals.specs.Messages.{fault_piece}
+use Rattle.idn2_refusals.specs.Messages.{fault_line}
 use Rattle.idn2_output.specs.OutputLines.{Output, OutputLine}
 use Rattle.idn2_output.specs.Writing.{Held, refusal_of, Emits}
 use Rattle.idn2_refusals.specs.Reports.{TakesText, closing_message}
@@ -243,12 +243,12 @@ closes_by stop.Memory old new not same told = (same, told)
 -- by the table no collision is searched
 pub crowded_search : (o : Settings) (among : Option (List (List ℕ))) (text : List ℕ) (line : ℕ) (start : Reading) (old new : Held) (r : Result Status Stop)
     → o.mode ≡ search_mode among → IfSome among (λ labels. o.registered ≡ Some labels) → IsCrowdedIn o.properties o.notation text line → IsUnread start
-    → Emits old new (fault_piece o.form line refusals.Limit None ∷ []) r → IfOk r (λ status. status ≡ Unusable) → Serves o text start start old new r
+    → Emits old new (fault_line o.form line refusals.Limit None ∷ []) r → IfOk r (λ status. status ≡ Unusable) → Serves o text start start old new r
 crowded_search o among text line start old new r is registered crowded unread writes answered =
     let told : ℕ × Refusal × Option LineCause = (line, refusals.Limit, None) in
     let job = mode_job (record o { mode = search_mode among }) (Err told) in
     let written : Emits old new (check_output o.form (tells_causes o) (Err told)) r =
-    subst (λ (cause : Option LineCause). Emits old new (fault_piece o.form line refusals.Limit cause ∷ []) r) (sym (no_cause (tells_causes o))) writes in
+    subst (λ (cause : Option LineCause). Emits old new (fault_line o.form line refusals.Limit cause ∷ []) r) (sym (no_cause (tells_causes o))) writes in
     as_mode o (search_mode among) text (Err told) job start start old new r is (searched_for o text (Err told) among registered (inr (crowded, refl, refl))) refl
     (does_unread job start old new r unread written (with_false r _ answered) (search_reads among))
 

@@ -18,7 +18,7 @@ use Rattle.lgr_table.specs.declared.fault.TableError.TheVariants.{Fault}
 use Rattle.lgr_table.specs.declared.fault.TableFault as xml_faults
 use Rattle.lgr_table.specs.declared.fault.TableFault.TheVariants as lgr
 use Rattle.idn2_answers.specs.Transcript.{TableGiven, GivesFault, GivesTable, HasFault, IsFaultOfRuleset, IsReadAs, IsSearchedAs, IsTableIn, IsToldFor, is_in_xml, ruleset_refusal, table_refusal, check_output}
-use Rattle.idn2_refusals.specs.Messages.{fault_piece}
+use Rattle.idn2_refusals.specs.Messages.{fault_line}
 use Rattle.idn2_refusals.specs.TableCauses.{fault_cause, told_if}
 use Rattle.idn2_refusals.proofs.ToldRefusals.{IsTold}
 use Rattle.idn2_refusals.specs.TableFaults.{told_of}
@@ -160,12 +160,12 @@ module _ (form : Form) (wanted : Bool) (properties : Properties) (n : Notation) 
 
   -- and of a ruleset in XML
   pub tells_ruleset : (fault : xml_faults.TableFault) (line : ℕ) → is_in_xml n text ≡ true → xml.IsToldOf text (Fault fault line)
-      → Emits old new (fault_piece form line (ruleset_refusal fault) None ∷ []) r → IfOk r (λ status. status ≡ Unusable) → TellsFault form wanted properties n text old new r
+      → Emits old new (fault_line form line (ruleset_refusal fault) None ∷ []) r → IfOk r (λ status. status ≡ Unusable) → TellsFault form wanted properties n text old new r
   tells_ruleset fault line is told writes unusable =
       let given : ℕ × Refusal × Option LineCause = (line, ruleset_refusal fault, None) in
       inr (
         given,
         faulty_by properties n text true given is (fault, refl, known fault line told, refl),
-        subst (λ (cause : Option LineCause). Emits old new (fault_piece form line (ruleset_refusal fault) cause ∷ []) r) (sym (no_cause wanted)) writes,
+        subst (λ (cause : Option LineCause). Emits old new (fault_line form line (ruleset_refusal fault) cause ∷ []) r) (sym (no_cause wanted)) writes,
         unusable,
       )

@@ -126,8 +126,7 @@ pub record Does (job : Job) (start now : Reading) (old new : Held) (result : Res
 
 -- what a file leads to that is not read as registered labels
 abbrev pub TellsUnread : Settings → List ℕ → RegisteredFileFault → (old new : Held) → Status → Type 0
-TellsUnread o text (registers.Refused line refusal) old new status =
-    TellsUnreadLine o.form (tells_causes o) o.properties text line refusal old new status
+TellsUnread o text (registers.Refused line refusal) old new status = TellsUnreadLine o text line refusal old new status
 TellsUnread o text registers.Memory old new status = TellsMemory old new status
 
 -- the refusal of a stop is the last that is written. There is none where the messages failed before

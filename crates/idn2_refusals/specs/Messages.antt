@@ -62,11 +62,11 @@ registered_object line refusal cause = line_of (registered_fault line refusal (t
 -- ---- either of them
 
 -- of a refused line, with its cause, if one is told
-abbrev pub refusal_piece : Form → Numbered → Refusal → Option LineCause → OutputLine
-refusal_piece Plain line refusal cause = Message (refused_message line.number refusal (tail_text refusal cause))
-refusal_piece Json line refusal cause = Output (refused_object line refusal cause)
+abbrev pub refusal_line : Form → Numbered → Refusal → Option LineCause → OutputLine
+refusal_line Plain line refusal cause = Message (refused_message line.number refusal (tail_text refusal cause))
+refusal_line Json line refusal cause = Output (refused_object line refusal cause)
 
 -- of a line of a table
-abbrev pub fault_piece : Form → ℕ → Refusal → Option LineCause → OutputLine
-fault_piece Plain line refusal cause = Message (table_message line refusal (tail_text refusal cause))
-fault_piece Json line refusal cause = Output (table_object line refusal cause)
+abbrev pub fault_line : Form → ℕ → Refusal → Option LineCause → OutputLine
+fault_line Plain line refusal cause = Message (table_message line refusal (tail_text refusal cause))
+fault_line Json line refusal cause = Output (table_object line refusal cause)

@@ -1,12 +1,12 @@
 -- What is written where a refusal ends the program: its message and status; and where a file isn't read as registered
 -- labels, why.
-use Rattle.std.specs.Prelude.{◌≡◌, ◌⊎◌, ◌++◌, ℕ, List, codes, true, Bool, Option}
-use Rattle.idn_class.specs.declared.properties.Properties.{Properties}
+use Rattle.std.specs.Prelude.{◌≡◌, ◌⊎◌, ◌++◌, ℕ, List, codes, true, Option}
 use Rattle.idn_text.specs.Writers.{Writer, TakesWhole, TakesPart}
 use Rattle.idn_text.specs.declared.refusal.Refusal.{Refusal}
 use Rattle.idn_text.specs.declared.refusal.Refusal.TheVariants.{Usage, ReadFault, WriteFault, Memory}
 use Rattle.idn2_options.specs.declared.command_line.form.Form.{Form}
 use Rattle.idn2_options.specs.declared.command_line.form.Form.TheVariants.{Plain, Json}
+use Rattle.idn2_options.specs.Settings.{Settings, tells_causes}
 use Rattle.idn2_output.specs.Writing.{Held}
 use Rattle.idn2_output.specs.declared.status.Status.{Status}
 use Rattle.idn2_output.specs.declared.status.Status.TheVariants.{Unusable, Faulty, OutOfMemory}
@@ -69,7 +69,7 @@ TellsMemory old new status =
 
 -- what a wrong line leads to of a file that is not read as registered labels: it is told, where causes are wanted with
 -- its cause, unless memory runs out for a cause that may take some
-abbrev pub TellsUnreadLine : Form → Bool → Properties → List ℕ → ℕ → Refusal → (old new : Held) → Status → Type 0
-TellsUnreadLine form wanted properties text line refusal old new status =
-    TellsWrongLine form line refusal (told_of_wrong_line properties wanted text line refusal) old new status
-    ⊎ ((wanted ≡ true) × MayTakeMemory text line refusal × TellsMemory old new status)
+abbrev pub TellsUnreadLine : Settings → List ℕ → ℕ → Refusal → (old new : Held) → Status → Type 0
+TellsUnreadLine o text line refusal old new status =
+    TellsWrongLine o.form line refusal (told_of_wrong_line o.properties (tells_causes o) text line refusal) old new status
+    ⊎ ((tells_causes o ≡ true) × MayTakeMemory text line refusal × TellsMemory old new status)

@@ -7,7 +7,7 @@ ghost use Rattle.answer_json.specs.Inputs.{told, told_len, told_of};
 ghost use Rattle.idn2_refusals.specs.CauseWords.{tail_text};
 ghost use Rattle.idn2_refusals.specs.Explained.{BodyCauseNeedsNone, body_cause};
 ghost use Rattle.idn2_output.specs.OutputLines.{Message, Output};
-ghost use Rattle.idn2_refusals.specs.Messages.{refusal_piece, refused_message, refused_object};
+ghost use Rattle.idn2_refusals.specs.Messages.{refusal_line, refused_message, refused_object};
 ghost use Rattle.idn2_output.specs.Writing.{Emits};
 ghost use Rattle.idn2_refusals.specs.Explaining.{explained_by};
 ghost use Rattle.idn2_output.specs.declared.stop.Stop.TheVariants as stop;
@@ -34,7 +34,7 @@ pub fn refuse<R: Source, W: Sink, E: Sink>(
     console: &mut Console<'_, '_, W, E>,
 ) -> Result<(), Stop>
     ensures told { Emits console.old console.new
-        (refusal_piece form (line_at input.now) refusal
+        (refusal_line form (line_at input.now) refusal
         (body_cause (explained_by explaining.now) (line_at input.now).body refusal) ∷ []) result }
     ensures no_memory { BodyCauseNeedsNone (explained_by explaining.now) (line_at input.now).body refusal →
         IfErr result (λ why. why ≢ stop.Memory) }
@@ -66,7 +66,7 @@ fn explain<W: Sink, E: Sink>(
 ) -> Result<(), Stop>
     requires { given_len (option_copied text) ≤ MAX_LINE_LEN }
     ensures told { Emits console.old console.new
-        (refusal_piece form (record { number = number; body = option_copied text.entry }) refusal
+        (refusal_line form (record { number = number; body = option_copied text.entry }) refusal
         (body_cause (explained_by explaining.now) (option_copied text.entry) refusal) ∷ []) result }
     ensures no_memory { BodyCauseNeedsNone (explained_by explaining.now) (option_copied text.entry) refusal →
         IfErr result (λ why. why ≢ stop.Memory) }
@@ -89,7 +89,7 @@ fn tell<W: Sink, E: Sink>(
 ) -> Result<(), Stop>
     requires { given_len (option_copied text) ≤ MAX_LINE_LEN }
     ensures told { Emits console.old console.new
-        (refusal_piece form (record { number = number; body = option_copied text.entry }) refusal
+        (refusal_line form (record { number = number; body = option_copied text.entry }) refusal
         (option_copied cause.entry) ∷ []) result }
     ensures why { IfErr result (λ why. why ≢ stop.Memory) }
 {

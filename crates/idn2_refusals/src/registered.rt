@@ -11,9 +11,8 @@ use crate::message::{explained_message, registered_message};
 use crate::registered_cause::cause_if_wanted;
 use crate::told_cause::members_of;
 use answer_json::MAX_OBJECT_LEN;
-use idn_class::Properties;
 use idn_text::{Refusal, Sink, write_text};
-use idn2_options::Form;
+use idn2_options::{Form, Options};
 use idn2_output::{Object, Status, write_object};
 use std::alloc::Global;
 
@@ -22,20 +21,19 @@ use std::alloc::Global;
 /// status is that of a fault. A cause alone may take memory.
 pub fn refuse_registered<W: Sink, E: Sink>(
     alloc: Global,
-    form: Form,
-    wanted: bool,
+    options: &Options,
     text: &[u8],
     line: u64,
     refusal: &Refusal,
-    properties: Properties,
     out: &mut W,
     err: &mut E,
 ) -> Status
-    ensures { TellsUnreadLine form wanted properties text.now line refusal.now
+    ensures { TellsUnreadLine options.now text.now line refusal.now
         (held (W.state out.old) (E.state err.old)) (held (W.state out.new) (E.state err.new)) result }
 {
-    match cause_if_wanted(alloc, wanted, text, line, *refusal, properties) {
-        Ok(cause) => tell_wrong_line(form, line, refusal, cause.as_ref(), out, err),
+    let wanted = options.tells_causes();
+    match cause_if_wanted(alloc, wanted, text, line, *refusal, options.properties) {
+        Ok(cause) => tell_wrong_line(options.form, line, refusal, cause.as_ref(), out, err),
         Err(_) => report(&Refusal::Memory, err),
     }
 }

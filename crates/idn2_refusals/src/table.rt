@@ -5,7 +5,7 @@ ghost use Rattle.std.specs.Option.{option_copied};
 ghost use Rattle.idn2_refusals.specs.CauseWords.{tail_text};
 ghost use Rattle.idn2_refusals.specs.TableCauses.{fault_cause, told_if};
 ghost use Rattle.idn2_output.specs.OutputLines.{Message};
-ghost use Rattle.idn2_refusals.specs.Messages.{fault_piece, table_message as table_message_of};
+ghost use Rattle.idn2_refusals.specs.Messages.{fault_line, table_message as table_message_of};
 ghost use Rattle.idn2_output.specs.Writing.{Emits};
 ghost use Rattle.idn2_refusals.specs.TableFaults.{told_of};
 ghost use Rattle.idn_class.specs.declared.properties.Properties.{Properties};
@@ -36,7 +36,7 @@ pub fn refuse_table<W: Sink, E: Sink>(
         IsRefusalOf properties notation text.now refusal.now →
         MatchOption (told_of refusal.now.fault) ((result ≡ Err stop.Memory) × (console.new ≡ console.old))
         (λ told. Emits console.old console.new
-        (fault_piece form told.0 told.1
+        (fault_line form told.0 told.1
         (told_if wanted (fault_cause properties notation text.now refusal.now.fault)) ∷ []) result) }
     ensures status { IfOk result (λ status. status ≡ statuses.Unusable) }
 {
@@ -55,7 +55,7 @@ pub fn refuse_table_line<W: Sink, E: Sink>(
     refusal: Refusal,
     console: &mut Console<'_, '_, W, E>,
 ) -> Result<Status, Stop>
-    ensures told { Emits console.old console.new (fault_piece form line refusal None ∷ []) result }
+    ensures told { Emits console.old console.new (fault_line form line refusal None ∷ []) result }
     ensures status { IfOk result (λ status. status ≡ statuses.Unusable) }
 {
     write_fault(form, line, refusal, None, console)?;
@@ -70,7 +70,7 @@ fn write_fault<W: Sink, E: Sink>(
     cause: Option<&LineCause>,
     console: &mut Console<'_, '_, W, E>,
 ) -> Result<(), Stop>
-    ensures { Emits console.old console.new (fault_piece form line refusal (option_copied cause.entry) ∷ []) result }
+    ensures { Emits console.old console.new (fault_line form line refusal (option_copied cause.entry) ∷ []) result }
 {
     match form {
         Form::Plain => write_message(line, &refusal, cause, console),

@@ -2,9 +2,8 @@
 //! texts of the errors of streams.
 use idn_text::hostile::StopWriter;
 use idn_text::{Device, ReadFault, Refusal, WriteFault};
-use idn2_cli::report_registered;
 use idn2_options::{Options, read_options};
-use registered_labels::RegisteredFileFault;
+use idn2_refusals::refuse_registered;
 use std::alloc::Global;
 use std::test::Fail;
 
@@ -21,18 +20,15 @@ fn explaining(alloc: Global) -> Result<Options, Fail> {
 #[test]
 fn registered_labels_that_are_too_long(rt: HostRuntime) -> Result<(), Fail> {
     let options = explaining(rt.alloc())?;
-    let fault = RegisteredFileFault::Refused {
-        line: 4_294_967_296,
-        refusal: Refusal::FileTooLong,
-    };
     let (mut room, mut answers) = ([0; 128], [0; 128]);
     let mut messages = Device::new(StopWriter::new(&mut room, 128));
     let mut output = Device::new(StopWriter::new(&mut answers, 128));
-    let status = report_registered(
+    let status = refuse_registered(
         rt.alloc(),
         &options,
         b"",
-        &fault,
+        4_294_967_296,
+        &Refusal::FileTooLong,
         &mut output,
         &mut messages,
     );

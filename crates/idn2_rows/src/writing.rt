@@ -1,7 +1,7 @@
 //! Texts written whole, or up to where the writer fails.
 use idn_text::hostile::StopWriter;
 use idn_text::{Device, Refusal, Sink, WriteFault, write_text};
-use idn2_cli::report;
+use idn2_refusals::report;
 use std::io::{self, Error, ErrorKind, Write};
 use std::test::Fail;
 

@@ -25,16 +25,8 @@ pub fn report_registered<W: Sink, E: Sink>(
 {
     match fault {
         RegisteredFileFault::Memory => report(&Refusal::Memory, err),
-        RegisteredFileFault::Refused { line, refusal } => refuse_registered(
-            alloc,
-            options.form,
-            options.tells_causes(),
-            text,
-            *line,
-            refusal,
-            options.properties,
-            out,
-            err,
-        ),
+        RegisteredFileFault::Refused { line, refusal } => {
+            refuse_registered(alloc, options, text, *line, refusal, out, err)
+        }
     }
 }

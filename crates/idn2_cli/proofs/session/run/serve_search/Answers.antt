@@ -10,7 +10,7 @@ use Rattle.variant_list.specs.Reversed.{IsCrowdedAt}
 use Rattle.idn2_options.specs.Settings.{Settings, keeping}
 use Rattle.idn2_options.specs.declared.command_line.form.Form.{Form}
 use Rattle.idn2_output.specs.Writing.{Emits}
-use Rattle.idn2_refusals.specs.Messages.{fault_piece}
+use Rattle.idn2_refusals.specs.Messages.{fault_line}
 use Rattle.idn2_answers.specs.Transcript.{IsCrowdedIn, IsTableIn, IsToldFor, is_in_xml}
 use Rattle.idn2_cli.proofs.RunEnds.{crowded_search, does_anywhere, search_stopped, searched_read}
 use Rattle.idn2_cli.proofs.session.run.serve_search.Goals as goal
@@ -45,7 +45,7 @@ returns-in-Err-TooManySources-clause-serves g c =
       here = subst (λ (v : Settings). IsToldFor (is_in_xml v.notation c.args.text.now) v.notation c.args.text.now c.args.table.now c.in-Err-TooManySources.entry c.in_ok-line-in-Err-TooManySources.line) seen c.in_ok-line-in-Err-TooManySources.ensures;
     } in
     crowded_search o (option_copied c.args.among) c.args.text.now c.in_ok-line-in-Err-TooManySources.line _ _ _ c.refuse_table_line.result c.requires.mode c.requires.among at c.requires.unread
-    (subst (λ (f : Form). Emits c.args.console.now c.refuse_table_line.new.console (fault_piece f c.in_ok-line-in-Err-TooManySources.line refusals.Limit None ∷ []) c.refuse_table_line.result) (ap (λ (v : Settings). v.form) seen) c.refuse_table_line.ensures.told)
+    (subst (λ (f : Form). Emits c.args.console.now c.refuse_table_line.new.console (fault_line f c.in_ok-line-in-Err-TooManySources.line refusals.Limit None ∷ []) c.refuse_table_line.result) (ap (λ (v : Settings). v.form) seen) c.refuse_table_line.ensures.told)
     c.refuse_table_line.ensures.status
 
 pub returns-in_err-dispositions-clause-serves : goal.returns-in_err-dispositions-clause-serves
