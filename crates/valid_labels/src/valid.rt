@@ -96,30 +96,13 @@ pub fn validity(
 {
     segments.recall_soundness();
     let seen = SeenLabel::of_masks(sets, label, masks);
-    if is_valid(segments, &seen, label, singles) {
+    if is_disposed(segments, &seen, label, singles) {
         return Validity::Valid;
     }
     match shortest_dead_prefix(segments, &seen, label, singles) {
         Some(count) => Validity::DeadPrefix(count),
         None => Validity::NotValid,
     }
-}
-
-/// Whether a label is valid.
-fn is_valid(
-    segments: &Segments<'_>,
-    seen: &SeenLabel<'_>,
-    label: &[u32],
-    singles: &SinglePlaces,
-) -> bool
-    requires short { length label.now ≤ 63 }
-    requires seen { seen.now ≡ seen_under segments.now label.now }
-    requires room { HasRoom (length segments.now.definitions.rules) singles.now }
-    requires singles { AreSingles (length label.now) segments.now label.now singles.now }
-    ensures { IsTrue result ↔ IsValid segments.now label.now }
-{
-    segments.recall_soundness();
-    is_disposed(segments, seen, label, singles)
 }
 
 /// Whether a label is eligible, and meets the demands, so that its disposition counts.
