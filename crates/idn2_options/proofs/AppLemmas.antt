@@ -1,12 +1,10 @@
 -- The command is a simple one, with no rule between arguments, and its builder makes it so.
-use Rattle.std.proofs.Common.{◌≡◌, List, true, refl, ap, subst, ◌∙◌, IfOk, Result}
-use Rattle.std.proofs.lemmas.Result.{IfOk-weaker}
-use Rattle.clap.specs.Words.{App, FailsBy, HasMatchesOf, Rule, Text, app_of, fault_of, found_of, is_simple, is_simple_and_free, matches_of, rows_of, with_rule}
-use Rattle.clap.specs.declared.builder.command.Command.{Command}
+use Rattle.std.proofs.Common.{◌≡◌, List, [], ◌∷◌, ◌++◌, true, refl, ap, append_assoc, append-nil, subst, ◌∙◌, Result}
+use Rattle.clap.specs.Words.{App, FailsBy, HasMatchesOf, Rule, Text, fault_of, found_of, is_simple, is_simple_and_free, matches_of, rows_of, with_rule}
 use Rattle.clap.specs.declared.parser.matches.ArgMatches.{ArgMatches}
 use Rattle.clap.specs.declared.error.Error.{Error}
 use Rattle.clap.proofs.OnLiterals.{clap_on_literals}
-use Rattle.idn2_options.specs.CommandLine.{app}
+use Rattle.idn2_options.specs.CommandLine.{app, with_rules}
 
 is_simple-app : is_simple app ≡ true
 unfolding app clap_on_literals
@@ -29,14 +27,14 @@ FailsBy-app a words r same fails =
     let P : App → Type 0 = λ x. FailsBy (fault_of x words) r in
     subst P same (fails (ap is_simple_and_free same ∙ is_simple_and_free-app))
 
--- one more argument
-pub with_rule-after : (new old want : App) (rule : Rule) → new ≡ with_rule old rule → old ≡ want
-    → new ≡ with_rule want rule
-with_rule-after new old want rule step before = step ∙ ap (λ (a : App). with_rule a rule) before
+-- one more argument, and then others
+pub with_rules-cons : (a : App) (rule : Rule) (others : List Rule) → with_rules (with_rule a rule) others ≡ with_rules a (rule ∷ others)
+with_rules-cons a rule others = ap (λ all. record a { top = record a.top { rules = all } }) (append_assoc a.top.rules (rule ∷ []) others)
 
--- the last argument
-pub IfOk-with_rule : {E : Type 0} (r : Result Command E) (old want : App) (rule : Rule)
-    → IfOk r (λ c. app_of c ≡ with_rule old rule) → old ≡ want → IfOk r (λ c. app_of c ≡ with_rule want rule)
-IfOk-with_rule r old want rule added before =
-    IfOk-weaker r (λ c. app_of c ≡ with_rule old rule) (λ c. app_of c ≡ with_rule want rule)
-    (λ c step. with_rule-after (app_of c) old want rule step before) added
+-- no further argument
+pub with_rules-nil : (a : App) → with_rules a [] ≡ a
+with_rules-nil a = ap (λ all. record a { top = record a.top { rules = all } }) (append-nil a.top.rules)
+
+-- others, and then one more argument
+pub with_rules-last : (a : App) (others : List Rule) (rule : Rule) → with_rule (with_rules a others) rule ≡ with_rules a (others ++ rule ∷ [])
+with_rules-last a others rule = ap (λ all. record a { top = record a.top { rules = all } }) (append_assoc a.top.rules others (rule ∷ []))
