@@ -349,6 +349,7 @@ def tells_each_number(folder):
     for number, rules in [
         (36, rule("<any/>") + '\n<class name="r">0061</class>'),
         (35, rule("<any/>") + '\n<action disp="invalid" match="s"/>'),
+        (35, "\n" + rule('<rule by-ref="r"/>')),
         (37, rule("<anchor/>") + '\n<action disp="invalid" match="r"/>'),
         (37, rule("<any/>") + '\n<action disp="review"/>'),
         (37, rule("<any/>") + "\n" + rule('<class property="age:5.0"/>', "s")),

@@ -2,7 +2,6 @@
 ghost use Rattle.std.specs.Prelude.{◌≡◌, IfOk, OnOk, map};
 ghost use Rattle.std.specs.Option.{option_map};
 ghost use Rattle.ruleset_text.specs.ActionForms as forms;
-ghost use Rattle.ruleset_text.specs.ActionSteps.{disposition_of as disposition_named};
 ghost use Rattle.lgr_text.specs.ActionNames.{called as called_name, condition_called, trigger_called, SaysAction};
 ghost use Rattle.lgr_text.specs.ActionNames.{action_fault, condition_fault, name_fault, trigger_fault, with_name};
 ghost use Rattle.lgr_text.specs.inner.Faults.{IsFaultOf};
@@ -10,9 +9,10 @@ ghost use Rattle.lgr_text.specs.Records.{action as action_of, condition as condi
 
 use crate::records::{Action, Condition, Trigger};
 use crate::rule_error::{RuleError, RuleFault};
-use ruleset_text::{Name, NamedAction, NamedCondition, NamedTrigger, is_one_of, number_of};
+use ruleset_text::{
+    Name, NamedAction, NamedCondition, NamedTrigger, disposition_of, is_one_of, number_of,
+};
 use std::alloc::{AllocError, Global};
-use variant_dispositions::Disposition;
 
 /// Names of a file, and what each is called in a ruleset.
 #[derive(Clone, Copy)]
@@ -40,20 +40,6 @@ pub fn named_action(
         condition: named_condition(alloc, rules, &action.condition)?,
         trigger: named_trigger(alloc, types, &action.trigger)?,
     })
-}
-
-/// The disposition of this name (RFC 7940, section 7.3).
-fn disposition_of(name: &[u8]) -> Option<Disposition>
-    ensures { result ≡ disposition_named name.now }
-{
-    match name {
-        b"invalid" => Some(Disposition::Invalid),
-        b"blocked" => Some(Disposition::Blocked),
-        b"allocatable" => Some(Disposition::Allocatable),
-        b"activated" => Some(Disposition::Activated),
-        b"valid" => Some(Disposition::Valid),
-        _ => None,
-    }
 }
 
 fn named_condition(

@@ -16,7 +16,7 @@ ghost use Rattle.lgr_text.specs.inner.Items.{HaveSets};
 use crate::atoms::left_after;
 use crate::known::Known;
 use crate::part_faults::{check_then, has_anchor, have_anchors};
-use crate::part_items::{Side, named_pattern, push, push_copies, push_part, sequence_of};
+use crate::part_items::{Side, either, named_pattern, push, push_copies, push_part, sequence_of};
 use crate::records::PartTree;
 use crate::rule_error::{RuleError, RuleFault};
 use label_patterns::{PatternTree, PointSet};
@@ -38,7 +38,7 @@ fn joined(alloc: Global, tree: PatternTree, others: PatternTree) -> Result<Patte
             let rest = joined(alloc, Box::into_inner(rest), others)?;
             Ok(PatternTree::Either(branch, Box::new(alloc, rest)?))
         }
-        branch => Ok(PatternTree::Either(Box::new(alloc, branch)?, Box::new(alloc, others)?)),
+        branch => either(alloc, branch, others),
     }
 }
 
@@ -55,7 +55,7 @@ fn preceded(
         PatternTree::Either(branch, rest) => {
             let branch = preceded(alloc, items, Box::into_inner(branch))?;
             let rest = preceded(alloc, items, Box::into_inner(rest))?;
-            Ok(PatternTree::Either(Box::new(alloc, branch)?, Box::new(alloc, rest)?))
+            Ok(either(alloc, branch, rest)?)
         }
         branch => {
             let mut row = Vec::new(alloc);
@@ -79,7 +79,7 @@ fn followed(
         PatternTree::Either(branch, rest) => {
             let branch = followed(alloc, Box::into_inner(branch), items)?;
             let rest = followed(alloc, Box::into_inner(rest), items)?;
-            Ok(PatternTree::Either(Box::new(alloc, branch)?, Box::new(alloc, rest)?))
+            Ok(either(alloc, branch, rest)?)
         }
         PatternTree::Then(item, rest) => {
             let rest = followed(alloc, Box::into_inner(rest), items)?;

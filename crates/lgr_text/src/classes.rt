@@ -18,7 +18,7 @@ use crate::values::spans_of;
 use std::alloc::Global;
 
 /// A class, or a set operator.
-#[derive(Clone, Copy, Debug, PartialEq, Eq)]
+#[derive(Clone, Copy, PartialEq, Eq)]
 pub enum ClassElement {
     Class,
     /// It makes one set of others.
@@ -27,7 +27,7 @@ pub enum ClassElement {
 }
 
 /// Where a class stands.
-#[derive(Clone, Copy, Debug, PartialEq, Eq)]
+#[derive(Clone, Copy, PartialEq, Eq)]
 pub enum ClassPlace {
     /// Directly below `rules`, where it has a name.
     OfRules,
@@ -51,7 +51,7 @@ pub fn read_class(
     if levels == 0 {
         return Err(element.wrong());
     }
-    match ClassElement::named(element.name) {
+    match ClassElement::of(element) {
         None => Err(element.wrong()),
         Some(ClassElement::Class) => simple_class(alloc, element, place),
         Some(ClassElement::Joined(operation)) => {
@@ -183,21 +183,29 @@ impl<'a> Element<'a> {
 }
 
 impl ClassElement {
-    /// The class or the set operator of this name.
-    fn named(name: &[u8]) -> Option<Self>
-        ensures { result ≡ classes.class_element name.now }
+    /// The class or the set operator that an element is.
+    fn of(element: &Element<'_>) -> Option<Self>
+        ensures { result ≡ classes.class_element element.now.name.now }
     {
-        match name {
-            b"class" => Some(ClassElement::Class),
-            b"union" => Some(ClassElement::Joined(SetOperation::Union)),
-            b"intersection" => Some(ClassElement::Joined(SetOperation::Intersection)),
-            b"difference" => Some(ClassElement::Joined(SetOperation::Difference)),
-            b"symmetric-difference" => {
-                Some(ClassElement::Joined(SetOperation::SymmetricDifference))
-            }
-            b"complement" => Some(ClassElement::Complement),
-            _ => None,
+        if element.is_named(b"class") {
+            return Some(ClassElement::Class);
         }
+        if element.is_named(b"union") {
+            return Some(ClassElement::Joined(SetOperation::Union));
+        }
+        if element.is_named(b"intersection") {
+            return Some(ClassElement::Joined(SetOperation::Intersection));
+        }
+        if element.is_named(b"difference") {
+            return Some(ClassElement::Joined(SetOperation::Difference));
+        }
+        if element.is_named(b"symmetric-difference") {
+            return Some(ClassElement::Joined(SetOperation::SymmetricDifference));
+        }
+        if element.is_named(b"complement") {
+            return Some(ClassElement::Complement);
+        }
+        None
     }
 }
 

@@ -3,7 +3,7 @@ ghost use Rattle.std.specs.Prelude.{◌≡◌};
 ghost use Rattle.lgr_text.specs.CodePoints as sets;
 
 /// What is made of two sets (RFC 7940, section 6.2.5).
-#[derive(Clone, Copy, Debug, PartialEq, Eq)]
+#[derive(Clone, Copy, PartialEq, Eq)]
 pub enum SetOperation {
     /// What is in one of them, or in both.
     Union,

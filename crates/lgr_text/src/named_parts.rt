@@ -6,14 +6,14 @@ use crate::records::{ClassTree, Definition, Meaning, PartTree, Reference};
 use std::alloc::{AllocError, Global};
 
 /// What a name stands for.
-#[derive(Clone, Copy, Debug, PartialEq, Eq)]
+#[derive(Clone, Copy, PartialEq, Eq)]
 pub enum DefinitionKind {
     Class,
     Rule,
 }
 
 /// A definition that another one names.
-#[derive(Clone, Copy, Debug, PartialEq, Eq)]
+#[derive(Clone, Copy, PartialEq, Eq)]
 pub struct NamedPart {
     /// Its number, or how many definitions there are if none has the name.
     pub number: usize,

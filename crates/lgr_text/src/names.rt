@@ -9,7 +9,7 @@ use ruleset_text::Name;
 use std::alloc::{AllocError, Global};
 
 /// What a word may be.
-#[derive(Clone, Copy, Debug, PartialEq, Eq)]
+#[derive(Clone, Copy, PartialEq, Eq)]
 pub enum NameKind {
     /// A name of a class or a rule.
     Identifier,

@@ -5,7 +5,7 @@ ghost use Rattle.lgr_text.specs.declared.order_error.OrderError.TheVariants.{Mem
 use std::alloc::{AllocError, AllocFailed};
 
 /// Why definitions have no order. Lines are counted from 1.
-#[derive(Clone, Copy, Debug, PartialEq, Eq)]
+#[derive(Clone, Copy, PartialEq, Eq)]
 pub enum OrderError {
     /// There are too many definitions before the one on this line.
     Limit(usize),

@@ -12,7 +12,7 @@ use crate::records::PartTree;
 use std::alloc::{AllocError, Global};
 
 /// What a part of a rule is there.
-#[derive(Clone, Copy, Debug, PartialEq, Eq)]
+#[derive(Clone, Copy, PartialEq, Eq)]
 pub enum Role {
     /// It matches a part of a label.
     Matcher,
@@ -33,7 +33,7 @@ pub struct Item {
 }
 
 /// Which parts may stand in which order.
-#[derive(Clone, Copy, Debug, PartialEq, Eq)]
+#[derive(Clone, Copy, PartialEq, Eq)]
 pub enum Order {
     /// What is in a rule: it is about a part of a label, or about the place for which the anchor stands.
     OfRule,

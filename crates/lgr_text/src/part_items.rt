@@ -31,6 +31,35 @@ use std::alloc::{AllocError, Global};
 /// The most spans of a set, since a line of the notation has the place for these: each takes 15 bytes at most.
 const MOST_SPANS: usize = 500;
 
+/// One pattern after another.
+pub(crate) fn then(
+    alloc: Global,
+    first: PatternTree,
+    rest: PatternTree,
+) -> Result<PatternTree, AllocError>
+    ensures { IfOk result (λ tree. pattern tree ≡ patterns.Then (pattern first) (pattern rest)) }
+{
+    Ok(PatternTree::Then(Box::new(alloc, first)?, Box::new(alloc, rest)?))
+}
+
+/// One pattern or another.
+pub(crate) fn either(
+    alloc: Global,
+    left: PatternTree,
+    right: PatternTree,
+) -> Result<PatternTree, AllocError>
+    ensures { IfOk result (λ tree. pattern tree ≡ patterns.Either (pattern left) (pattern right)) }
+{
+    Ok(PatternTree::Either(Box::new(alloc, left)?, Box::new(alloc, right)?))
+}
+
+/// A pattern in a group.
+fn group(alloc: Global, tree: PatternTree) -> Result<PatternTree, AllocError>
+    ensures { IfOk result (λ item. pattern item ≡ patterns.Group (pattern tree)) }
+{
+    Ok(PatternTree::Group(Box::new(alloc, tree)?))
+}
+
 /// The number of a set among those that patterns name, to which it is added if it is none of them.
 fn number_of_set(sets: &mut Vec<PointSet>, set: PointSet) -> Result<usize, AllocError>
     ensures kept { OnOk result
@@ -78,7 +107,7 @@ fn choice_of_sets(
     let (first, others) = spans.split_at(MOST_SPANS);
     let left = set_tree(alloc, sets, first)?;
     let right = choice_of_sets(alloc, sets, others)?;
-    Ok(PatternTree::Either(Box::new(alloc, left)?, Box::new(alloc, right)?))
+    either(alloc, left, right)
 }
 
 /// The items one after the other.
@@ -92,7 +121,7 @@ pub(crate) fn sequence_of(
         return nothing(alloc);
     };
     while let Some(item) = items.pop() {
-        tree = PatternTree::Then(Box::new(alloc, item)?, Box::new(alloc, tree)?);
+        tree = then(alloc, item, tree)?;
     }
     Ok(tree)
 }
@@ -101,9 +130,8 @@ pub(crate) fn sequence_of(
 fn nothing(alloc: Global) -> Result<PatternTree, AllocError>
     ensures { IfOk result (λ tree. pattern tree ≡ nothing_pattern) }
 {
-    let inner = never(alloc)?;
-    let group = Box::new(alloc, PatternTree::Group(Box::new(alloc, inner)?))?;
-    Ok(PatternTree::Optional(group))
+    let inner = group(alloc, never(alloc)?)?;
+    Ok(PatternTree::Optional(Box::new(alloc, inner)?))
 }
 
 /// Where a part of a rule stands: before the anchor, or where there is none; or after it.
@@ -141,9 +169,9 @@ fn atom_of(alloc: Global, mut items: Vec<PatternTree>) -> Result<PatternTree, Al
         Some(item) => {
             items.push(item)?;
             let inner = sequence_of(alloc, items)?;
-            Ok(PatternTree::Group(Box::new(alloc, inner)?))
+            group(alloc, inner)
         }
-        None => Ok(PatternTree::Group(Box::new(alloc, nothing(alloc)?)?)),
+        None => group(alloc, nothing(alloc)?),
     }
 }
 
@@ -154,7 +182,7 @@ fn grouped(alloc: Global, tree: PatternTree) -> Result<PatternTree, AllocError>
     if is_atom(&tree) {
         Ok(tree)
     } else {
-        Ok(PatternTree::Group(Box::new(alloc, tree)?))
+        group(alloc, tree)
     }
 }
 
@@ -181,7 +209,7 @@ pub fn copied(alloc: Global, tree: &PatternTree) -> Result<PatternTree, AllocErr
         PatternTree::Start => Ok(PatternTree::Start),
         PatternTree::End => Ok(PatternTree::End),
         PatternTree::Anchor => Ok(PatternTree::Anchor),
-        PatternTree::Group(part) => Ok(PatternTree::Group(Box::new(alloc, copied(alloc, part)?)?)),
+        PatternTree::Group(part) => group(alloc, copied(alloc, part)?),
         PatternTree::Optional(part) => Ok(PatternTree::Optional(Box::new(
             alloc,
             copied(alloc, part)?,
@@ -189,13 +217,11 @@ pub fn copied(alloc: Global, tree: &PatternTree) -> Result<PatternTree, AllocErr
         PatternTree::Many(part) => Ok(PatternTree::Many(Box::new(alloc, copied(alloc, part)?)?)),
         PatternTree::Then(first, rest) => {
             let first = copied(alloc, first)?;
-            let rest = copied(alloc, rest)?;
-            Ok(PatternTree::Then(Box::new(alloc, first)?, Box::new(alloc, rest)?))
+            then(alloc, first, copied(alloc, rest)?)
         }
         PatternTree::Either(left, right) => {
             let left = copied(alloc, left)?;
-            let right = copied(alloc, right)?;
-            Ok(PatternTree::Either(Box::new(alloc, left)?, Box::new(alloc, right)?))
+            either(alloc, left, copied(alloc, right)?)
         }
     }
 }
@@ -232,7 +258,7 @@ fn push_never(alloc: Global, items: &mut Vec<PatternTree>, side: Side) -> Result
     ensures fault { IsFaultOf None result }
 {
     let inner = never_on(alloc, side)?;
-    push(items, PatternTree::Group(Box::new(alloc, inner)?))
+    push(items, group(alloc, inner)?)
 }
 
 /// Appends code points; what matches nothing, if one of them is in no label.
@@ -303,7 +329,7 @@ fn push_rule(
     ensures fault { IsFaultOf (name_fault (known_of known.entry) name.now) result }
 {
     let rule = named_pattern(alloc, known, name)?;
-    push(items, PatternTree::Group(Box::new(alloc, rule)?))
+    push(items, group(alloc, rule)?)
 }
 
 /// The pattern of the rule of this name.
@@ -335,8 +361,8 @@ fn push_choice(
 {
     let left = sequence_of(alloc, left)?;
     let right = ungrouped(sequence_of(alloc, right)?);
-    let either = PatternTree::Either(Box::new(alloc, left)?, Box::new(alloc, right)?);
-    push(items, PatternTree::Group(Box::new(alloc, either)?))
+    let choice = either(alloc, left, right)?;
+    push(items, group(alloc, choice)?)
 }
 
 /// What is in a group, or the pattern, if it is none.
@@ -361,16 +387,30 @@ fn push_times(
         (copies count.least (map pattern once.items) ++ further count (map pattern once.items))) }
     ensures fault { IsFaultOf None result }
 {
-    for _time in 0..count.least {
-        push_copies(alloc, items, &once)?;
+    push_repeated(alloc, items, count.least, &once)?;
+    let atom = Box::new(alloc, atom_of(alloc, once)?)?;
+    match count.most {
+        None => push(items, PatternTree::Many(atom)),
+        Some(most) => {
+            let optional = [PatternTree::Optional(atom)];
+            push_repeated(alloc, items, most.saturating_sub(count.least), &optional)
+        }
     }
-    let atom = atom_of(alloc, once)?;
-    let Some(most) = count.most else {
-        return push(items, PatternTree::Many(Box::new(alloc, atom)?));
-    };
-    for _time in 0..most.saturating_sub(count.least) {
-        let copy = copied(alloc, &atom)?;
-        push(items, PatternTree::Optional(Box::new(alloc, copy)?))?;
+}
+
+/// Appends copies of items so many times.
+fn push_repeated(
+    alloc: Global,
+    items: &mut Vec<PatternTree>,
+    times: u32,
+    others: &[PatternTree],
+) -> Result<(), RuleError>
+    ensures items { OnOk result (map pattern items.new.items ≡
+        map pattern items.old.items ++ copies times (map pattern others.now)) }
+    ensures fault { IsFaultOf None result }
+{
+    for _time in 0..times {
+        push_copies(alloc, items, others)?;
     }
     Ok(())
 }

@@ -5,7 +5,7 @@ ghost use Rattle.lgr_text.specs.PropertyNames as names;
 use ucd_bidi::{BidiClass, JoiningType};
 
 /// The properties that a class may name (RFC 7940, section 6.2.3). The data here lack `Indic_Syllabic_Category`.
-#[derive(Clone, Copy, Debug, PartialEq, Eq)]
+#[derive(Clone, Copy, PartialEq, Eq)]
 pub enum Property {
     GeneralCategory,
     Script,
@@ -19,21 +19,32 @@ pub enum Property {
 pub(crate) fn property_named(name: &[u8]) -> Option<Property>
     ensures { result ≡ names.property_named name.now }
 {
-    match name {
-        b"gc" => Some(Property::GeneralCategory),
-        b"generalcategory" => Some(Property::GeneralCategory),
-        b"sc" => Some(Property::Script),
-        b"script" => Some(Property::Script),
-        b"ccc" => Some(Property::CombiningClass),
-        b"canonicalcombiningclass" => Some(Property::CombiningClass),
-        b"bc" => Some(Property::BidiClass),
-        b"bidiclass" => Some(Property::BidiClass),
-        b"jt" => Some(Property::JoiningType),
-        b"joiningtype" => Some(Property::JoiningType),
-        b"dep" => Some(Property::Deprecated),
-        b"deprecated" => Some(Property::Deprecated),
-        _ => None,
+    if is_either(b"gc", b"generalcategory", name) {
+        return Some(Property::GeneralCategory);
     }
+    if is_either(b"sc", b"script", name) {
+        return Some(Property::Script);
+    }
+    if is_either(b"ccc", b"canonicalcombiningclass", name) {
+        return Some(Property::CombiningClass);
+    }
+    if is_either(b"bc", b"bidiclass", name) {
+        return Some(Property::BidiClass);
+    }
+    if is_either(b"jt", b"joiningtype", name) {
+        return Some(Property::JoiningType);
+    }
+    if is_either(b"dep", b"deprecated", name) {
+        return Some(Property::Deprecated);
+    }
+    None
+}
+
+/// Whether a name is the short or the long one of the same thing.
+fn is_either(short: &[u8], long: &[u8], name: &[u8]) -> bool
+    ensures { result ≡ names.is_either short.now long.now name.now }
+{
+    name == short || name == long
 }
 
 /// The class of this name, if characters of labels may have it.
@@ -63,45 +74,22 @@ pub(crate) fn bidi_named(name: &[u8]) -> Option<BidiClass>
 pub(crate) fn joining_named(name: &[u8]) -> Option<JoiningType>
     ensures { result ≡ names.joining_named name.now }
 {
-    match joining_letter(name) {
-        Some(joining) => Some(joining),
-        None => joining_word(name),
-    }
-}
-
-fn joining_letter(name: &[u8]) -> Option<JoiningType>
-    ensures { result ≡ names.joining_letter name.now }
-{
-    match name {
-        b"c" => Some(JoiningType::JoinCausing),
-        b"d" => Some(JoiningType::DualJoining),
-        b"l" => Some(JoiningType::LeftJoining),
-        b"r" => Some(JoiningType::RightJoining),
-        b"t" => Some(JoiningType::Transparent),
-        b"u" => Some(JoiningType::NonJoining),
-        _ => None,
-    }
-}
-
-fn joining_word(name: &[u8]) -> Option<JoiningType>
-    ensures { result ≡ names.joining_word name.now }
-{
-    if name == b"joincausing".as_slice() {
+    if is_either(b"c", b"joincausing", name) {
         return Some(JoiningType::JoinCausing);
     }
-    if name == b"dualjoining".as_slice() {
+    if is_either(b"d", b"dualjoining", name) {
         return Some(JoiningType::DualJoining);
     }
-    if name == b"leftjoining".as_slice() {
+    if is_either(b"l", b"leftjoining", name) {
         return Some(JoiningType::LeftJoining);
     }
-    if name == b"rightjoining".as_slice() {
+    if is_either(b"r", b"rightjoining", name) {
         return Some(JoiningType::RightJoining);
     }
-    if name == b"transparent".as_slice() {
+    if is_either(b"t", b"transparent", name) {
         return Some(JoiningType::Transparent);
     }
-    if name == b"nonjoining".as_slice() {
+    if is_either(b"u", b"nonjoining", name) {
         return Some(JoiningType::NonJoining);
     }
     None
@@ -111,15 +99,11 @@ fn joining_word(name: &[u8]) -> Option<JoiningType>
 pub(crate) fn truth_named(name: &[u8]) -> Option<bool>
     ensures { result ≡ names.truth_named name.now }
 {
-    match name {
-        b"y" => Some(true),
-        b"yes" => Some(true),
-        b"t" => Some(true),
-        b"true" => Some(true),
-        b"n" => Some(false),
-        b"no" => Some(false),
-        b"f" => Some(false),
-        b"false" => Some(false),
-        _ => None,
+    if is_either(b"y", b"yes", name) || is_either(b"t", b"true", name) {
+        return Some(true);
     }
+    if is_either(b"n", b"no", name) || is_either(b"f", b"false", name) {
+        return Some(false);
+    }
+    None
 }

@@ -27,7 +27,7 @@ pub enum ClassTree {
 }
 
 /// How often a part of a rule stands in a row (section 6.3.3): at least one time, if not any number of times.
-#[derive(Clone, Copy, Debug, PartialEq, Eq)]
+#[derive(Clone, Copy, PartialEq, Eq)]
 pub struct Count {
     pub least: u32,
     /// `None` if there may be any number more.

@@ -7,7 +7,7 @@ use crate::element::Element;
 use crate::orders::{Order, Role};
 
 /// An element in a rule.
-#[derive(Clone, Copy, Debug, PartialEq, Eq)]
+#[derive(Clone, Copy, PartialEq, Eq)]
 pub enum RuleElement {
     /// A class or a set operator.
     ClassOrSet,
@@ -16,7 +16,7 @@ pub enum RuleElement {
 }
 
 /// An element in which nothing stands.
-#[derive(Clone, Copy, Debug, PartialEq, Eq)]
+#[derive(Clone, Copy, PartialEq, Eq)]
 pub enum PlainElement {
     Char,
     Any,
@@ -28,7 +28,7 @@ pub enum PlainElement {
 }
 
 /// An element in which parts of a rule stand.
-#[derive(Clone, Copy, Debug, PartialEq, Eq)]
+#[derive(Clone, Copy, PartialEq, Eq)]
 pub enum HolderElement {
     Rule,
     Choice,
@@ -41,18 +41,34 @@ impl RuleElement {
     pub fn of(element: &Element<'_>) -> Self
         ensures { result ≡ parts.rule_element element.now.name.now element.now.attributes.now }
     {
-        match element.name {
-            b"char" => RuleElement::Plain(PlainElement::Char),
-            b"any" => RuleElement::Plain(PlainElement::Any),
-            b"rule" => RuleElement::of_rule(element),
-            b"choice" => RuleElement::Holder(HolderElement::Choice),
-            b"start" => RuleElement::Plain(PlainElement::Start),
-            b"end" => RuleElement::Plain(PlainElement::End),
-            b"anchor" => RuleElement::Plain(PlainElement::Anchor),
-            b"look-behind" => RuleElement::Holder(HolderElement::LookBehind),
-            b"look-ahead" => RuleElement::Holder(HolderElement::LookAhead),
-            _ => RuleElement::ClassOrSet,
+        if element.is_named(b"char") {
+            return RuleElement::Plain(PlainElement::Char);
         }
+        if element.is_named(b"any") {
+            return RuleElement::Plain(PlainElement::Any);
+        }
+        if element.is_named(b"rule") {
+            return RuleElement::of_rule(element);
+        }
+        if element.is_named(b"choice") {
+            return RuleElement::Holder(HolderElement::Choice);
+        }
+        if element.is_named(b"start") {
+            return RuleElement::Plain(PlainElement::Start);
+        }
+        if element.is_named(b"end") {
+            return RuleElement::Plain(PlainElement::End);
+        }
+        if element.is_named(b"anchor") {
+            return RuleElement::Plain(PlainElement::Anchor);
+        }
+        if element.is_named(b"look-behind") {
+            return RuleElement::Holder(HolderElement::LookBehind);
+        }
+        if element.is_named(b"look-ahead") {
+            return RuleElement::Holder(HolderElement::LookAhead);
+        }
+        RuleElement::ClassOrSet
     }
 
     /// A rule by the name of another, or by what is in it.

@@ -5,7 +5,7 @@ ghost use Rattle.lgr_text.specs.declared.rule_error.RuleError.TheVariants.{Memor
 use std::alloc::{AllocError, AllocFailed};
 
 /// What is wrong with a class, a rule or an action.
-#[derive(Clone, Copy, Debug, PartialEq, Eq)]
+#[derive(Clone, Copy, PartialEq, Eq)]
 pub enum RuleFault {
     /// It names a class, a rule, a tag or a type that isn't defined.
     Undefined,
@@ -19,7 +19,7 @@ pub enum RuleFault {
 }
 
 /// Why a class, a rule or an action isn't made.
-#[derive(Clone, Copy, Debug, PartialEq, Eq)]
+#[derive(Clone, Copy, PartialEq, Eq)]
 pub enum RuleError {
     Fault(RuleFault),
     /// Memory was refused.

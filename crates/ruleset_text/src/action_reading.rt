@@ -12,7 +12,7 @@ ghost use Rattle.ruleset_text.specs.inner.DefinitionSteps.{GivesAction, known};
 use crate::action::{NamedAction, NamedTrigger, TriggerKind};
 use crate::fault::{FaultPlace, ReadError};
 use crate::named_condition::NamedCondition;
-use crate::names::{Name, is_name, is_one_of, is_type};
+use crate::names::{Name, is_name, is_one_of, is_type, is_word};
 use crate::placed::PlacedLexemes;
 use crate::reading::Earlier;
 use label_patterns::{ConditionKind, is_context_rule};
@@ -240,17 +240,26 @@ pub fn is_whole_rule(earlier: Earlier<'_>, name: &[u8]) -> bool
     false
 }
 
-fn disposition_of(word: &[u8]) -> Option<Disposition>
+/// The disposition that a word names (RFC 7940, section 7.3).
+pub fn disposition_of(word: &[u8]) -> Option<Disposition>
     ensures { result ≡ steps.disposition_of word.now }
 {
-    match word {
-        b"invalid" => Some(Disposition::Invalid),
-        b"blocked" => Some(Disposition::Blocked),
-        b"allocatable" => Some(Disposition::Allocatable),
-        b"activated" => Some(Disposition::Activated),
-        b"valid" => Some(Disposition::Valid),
-        _ => None,
+    if is_word(word, b"invalid") {
+        return Some(Disposition::Invalid);
     }
+    if is_word(word, b"blocked") {
+        return Some(Disposition::Blocked);
+    }
+    if is_word(word, b"allocatable") {
+        return Some(Disposition::Allocatable);
+    }
+    if is_word(word, b"activated") {
+        return Some(Disposition::Activated);
+    }
+    if is_word(word, b"valid") {
+        return Some(Disposition::Valid);
+    }
+    None
 }
 
 fn kind_of(word: &[u8]) -> Option<ConditionKind>

@@ -2,6 +2,8 @@
 ghost use Rattle.std.specs.Prelude.{◌≡◌};
 ghost use Rattle.ruleset_text.specs.Definition as definitions;
 
+use crate::names::is_word;
+
 /// The word with which a line begins that defines something.
 #[derive(Clone, Copy, Debug, PartialEq, Eq)]
 pub enum Keyword {
@@ -25,14 +27,26 @@ pub enum Keyword {
 pub fn keyword_of(word: &[u8]) -> Option<Keyword>
     ensures { result ≡ definitions.keyword_of word.now }
 {
-    match word {
-        b"%type" => Some(Keyword::VariantType),
-        b"%set" => Some(Keyword::Set),
-        b"%rule" => Some(Keyword::Rule),
-        b"%whole" => Some(Keyword::Whole),
-        b"%never" => Some(Keyword::Never),
-        b"%always" => Some(Keyword::Always),
-        b"%action" => Some(Keyword::Action),
-        _ => None,
+    if is_word(word, b"%type") {
+        return Some(Keyword::VariantType);
     }
+    if is_word(word, b"%set") {
+        return Some(Keyword::Set);
+    }
+    if is_word(word, b"%rule") {
+        return Some(Keyword::Rule);
+    }
+    if is_word(word, b"%whole") {
+        return Some(Keyword::Whole);
+    }
+    if is_word(word, b"%never") {
+        return Some(Keyword::Never);
+    }
+    if is_word(word, b"%always") {
+        return Some(Keyword::Always);
+    }
+    if is_word(word, b"%action") {
+        return Some(Keyword::Action);
+    }
+    None
 }

@@ -35,6 +35,7 @@ mod token;
 mod tokens;
 
 pub use action::{NamedAction, NamedTrigger, TriggerKind};
+pub use action_reading::disposition_of;
 pub use canonical::{push_pattern, push_spans};
 pub use classes::is_bad_point;
 pub use definition::{Definition, DemandKind};

@@ -1,5 +1,5 @@
 //! Names of variant types, sets and rules.
-ghost use Rattle.std.specs.Prelude.{◌≡◌, ◌≤◌, ◌++◌, [], length, slice_index_or, IfOk};
+ghost use Rattle.std.specs.Prelude.{◌≡◌, ◌≤◌, ◌++◌, [], bytes_eq, length, slice_index_or, IfOk};
 ghost use Rattle.std.specs.List.{list_all};
 ghost use Rattle.ruleset_text.specs.Names as words;
 ghost use Rattle.ruleset_text.specs.inner.PredefinedTypes.{predefined_by};
@@ -58,6 +58,13 @@ fn are_name_bytes(bytes: &[u8]) -> bool
     bytes.iter().all(|byte| is_name_byte(*byte))
 }
 
+/// Whether a word is this one. Several words are told apart by this, since a `match` would make a fact of each byte.
+pub(crate) fn is_word(word: &[u8], wanted: &[u8]) -> bool
+    ensures { result ≡ bytes_eq word.now wanted.now }
+{
+    word == wanted
+}
+
 /// The number of the first name that these bytes are, or how many names there are.
 pub fn number_of(names: &[Name], bytes: &[u8]) -> usize
     ensures is { result ≡ words.number_of names.now bytes.now }
@@ -96,14 +103,22 @@ pub fn predefined_type(number: usize) -> &'static [u8]
 pub(crate) fn predefined_number(name: &[u8]) -> usize
     ensures { result ≡ predefined_by name.now }
 {
-    match name {
-        b"invalid" => 0,
-        b"blocked" => 1,
-        b"allocatable" => 2,
-        b"activated" => 3,
-        b"valid" => 4,
-        _ => PREDEFINED_TYPES,
+    if is_word(name, b"invalid") {
+        return 0;
     }
+    if is_word(name, b"blocked") {
+        return 1;
+    }
+    if is_word(name, b"allocatable") {
+        return 2;
+    }
+    if is_word(name, b"activated") {
+        return 3;
+    }
+    if is_word(name, b"valid") {
+        return 4;
+    }
+    PREDEFINED_TYPES
 }
 
 /// Whether the name is that of a predefined type or of one of these.

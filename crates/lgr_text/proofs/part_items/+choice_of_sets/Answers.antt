@@ -1,4 +1,6 @@
 use Rattle.std.proofs.Common.{rules, ◌≡◌, ◌<◌, ◌++◌, length, sym, subst, arith}
+use Rattle.std.proofs.lemmas.Result.{IfOk-weaker}
+use Rattle.label_patterns.specs.Patterns.{Either}
 use Rattle.label_patterns.specs.Sets.{Rise}
 use Rattle.label_patterns.specs.Trees.{pattern}
 use Rattle.lgr_text.specs.inner.Items.{AddsChoice}
@@ -24,8 +26,9 @@ returns t c =
     let old = c.args.sets.now.items in
     let between = c.set_tree-2.new.sets.items in
     let new = c.choice_of_sets.new.sets.items in
-    let left = c.in_ok-new.field-0.value in
-    let right = c.in_ok-new-2.field-0.value in
-    either-chosen c.args.spans.now first others old between new (pattern left) (pattern right) (sym c.split_at.ensures.by_index.0)
-    (subst (λ x. AddsChoice first old between (pattern x)) (sym c.in_ok-new.ensures.ok) c.in_ok-left.ensures)
-    (subst (λ x. AddsChoice others between new (pattern x)) (sym c.in_ok-new-2.ensures.ok) c.in_ok-right.ensures)
+    let left = pattern c.in_ok-left.left in
+    let right = pattern c.in_ok-right.right in
+    let chosen : AddsChoice c.args.spans.now old new (Either left right) =
+    either-chosen c.args.spans.now first others old between new left right (sym c.split_at.ensures.by_index.0) c.in_ok-left.ensures c.in_ok-right.ensures in
+    IfOk-weaker c.either.result (λ tree. pattern tree ≡ Either left right) (λ tree. AddsChoice c.args.spans.now old new (pattern tree))
+    (λ tree e. subst (AddsChoice c.args.spans.now old new) (sym e) chosen) c.either.ensures

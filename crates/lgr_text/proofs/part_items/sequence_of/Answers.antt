@@ -1,6 +1,5 @@
 use Rattle.std.proofs.Common.{◌≡◌, [], ◌∷◌, ◌++◌, map, sym, ap, ◌∙◌}
 use Rattle.std.proofs.lemmas.List.{map-append}
-use Rattle.label_patterns.specs.Patterns.{Then}
 use Rattle.label_patterns.specs.Trees.{pattern}
 use Rattle.lgr_text.specs.inner.Items.{in_sequence}
 use Rattle.lgr_text.proofs.ItemLemmas.{sequence-step}
@@ -11,8 +10,7 @@ loop-item-preserved c =
     let before = map pattern c.pop-in-loop-item.new.self.items in
     let items : map pattern c.loop-item.items.items ≡ before ++ pattern c.in-Some-pop.item ∷ [] =
     ap (map pattern) c.in-Some-pop.ensures.items ∙ map-append pattern c.pop-in-loop-item.new.self.items (c.in-Some-pop.item ∷ []) in
-    ap (λ t. in_sequence (before ++ Then (pattern t) (pattern c.in_ok-new-2.field-0.value) ∷ [])) c.in_ok-new.ensures.ok
-    ∙ ap (λ t. in_sequence (before ++ Then (pattern c.in-Some-pop.item) (pattern t) ∷ [])) c.in_ok-new-2.ensures.ok
+    ap (λ p. in_sequence (before ++ p ∷ [])) c.in_ok-tree.ensures
     ∙ sym (sequence-step before (pattern c.in-Some-pop.item) (pattern c.loop-item.tree))
     ∙ ap (λ l. in_sequence (l ++ pattern c.loop-item.tree ∷ [])) (sym items)
     ∙ c.loop-item.invariant
