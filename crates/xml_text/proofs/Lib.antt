@@ -1,4 +1,5 @@
 -- Lemmas that several proofs cite, and those of one subject.
+pub mod BlockLemmas
 pub mod BodyLemmas
 pub mod CharacterLemmas
 pub mod DeclarationLemmas
@@ -17,6 +18,7 @@ pub mod ListLemmas
 pub mod NumberLemmas
 pub mod OneDocument
 pub mod Runs
+pub mod TagEnds
 pub mod TagLive
 pub mod TagReached
 pub mod TagReads

@@ -1,22 +1,26 @@
 -- Runs of a tag.
 use Rattle.std.proofs.Common.{◌≡◌, ℕ, ◌<◌, ◌≤◌, Bool, true, false, ◌==◌, ◌&&◌, not, Some, None, List, [], ◌∷◌, ◌++◌, length, take, drop, get_or, cond, ◌+◌, refl, sym, ap, ◌∙◌, append_assoc, append-nil, subst, Option, arith}
 use Rattle.std.specs.List.{list_all}
+use Rattle.std.proofs.Math.Seq.{take-append_seam, drop-append_seam}
 use Rattle.std.proofs.lemmas.Bool.Decides.{nat_tests}
+use Rattle.std.proofs.lemmas.List.{length-append, length-drop, take-append-drop, get_or-drop}
 use Rattle.idn_text.specs.Stops.{run}
 use Rattle.xml_text.specs.declared.quote.Quote.{Quote}
 use Rattle.xml_text.specs.declared.quote.Quote.TheVariants as quote
 use Rattle.xml_text.specs.declared.run.Run.{Run}
 use Rattle.xml_text.specs.declared.run.Run.TheVariants as runs
+use Rattle.xml_text.specs.declared.attribute.TagKind.TheVariants.{Start, Empty}
+use Rattle.xml_text.specs.declared.state.Phase.{Phase}
 use Rattle.xml_text.specs.declared.state.Phase.TheVariants as phase
 use Rattle.xml_text.specs.Attributes.{is_named}
 use Rattle.xml_text.specs.Names.{is_blank, is_name_byte, is_name_start}
 use Rattle.xml_text.specs.Tags.{quote_byte, spaced}
-use Rattle.xml_text.specs.inner.Runs.{IsTaken, GoesOn, goes_on, is_in_line}
-use Rattle.xml_text.specs.inner.TagSteps.{State, step, step_by, with_phase, named, after_step, end_step, equals_step, with_attribute, with_attribute_byte, with_value, closed, moved, Goes}
+use Rattle.xml_text.specs.inner.Runs.{IsTaken, GoesOn, goes_on, is_in_line, IsPlainValue}
+use Rattle.xml_text.specs.inner.TagSteps.{State, step, step_by, with_phase, named, after_step, end_step, equals_step, with_attribute, with_attribute_byte, with_attribute_of, with_value, closed, moved, is_between, Goes}
 use Rattle.xml_text.proofs.ListLemmas.{and_both}
 use Rattle.xml_text.proofs.Runs.{first, yes, no}
 use Rattle.xml_text.proofs.TagRuns.{not_false}
-use Rattle.xml_text.proofs.TakenLemmas.{first_of, run_taken, one_taken, taken_on, one_more, run_goes_on}
+use Rattle.xml_text.proofs.TakenLemmas.{first_of, run_taken, one_taken, taken_on, on_further, one_more, run_goes_on, not_empty_is}
 
 -- ---- on one line
 
@@ -158,6 +162,58 @@ begun_value q s (a ∷ b ∷ bytes) here new some first_ second =
     by quote.Double = refl
     by quote.Single = refl
 
+values_go : (q : Quote) (s : State) (value rest : List ℕ) → s.phase ≡ phase.Value q → list_all (goes_on (runs.Value q)) value ≡ true → GoesOn step s (value ++ rest) (length value) (with_value s value)
+values_go q s value rest here are =
+    let same : take (length value) (value ++ rest) ≡ value = take-append_seam value rest in
+    record {
+      within = omega (arith, length-append value rest);
+      line = ap (list_all is_in_line) same ∙ all_in_line (runs.Value q) value are;
+      leads = ap (run step (Some s)) same ∙ value_run q s value here are;
+    }
+
+-- ---- a whole attribute
+
+whole_value : (q : Quote) (s : State) (value rest : List ℕ) → s.phase ≡ phase.Attribute → is_named s.attributes s.attribute ≡ false → list_all (goes_on (runs.Value q)) value ≡ true
+    → GoesOn step s (61 ∷ quote_byte q ∷ value ++ quote_byte q ∷ rest) (2 + (length value + 1)) (closed (with_value s value))
+whole_value q s value rest here new are =
+    let u = with_phase s (phase.Value q) in
+    let v = with_value u value in
+    let more = value ++ quote_byte q ∷ rest in
+    let ends = quote_byte q ∷ rest in
+    let ended : GoesOn step v ends 1 (closed v) = quote_goes q v ends refl (omega arith) refl in
+    let valued = on_further step u v (closed v) more ends (length value) 1 (sym (drop-append_seam value ends)) (values_go q u value ends refl are) ended in
+    on_further step s u (closed v) (61 ∷ quote_byte q ∷ more) more 2 (length value + 1) refl (begun_value q s (61 ∷ quote_byte q ∷ more) here new (omega arith) refl refl) valued
+
+-- the name and the value
+pub whole_goes : (s : State) (bytes more : List ℕ) (n : ℕ) (name value : List ℕ) → name ≡ take n bytes → more ≡ drop n bytes → 0 < n → n ≤ length bytes
+    → list_all (goes_on runs.Name) (drop 1 (take n bytes)) ≡ true → is_named s.attributes name ≡ false → IsPlainValue more value
+    → Goes (λ s b. Some (with_attribute s b)) s bytes (Some (n + (length value + 3))) (with_attribute_of s name value)
+whole_goes s bytes more n name value is same some within are new plain =
+    let u = record s { attribute = []; value = []; phase = phase.Attribute } in
+    let v = record u { attribute = name } in
+    let first = Some (with_attribute s (get_or bytes 0 0)) in
+    let read : IsTaken step first bytes n v = attribute_goes u bytes n name refl some within are is in
+    let whole : GoesOn step v more (2 + (length value + 1)) (closed (with_value v value)) = subst (λ (x : List ℕ). GoesOn step v x (2 + (length value + 1)) (closed (with_value v value))) (sym plain.spelled)
+    (whole_value plain.quote v value plain.rest refl new plain.plain) in
+    let count : 2 + (length value + 1) ≡ length value + 3 = omega arith in
+    subst (λ (m : ℕ). IsTaken step first bytes (n + m) (with_attribute_of s name value)) count (taken_on step first bytes more n (2 + (length value + 1)) v (with_attribute_of s name value) same read whole)
+
+-- a text that begins with '=' and a value
+pub plain_is : (q : Quote) (text rest value end : List ℕ) (n : ℕ) → 2 ≤ length text → get_or text 0 0 ≡ 61 → get_or text 1 0 ≡ quote_byte q → rest ≡ drop 2 text → value ≡ take n rest → end ≡ drop n rest
+    → 0 < length end → get_or end 0 0 ≡ quote_byte q → list_all (goes_on (runs.Value q)) value ≡ true → IsPlainValue text value
+plain_is q [] rest value end n two equals opens same is left some closes are = absurd (omega arith)
+plain_is q (a ∷ []) rest value end n two equals opens same is left some closes are = absurd (omega arith)
+plain_is q (a ∷ b ∷ bs) rest value end n two equals opens same is left some closes are =
+    let closed_by : end ≡ quote_byte q ∷ drop 1 end = not_empty_is end some ∙ ap (λ (x : ℕ). x ∷ drop 1 end) closes in
+    let both : bs ≡ value ++ quote_byte q ∷ drop 1 end =
+    sym same ∙ sym (take-append-drop n rest) ∙ ap (λ (x : List ℕ). x ++ drop n rest) (sym is) ∙ ap (λ (x : List ℕ). value ++ x) (sym left ∙ closed_by) in
+    record {
+      quote = q;
+      rest = drop 1 end;
+      spelled = ap (λ (x : ℕ). x ∷ b ∷ bs) equals ∙ ap (λ (x : ℕ). 61 ∷ x ∷ bs) opens ∙ ap (λ (x : List ℕ). 61 ∷ quote_byte q ∷ x) both;
+      plain = are;
+    }
+
 pub begun_attribute : (s : State) (bytes : List ℕ) (n : ℕ) (t : State) → s.phase ≡ phase.Blank → is_name_start (get_or bytes 0 0) ≡ true
     → Goes (λ s b. Some (with_attribute s b)) s bytes (Some n) t → GoesOn step s bytes n t
 begun_attribute s bytes n t here is taken =
@@ -172,3 +228,52 @@ blank_goes s bytes rest m t is some same more =
     let b = get_or bytes 0 0 in
     taken_on step (after_step s b) bytes rest 1 m (with_phase s phase.Blank) t same
     (one_taken step (after_step s b) bytes true (with_phase s phase.Blank) some (yes (is_blank b) (moved s phase.Blank) (end_step s b) is)) more
+
+-- ---- what follows a name or a value
+
+between_step : (s : State) (b : ℕ) → is_between s.phase ≡ true → is_name_byte b ≡ false → step s b ≡ after_step s b
+between_step s b between other = by s.phase refl between
+  where
+    by : (p : Phase) → s.phase ≡ p → is_between p ≡ true → step s b ≡ after_step s b
+    by phase.Name here is = ap (λ p. step_by p s b) here ∙ no (is_name_byte b) (Some (named s b)) (after_step s b) other
+    by phase.After here is = ap (λ p. step_by p s b) here
+    by phase.Open here is = absurd (cc)
+    by phase.Begin here is = absurd (cc)
+    by phase.Blank here is = absurd (cc)
+    by phase.Attribute here is = absurd (cc)
+    by phase.BeforeEquals here is = absurd (cc)
+    by phase.AfterEquals here is = absurd (cc)
+    by (phase.Value q) here is = absurd (cc)
+    by (phase.Reference q) here is = absurd (cc)
+    by phase.Slash here is = absurd (cc)
+    by (phase.Ended kind) here is = absurd (cc)
+
+between_blank : (s : State) (b : ℕ) → is_between s.phase ≡ true → is_blank b ≡ true → step s b ≡ Some (with_phase s phase.Blank)
+between_blank s b between is =
+    let other : is_name_byte b ≡ false = grind (arith, nat_tests) in
+    between_step s b between other ∙ yes (is_blank b) (moved s phase.Blank) (end_step s b) is
+
+pub ends_start : (s : State) (bytes : List ℕ) → is_between s.phase ≡ true → 0 < length bytes → get_or bytes 0 0 ≡ 62 → GoesOn step s bytes 1 (with_phase s (phase.Ended Start))
+ends_start s bytes between some is =
+    one_more step s (with_phase s (phase.Ended Start)) bytes some (ap is_in_line is) (ap (step s) is ∙ between_step s 62 between refl)
+
+pub ends_empty : (s : State) (bytes : List ℕ) → is_between s.phase ≡ true → 2 ≤ length bytes → get_or bytes 0 0 ≡ 47 → get_or bytes 1 0 ≡ 62 → GoesOn step s bytes 2 (with_phase s (phase.Ended Empty))
+ends_empty s [] between some slash is = absurd (omega arith)
+ends_empty s (a ∷ []) between some slash is = absurd (omega arith)
+ends_empty s (a ∷ b ∷ bytes) between some slash is =
+    let u = with_phase s phase.Slash in
+    let first_ : GoesOn step s (a ∷ b ∷ bytes) 1 u = one_more step s u (a ∷ b ∷ bytes) (omega arith) (ap is_in_line slash) (ap (step s) slash ∙ between_step s 47 between refl) in
+    on_further step s u (with_phase s (phase.Ended Empty)) (a ∷ b ∷ bytes) (b ∷ bytes) 1 1 refl first_
+    (one_more step u (with_phase s (phase.Ended Empty)) (b ∷ bytes) (omega arith) (ap is_in_line is) (ap (step u) is))
+
+-- a blank, and what follows it
+pub blank_on : (s t u : State) (rest more : List ℕ) (i n : ℕ) → i < length rest → is_between t.phase ≡ true → (is_blank (get_or rest i 0) && is_in_line (get_or rest i 0)) ≡ true → more ≡ drop (i + 1) rest
+    → GoesOn step s rest i t → GoesOn step (with_phase t phase.Blank) more n u → GoesOn step s rest (i + 1 + n) u
+blank_on s t u rest more i n some between space same is on =
+    let both = and_both (is_blank (get_or rest i 0)) (is_in_line (get_or rest i 0)) space in
+    let left = drop i rest in
+    let none : i + 0 ≡ i = omega arith in
+    let here : get_or left 0 0 ≡ get_or rest i 0 = get_or-drop i rest 0 0 ∙ ap (λ (k : ℕ). get_or rest k 0) none in
+    let blank : GoesOn step t left 1 (with_phase t phase.Blank) =
+    one_more step t (with_phase t phase.Blank) left (omega (arith, length-drop i rest)) (ap is_in_line here ∙ both.1) (ap (step t) here ∙ between_blank t (get_or rest i 0) between both.0) in
+    on_further step s (with_phase t phase.Blank) u rest more (i + 1) n same (on_further step s t (with_phase t phase.Blank) rest left i 1 refl is blank) on

@@ -96,3 +96,14 @@ run_goes_on step s t bytes n line is =
       line = ap (list_all is_in_line) split ∙ both_and (is_in_line (get_or bytes 0 0)) (list_all is_in_line (drop 1 (take n bytes))) line is.line;
       leads = ap (run step (Some s)) split ∙ is.leads;
     }
+
+-- and what follows it
+pub on_further : {S : Type 0} (step : S → ℕ → Option S) (s t u : S) (bytes rest : List ℕ) (n m : ℕ) → rest ≡ drop n bytes → GoesOn step s bytes n t → GoesOn step t rest m u
+    → GoesOn step s bytes (n + m) u
+on_further step s t u bytes rest n m same is more =
+    let both : take (n + m) bytes ≡ take n bytes ++ take m rest = further bytes n m ∙ ap (λ (x : List ℕ). take n bytes ++ take m x) (sym same) in
+    record {
+      within = omega (arith, is.within, more.within, ap length same ∙ length-drop n bytes);
+      line = ap (list_all is_in_line) both ∙ list_all-append is_in_line (take n bytes) (take m rest) ∙ both_and (list_all is_in_line (take n bytes)) (list_all is_in_line (take m rest)) is.line more.line;
+      leads = ap (run step (Some s)) both ∙ run_append step (take n bytes) (take m rest) (Some s) ∙ ap (λ (o : Option _). run step o (take m rest)) is.leads ∙ more.leads;
+    }

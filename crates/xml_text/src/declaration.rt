@@ -85,7 +85,11 @@ fn ends(text: &[u8]) -> bool
 fn is_ascii(text: &[u8]) -> bool
     ensures { result ≡ words.is_ascii text.now }
 {
-    text.iter().all(|byte| *byte < 128)
+    let mut is = true;
+    for byte in text {
+        is &= *byte < 128;
+    }
+    is
 }
 
 /// Whether what stands between `<?` and `?>` is that of a declaration, perhaps of a text that is all ASCII.

@@ -281,7 +281,7 @@ impl<'a> DocumentState<'a> {
         if !self.may_open() {
             return Ok(None);
         }
-        self.tag = TagState::begun(alloc);
+        self.tag.restart();
         self.part = Part::Tag;
         self.tag(alloc, rest)
     }
@@ -310,7 +310,7 @@ impl<'a> DocumentState<'a> {
             name,
             attributes,
             ..
-        } = replace(&mut self.tag, TagState::new(alloc)).into_tag(alloc, kind)?;
+        } = self.tag.take(alloc, kind)?;
         self.names.open(alloc, kind, &name)?;
         self.tokens
             .push(Token::new(Said::Open(name, attributes), self.begun))?;

@@ -23,6 +23,13 @@ impl<'a> Gathered<'a> {
         Gathered::Front(b"", 0)
     }
 
+    /// The first bytes of a text were read.
+    pub fn begun(text: &'a [u8], len: usize) -> Self
+        ensures { gathered result ≡ take len text.now }
+    {
+        Gathered::Front(text, len)
+    }
+
     pub fn is_empty(&self) -> bool
         ensures { result ≡ (length (gathered self.now) == 0) }
     {
@@ -38,17 +45,26 @@ impl<'a> Gathered<'a> {
         }
     }
 
-    /// Adds the first bytes of a text, which are borrowed if they stand after what was read.
+    /// Adds the first bytes of a text, which are borrowed if nothing was read or they stand after what was.
+    #[inline(always)]
     pub fn add(&mut self, alloc: Global, text: &'a [u8], len: usize) -> Result<(), AllocError>
+        requires { len ≤ length text.now }
+        ensures { OnOk result (gathered self.new ≡ gathered self.old ++ take len text.now) }
+    {
+        if let Gathered::Front(_, 0) = self {
+            *self = Gathered::begun(text, len);
+            return Ok(());
+        }
+        self.add_more(alloc, text, len)
+    }
+
+    /// Adds the first bytes of a text, which are borrowed if they stand after what was read.
+    fn add_more(&mut self, alloc: Global, text: &'a [u8], len: usize) -> Result<(), AllocError>
         requires { len ≤ length text.now }
         ensures { OnOk result (gathered self.new ≡ gathered self.old ++ take len text.now) }
     {
         let (part, _) = text.split_at(len);
         if let Gathered::Front(begin, held) = self {
-            if *held == 0 {
-                *self = Gathered::Front(text, len);
-                return Ok(());
-            }
             let (before, after) = begin.split_at((*held).min(begin.len()));
             if front(after, len) == part {
                 *self = Gathered::Front(*begin, before.len() + len);
@@ -72,6 +88,7 @@ impl<'a> Gathered<'a> {
     }
 
     /// The passage, which is complete.
+    #[inline(always)]
     pub fn finish(self, alloc: Global) -> Result<Passage<'a>, AllocError>
         ensures { IfOk result (λ read. passage read ≡ gathered self.entry) }
     {

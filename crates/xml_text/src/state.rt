@@ -1,16 +1,18 @@
 //! Reading a tag by runs: what was read of it, and which byte may follow.
-ghost use Rattle.std.specs.Prelude.{◌≡◌, ◌<◌, [], ◌∷◌, Some, true, length, slice_index, IfOk, OnOk};
+ghost use Rattle.std.specs.Prelude.{◌≡◌, ◌<◌, [], ◌∷◌, Some, true, length, slice_index, IfOk, IfSome, OnOk};
 ghost use Rattle.xml_text.specs.Names as words;
+ghost use Rattle.xml_text.specs.Passages.{passage};
 ghost use Rattle.xml_text.specs.References.{referenced};
 ghost use Rattle.xml_text.specs.Tags.{tag};
 ghost use Rattle.xml_text.specs.declared.state.Phase.TheVariants as phases;
-ghost use Rattle.xml_text.specs.inner.Runs.{taken_as, GoesOn};
+ghost use Rattle.xml_text.specs.inner.Runs.{taken_as, GoesOn, IsPlainValue};
 ghost use Rattle.xml_text.specs.inner.TagSteps as steps;
 ghost use Rattle.xml_text.specs.inner.TagSteps.{state, Goes};
 
 use crate::attribute::{Attribute, Tag, TagKind, is_one_named};
-use crate::bytes::{is_blank, is_name_byte, is_name_start, is_reference_byte};
+use crate::bytes::{is_blank, is_name_byte, is_name_start, is_reference_byte, is_space};
 use crate::gathered::Gathered;
+use crate::passage::Passage;
 use crate::quote::Quote;
 use crate::reference::referenced;
 use crate::run::{Run, one};
@@ -60,6 +62,25 @@ pub struct TagState<'a> {
     phase: Phase,
 }
 
+/// A value after `=` and between quotes with which a text begins, if each of its bytes stands for itself.
+#[inline(always)]
+fn plain_value(text: &[u8]) -> Option<&[u8]>
+    ensures { IfSome result (λ value. IsPlainValue text.now value.now) }
+{
+    let quote = match text {
+        [b'=', b'"', ..] => Quote::Double,
+        [b'=', b'\'', ..] => Quote::Single,
+        _ => return None,
+    };
+    let (_, rest) = text.split_at(2);
+    let (value, end) = rest.split_at(Run::Value(quote).lead(rest));
+    if end.first() == Some(&quote.byte()) {
+        Some(value)
+    } else {
+        None
+    }
+}
+
 /// What reads one byte answers whether it may stand there. What reads a run answers how many of the bytes that follow
 /// it took, or `None` if the first may not stand there. After that, and if memory was refused, the state is of no use
 /// any more.
@@ -78,14 +99,26 @@ impl<'a> TagState<'a> {
         }
     }
 
-    /// `<` was read.
-    pub fn begun(alloc: Global) -> Self
-        ensures { state result ≡ steps.with_phase steps.start Phase.Begin }
+    /// Forgets what was read.
+    #[inline(always)]
+    fn clear(&mut self)
+        ensures { state self.new ≡ steps.start }
     {
-        TagState {
-            phase: Phase::Begin,
-            ..TagState::new(alloc)
-        }
+        self.name = Gathered::new();
+        self.attributes.clear();
+        self.attribute = Gathered::new();
+        self.value = Gathered::new();
+        self.reference.clear();
+        self.phase = Phase::Open;
+    }
+
+    /// Reads `<`, and forgets what was read before.
+    #[inline(always)]
+    pub fn restart(&mut self)
+        ensures { state self.new ≡ steps.with_phase steps.start Phase.Begin }
+    {
+        self.clear();
+        self.phase = Phase::Begin;
     }
 
     /// Reads a run.
@@ -132,10 +165,9 @@ impl<'a> TagState<'a> {
         if !is_name_start(rest[0]) {
             return Ok(None);
         }
-        self.name_run(alloc, rest)
+        Ok(Some(self.name_run(alloc, rest)?))
     }
 
-    #[inline(always)]
     fn name(&mut self, alloc: Global, rest: &'a [u8]) -> Result<Option<usize>, AllocError>
         requires { 0 < length rest.now }
         ensures { IfOk result (λ taken. Goes steps.name_step (state self.old) rest.now taken (state self.new)) }
@@ -144,23 +176,73 @@ impl<'a> TagState<'a> {
         if !is_name_byte(byte) {
             return self.after(alloc, rest);
         }
-        self.name_run(alloc, rest)
+        self.name.add(alloc, rest, 1)?;
+        Ok(one(self.go_on(Phase::Name)))
     }
 
-    /// Reads bytes of the tag's name, of which the first is one.
-    #[inline(always)]
-    fn name_run(&mut self, alloc: Global, rest: &'a [u8]) -> Result<Option<usize>, AllocError>
+    /// Reads bytes of the tag's name, of which the first is one, and what follows them: how many bytes.
+    fn name_run(&mut self, alloc: Global, rest: &'a [u8]) -> Result<usize, AllocError>
         requires { 0 < length rest.now }
-        ensures { IfOk result (λ taken. Goes (λ s b. Some (steps.named s b)) (state self.old) rest.now taken
+        ensures { IfOk result (λ n. Goes (λ s b. Some (steps.named s b)) (state self.old) rest.now (Some n)
             (state self.new)) }
     {
         let len = Run::Name.len(rest);
         self.name.add(alloc, rest, len)?;
         self.phase = Phase::Name;
-        Ok(Some(len))
+        let (_, more) = rest.split_at(len);
+        let others = self.rest_of_tag(alloc, more)?;
+        Ok(len + others)
     }
 
-    /// Reads what may follow a name or a value, and after a blank the name of an attribute.
+    /// Whether a name or a value was read last.
+    #[inline(always)]
+    fn is_between(&self) -> bool
+        ensures { result ≡ steps.is_between self.now.phase }
+    {
+        matches!(self.phase, Phase::Name | Phase::After)
+    }
+
+    /// Reads what follows a name or a value on its line: attributes whose values stand for themselves, and what ends
+    /// the tag. How many bytes.
+    #[inline(always)]
+    #[tactic(auto, using(crate::proofs::TakenLemmas::no_more))]
+    fn rest_of_tag(&mut self, alloc: Global, rest: &'a [u8]) -> Result<usize, AllocError>
+        ensures { IfOk result (λ n. GoesOn steps.step (state self.old) rest.now n (state self.new)) }
+    {
+        let mut place = 0;
+        while place < rest.len() && self.is_between() && is_space(rest[place]) {
+            self.phase = Phase::Blank;
+            place += 1;
+            let (_, more) = rest.split_at(place);
+            place += self.begin_attribute(alloc, more)?;
+        }
+        let (_, more) = rest.split_at(place);
+        Ok(place + self.end_of_tag(more))
+    }
+
+    /// Reads what ends a tag, if it stands there: how many bytes.
+    #[inline(always)]
+    #[tactic(auto, using(crate::proofs::TagEnds::tag_ends))]
+    fn end_of_tag(&mut self, rest: &[u8]) -> usize
+        ensures { GoesOn steps.step (state self.old) rest.now result (state self.new) }
+    {
+        if !self.is_between() {
+            return 0;
+        }
+        match rest {
+            [b'>', ..] => {
+                self.phase = Phase::Ended(TagKind::Start);
+                1
+            }
+            [b'/', b'>', ..] => {
+                self.phase = Phase::Ended(TagKind::Empty);
+                2
+            }
+            _ => 0,
+        }
+    }
+
+    /// Reads what may follow a name or a value.
     fn after(&mut self, alloc: Global, rest: &'a [u8]) -> Result<Option<usize>, AllocError>
         requires { 0 < length rest.now }
         ensures { IfOk result (λ taken. Goes steps.after_step (state self.old) rest.now taken (state self.new)) }
@@ -172,9 +254,7 @@ impl<'a> TagState<'a> {
         Ok(one(self.end(byte)))
     }
 
-    /// Reads a blank, and the name of an attribute if one stands after it: how many bytes.
-    #[inline(always)]
-    #[tactic(auto, using(crate::proofs::TagTaken::blank_goes))]
+    /// Reads a blank, and what follows it: how many bytes.
     fn blank_run(&mut self, alloc: Global, rest: &'a [u8]) -> Result<usize, AllocError>
         requires some { 0 < length rest.now }
         requires blank { words.is_blank (slice_index rest.now 0) ≡ true }
@@ -183,7 +263,9 @@ impl<'a> TagState<'a> {
         self.phase = Phase::Blank;
         let (_, more) = rest.split_at(1);
         let len = self.begin_attribute(alloc, more)?;
-        Ok(1 + len)
+        let (_, others) = more.split_at(len);
+        let further = self.rest_of_tag(alloc, others)?;
+        Ok(1 + (len + further))
     }
 
     /// Reads what may end a tag.
@@ -197,7 +279,7 @@ impl<'a> TagState<'a> {
         }
     }
 
-    /// Reads the name of an attribute after a blank, if one stands there: how many bytes.
+    /// Reads an attribute after a blank, or its name, if one stands there: how many bytes.
     #[inline(always)]
     #[tactic(auto, using(crate::proofs::TakenLemmas::no_more))]
     fn begin_attribute(&mut self, alloc: Global, rest: &'a [u8]) -> Result<usize, AllocError>
@@ -220,63 +302,43 @@ impl<'a> TagState<'a> {
         Ok(Some(self.attribute_begin(alloc, rest)?))
     }
 
-    /// Reads bytes of an attribute's name from its beginning, of which the first is one.
+    /// Reads an attribute whose value stands for itself, of whose name the first byte is one; or that name: how many
+    /// bytes.
     #[inline(always)]
     fn attribute_begin(&mut self, alloc: Global, rest: &'a [u8]) -> Result<usize, AllocError>
         requires { 0 < length rest.now }
         ensures { IfOk result (λ n. Goes (λ s b. Some (steps.with_attribute s b)) (state self.old) rest.now (Some n)
             (state self.new)) }
     {
-        self.attribute = Gathered::new();
-        self.value = Gathered::new();
-        self.phase = Phase::Attribute;
-        self.attribute_run(alloc, rest)
+        let len = Run::Name.len(rest);
+        let (name, more) = rest.split_at(len);
+        match plain_value(more) {
+            Some(value) if !is_one_named(&self.attributes, name) => {
+                self.end_attribute(Passage::Here(name), Passage::Here(value))?;
+                Ok(len + (value.len() + 3))
+            }
+            _ => {
+                self.attribute = Gathered::begun(rest, len);
+                self.value = Gathered::new();
+                self.phase = Phase::Attribute;
+                Ok(len)
+            }
+        }
     }
 
-    #[inline(always)]
+    /// Reads a byte after the name of an attribute, or one more of that name.
     fn attribute(&mut self, alloc: Global, rest: &'a [u8]) -> Result<Option<usize>, AllocError>
         requires some { 0 < length rest.now }
         requires phase { self.old.phase ≡ phases.Attribute }
         ensures { IfOk result (λ taken. Goes steps.attribute_step (state self.old) rest.now taken (state self.new)) }
     {
         let byte = rest[0];
-        if !is_name_byte(byte) {
-            let is_new = !is_one_named(&self.attributes, self.attribute.as_slice());
-            return Ok(one(is_new && self.equals(byte)));
+        if is_name_byte(byte) {
+            self.attribute.add(alloc, rest, 1)?;
+            return Ok(one(true));
         }
-        Ok(Some(self.attribute_run(alloc, rest)?))
-    }
-
-    /// Reads bytes of an attribute's name, of which the first is one, and what begins its value.
-    #[inline(always)]
-    fn attribute_run(&mut self, alloc: Global, rest: &'a [u8]) -> Result<usize, AllocError>
-        requires some { 0 < length rest.now }
-        requires phase { self.old.phase ≡ phases.Attribute }
-        ensures { IfOk result (λ n. Goes (λ s b. Some (steps.with_attribute_byte s b)) (state self.old) rest.now
-            (Some n) (state self.new)) }
-    {
-        let len = Run::Name.len(rest);
-        self.attribute.add(alloc, rest, len)?;
-        let (_, more) = rest.split_at(len);
-        Ok(len + self.begin_value(more))
-    }
-
-    /// Reads `=` and a quote after the name of an attribute, if they stand there: how many bytes.
-    #[tactic(auto, using(crate::proofs::TagTaken::begun_value, crate::proofs::TakenLemmas::no_more))]
-    fn begin_value(&mut self, rest: &[u8]) -> usize
-        requires { self.old.phase ≡ phases.Attribute }
-        ensures { GoesOn steps.step (state self.old) rest.now result (state self.new) }
-    {
-        let quote = match rest {
-            [b'=', b'"', ..] => Quote::Double,
-            [b'=', b'\'', ..] => Quote::Single,
-            _ => return 0,
-        };
-        if is_one_named(&self.attributes, self.attribute.as_slice()) {
-            return 0;
-        }
-        self.phase = Phase::Value(quote);
-        2
+        let is_new = !is_one_named(&self.attributes, self.attribute.as_slice());
+        Ok(one(is_new && self.equals(byte)))
     }
 
     fn equals(&mut self, byte: u8) -> bool
@@ -335,7 +397,18 @@ impl<'a> TagState<'a> {
     {
         let name = replace(&mut self.attribute, Gathered::new()).finish(alloc)?;
         let value = replace(&mut self.value, Gathered::new()).finish(alloc)?;
+        self.end_attribute(name, value)
+    }
+
+    /// Ends an attribute with this name and this value.
+    #[inline(always)]
+    fn end_attribute(&mut self, name: Passage<'a>, value: Passage<'a>) -> Result<(), AllocError>
+        ensures { OnOk result (state self.new ≡ steps.with_attribute_of (state self.old) (passage name.entry)
+            (passage value.entry)) }
+    {
         self.attributes.push(Attribute::new(name, value))?;
+        self.attribute = Gathered::new();
+        self.value = Gathered::new();
         self.phase = Phase::After;
         Ok(())
     }
@@ -355,22 +428,7 @@ impl<'a> TagState<'a> {
     {
         let len = Run::Value(quote).len(rest);
         self.value.add(alloc, rest, len)?;
-        let (_, more) = rest.split_at(len);
-        let quotes = self.quote_after(alloc, quote, more)?;
-        Ok(Some(len + quotes))
-    }
-
-    /// Reads the quote after a value, if it stands there: how many bytes.
-    #[tactic(auto, using(crate::proofs::TagTaken::quote_goes, crate::proofs::TakenLemmas::no_more))]
-    fn quote_after(&mut self, alloc: Global, quote: Quote, rest: &[u8]) -> Result<usize, AllocError>
-        requires { self.old.phase ≡ phases.Value quote }
-        ensures { IfOk result (λ n. GoesOn steps.step (state self.old) rest.now n (state self.new)) }
-    {
-        if rest.first() != Some(&quote.byte()) {
-            return Ok(0);
-        }
-        self.end_value(alloc)?;
-        Ok(1)
+        Ok(Some(len))
     }
 
     fn reference(&mut self, alloc: Global, quote: Quote, byte: u8) -> Result<bool, AllocError>
@@ -418,17 +476,18 @@ impl<'a> TagState<'a> {
         }
     }
 
-    /// The tag, which is complete.
-    pub fn into_tag(self, alloc: Global, kind: TagKind) -> Result<Tag<'a>, AllocError>
-        ensures { IfOk result (λ t. tag t ≡ steps.tag_of (state self.entry) kind) }
+    /// Takes the tag, which is complete. Its attributes get no more room than they need.
+    #[inline(always)]
+    pub fn take(&mut self, alloc: Global, kind: TagKind) -> Result<Tag<'a>, AllocError>
+        ensures tag { IfOk result (λ t. tag t ≡ steps.tag_of (state self.old) kind) }
+        ensures new { OnOk result (state self.new ≡ steps.start) }
     {
-        let TagState {
-            name,
-            attributes,
-            ..
-        } = self;
+        let name = replace(&mut self.name, Gathered::new()).finish(alloc)?;
+        let mut attributes = Vec::with_capacity(alloc, self.attributes.len())?;
+        attributes.append(&mut self.attributes)?;
+        self.clear();
         Ok(Tag {
-            name: name.finish(alloc)?,
+            name,
             attributes,
             kind,
         })

@@ -24,7 +24,7 @@ pub fn read_tag(alloc: Global, text: &[u8]) -> Result<(Tag<'_>, usize), ReadErro
         };
         place += taken;
         if let Some(kind) = state.kind() {
-            return Ok((state.into_tag(alloc, kind)?, place));
+            return Ok((state.take(alloc, kind)?, place));
         }
     }
     Err(ReadError::Stop(text.len()))

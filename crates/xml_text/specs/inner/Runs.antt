@@ -1,8 +1,9 @@
 -- Reading by runs: bytes in a row that are read at once, and lead where they lead one after another.
 use Rattle.std.specs.Prelude.{◌≡◌, ℕ, ◌<◌, ◌≤◌, Bool, true, false, ◌==◌, ◌&&◌, not, Option, Some, None}
-use Rattle.std.specs.Prelude.{List, length, take, drop}
+use Rattle.std.specs.Prelude.{List, ◌∷◌, ◌++◌, length, take, drop}
 use Rattle.std.specs.List.{list_all}
 use Rattle.idn_text.specs.Stops.{run}
+use Rattle.xml_text.specs.declared.quote.Quote.{Quote}
 use Rattle.xml_text.specs.declared.run.Run.{Run}
 use Rattle.xml_text.specs.declared.run.Run.TheVariants as runs
 use Rattle.xml_text.specs.Names.{is_name_byte}
@@ -23,6 +24,13 @@ goes_on runs.Text b = not (b == 60) && not (b == 38) && not (b == 62) && not (b 
 goes_on runs.Section b = not (b == 93) && is_in_line b
 goes_on runs.Comment b = not (b == 45) && is_in_line b
 goes_on runs.Instruction b = not (b == 63) && is_in_line b
+
+-- the text begins with '=' and this value, each byte of which stands for itself between its quotes
+pub record IsPlainValue (text value : List ℕ) : Type 0 where
+  pub quote : Quote
+  pub rest : List ℕ
+  pub spelled : text ≡ 61 ∷ quote_byte quote ∷ value ++ quote_byte quote ∷ rest
+  pub plain : list_all (goes_on (runs.Value quote)) value ≡ true
 
 -- ---- states
 

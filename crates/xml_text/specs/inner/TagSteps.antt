@@ -1,5 +1,5 @@
 -- Reading a tag: what each byte changes.
-use Rattle.std.specs.Prelude.{ℕ, ◌==◌, Option, Some, None, List, [], ◌∷◌, ◌++◌, if◌then◌else◌}
+use Rattle.std.specs.Prelude.{ℕ, Bool, true, false, ◌==◌, Option, Some, None, List, [], ◌∷◌, ◌++◌, if◌then◌else◌}
 use Rattle.std.specs.Prelude.{encode_utf8, slice_index}
 use Rattle.std.specs.Option.{option_map}
 use Rattle.xml_text.specs.declared.attribute.TagKind.{TagKind}
@@ -92,14 +92,17 @@ quote_step s b =
 abbrev pub with_value : State → List ℕ → State
 with_value s bytes = record s { value = s.value ++ bytes }
 
-abbrev pub closed : State → State
-closed s =
+abbrev pub with_attribute_of : State → List ℕ → List ℕ → State
+with_attribute_of s name value =
     record s {
-      attributes = s.attributes ++ record { name = s.attribute; value = s.value } ∷ [];
+      attributes = s.attributes ++ record { name = name; value = value } ∷ [];
       attribute = [];
       value = [];
       phase = phase.After;
     }
+
+abbrev pub closed : State → State
+closed s = with_attribute_of s s.attribute s.value
 
 abbrev pub value_step : Quote → State → ℕ → Option State
 value_step q s b =
@@ -140,6 +143,12 @@ step_by (phase.Ended kind) s b = None
 
 abbrev pub step : State → ℕ → Option State
 step s b = step_by s.phase s b
+
+-- a name or a value was read last
+abbrev pub is_between : Phase → Bool
+is_between phase.Name = true
+is_between phase.After = true
+is_between e = false
 
 -- a run is taken, of which the first byte is read so
 abbrev pub Goes : (State → ℕ → Option State) → State → List ℕ → Option ℕ → State → Type 0

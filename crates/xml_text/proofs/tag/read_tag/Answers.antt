@@ -26,7 +26,7 @@ returns-in-Some-kind-clause-read c =
     let is : IsTaken step (step s (get_or rest 0 0)) rest c.in-Some.taken u = subst (λ (r : Option ℕ). Goes step s rest r u) c.in-Some.is c.in_ok-taken.ensures in
     let read = taken_further step start s u c.args.text.now rest c.loop-place.place c.in-Some.taken c.split_at.ensures.back c.loop-place.invariant.read is in
     let kind : kind_of u.phase ≡ Some c.in-Some-kind.kind = sym c.kind.ensures ∙ c.in-Some-kind.is in
-    subst (λ (t : Tag). IsTag (take (c.loop-place.place + c.in-Some.taken) c.args.text.now) t) (sym c.in_ok-into_tag.ensures)
+    subst (λ (t : Tag). IsTag (take (c.loop-place.place + c.in-Some.taken) c.args.text.now) t) (sym c.in_ok-take.ensures.tag)
     (tag_read (take (c.loop-place.place + c.in-Some.taken) c.args.text.now) u c.in-Some-kind.kind read kind)
 
 pub returns-in_default-clause-stop : goal.returns-in_default-clause-stop

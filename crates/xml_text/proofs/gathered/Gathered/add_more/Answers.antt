@@ -2,7 +2,7 @@ use Rattle.std.proofs.Common.{rules, ◌≡◌, ℕ, ◌+◌, ◌++◌, List, le
 use Rattle.std.specs.Cmp.Lexicographic.{bytes_decides}
 use Rattle.xml_text.specs.inner.Gathering.{gathered}
 use Rattle.xml_text.proofs.GatheredLemmas.{stands_after}
-use Rattle.xml_text.proofs.gathered.Gathered.add.Goals as goal
+use Rattle.xml_text.proofs.gathered.Gathered.add_more.Goals as goal
 
 pub returns-then-eq : goal.returns-then-eq
 returns-then-eq c =
