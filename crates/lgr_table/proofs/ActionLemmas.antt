@@ -1,6 +1,6 @@
 -- Actions of a file under the names of its table.
 use Rattle.std.proofs.Common.{◌≡◌, ℕ, zero, suc, ◌+◌, ◌<◌, ◌≤◌, Bool, true, false, not, cond, List, [], ◌∷◌, ◌++◌, length, map, take, get_or, Option, Some, None, Ok, Decides, refl, sym, ap, subst, ◌∙◌, arith, length-append}
-use Rattle.std.specs.Prelude.{Contains, All, bytes_eq, codes, is_some, nat_lt, position, slice_index_or, unwrap_or}
+use Rattle.std.specs.Prelude.{Contains, bytes_eq, codes, nat_lt, slice_index_or, unwrap_or}
 use Rattle.std.specs.List.{flat_map, position_or_len}
 use Rattle.std.specs.Option.{option_map}
 use Rattle.std.proofs.lemmas.Bool.Decides.{nat_tests}
@@ -16,11 +16,11 @@ use Rattle.variant_dispositions.specs.declared.disposition.Disposition.{Disposit
 use Rattle.variant_dispositions.specs.declared.disposition.Disposition.TheVariants.{Invalid, Blocked, Allocatable, Activated, Valid}
 use Rattle.lgr_text.specs.ActionNames as texts
 use Rattle.lgr_text.specs.ActionNames.{called, each_once}
-use Rattle.lgr_text.specs.Records.{Action, Condition, Ruleset, Trigger, action}
+use Rattle.lgr_text.specs.Records.{Action, Condition, Trigger, action}
 use Rattle.lgr_text.specs.declared.actions.Renamed.{Renamed}
 use Rattle.lgr_text.specs.declared.records.Action as held_action
 use Rattle.lgr_table.specs.Names.{asked}
-use Rattle.lgr_table.specs.Numbers.{Numbering, all_types, is_same, type_number}
+use Rattle.lgr_table.specs.Numbers.{Numbering, all_types, is_same}
 use Rattle.lgr_table.specs.Tables.{SayActions, SaysAction, called_condition, called_trigger, called_type}
 use Rattle.lgr_table.specs.declared.actions.TypeNames.{TypeNames}
 use Rattle.lgr_table.specs.inner.Steps.{AddsAction, AreAmong, HaveDefined}

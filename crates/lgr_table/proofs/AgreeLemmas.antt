@@ -1,5 +1,5 @@
 -- Parts of rules match the same parts of labels where the classes and the rules that they name do.
-use Rattle.std.proofs.Common.{◌≡◌, ℕ, ◌+◌, ◌<◌, inl, inr, Bool, List, [], ◌++◌, length, Option, refl, sym, subst, ◌∙◌, length-append, arith}
+use Rattle.std.proofs.Common.{◌≡◌, ℕ, ◌+◌, inl, inr, Bool, List, [], ◌++◌, length, Option, refl, sym, subst, ◌∙◌, length-append, arith}
 use Rattle.std.specs.Prelude.{◌↔◌, slice_index}
 use Rattle.std.specs.List.{All}
 use Rattle.std.proofs.lemmas.List.{get_or_append_left, get_or-append-add}

@@ -24,7 +24,7 @@ use Rattle.lgr_table.specs.Numbers.{Numbering, is_same, number_among, types_with
 use Rattle.lgr_table.specs.Numbers as numbers
 use Rattle.lgr_table.specs.inner.EntrySteps.{PushesVariants}
 use Rattle.variant_table.proofs.NumberLemmas.{names-after, names-front, number_back}
-use Rattle.variant_table.specs.Entries.{Entry, Variant}
+use Rattle.variant_table.specs.Entries.{Variant}
 use Rattle.variant_table.specs.Forms.{entry_of, numbered, type_by, variant_by, variant_mark}
 
 -- ---- the number of a name that a number has

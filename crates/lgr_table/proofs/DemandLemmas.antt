@@ -1,15 +1,12 @@
 -- Actions that are demands, and the others.
-use Rattle.std.proofs.Common.{◌≡◌, ℕ, zero, suc, ◌+◌, ◌<◌, ◌≤◌, Bool, true, false, not, cond, List, [], ◌∷◌, ◌++◌, length, map, take, drop, get_or, Option, Some, None, Ok, refl, sym, ap, subst, ◌∙◌, arith}
-use Rattle.std.specs.Prelude.{Contains, filter, is_some, slice_index_or}
+use Rattle.std.proofs.Common.{◌≡◌, ℕ, zero, suc, ◌<◌, Bool, true, false, not, cond, List, [], ◌∷◌, ◌++◌, length, map, take, drop, get_or, Option, Some, None, Ok, refl, sym, ap, subst, ◌∙◌, arith}
+use Rattle.std.specs.Prelude.{Contains, filter, is_some}
 use Rattle.std.specs.List.{AllByRecursion, filter_map, flat_map}
 use Rattle.std.specs.Option.{option_map}
 use Rattle.std.proofs.lemmas.Grind.{flat_map-append}
-use Rattle.std.proofs.lemmas.List.{append-nil, get_or-map, map-append, take-append-drop, drop_all, take_all, take_more}
+use Rattle.std.proofs.lemmas.List.{append-nil, map-append, take-append-drop, drop_all, take_all}
 use Rattle.std.proofs.lemmas.List.Elements.{filter-append, filter_map-append}
 use Rattle.std.proofs.Math.Seq.{drop-cons}
-use Rattle.label_patterns.specs.Patterns.{Anchor, Pattern}
-use Rattle.label_patterns.specs.Trees.{pattern}
-use Rattle.label_patterns.specs.declared.pattern_tree.PatternTree.{PatternTree}
 use Rattle.ruleset_text.specs.Actions.{NamedAction}
 use Rattle.ruleset_text.specs.Definition as definition
 use Rattle.ruleset_text.specs.Definitions.{Definitions, Demand, type_names, with_definition}
@@ -18,11 +15,11 @@ use Rattle.lgr_text.specs.Records.{Action, Condition, Ruleset, Trigger, action}
 use Rattle.lgr_text.specs.declared.records.Action as held_action
 use Rattle.lgr_table.specs.Names.{asked}
 use Rattle.lgr_table.specs.Numbers.{Numbering, all_types}
-use Rattle.lgr_table.specs.Tables.{SayDemands, SaysDemand, SayActions, acting, demand_kind, demanded, following, leading, makes_invalid, rule_alone}
+use Rattle.lgr_table.specs.Tables.{SayDemands, SaysDemand, SayActions, acting, demanded, following, leading, makes_invalid, rule_alone}
 use Rattle.lgr_table.specs.declared.actions.TypeNames.{TypeNames}
 use Rattle.lgr_table.specs.inner.Steps.{AddsAction, AddsActions, AddsDemand, AddsDemands, AreAmong, HaveDefined}
 use Rattle.lgr_table.specs.inner.TypeNames.{AreNamesOf, written}
-use Rattle.lgr_table.proofs.ActionLemmas.{among_both, name_there, say_still, with_actions}
+use Rattle.lgr_table.proofs.ActionLemmas.{among_both, name_there, with_actions}
 use Rattle.lgr_table.proofs.AddedLemmas.{is-added}
 use Rattle.variant_table.specs.Entries.{TableValue}
 

@@ -1,11 +1,11 @@
 -- Entries that are added one after the other.
-use Rattle.std.proofs.Common.{◌≡◌, ℕ, zero, suc, ◌+◌, ◌-◌, ◌<◌, ◌≤◌, Bool, true, false, cond, Result, Ok, Err, List, [], ◌∷◌, ◌++◌, length, map, get_or, take, refl, sym, ap, subst, ◌∙◌, arith, append_assoc}
+use Rattle.std.proofs.Common.{◌≡◌, ℕ, zero, suc, ◌+◌, Bool, true, false, cond, Ok, Err, List, [], ◌∷◌, ◌++◌, map, sym, ap, subst, ◌∙◌, arith, append_assoc}
 use Rattle.std.specs.List.{All, Contains, filter, flat_map, list_any, range_with_len}
-use Rattle.std.proofs.lemmas.List.{append-nil, map-append, take_more}
+use Rattle.std.proofs.lemmas.List.{append-nil, map-append}
 use Rattle.std.proofs.lemmas.List.Concat.{flat_map-append}
 use Rattle.std.proofs.lemmas.List.Elements.{All-append, All-nil, All-push, filter-append}
-use Rattle.lgr_text.specs.Records.{Entry, Range, Ruleset, Sequence, Source}
-use Rattle.lgr_table.specs.Entries.{AreOfOneType, HasOneType, all_entries, entries_of, entry_with, kept_sources, may_be, sources}
+use Rattle.lgr_text.specs.Records.{Entry, Ruleset}
+use Rattle.lgr_table.specs.Entries.{HasOneType, all_entries, entries_of, entry_with, kept_sources, may_be, sources}
 use Rattle.lgr_table.specs.Names.{asked_by}
 use Rattle.lgr_table.specs.Numbers.{Numbering}
 use Rattle.lgr_table.specs.inner.EntrySteps.{AddsEntry, AddsSources}
@@ -15,7 +15,7 @@ use Rattle.variant_table.specs.Building.{form_of}
 use Rattle.variant_table.specs.Conditions.{has_bad_class, has_repeat, has_source_in, is_over_limit}
 use Rattle.variant_table.specs.Entries.{TableValue}
 use Rattle.variant_table.specs.Entries as tables
-use Rattle.variant_table.specs.Faults.{LineFault, Limit, BadClass, SameVariant, SameSource, NoSuchName}
+use Rattle.variant_table.specs.Faults.{Limit, BadClass, SameVariant, SameSource, NoSuchName}
 use Rattle.variant_table.specs.Forms.{entry_of, knows_all}
 use Rattle.variant_table.specs.Reading.{◌>>=◌, with_entries, with_form, with_form_of}
 

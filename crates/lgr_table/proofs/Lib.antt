@@ -12,6 +12,7 @@ pub mod NumberTypeLemmas
 pub mod TypeLemmas
 pub mod TableNameLemmas
 pub mod KeptLemmas
+pub mod KnownLemmas
 pub mod AgreeLemmas
 pub mod DecisionLemmas
 pub mod GrowthLemmas
@@ -23,3 +24,4 @@ pub mod SourceLemmas
 pub mod StepLemmas
 pub mod TakenLemmas
 pub mod TakenOrderLemmas
+pub mod VariantLemmas

@@ -1,13 +1,12 @@
 -- The rules of a table say what those of the file say, where all definitions were taken.
-use Rattle.std.proofs.Common.{◌≡◌, ◌≢◌, ℕ, zero, suc, ◌+◌, ◌<◌, ◌≤◌, ◌⊎◌, inl, inr, Bool, List, [], ◌∷◌, ◌++◌, map, length, get_or, Option, Some, None, refl, sym, ap, subst, ◌∙◌, arith}
+use Rattle.std.proofs.Common.{◌≡◌, ℕ, zero, suc, ◌<◌, ◌≤◌, inl, inr, Bool, List, [], ◌∷◌, map, length, get_or, Option, Some, None, refl, sym, ap, subst, ◌∙◌, arith}
 use Rattle.std.specs.Prelude.{◌↔◌, IsTrue}
-use Rattle.std.specs.List.{All, AllPairs, Contains, flat_map}
-use Rattle.std.proofs.lemmas.List.{get_or-map, length-map}
-use Rattle.std.proofs.lemmas.List.Elements.{All-append, All-contains_itself, All-weaker, Contains-append_cases, Contains-get_or}
+use Rattle.std.specs.List.{All, Contains, flat_map}
+use Rattle.std.proofs.lemmas.List.Elements.{All-contains_itself, All-weaker, Contains-append_cases}
 use Rattle.idn_class.specs.declared.properties.Properties.{Properties}
 use Rattle.label_patterns.specs.declared.span.Span.{Span}
 use Rattle.label_patterns.specs.Laws.{seen}
-use Rattle.label_patterns.specs.Patterns.{Anchor, Pattern}
+use Rattle.label_patterns.specs.Patterns.{Anchor}
 use Rattle.label_patterns.specs.Rules.{Holds}
 use Rattle.label_patterns.specs.Sets.{is_in}
 use Rattle.ruleset_text.specs.Names.{number_of}
@@ -17,12 +16,12 @@ use Rattle.lgr_text.specs.DefinitionOrder.{IsOrder}
 use Rattle.lgr_text.specs.Known.{Known}
 use Rattle.lgr_text.specs.PartMatches as parts
 use Rattle.lgr_text.specs.PartMatches.{IsOf, MatchesAround, PartMatches, Place, name_fault, rule_named}
-use Rattle.lgr_text.specs.Records.{Class, Definition, Entry, IsClass, IsRule, Part, file}
+use Rattle.lgr_text.specs.Records.{Definition, Entry, IsClass, IsRule, Part, file}
 use Rattle.lgr_text.specs.declared.records.Ruleset as held
 use Rattle.variant_table.specs.Entries as table
 use Rattle.variant_table.specs.Entries.{TableValue}
 use Rattle.lgr_table.specs.Entries.{all_entries, entries_of, entry_with, kept_sources}
-use Rattle.lgr_table.specs.Meanings.{AreMeaningsOf, IsKept, Matches, Meanings, RuleHolds}
+use Rattle.lgr_table.specs.Meanings.{AreMeaningsOf, IsKept, Matches, Meanings}
 use Rattle.lgr_table.specs.Names.{IsClassOf, IsRuleOf, all_classes, named_classes, named_rules}
 use Rattle.lgr_table.specs.Numbers.{Numbering}
 use Rattle.lgr_table.specs.Tables.{IsOfSources, SayRules, SaysRule, may_stand}

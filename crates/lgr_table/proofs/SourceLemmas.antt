@@ -1,7 +1,7 @@
 -- Sources that stand in two entries.
-use Rattle.std.proofs.Common.{◌≡◌, ◌≢◌, ℕ, zero, suc, ◌+◌, ◌-◌, ◌<◌, ◌≤◌, ◌⊎◌, ◌||◌, inl, inr, Bool, true, false, cond, Result, Ok, Err, List, [], ◌∷◌, ◌++◌, length, map, take, drop, get_or, refl, sym, ap, subst, ◌∙◌, arith, length-append}
+use Rattle.std.proofs.Common.{◌≡◌, ◌≢◌, ℕ, zero, suc, ◌+◌, ◌-◌, ◌<◌, ◌≤◌, ◌||◌, inl, inr, Bool, true, false, cond, Ok, Err, List, [], ◌∷◌, ◌++◌, length, map, take, drop, get_or, refl, sym, ap, subst, ◌∙◌, arith, length-append}
 use Rattle.std.specs.Prelude.{All, AllPairs, Contains, bytes_eq, filter, slice_index_or}
-use Rattle.std.specs.List.{AllByRecursion, flat_map, list_any, range_with_len}
+use Rattle.std.specs.List.{flat_map, list_any, range_with_len}
 use Rattle.std.proofs.lemmas.Bool.Decides.{Decides-eqb}
 use Rattle.std.proofs.lemmas.List.{append-nil, get_or-map, get_or_default, length-map, map-append, take-append-drop, take-map, take_more}
 use Rattle.std.proofs.lemmas.List.Concat.{flat_map-append}
@@ -30,16 +30,18 @@ use Rattle.variant_table.specs.Ranges.{range_size}
 use Rattle.variant_table.specs.Reading.{◌>>=◌, with_entries, with_form, with_form_of}
 use Rattle.variant_table.specs.declared.fault.EntryFault.{EntryFault}
 use Rattle.lgr_table.specs.Entries.{all_entries, entries_of, entry_with, kept_sources, may_be, sources}
-use Rattle.lgr_table.specs.Faults.{HasSourceTwice, IsFaultOfTable, all_sources}
+use Rattle.lgr_table.specs.Faults.{HasSourceTwice, IsFaultOfTable, LackRoom, all_sources}
 use Rattle.lgr_table.specs.Numbers.{Numbering}
 use Rattle.lgr_table.specs.declared.fault.TableError.{TableError}
 use Rattle.lgr_table.specs.declared.fault.TableError.TheVariants.{Fault, Memory}
 use Rattle.lgr_table.specs.declared.fault.TableFault.TheVariants.{BadClass, Limit, NoSuchName, NotSupported, SameName, SameSource, SameVariant, Syntax}
 use Rattle.lgr_table.specs.inner.EntrySteps.{AddsSources}
-use Rattle.lgr_table.specs.inner.FaultSteps.{HasOneOf, HasSourcesOf, IsOfEntry, IsOfTable, TellsSource, point_count}
+use Rattle.lgr_table.specs.inner.FaultSteps.{HasEntriesOf, TellsEntry, TellsSources, TellsVariants, point_count}
+use Rattle.variant_table.specs.WellFormed.{IsTable}
 use Rattle.lgr_table.proofs.CalledLemmas.{mapped-more}
 use Rattle.lgr_table.proofs.EntryLemmas.{singles}
 use Rattle.lgr_table.proofs.FaultLemmas.{in-flat}
+use Rattle.lgr_table.proofs.KnownLemmas.{in-map}
 use Rattle.lgr_table.proofs.RuleLemmas.{in-one, of-one}
 
 -- ---- pairs
@@ -80,15 +82,6 @@ single c = c ∷ []
 
 abbrev of_all : List Entry → List (List ℕ)
 of_all entries = flat_map (λ (e : Entry). sources e.source) entries
-
-in-map : {X Y : Type 0} (f : X → Y) (xs : List X) (x : X) → Contains xs x → Contains (map f xs) (f x)
-in-map f [] x h = absurd (omega (arith, h.1))
-in-map f (z ∷ xs) x h = at (λ later. in-map f xs x later) h.0 h.1 h.2
-  where
-    at : (Contains xs x → Contains (map f xs) (f x)) → (n : ℕ) → n < length (z ∷ xs) → slice_index_or (z ∷ xs) n x ≡ x
-        → Contains (map f (z ∷ xs)) (f x)
-    at rest zero less is = (0, omega arith, ap f is)
-    at rest (suc n) less is = (let later = rest (n, omega (arith, less), is) in (suc later.0, omega (arith, later.1), later.2))
 
 in-part : (cs : List ℕ) (more : List ℕ) (all : List (List ℕ)) (c : ℕ) → ((d : ℕ) → Contains more d → Contains all (single d))
     → Contains (cs ++ more) c → Contains (map single cs ++ all) (single c)
@@ -186,6 +179,24 @@ source_by t es false true bad again old h = by (bad es) (again es) (old es) h
     by false false true h = refl
     by false false false h = absurd (cc)
 
+-- what is told if the limits are gone past alone
+limit_by : (t : TableValue) (es : List tables.Entry) (over known : Bool) (bad again old : List tables.Entry → Bool)
+    → ((cond over (Err line.Limit) ((cond known (Ok es) (Err line.NoSuchName))
+    >>= λ xs. cond (bad xs) (Err line.BadClass) (cond (again xs) (Err line.SameVariant) (cond (old xs) (Err line.SameSource) (Ok (t.entries ++ xs))))))
+    >>= λ all. Ok (record t { entries = all })) ≡ Err line.Limit
+    → over ≡ true
+limit_by t es true known bad again old h = refl
+limit_by t es false false bad again old h = absurd (cc)
+limit_by t es false true bad again old h = by (bad es) (again es) (old es) h
+  where
+    by : (a b c : Bool)
+        → ((cond a (Err line.BadClass) (cond b (Err line.SameVariant) (cond c (Err line.SameSource) (Ok (t.entries ++ es))))) >>= λ all. Ok (record t { entries = all })) ≡ Err line.Limit
+        → ◌≡◌ {A = Bool} false true
+    by true b c h = absurd (cc)
+    by false true c h = absurd (cc)
+    by false false true h = absurd (cc)
+    by false false false h = absurd (cc)
+
 -- the sources of entries of a table
 abbrev pub sources_in : List tables.Entry → List (List ℕ)
 sources_in entries = map (λ (e : tables.Entry). e.source) entries
@@ -211,6 +222,13 @@ source-again t ms h =
     (one-of _ (source_by t (entry_of t.definitions ms ∷ []) (is_over_limit t.version t.definitions t.entries (ms ∷ [])) (knows_all t.definitions ms)
     (λ xs. list_any (has_bad_class t.definitions.properties) xs) (λ xs. list_any has_repeat xs) (λ xs. list_any (has_source_in t.entries) xs) h))
 
+pub over-limit : (t : TableValue) (ms : List Mapped) → with_form_of t (form_of ms) ≡ Err line.Limit
+    → is_over_limit t.version t.definitions t.entries (ms ∷ []) ≡ true
+unfolding with_form with_entries
+over-limit t ms h =
+    limit_by t (entry_of t.definitions ms ∷ []) (is_over_limit t.version t.definitions t.entries (ms ∷ [])) (knows_all t.definitions ms)
+    (λ xs. list_any (has_bad_class t.definitions.properties) xs) (λ xs. list_any has_repeat xs) (λ xs. list_any (has_source_in t.entries) xs) h
+
 -- those of the table stand in the file
 pub kept-among : (may : ℕ → Bool) (n : Numbering) (entries : List Entry) (s : List ℕ) → Contains (sources_in (all_entries may n entries)) s
     → Contains (of_all entries) s
@@ -226,29 +244,47 @@ kept-among may n entries s h =
 
 -- ---- what is told
 
-pub table-has : (t : TableValue) (some : List (List ℕ)) (told : TableError) → IsOfTable told → HasOneOf t some told
-table-has t some (Fault Syntax line) is = tt
-table-has t some (Fault SameSource line) is = absurd is
-table-has t some (Fault SameVariant line) is = tt
-table-has t some (Fault BadClass line) is = tt
-table-has t some (Fault Limit line) is = tt
-table-has t some (Fault NoSuchName line) is = tt
-table-has t some (Fault SameName line) is = tt
-table-has t some (Fault NotSupported line) is = tt
-table-has t some Memory is = tt
+-- why the builder didn't add the entry of a source
+pub told-of-source : (may : ℕ → Bool) (n : Numbering) (e : Held) (t : TableValue) (s : List ℕ) (ms : List Mapped) (f : EntryFault) (told : TableError)
+    → RefusedEntry t ms f → entry_of t.definitions ms ≡ entry_with may n (entry e) s → TellsEntry e f told → TellsSources may n e (s ∷ []) t told
+told-of-source may n e t s ms f (Fault Syntax line) refused is tells = tells
+told-of-source may n e t s ms f (Fault SameSource line) refused is tells = (
+  tells.1,
+  s,
+  (0, omega arith, refl),
+  subst (Contains (sources_in t.entries)) (ap (λ (x : tables.Entry). x.source) is) (source-again t ms (subst (RefusedEntry t ms) tells.0 refused).1),
+)
+told-of-source may n e t s ms f (Fault SameVariant line) refused is tells = tells
+told-of-source may n e t s ms f (Fault BadClass line) refused is tells = tells
+told-of-source may n e t s ms f (Fault Limit line) refused is tells = (
+  tells.1,
+  record {
+    before = [];
+    source_ = s;
+    after = [];
+    are = refl;
+    mapped = ms;
+    is = is;
+    over = ap (λ l. is_over_limit t.version t.definitions l (ms ∷ [])) (append-nil t.entries) ∙ over-limit t ms (subst (RefusedEntry t ms) tells.0 refused).1;
+  },
+)
+told-of-source may n e t s ms f (Fault NoSuchName line) refused is tells = tells
+told-of-source may n e t s ms f (Fault SameName line) refused is tells = tells
+told-of-source may n e t s ms f (Fault NotSupported line) refused is tells = absurd tells
+told-of-source may n e t s ms f Memory refused is tells = tt
 
-pub told-again : (t : TableValue) (ms : List Mapped) (s : List ℕ) (f : EntryFault) (told : TableError) → TellsSource f told → RefusedEntry t ms f
-    → (entry_of t.definitions ms).source ≡ s → HasOneOf t (s ∷ []) told
-told-again t ms s f (Fault Syntax line) tells refused is = tt
-told-again t ms s f (Fault SameSource line) tells refused is =
-    (s, (0, omega arith, refl), subst (Contains (sources_in t.entries)) is (source-again t ms (subst (RefusedEntry t ms) tells refused).1))
-told-again t ms s f (Fault SameVariant line) tells refused is = tt
-told-again t ms s f (Fault BadClass line) tells refused is = tt
-told-again t ms s f (Fault Limit line) tells refused is = tt
-told-again t ms s f (Fault NoSuchName line) tells refused is = tt
-told-again t ms s f (Fault SameName line) tells refused is = tt
-told-again t ms s f (Fault NotSupported line) tells refused is = tt
-told-again t ms s f Memory tells refused is = tt
+-- why it wasn't asked to
+pub told-of-variants : (may : ℕ → Bool) (n : Numbering) (e : Held) (t : TableValue) (s : List ℕ) (told : TableError) → may_be may s ≡ true
+    → TellsVariants e s told → TellsSources may n e (s ∷ []) t told
+told-of-variants may n e t s (Fault Syntax line) kept tells = absurd tells
+told-of-variants may n e t s (Fault SameSource line) kept tells = absurd tells
+told-of-variants may n e t s (Fault SameVariant line) kept tells = absurd tells
+told-of-variants may n e t s (Fault BadClass line) kept tells = absurd tells
+told-of-variants may n e t s (Fault Limit line) kept tells = absurd tells
+told-of-variants may n e t s (Fault NoSuchName line) kept tells = absurd tells
+told-of-variants may n e t s (Fault SameName line) kept tells = absurd tells
+told-of-variants may n e t s (Fault NotSupported line) kept tells = (s, (0, omega arith, refl), kept, tells)
+told-of-variants may n e t s Memory kept tells = tt
 
 single-at : (first count k : ℕ) → k < count → get_or (singles first count) k [] ≡ single (first + k)
 single-at first count k less =
@@ -265,13 +301,30 @@ in-single x y h = at h.0 h.1 h.2
     at zero less is = is
     at (suc n) less is = absurd (omega (arith, less))
 
+-- the code points of a range, and one of them
+singles-split : (first count k : ℕ) → k < count → (rest : List (List ℕ)) × (singles first count ≡ singles first k ++ single (first + k) ∷ rest)
+singles-split first zero k less = absurd (omega (arith, less))
+singles-split first (suc count) zero less =
+    (singles (first + 1) count, ap (λ c. single c ∷ singles (first + 1) count) (let is : first ≡ first + 0 = omega arith in is))
+singles-split first (suc count) (suc k) less =
+    let later = singles-split (first + 1) count k (omega (arith, less)) in (
+      later.0,
+      ap (λ l. single first ∷ l) later.1
+          ∙ ap (λ c. single first ∷ (singles (first + 1) k ++ single c ∷ later.0)) (let is : first + 1 + k ≡ first + suc k = omega arith in is),
+    )
+
+-- a list of one
+alone : (x : List ℕ) (before : List (List ℕ)) (s : List ℕ) (after : List (List ℕ)) → x ∷ [] ≡ before ++ s ∷ after → (before ≡ []) × (s ≡ x)
+alone x [] s after is = (refl, sym (ap (λ l. get_or l 0 x) is))
+alone x (y ∷ before) s after is = absurd (let size = ap length is in omega (arith, size, length-append before (s ∷ after)))
+
 -- a code point of a range that the table has stands in an entry before this one
-pub range-again : (may : ℕ → Bool) (n : Numbering) (e : Entry) (first count k : ℕ) (t u : TableValue) (told : TableError)
-    → AddsSources may n e (singles first k) t u → k < count → HasOneOf u (single (first + k) ∷ []) told → HasOneOf t (singles first count) told
-range-again may n e first count k t u (Fault Syntax line) adds less has = tt
-range-again may n e first count k t u (Fault SameSource line) adds less has =
+again-in-range : (may : ℕ → Bool) (n : Numbering) (e : Entry) (first count k : ℕ) (t u : TableValue) (s : List ℕ)
+    → AddsSources may n e (singles first k) t u → k < count → Contains (single (first + k) ∷ []) s → Contains (sources_in u.entries) s
+    → (s : List ℕ) × Contains (singles first count) s × Contains (sources_in t.entries) s
+again-in-range may n e first count k t u has adds less own there =
     let s = single (first + k) in
-    let is : s ≡ has.0 = in-single s has.0 has.1 in
+    let is : s ≡ has = in-single s has own in
     let old = sources_in t.entries in
     let new = map (entry_with may n e) (filter (may_be may) (singles first k)) in
     let all : sources_in u.entries ≡ old ++ sources_in new =
@@ -279,9 +332,9 @@ range-again may n e first count k t u (Fault SameSource line) adds less has =
     let size : k < length (singles first count) =
     omega (arith, less, length-map (range_with_len first count) single, length-range_with_len first count) in
     let mine : Contains (singles first count) s = subst (Contains (singles first count)) (single-at first count k less) (Contains-get_or (singles first count) k [] size) in
-    elim (Contains-append_cases old (sources_in new) s (subst (λ l. Contains l s) all (subst (Contains (sources_in u.entries)) (sym is) has.2))) [
+    elim (Contains-append_cases old (sources_in new) s (subst (λ l. Contains l s) all (subst (Contains (sources_in u.entries)) (sym is) there))) [
       | inl before ↦ (s, mine, before)
-      | inr own ↦ absurd (earlier own)
+      | inr late ↦ absurd (earlier late)
     ]
   where
     earlier : Contains (sources_in (map (entry_with may n e) (filter (may_be may) (singles first k)))) (single (first + k)) → ⊥
@@ -297,23 +350,61 @@ range-again may n e first count k t u (Fault SameSource line) adds less has =
         let same : first + its.0 ≡ first + k =
         same-single (first + its.0) (first + k) (at ∙ ap (λ (x : tables.Entry). x.source) one.2 ∙ made.2) in
         omega (arith, few, same)
-range-again may n e first count k t u (Fault SameVariant line) adds less has = tt
-range-again may n e first count k t u (Fault BadClass line) adds less has = tt
-range-again may n e first count k t u (Fault Limit line) adds less has = tt
-range-again may n e first count k t u (Fault NoSuchName line) adds less has = tt
-range-again may n e first count k t u (Fault SameName line) adds less has = tt
-range-again may n e first count k t u (Fault NotSupported line) adds less has = tt
-range-again may n e first count k t u Memory adds less has = tt
+
+-- what is told of a code point of a range
+pub range-told : (may : ℕ → Bool) (n : Numbering) (e : Held) (first count k : ℕ) (t u : TableValue) (told : TableError)
+    → AddsSources may n (entry e) (singles first k) t u → k < count → TellsSources may n e (single (first + k) ∷ []) u told
+    → TellsSources may n e (singles first count) t told
+range-told may n e first count k t u (Fault Syntax line) adds less tells = tells
+range-told may n e first count k t u (Fault SameSource line) adds less tells =
+    let found = again-in-range may n (entry e) first count k t u tells.1 adds less tells.2 tells.3 in (tells.0, found.0, found.1, found.2)
+range-told may n e first count k t u (Fault SameVariant line) adds less tells = tells
+range-told may n e first count k t u (Fault BadClass line) adds less tells = tells
+range-told may n e first count k t u (Fault Limit line) adds less tells =
+    let lack = tells.1 in
+    let one = alone (single (first + k)) lack.before lack.source_ lack.after lack.are in
+    let split = singles-split first count k less in
+    let f : List ℕ → tables.Entry = entry_with may n (entry e) in
+    let same : u.definitions ≡ t.definitions = ap (λ (w : TableValue). w.definitions) adds.added in
+    let over : is_over_limit u.version u.definitions u.entries (lack.mapped ∷ []) ≡ true =
+    ap (λ l. is_over_limit u.version u.definitions l (lack.mapped ∷ []))
+    (sym (append-nil u.entries) ∙ ap (λ b. u.entries ++ map f (filter (may_be may) b)) (sym one.0)) ∙ lack.over in (
+      tells.0,
+      record {
+        before = singles first k;
+        source_ = single (first + k);
+        after = split.0;
+        are = split.1;
+        mapped = lack.mapped;
+        is = ap (λ d. entry_of d lack.mapped) (sym same) ∙ lack.is ∙ ap f one.1;
+        over = ap (λ (w : TableValue). is_over_limit w.version w.definitions w.entries (lack.mapped ∷ [])) (sym adds.added) ∙ over;
+      },
+    )
+range-told may n e first count k t u (Fault NoSuchName line) adds less tells = tells
+range-told may n e first count k t u (Fault SameName line) adds less tells = tells
+range-told may n e first count k t u (Fault NotSupported line) adds less tells =
+    let is : single (first + k) ≡ tells.0 = in-single (single (first + k)) tells.0 tells.1 in
+    let size : k < length (singles first count) =
+    omega (arith, less, length-map (range_with_len first count) single, length-range_with_len first count) in
+    let mine : Contains (singles first count) (single (first + k)) =
+    subst (Contains (singles first count)) (single-at first count k less) (Contains-get_or (singles first count) k [] size) in
+    (tells.0, subst (Contains (singles first count)) is mine, tells.2, tells.3)
+range-told may n e first count k t u Memory adds less tells = tt
 
 -- ---- in the file
+
+-- the sources that the table has stand in these entries
+abbrev HasSourcesOf : List Held → TableValue → Type 0
+HasSourcesOf entries t = (s : List ℕ) → Contains (sources_in t.entries) s → Contains (all_sources entries) s
 
 all-more : (before : List Held) (e : Held) → all_sources (before ++ e ∷ []) ≡ all_sources before ++ sources (source e.source)
 all-more before e =
     let f : Held → List (List ℕ) = λ x. sources (source x.source) in
     flat_map-append f before (e ∷ []) ∙ ap (λ l. all_sources before ++ l) (append-nil (f e))
 
-pub sources-twice : (r : Ruleset) (before after : List Held) (e : Held) (t : TableValue) (line : ℕ) → r.entries.items ≡ before ++ e ∷ after
-    → HasSourcesOf before t → line ≡ e.line → HasOneOf t (sources (source e.source)) (Fault SameSource line) → HasSourceTwice r line
+sources-twice : (r : Ruleset) (before after : List Held) (e : Held) (t : TableValue) (line : ℕ) → r.entries.items ≡ before ++ e ∷ after
+    → HasSourcesOf before t → line ≡ e.line
+    → ((s : List ℕ) × Contains (sources (source e.source)) s × Contains (sources_in t.entries) s) → HasSourceTwice r line
 sources-twice r before after e t line all has here one = record {
   before = before;
   this = e;
@@ -324,24 +415,49 @@ sources-twice r before after e t line all has here one = record {
       (subst (AllPairs (λ a b. a ≢ b)) (all-more before e) apart);
 }
 
+pub stands-there : (r : Ruleset) (before after : List Held) (e : Held) → r.entries.items ≡ before ++ e ∷ after → Contains r.entries.items e
+stands-there r before after e all = subst (λ l. Contains l e) (sym all) (Contains-append_right before (e ∷ after) e (0, omega arith, refl))
+
 -- the entries of the table are those of the file so far
-pub sources-of : (may : ℕ → Bool) (n : Numbering) (before : List Held) (t : TableValue) → t.entries ≡ all_entries may n (map entry before)
+sources-of : (may : ℕ → Bool) (n : Numbering) (before : List Held) (t : TableValue) → t.entries ≡ all_entries may n (map entry before)
     → HasSourcesOf before t
 sources-of may n before t is s h =
     subst (λ l. Contains l s) (flat_map-map (λ (x : Entry). sources x.source) entry before)
     (kept-among may n (map entry before) s (subst (λ l. Contains (sources_in l) s) is h))
 
-pub told-entry : (r : Ruleset) (before after : List Held) (e : Held) (t : TableValue) (told : TableError) → r.entries.items ≡ before ++ e ∷ after
-    → HasSourcesOf before t → IsOfEntry e told → HasOneOf t (sources (source e.source)) told → IsFaultOfTable r told
-told-entry r before after e t (Fault Syntax line) all has is one = absurd is
-told-entry r before after e t (Fault SameSource line) all has is one = sources-twice r before after e t line all has is one
-told-entry r before after e t (Fault SameVariant line) all has is one = tt
-told-entry r before after e t (Fault BadClass line) all has is one = tt
-told-entry r before after e t (Fault Limit line) all has is one = tt
-told-entry r before after e t (Fault NoSuchName line) all has is one = absurd is
-told-entry r before after e t (Fault SameName line) all has is one = absurd is
-told-entry r before after e t (Fault NotSupported line) all has is one = tt
-told-entry r before after e t Memory all has is one = tt
+pub told-entry : (may : ℕ → Bool) (r : Ruleset) (n : Numbering) (before after : List Held) (e : Held) (t u : TableValue) (told : TableError)
+    → r.entries.items ≡ before ++ e ∷ after → HasEntriesOf may n before t u → IsTable t → TellsSources may n e (sources (source e.source)) u told
+    → IsFaultOfTable may r told
+told-entry may r n before after e t u (Fault Syntax line) all has is_table is = absurd is
+told-entry may r n before after e t u (Fault SameSource line) all has is_table is =
+    sources-twice r before after e u line all (sources-of may n before u (ap (λ (w : TableValue). w.entries) has)) is.0 (is.1, is.2, is.3)
+told-entry may r n before after e t u (Fault SameVariant line) all has is_table is =
+    record { entry = e; among = stands-there r before after e all; number = is.0; twice = is.1; here = is.2 }
+told-entry may r n before after e t u (Fault BadClass line) all has is_table is = absurd is
+told-entry may r n before after e t u (Fault Limit line) all has is_table is = inr (inr (inl (record {
+  before = before;
+  this = e;
+  after = after;
+  all = all;
+  here = is.0;
+  numbers = n;
+  table = t;
+  is_table = is_table;
+  entries = all_entries may n (map entry before);
+  are = refl;
+  lack = subst (LackRoom may n e (sources (source e.source))) has is.1;
+})))
+told-entry may r n before after e t u (Fault NoSuchName line) all has is_table is = absurd is
+told-entry may r n before after e t u (Fault SameName line) all has is_table is = absurd is
+told-entry may r n before after e t u (Fault NotSupported line) all has is_table is = inr (inr (inr (record {
+  this = e;
+  among = stands-there r before after e all;
+  source_ = is.0;
+  own = is.1;
+  kept = is.2;
+  odd = is.3;
+})))
+told-entry may r n before after e t u Memory all has is_table is = tt
 
 -- an element, with what is before and after it
 pub split-at : (xs : List Held) (i : ℕ) (x : Held) → i < length xs → x ≡ get_or xs i x → xs ≡ take i xs ++ x ∷ drop (suc i) xs

@@ -1,5 +1,5 @@
 -- The steps together: the table says what the file says.
-use Rattle.std.proofs.Common.{◌≡◌, ℕ, zero, suc, ◌<◌, ◌≤◌, ◌↔◌, Bool, false, Option, List, [], ◌∷◌, ◌++◌, length, map, refl, sym, ap, subst, ◌∙◌, arith, length-append}
+use Rattle.std.proofs.Common.{◌≡◌, ℕ, zero, suc, ◌<◌, ◌≤◌, ◌↔◌, Bool, false, Option, List, [], ◌∷◌, ◌++◌, length, map, refl, sym, ap, subst, ◌∙◌, arith}
 use Rattle.std.specs.Prelude.{All, Contains, slice_index_or, unwrap_or}
 use Rattle.std.specs.List.{flat_map}
 use Rattle.std.proofs.lemmas.List.{get_or_default, length-map}
@@ -19,7 +19,7 @@ use Rattle.lgr_table.specs.Numbers.{Numbering}
 use Rattle.lgr_table.specs.Tables.{IsOfSources, IsTableOf, SayActions, SayDemands, SayRules, acting, demanded, may_stand}
 use Rattle.lgr_table.specs.TableNames.{AreCalled, has_name, keeps_rule, names_with}
 use Rattle.lgr_table.specs.inner.RuleSteps.{HasNoRules}
-use Rattle.lgr_table.specs.inner.Steps.{AddsActions, AddsEntries, AddsRules, AddsTypes, AreAmong}
+use Rattle.lgr_table.specs.inner.Steps.{AddsActions, AddsEntries, AddsRules, AddsTypes}
 use Rattle.lgr_table.proofs.TableNameLemmas.{called-count}
 use Rattle.ruleset_text.specs.Names.{is_name}
 

@@ -1,13 +1,13 @@
 -- The types that were found so far, and one more.
-use Rattle.std.proofs.Common.{◌≡◌, ◌≢◌, ◌↔◌, ℕ, zero, suc, ◌+◌, ◌<◌, ◌≤◌, inl, inr, Bool, true, false, not, cond, ◌&&◌, ◌||◌, Option, Some, None, List, [], ◌∷◌, ◌++◌, length, map, get_or, take, refl, sym, ap, subst, ◌∙◌, arith, append_assoc}
+use Rattle.std.proofs.Common.{◌≡◌, ◌≢◌, ◌↔◌, ℕ, zero, suc, ◌+◌, ◌<◌, ◌≤◌, inl, inr, Bool, true, false, not, cond, ◌&&◌, ◌||◌, Option, Some, None, List, [], ◌∷◌, ◌++◌, length, map, get_or, take, drop, refl, sym, ap, subst, ◌∙◌, arith, append_assoc}
 use Rattle.std.specs.Prelude.{IsSome, is_some, unwrap_or}
 use Rattle.std.specs.List.{AllPairs, Contains, flat_map, list_any, position, position_or_len}
-use Rattle.std.proofs.lemmas.Bool.{cases_lt, cases_Bool, and_parts, both_ways, false≢true, lt-ltb, not-true, or_left, or_parts, or_right}
-use Rattle.std.proofs.lemmas.List.{append-nil, get_or_default, length_push, map-append, take_more}
+use Rattle.std.proofs.lemmas.Bool.{cases_lt, and_parts, both_ways, false≢true, lt-ltb, not-true, or_left, or_right}
+use Rattle.std.proofs.lemmas.List.{append-nil, get_or_default, length_push, map-append, take-append-drop, take_more}
 use Rattle.std.proofs.lemmas.List.Concat.{flat_map-append}
-use Rattle.std.proofs.lemmas.List.Elements.{Contains-append_cases, Contains-append_left, Contains-get_or, Contains-push, Contains-push_cases}
+use Rattle.std.proofs.lemmas.List.Elements.{Contains-append_cases, Contains-append_left, Contains-push, Contains-push_cases}
 use Rattle.std.proofs.lemmas.List.Folds.{Any-from_list_any, list_any-append, list_any_at}
-use Rattle.std.proofs.lemmas.List.Quantifiers.{all_pairs_push, position-Some}
+use Rattle.std.proofs.lemmas.List.Quantifiers.{all_pairs_push}
 use Rattle.std.proofs.lemmas.List.Sums.{fails_before_first}
 use Rattle.std.proofs.lemmas.Slice.Eq.{bytes_eq-Decides}
 use Rattle.ruleset_text.specs.Names.{predefined_types}
@@ -15,7 +15,10 @@ use Rattle.lgr_text.specs.Records.{Ruleset}
 use Rattle.lgr_table.specs.Entries.{needs_type}
 use Rattle.lgr_table.specs.Numbers.{is_same, number_among, types_of, types_with}
 use Rattle.lgr_table.specs.inner.Steps.{AreFileTypes}
-use Rattle.lgr_table.specs.inner.TypeSteps.{AreTypes}
+use Rattle.lgr_table.specs.inner.TypeSteps.{AreTypes, TellsFull, TellsTypes}
+use Rattle.lgr_table.specs.declared.fault.TableError.{TableError}
+use Rattle.lgr_table.specs.declared.fault.TableError.TheVariants.{Fault, Memory}
+use Rattle.lgr_table.specs.declared.fault.TableFault.TheVariants.{BadClass, Limit, NoSuchName, NotSupported, SameName, SameSource, SameVariant, Syntax}
 use Rattle.lgr_table.proofs.NumberTypeLemmas.{position-none}
 
 -- ---- the same type
@@ -175,6 +178,79 @@ pieces-more f g before xs i x less is =
 pub names-more : {Z : Type 0} (before xs : List Z) (i : ℕ) (x : Z) → i < length xs → x ≡ get_or xs i x → (before ++ take i xs) ++ x ∷ [] ≡ before ++ take (i + 1) xs
 names-more before xs i x less is =
     append_assoc before (take i xs) (x ∷ []) ∙ ap (λ l. before ++ l) (ap (λ y. take i xs ++ y ∷ []) is ∙ sym (take_more xs i x less))
+
+pub pieces-in : {X Y Z : Type 0} (f : Y → List Z) (g : X → Y) (before : List Z) (xs : List X) (k : ℕ) (z : Z)
+    → Contains (before ++ flat_map f (map g (take k xs))) z → Contains (before ++ flat_map f (map g xs)) z
+pieces-in f g before xs k z h =
+    let some = flat_map f (map g (take k xs)) in
+    let rest = flat_map f (map g (drop k xs)) in
+    let whole : flat_map f (map g xs) ≡ some ++ rest =
+    ap (λ l. flat_map f (map g l)) (sym (take-append-drop k xs)) ∙ ap (flat_map f) (map-append g (take k xs) (drop k xs))
+    ∙ flat_map-append f (map g (take k xs)) (map g (drop k xs)) in
+    subst (λ l. Contains l z) (append_assoc before some rest ∙ ap (λ l. before ++ l) (sym whole)) (Contains-append_left (before ++ some) rest z h)
+
+pub names-in : {Z : Type 0} (before xs : List Z) (k : ℕ) (z : Z) → Contains (before ++ take k xs) z → Contains (before ++ xs) z
+names-in before xs k z h =
+    subst (λ l. Contains l z) (append_assoc before (take k xs) (drop k xs) ∙ ap (λ l. before ++ l) (take-append-drop k xs))
+    (Contains-append_left (before ++ take k xs) (drop k xs) z h)
+
+-- ---- too many
+
+-- they are too many of these names, too
+pub tells-more : (untyped : Bool) (names more : List (List ℕ)) (told : TableError) → ((name : List ℕ) → Contains names name → Contains more name)
+    → TellsTypes untyped names told → TellsTypes untyped more told
+tells-more untyped names more (Fault Syntax line) all tells = tells
+tells-more untyped names more (Fault SameSource line) all tells = tells
+tells-more untyped names more (Fault SameVariant line) all tells = tells
+tells-more untyped names more (Fault BadClass line) all tells = tells
+tells-more untyped names more (Fault Limit line) all tells = record {
+  types = tells.types;
+  many = tells.many;
+  own = λ name h. all name (tells.own name h);
+  none = tells.none;
+  each_type = tells.each_type;
+}
+tells-more untyped names more (Fault NoSuchName line) all tells = tells
+tells-more untyped names more (Fault SameName line) all tells = tells
+tells-more untyped names more (Fault NotSupported line) all tells = tells
+tells-more untyped names more Memory all tells = tt
+
+-- where none has to be that of having none, none is
+pub tells-untyped : (untyped : Bool) (names : List (List ℕ)) (told : TableError) → TellsTypes false names told → TellsTypes untyped names told
+tells-untyped untyped names (Fault Syntax line) tells = tells
+tells-untyped untyped names (Fault SameSource line) tells = tells
+tells-untyped untyped names (Fault SameVariant line) tells = tells
+tells-untyped untyped names (Fault BadClass line) tells = tells
+tells-untyped untyped names (Fault Limit line) tells = record {
+  types = tells.types;
+  many = tells.many;
+  own = tells.own;
+  none = λ h. absurd (false≢true (tells.none h));
+  each_type = tells.each_type;
+}
+tells-untyped untyped names (Fault NoSuchName line) tells = tells
+tells-untyped untyped names (Fault SameName line) tells = tells
+tells-untyped untyped names (Fault NotSupported line) tells = tells
+tells-untyped untyped names Memory tells = tt
+
+-- one more than may be
+pub tells-full : (untyped : Bool) (names : List (List ℕ)) (old types : List Type') (t : Type') (told : TableError) → types ≡ old ++ t ∷ []
+    → AreTypes untyped names types → TellsFull old told → TellsTypes untyped names told
+tells-full untyped names old types t (Fault Syntax line) is are tells = tells
+tells-full untyped names old types t (Fault SameSource line) is are tells = tells
+tells-full untyped names old types t (Fault SameVariant line) is are tells = tells
+tells-full untyped names old types t (Fault BadClass line) is are tells = tells
+tells-full untyped names old types t (Fault Limit line) is are tells = record {
+  types = types;
+  many = omega (arith, tells, ap length is, length_push old t);
+  own = are.own;
+  none = are.none.0;
+  each_type = are.each_type;
+}
+tells-full untyped names old types t (Fault NoSuchName line) is are tells = tells
+tells-full untyped names old types t (Fault SameName line) is are tells = tells
+tells-full untyped names old types t (Fault NotSupported line) is are tells = tells
+tells-full untyped names old types t Memory is are tells = tt
 
 -- ---- all types of a file
 

@@ -6,7 +6,6 @@ use Rattle.std.specs.Option.{option_map}
 use Rattle.lgr_text.specs.Records as lgr
 use Rattle.lgr_text.specs.Records.{Range, Sequence, Source}
 use Rattle.lgr_table.specs.Numbers.{Numbering, numbered_condition, type_number}
-use Rattle.ruleset_text.specs.Names.{is_one_of}
 use Rattle.variant_table.specs.Entries.{Entry, Variant}
 use Rattle.variant_table.specs.Ranges.{range_size}
 

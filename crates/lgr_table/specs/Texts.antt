@@ -6,7 +6,7 @@ use Rattle.lgr_text.specs.Records.{Ruleset, file}
 use Rattle.lgr_text.specs.Sizes.{exceeds}
 use Rattle.lgr_text.specs.declared.records.Ruleset as held
 use Rattle.lgr_table.specs.Faults.{IsFaultOfTable}
-use Rattle.lgr_table.specs.Tables.{IsTableOf}
+use Rattle.lgr_table.specs.Tables.{IsTableOf, may_stand}
 use Rattle.lgr_table.specs.declared.fault.TableError.{TableError}
 use Rattle.lgr_table.specs.declared.fault.TableError.TheVariants as error
 use Rattle.lgr_table.specs.declared.fault.TableFault.TheVariants.{Limit, Syntax}
@@ -57,11 +57,12 @@ pub record HasTooMuch (text : List ℕ) (e : TableError) : Type 0 where
   pub line : ℕ
   pub told : e ≡ error.Fault Limit line
 
--- the text says a ruleset, which has this fault. Which lines its elements have isn't said
+-- the text says a ruleset, which has this fault, by some properties. Which lines its elements have isn't said
 pub record SaysFaulty (text : List ℕ) (e : TableError) : Type 0 where
   pub ruleset_ : held.Ruleset
   pub said : SaysRuleset text (file ruleset_)
-  pub told : IsFaultOfTable ruleset_ e
+  pub properties : Properties
+  pub told : IsFaultOfTable (may_stand properties) ruleset_ e
 
 -- the error is told of the text: memory was refused; or it is no document, or one that says no ruleset or has too much
 -- in an element; or it says a ruleset that has a fault

@@ -1,14 +1,16 @@
 //! The actions of a table (RFC 7940, section 7).
-ghost use Rattle.std.specs.Prelude.{◌≡◌, ◌≤◌, ◌++◌, ◌∷◌, [], List, All, Contains, IfErr, IfOk, IfSome, OnOk};
-ghost use Rattle.std.specs.Prelude.{drop, filter, is_some, length, map, not, take};
+ghost use Rattle.std.specs.Prelude.{◌≡◌, ◌≤◌, ◌++◌, ◌∷◌, [], ℕ, Bool, true, List, All, Contains, IfErr, IfOk, IfSome};
+ghost use Rattle.std.specs.Prelude.{OnOk, drop, filter, is_some, length, map, not, take};
 ghost use Rattle.std.specs.List.{filter_map};
 ghost use Rattle.std.specs.Option.{option_map};
 ghost use Rattle.lgr_text.specs.Records as records;
 ghost use Rattle.lgr_text.specs.Records.{action as action_of, condition as condition_of, file};
+ghost use Rattle.lgr_text.specs.declared.records.Action as held_action;
+ghost use Rattle.lgr_text.specs.declared.records.Condition as held_condition;
 ghost use Rattle.lgr_text.specs.declared.records.Ruleset as held;
-ghost use Rattle.lgr_table.specs.Faults.{IsFaultOfTable, conditions, given};
+ghost use Rattle.lgr_table.specs.Faults.{IsFaultOfTable, given};
 ghost use Rattle.lgr_table.specs.Tables.{demand_kind, following, leading, makes_invalid, rule_alone};
-ghost use Rattle.lgr_table.specs.inner.FaultSteps.{HasRulesOf};
+ghost use Rattle.lgr_table.specs.inner.FaultSteps.{HasRulesOf, IsAnchored, KnowsRules, TellsAnchored};
 ghost use Rattle.lgr_table.specs.inner.Steps.{AddsAction, AddsActions, AddsDemand, AddsDemands, HaveDefined};
 ghost use Rattle.lgr_table.specs.inner.TypeNames.{AreNamesOf};
 ghost use Rattle.variant_table.specs.Entries.{TableValue};
@@ -16,9 +18,11 @@ ghost use Rattle.variant_table.specs.Entries.{TableValue};
 use crate::entries::check_rule;
 use crate::fault::{TableError, TableFault};
 use crate::numbers::Numbers;
-use label_patterns::ConditionKind;
+use label_patterns::{ConditionKind, is_context_rule};
 use lgr_text::{Action, Condition, Renamed, Ruleset, copied_pattern, named_action};
-use ruleset_text::{Definition, Definitions, DemandKind, Name, PREDEFINED_TYPES, predefined_type};
+use ruleset_text::{
+    Definition, DefinitionFault, Definitions, DemandKind, Name, PREDEFINED_TYPES, predefined_type,
+};
 use std::alloc::{AllocError, Global};
 use variant_table::TableBuilder;
 
@@ -43,7 +47,9 @@ pub(crate) fn define_actions(
     requires none { builder.old.definitions.actions ≡ [] }
     requires rules { length builder.old.definitions.rule_names ≡ length numbers.now.rules }
     ensures added { OnOk result (AddsActions (file ruleset.now) numbers.now builder.old builder.new) }
-    ensures fault { HasRulesOf ruleset.now numbers.now.rules → IfErr result (IsFaultOfTable ruleset.now) }
+    ensures fault { (may : ℕ → Bool) → HasRulesOf ruleset.now numbers.now.rules →
+        KnowsRules ruleset.now numbers.now.rules builder.old.definitions.rules →
+        IfErr result (IsFaultOfTable may ruleset.now) }
 {
     let actions: &[Action] = &ruleset.actions;
     let (leading, following) = actions.split_at(leading_len(actions));
@@ -95,8 +101,9 @@ fn define_demands(
     requires { builder.old.definitions.demands ≡ [] }
     ensures added { OnOk result (AddsDemands numbers.now (filter_map rule_alone (map action_of actions.now))
         builder.old builder.new) }
-    ensures fault { (r : held.Ruleset) → All (Contains r.actions.items) actions.now →
-        HasRulesOf r numbers.now.rules → IfErr result (IsFaultOfTable r) }
+    ensures fault { (may : ℕ → Bool) (r : held.Ruleset) → All (Contains r.actions.items) actions.now →
+        HasRulesOf r numbers.now.rules → KnowsRules r numbers.now.rules builder.old.definitions.rules →
+        IfErr result (IsFaultOfTable may r) }
 {
     for action in actions {
         if let Some(condition) = rule_alone(action) {
@@ -114,8 +121,9 @@ fn define_demand(
     condition: &Condition,
 ) -> Result<(), TableError>
     ensures added { OnOk result (AddsDemand numbers.now (condition_of condition.now) builder.old builder.new) }
-    ensures fault { (r : held.Ruleset) → Contains (conditions r) condition.now →
-        HasRulesOf r numbers.now.rules → IfErr result (IsFaultOfTable r) }
+    ensures fault { (may : ℕ → Bool) (r : held.Ruleset) (a : held_action.Action) → Contains r.actions.items a →
+        Contains (given a.condition) condition.now → HasRulesOf r numbers.now.rules →
+        KnowsRules r numbers.now.rules builder.old.definitions.rules → IfErr result (IsFaultOfTable may r) }
 {
     let line = condition.rule.line;
     let number = numbers.rule_number(condition.rule.name.as_slice());
@@ -125,12 +133,52 @@ fn define_demand(
     }
     if number >= rules.len() {
         // Never: the table has a pattern for each of these.
-        return Err(TableFault::NotSupported.on(line));
+        return Err(TableError::Memory);
     }
+    let anchored = has_anchor(builder.definitions(), numbers, condition);
     let pattern = copied_pattern(alloc, &rules[number])?;
     match builder.define(Definition::Demand(demand_kind(condition.kind), pattern)) {
         Ok(()) => Ok(()),
-        Err(fault) => Err(TableError::of_definition(fault, line)),
+        Err(fault) => Err(not_defined(fault, anchored, line)),
+    }
+}
+
+/// Whether the anchor stands in the rule of a condition.
+fn has_anchor(definitions: &Definitions, numbers: &Numbers, condition: &Condition) -> bool
+    ensures { result ≡ true → IsAnchored numbers.now.rules definitions.now.rules condition.now.rule.name }
+{
+    let number = numbers.rule_number(condition.rule.name.as_slice());
+    let rules = definitions.rules();
+    if number < rules.len() {
+        is_context_rule(&rules[number])
+    } else {
+        false
+    }
+}
+
+/// The same of a condition, if there is one.
+fn asks_for_anchor(
+    definitions: &Definitions,
+    numbers: &Numbers,
+    condition: &Option<Condition>,
+) -> bool
+    ensures { result ≡ true → (c : held_condition.Condition) × Contains (given condition.now) c ×
+        IsAnchored numbers.now.rules definitions.now.rules c.rule.name }
+{
+    match condition {
+        Some(condition) => has_anchor(definitions, numbers, condition),
+        None => false,
+    }
+}
+
+/// Why the table doesn't take a demand or an action of this line: the anchor stands in its rule, or there is no room.
+fn not_defined(fault: DefinitionFault, anchored: bool, line: usize) -> TableError
+    ensures { TellsAnchored anchored line result }
+{
+    match fault {
+        DefinitionFault::Limit | DefinitionFault::Memory => TableError::of_definition(fault, line),
+        _ if anchored => TableFault::NotSupported.on(line),
+        _ => TableError::of_definition(fault, line),
     }
 }
 
@@ -157,8 +205,9 @@ fn define_others(
     requires types { AreNamesOf numbers.now builder.old.definitions types.now }
     ensures defined { OnOk result (HaveDefined numbers.now builder.old builder.new
         (filter (λ a. not (is_some (rule_alone a))) (map action_of actions.now))) }
-    ensures fault { (r : held.Ruleset) → All (Contains r.actions.items) actions.now →
-        HasRulesOf r numbers.now.rules → IfErr result (IsFaultOfTable r) }
+    ensures fault { (may : ℕ → Bool) (r : held.Ruleset) → All (Contains r.actions.items) actions.now →
+        HasRulesOf r numbers.now.rules → KnowsRules r numbers.now.rules builder.old.definitions.rules →
+        IfErr result (IsFaultOfTable may r) }
 {
     for action in actions {
         if rule_alone(action).is_none() {
@@ -180,8 +229,9 @@ fn define_each(
     requires types { AreNamesOf numbers.now builder.old.definitions types.now }
     ensures defined { (t : TableValue) (before : List records.Action) → HaveDefined numbers.now t builder.old before →
         OnOk result (HaveDefined numbers.now t builder.new (before ++ map action_of actions.now)) }
-    ensures fault { (r : held.Ruleset) → All (Contains r.actions.items) actions.now →
-        HasRulesOf r numbers.now.rules → IfErr result (IsFaultOfTable r) }
+    ensures fault { (may : ℕ → Bool) (r : held.Ruleset) → All (Contains r.actions.items) actions.now →
+        HasRulesOf r numbers.now.rules → KnowsRules r numbers.now.rules builder.old.definitions.rules →
+        IfErr result (IsFaultOfTable may r) }
 {
     for action in actions {
         define_action(alloc, builder, numbers, types, action)?;
@@ -200,8 +250,9 @@ fn define_action(
     requires rules { length builder.old.definitions.rule_names ≡ length numbers.now.rules }
     requires types { AreNamesOf numbers.now builder.old.definitions types.now }
     ensures added { OnOk result (AddsAction numbers.now (action_of action.now) builder.old builder.new) }
-    ensures fault { (r : held.Ruleset) → Contains r.actions.items action.now →
-        HasRulesOf r numbers.now.rules → IfErr result (IsFaultOfTable r) }
+    ensures fault { (may : ℕ → Bool) (r : held.Ruleset) → Contains r.actions.items action.now →
+        HasRulesOf r numbers.now.rules → KnowsRules r numbers.now.rules builder.old.definitions.rules →
+        IfErr result (IsFaultOfTable may r) }
 {
     check_rule(numbers, &action.condition)?;
     let rules = Renamed {
@@ -213,10 +264,11 @@ fn define_action(
         written: &types.written,
     };
     let line = action.line;
+    let anchored = asks_for_anchor(builder.definitions(), numbers, &action.condition);
     match named_action(alloc, rules, types, action) {
         Ok(named) => match builder.define(Definition::Action(named)) {
             Ok(()) => Ok(()),
-            Err(fault) => Err(TableError::of_definition(fault, line)),
+            Err(fault) => Err(not_defined(fault, anchored, line)),
         },
         Err(error) => Err(TableError::of_action(error, line)),
     }

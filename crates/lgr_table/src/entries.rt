@@ -1,5 +1,5 @@
 //! The entries of a table.
-ghost use Rattle.std.specs.Prelude.{◌≡◌, ◌<◌, ◌∷◌, ◌++◌, [], Contains, IfErr, List, OnOk, length, map};
+ghost use Rattle.std.specs.Prelude.{◌≡◌, ◌<◌, ◌∷◌, ◌++◌, [], ℕ, Bool, true, Contains, IfErr, List, OnOk, length, map};
 ghost use Rattle.std.specs.List.{flat_map};
 ghost use Rattle.std.specs.Option.{option_map};
 ghost use Rattle.lgr_text.specs.Records as records;
@@ -8,13 +8,15 @@ ghost use Rattle.lgr_text.specs.Known.{HaveSpans};
 ghost use Rattle.lgr_text.specs.declared.records.Entry as held_entry;
 ghost use Rattle.lgr_text.specs.declared.records.Ruleset as held;
 ghost use Rattle.lgr_table.specs.Entries as words;
-ghost use Rattle.lgr_table.specs.Faults.{IsFaultOfTable, conditions, given};
+ghost use Rattle.lgr_table.specs.Faults.{IsFaultOfTable, IsSameVariant, StandsEarlier, conditions, given};
 ghost use Rattle.lgr_table.specs.Names.{asked, asked_by};
 ghost use Rattle.lgr_table.specs.Tables.{may_stand};
 ghost use Rattle.lgr_table.specs.inner.EntrySteps.{AddsEntry, AddsSources};
-ghost use Rattle.lgr_table.specs.inner.FaultSteps.{AreAllIn, HasOneOf, HasRulesOf, HasSourcesOf, IsOfEntry};
-ghost use Rattle.lgr_table.specs.inner.FaultSteps.{TellsSource, point_count};
+ghost use Rattle.lgr_table.specs.inner.FaultSteps.{AreAllIn, HasEntriesOf, HasRulesOf, TellsEntry, TellsRepeated};
+ghost use Rattle.lgr_table.specs.inner.FaultSteps.{TellsSources, point_count};
 ghost use Rattle.lgr_table.specs.inner.Steps.{AddsEntries, AreAmong};
+ghost use Rattle.variant_table.specs.Entries.{TableValue};
+ghost use Rattle.variant_table.specs.WellFormed.{IsTable};
 
 use crate::fault::{TableError, TableFault};
 use crate::kept::may_be;
@@ -41,7 +43,8 @@ pub(crate) fn add_entries(
     ensures added { OnOk result (AddsEntries (may_stand builder.old.definitions.properties) (file «ruleset».now)
         numbers.now builder.old builder.new) }
     ensures fault { HaveSpans (file «ruleset».now).entries → HasRulesOf «ruleset».now numbers.now.rules →
-        IfErr result (IsFaultOfTable «ruleset».now) }
+        IsTable builder.old →
+        IfErr result (IsFaultOfTable (may_stand builder.old.definitions.properties) «ruleset».now) }
 {
     check_ranges(&ruleset.entries)?;
     for entry in &ruleset.entries {
@@ -53,8 +56,8 @@ pub(crate) fn add_entries(
 /// Refuses ranges that have more code points together than there are: one stands in two of them. So none takes long,
 /// however many code points it has that no label has.
 fn check_ranges(entries: &[Entry]) -> Result<(), TableError>
-    ensures { (r : held.Ruleset) → r.entries.items ≡ entries.now → HaveSpans (file r).entries →
-        IfErr result (IsFaultOfTable r) }
+    ensures { (may : ℕ → Bool) (r : held.Ruleset) → r.entries.items ≡ entries.now → HaveSpans (file r).entries →
+        IfErr result (IsFaultOfTable may r) }
 {
     let mut left = CODE_POINTS;
     for entry in entries {
@@ -88,9 +91,10 @@ fn add_entry(
     requires rules { length builder.old.definitions.rule_names ≡ length numbers.now.rules }
     ensures added { OnOk result (AddsEntry (may_stand builder.old.definitions.properties) numbers.now
         (records.entry entry.now) builder.old builder.new) }
-    ensures fault { (r : held.Ruleset) (before after : List held_entry.Entry) →
-        r.entries.items ≡ before ++ entry.now ∷ after → HasSourcesOf before builder.old →
-        HasRulesOf r numbers.now.rules → IfErr result (IsFaultOfTable r) }
+    ensures fault { let may = may_stand builder.old.definitions.properties in
+        (r : held.Ruleset) (before after : List held_entry.Entry) (t : TableValue) →
+        r.entries.items ≡ before ++ entry.now ∷ after → HasEntriesOf may numbers.now before t builder.old →
+        IsTable t → HasRulesOf r numbers.now.rules → IfErr result (IsFaultOfTable may r) }
 {
     check_rules(numbers, entry)?;
     add_sources(alloc, builder, numbers, entry)?;
@@ -108,8 +112,9 @@ fn add_sources(
     ensures added { let e = records.entry entry.now in
         OnOk result (AddsSources (may_stand builder.old.definitions.properties) numbers.now
         e (words.sources e.source) builder.old builder.new) }
-    ensures fault { IfErr result (IsOfEntry entry.now) }
-    ensures again { IfErr result (HasOneOf builder.old (words.sources (records.entry entry.now).source)) }
+    ensures fault { let e = records.entry entry.now in
+        IfErr result (TellsSources (may_stand builder.old.definitions.properties) numbers.now
+        entry.now (words.sources e.source) builder.old) }
 {
     match &entry.source {
         Source::Sequence(points) => add_source(alloc, builder, numbers, entry, points),
@@ -129,8 +134,8 @@ fn add_range(
     requires rules { length builder.old.definitions.rule_names ≡ length numbers.now.rules }
     ensures added { OnOk result (AddsSources (may_stand builder.old.definitions.properties) numbers.now
         (records.entry entry.now) (words.sources (records.Range span)) builder.old builder.new) }
-    ensures fault { IfErr result (IsOfEntry entry.now) }
-    ensures again { IfErr result (HasOneOf builder.old (words.sources (records.Range span))) }
+    ensures fault { IfErr result (TellsSources (may_stand builder.old.definitions.properties) numbers.now
+        entry.now (words.sources (records.Range span)) builder.old) }
 {
     if span.last < span.first {
         return Ok(());
@@ -155,8 +160,8 @@ fn add_source(
     requires rules { length builder.old.definitions.rule_names ≡ length numbers.now.rules }
     ensures added { OnOk result (AddsSources (may_stand builder.old.definitions.properties) numbers.now
         (records.entry entry.now) (source.now ∷ []) builder.old builder.new) }
-    ensures fault { IfErr result (IsOfEntry entry.now) }
-    ensures again { IfErr result (HasOneOf builder.old (source.now ∷ [])) }
+    ensures fault { IfErr result (TellsSources (may_stand builder.old.definitions.properties) numbers.now
+        entry.now (source.now ∷ []) builder.old) }
 {
     let kept = may_be(alloc, builder.definitions().properties(), source)?;
     if !kept {
@@ -171,33 +176,35 @@ fn add_source(
 
 /// Why an entry isn't added.
 fn not_added(fault: EntryFault, entry: &Entry) -> TableError
-    ensures fault { IsOfEntry entry.now result }
-    ensures source { TellsSource fault result }
+    ensures { TellsEntry entry.now fault result }
 {
     match fault {
-        EntryFault::Memory => TableError::Memory,
-        // A variant of no code points: the table has the names of types and rules.
-        EntryFault::Syntax | EntryFault::NoSuchName => TableFault::NotSupported.on(entry.line),
         EntryFault::Limit => TableFault::Limit.on(entry.line),
-        EntryFault::BadClass => TableFault::BadClass.on(entry.line),
-        EntryFault::SameVariant(_) => TableFault::SameVariant.on(repeated_line(entry)),
+        EntryFault::SameVariant(_) => of_repeated(&entry.variants),
         EntryFault::SameSource => TableFault::SameSource.on(entry.line),
+        // Never but for lack of memory: each variant has a code point, all of them may stand in a table, and that has
+        // the names of types and rules.
+        _ => TableError::Memory,
     }
 }
 
-/// The line of the first variant that its entry has before it.
-fn repeated_line(entry: &Entry) -> usize {
-    for number in 0..entry.variants.len() {
-        if is_repeated(&entry.variants, number) {
-            return entry.variants[number].line;
+/// What is told of variants that an entry has twice: the line of the first that stands before it.
+fn of_repeated(variants: &[Variant]) -> TableError
+    ensures { TellsRepeated variants.now result }
+{
+    for number in 0..variants.len() {
+        if is_repeated(variants, number) {
+            return TableFault::SameVariant.on(variants[number].line);
         }
     }
-    entry.line
+    // Never: there is one.
+    TableError::Memory
 }
 
 /// Whether an earlier variant has the same code points, unless each has a condition and the two differ.
 fn is_repeated(variants: &[Variant], number: usize) -> bool
     requires { number < length variants.now }
+    ensures { result ≡ true → StandsEarlier variants.now number }
 {
     let variant = &variants[number];
     for earlier in 0..number {
@@ -208,7 +215,9 @@ fn is_repeated(variants: &[Variant], number: usize) -> bool
     false
 }
 
-fn is_same(earlier: &Variant, variant: &Variant) -> bool {
+fn is_same(earlier: &Variant, variant: &Variant) -> bool
+    ensures { result ≡ true → IsSameVariant earlier.now variant.now }
+{
     if earlier.points.as_slice() != variant.points.as_slice() {
         return false;
     }
@@ -223,8 +232,8 @@ fn is_same(earlier: &Variant, variant: &Variant) -> bool {
 /// Refuses an entry of which a condition, or that of a variant, asks for a rule that isn't one of these.
 fn check_rules(numbers: &Numbers, entry: &Entry) -> Result<(), TableError>
     ensures among { OnOk result (AreAmong numbers.now.rules (asked_by (records.entry entry.now))) }
-    ensures fault { (r : held.Ruleset) → Contains r.entries.items entry.now → HasRulesOf r numbers.now.rules →
-        IfErr result (IsFaultOfTable r) }
+    ensures fault { (may : ℕ → Bool) (r : held.Ruleset) → Contains r.entries.items entry.now →
+        HasRulesOf r numbers.now.rules → IfErr result (IsFaultOfTable may r) }
 {
     check_rule(numbers, &entry.condition)?;
     check_rules_of_variants(numbers, &entry.variants)?;
@@ -234,8 +243,9 @@ fn check_rules(numbers: &Numbers, entry: &Entry) -> Result<(), TableError>
 fn check_rules_of_variants(numbers: &Numbers, variants: &[Variant]) -> Result<(), TableError>
     ensures among { OnOk result (AreAmong numbers.now.rules
         (flat_map (λ v. asked v.condition) (map records.variant variants.now))) }
-    ensures fault { (r : held.Ruleset) → AreAllIn (conditions r) (flat_map (λ v. given v.condition) variants.now) →
-        HasRulesOf r numbers.now.rules → IfErr result (IsFaultOfTable r) }
+    ensures fault { (may : ℕ → Bool) (r : held.Ruleset) →
+        AreAllIn (conditions r) (flat_map (λ v. given v.condition) variants.now) →
+        HasRulesOf r numbers.now.rules → IfErr result (IsFaultOfTable may r) }
 {
     for variant in variants {
         check_rule(numbers, &variant.condition)?;
@@ -246,8 +256,8 @@ fn check_rules_of_variants(numbers: &Numbers, variants: &[Variant]) -> Result<()
 /// Refuses a condition that asks for a rule that isn't one of these.
 pub(crate) fn check_rule(numbers: &Numbers, condition: &Option<Condition>) -> Result<(), TableError>
     ensures among { OnOk result (AreAmong numbers.now.rules (asked (option_map records.condition condition.now))) }
-    ensures fault { (r : held.Ruleset) → AreAllIn (conditions r) (given condition.now) →
-        HasRulesOf r numbers.now.rules → IfErr result (IsFaultOfTable r) }
+    ensures fault { (may : ℕ → Bool) (r : held.Ruleset) → AreAllIn (conditions r) (given condition.now) →
+        HasRulesOf r numbers.now.rules → IfErr result (IsFaultOfTable may r) }
 {
     let Some(condition) = condition else {
         return Ok(());

@@ -1,8 +1,8 @@
 //! Why a ruleset has no table.
-ghost use Rattle.std.specs.Prelude.{◌≡◌};
+ghost use Rattle.std.specs.Prelude.{◌≡◌, ℕ, Bool};
 ghost use Rattle.lgr_table.specs.Faults.{IsFaultOfTable};
 ghost use Rattle.lgr_table.specs.declared.fault.TableError.TheVariants.{Fault, Memory};
-ghost use Rattle.lgr_table.specs.inner.FaultSteps.{IsOfTable, TellsOfDefinition};
+ghost use Rattle.lgr_table.specs.inner.FaultSteps.{IsLimitOn, TellsDisposition, TellsOfDefinition};
 ghost use Rattle.lgr_text.specs.DefinitionOrder.{IsOrderFault};
 ghost use Rattle.lgr_text.specs.declared.records.Ruleset as held;
 
@@ -61,7 +61,8 @@ impl<T: Drop> From<AllocFailed<T>> for TableError {
 impl TableError {
     /// Why the definitions of a file have no order.
     pub(crate) fn of_order(error: OrderError) -> Self
-        ensures { (r : held.Ruleset) → IsOrderFault r.definitions.items error → IsFaultOfTable r result }
+        ensures { (may : ℕ → Bool) (r : held.Ruleset) → IsOrderFault r.definitions.items error →
+            IsFaultOfTable may r result }
     {
         match error {
             OrderError::Limit(line) => TableFault::Limit.on(line),
@@ -74,7 +75,7 @@ impl TableError {
 
     /// Why the definition on this line is no set and no pattern.
     pub(crate) fn of_rule(error: RuleError, line: usize) -> Self
-        ensures { (r : held.Ruleset) → TellsOfDefinition r line error → IsFaultOfTable r result }
+        ensures { (may : ℕ → Bool) (r : held.Ruleset) → TellsOfDefinition r line error → IsFaultOfTable may r result }
     {
         match error {
             RuleError::Fault(RuleFault::Undefined) => TableFault::NoSuchName.on(line),
@@ -85,40 +86,25 @@ impl TableError {
         }
     }
 
-    /// Why the table doesn't take the definition that stands on this line. Its name has its form and is new, and what
-    /// it names is defined: so a definition that the table doesn't know is an action that asks for a rule with an
-    /// anchor.
+    /// Why the table doesn't take the definition that stands on this line.
     pub(crate) fn of_definition(fault: DefinitionFault, line: usize) -> Self
-        ensures { IsOfTable result }
+        ensures { IsLimitOn line result }
     {
         match fault {
             DefinitionFault::Limit => TableFault::Limit.on(line),
-            DefinitionFault::BadClass => TableFault::BadClass.on(line),
-            DefinitionFault::Memory => TableError::Memory,
-            DefinitionFault::Syntax | DefinitionFault::NoSuchName | DefinitionFault::SameName => {
-                TableFault::NotSupported.on(line)
-            }
+            // Never but for lack of memory: it has its form, its name is new, and what it names is defined.
+            _ => TableError::Memory,
         }
     }
 
-    /// Why the action on this line is none of a table. The rule that it asks for was looked up before, and its types
-    /// are defined: so what a table hasn't is its disposition.
+    /// Why the action on this line is none of a table: its disposition.
     pub(crate) fn of_action(error: RuleError, line: usize) -> Self
-        ensures { IsOfTable result }
+        ensures { TellsDisposition error line result }
     {
         match error {
-            RuleError::Fault(_) => TableFault::NotSupported.on(line),
-            RuleError::Memory => TableError::Memory,
-        }
-    }
-
-    /// Why there is no further type: there are too many.
-    pub(crate) fn as_limit(self) -> Self
-        ensures { IsOfTable result }
-    {
-        match self {
-            TableError::Fault { line, .. } => TableFault::Limit.on(line),
-            TableError::Memory => TableError::Memory,
+            RuleError::Fault(RuleFault::NotSupported) => TableFault::NotSupported.on(line),
+            // Never but for lack of memory: its rule was looked up before, and its types are defined.
+            _ => TableError::Memory,
         }
     }
 }

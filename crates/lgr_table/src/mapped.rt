@@ -1,12 +1,12 @@
 //! An entry of a file with the names that the table has for its types and rules.
-ghost use Rattle.std.specs.Prelude.{◌≡◌, ◌<◌, ◌||◌, ◌∷◌, [], false, true, IfErr, IfOk, None, OnOk, length, map};
+ghost use Rattle.std.specs.Prelude.{◌≡◌, ◌<◌, ◌||◌, ◌∷◌, [], ℕ, List, false, true, IfErr, IfOk, None, OnOk, length, map};
 ghost use Rattle.std.specs.Option.{ForSome, option_map};
 ghost use Rattle.lgr_text.specs.Records as records;
 ghost use Rattle.lgr_table.specs.Entries as words;
 ghost use Rattle.lgr_table.specs.Numbers.{numbered_condition};
 ghost use Rattle.lgr_table.specs.Tables.{may_stand};
 ghost use Rattle.lgr_table.specs.inner.EntrySteps.{PushesVariants};
-ghost use Rattle.lgr_table.specs.inner.FaultSteps.{IsOfTable};
+ghost use Rattle.lgr_table.specs.inner.FaultSteps.{TellsReflexive, TellsVariants};
 ghost use Rattle.ruleset_text.specs.Definitions.{type_names, type_number as number_of_type};
 ghost use Rattle.ruleset_text.specs.EntryForms.{mapped as form_of};
 ghost use Rattle.variant_table.specs.Forms.{entry_of, numbered, variant_by, variant_mark};
@@ -32,9 +32,10 @@ pub(crate) fn mapped_of(
     ensures is { IfOk result (λ mapped. entry_of definitions.now (map form_of mapped.items) ≡
         words.entry_with (may_stand definitions.now.properties) numbers.now (records.entry entry.now) source.now) }
     ensures of_one_type { OnOk result (words.HasOneType (records.entry entry.now) source.now) }
-    ensures fault { IfErr result IsOfTable }
+    ensures fault { IfErr result (TellsVariants entry.now source.now) }
 {
     check_reflexive(source, entry)?;
+    check_points(entry)?;
     let points = Vec::from_slice(alloc, source)?;
     let number = reflexive_type(numbers, source, &entry.variants);
     let type_name = type_called(alloc, definitions, number)?;
@@ -60,12 +61,24 @@ pub(crate) fn mapped_of(
 /// Refuses a second variant that is the source, and one that has a condition.
 fn check_reflexive(source: &[u32], entry: &Entry) -> Result<(), TableError>
     ensures of_one_type { OnOk result (words.HasOneType (records.entry entry.now) source.now) }
-    ensures fault { IfErr result IsOfTable }
+    ensures fault { IfErr result (TellsVariants entry.now source.now) }
 {
     let mut found = false;
     for variant in &entry.variants {
         let now = check_variant(source, variant, found)?;
         found = now;
+    }
+    Ok(())
+}
+
+/// Refuses a variant of no code points.
+fn check_points(entry: &Entry) -> Result<(), TableError>
+    ensures { (source : List ℕ) → IfErr result (TellsVariants entry.now source) }
+{
+    for variant in &entry.variants {
+        if variant.points.is_empty() {
+            return Err(TableFault::NotSupported.on(entry.line));
+        }
     }
     Ok(())
 }
@@ -76,7 +89,7 @@ fn check_variant(source: &[u32], variant: &Variant, found: bool) -> Result<bool,
     ensures alone { OnOk result (words.is_reflexive source.now (records.variant variant.now) ≡ true → found ≡ false) }
     ensures bare { OnOk result (words.is_reflexive source.now (records.variant variant.now) ≡ true →
         (records.variant variant.now).condition ≡ None) }
-    ensures fault { IfErr result IsOfTable }
+    ensures fault { IfErr result (TellsReflexive source.now variant.now found) }
 {
     if !is_reflexive(source, variant) {
         return Ok(found);
@@ -110,13 +123,12 @@ fn push_variants(
     source: &[u32],
     variants: &[Variant],
     mapped: &mut Vec<Mapped>,
-) -> Result<(), TableError>
+) -> Result<(), AllocError>
     requires types { length definitions.now.types ≡ length numbers.now.types }
     requires rules { length definitions.now.rule_names ≡ length numbers.now.rules }
-    ensures pushed { OnOk result (PushesVariants definitions.now mapped.old.items mapped.new.items
+    ensures { OnOk result (PushesVariants definitions.now mapped.old.items mapped.new.items
         (words.variants_of (may_stand definitions.now.properties) numbers.now source.now
         (map records.variant variants.now))) }
-    ensures fault { IfErr result IsOfTable }
 {
     for variant in variants {
         push_variant(alloc, definitions, numbers, source, variant, mapped)?;
@@ -132,13 +144,12 @@ fn push_variant(
     source: &[u32],
     variant: &Variant,
     mapped: &mut Vec<Mapped>,
-) -> Result<(), TableError>
+) -> Result<(), AllocError>
     requires types { length definitions.now.types ≡ length numbers.now.types }
     requires rules { length definitions.now.rule_names ≡ length numbers.now.rules }
-    ensures pushed { OnOk result (PushesVariants definitions.now mapped.old.items mapped.new.items
+    ensures { OnOk result (PushesVariants definitions.now mapped.old.items mapped.new.items
         (words.variants_of (may_stand definitions.now.properties) numbers.now source.now
         (records.variant variant.now ∷ []))) }
-    ensures fault { IfErr result IsOfTable }
 {
     if is_reflexive(source, variant) {
         return Ok(());
@@ -158,12 +169,11 @@ fn variant_called(
     definitions: &Definitions,
     numbers: &Numbers,
     variant: &Variant,
-) -> Result<Mapped, TableError>
+) -> Result<Mapped, AllocError>
     requires types { length definitions.now.types ≡ length numbers.now.types }
     requires rules { length definitions.now.rule_names ≡ length numbers.now.rules }
-    ensures called { IfOk result (λ mapped. variant_by variant_mark definitions.now (form_of mapped) ≡
+    ensures { IfOk result (λ mapped. variant_by variant_mark definitions.now (form_of mapped) ≡
         words.variant_of numbers.now (records.variant variant.now)) }
-    ensures fault { IfErr result IsOfTable }
 {
     let points = Vec::from_slice(alloc, &variant.points)?;
     let number = numbers.type_number(&variant.type_name);
@@ -201,11 +211,10 @@ fn condition_called(
     definitions: &Definitions,
     numbers: &Numbers,
     condition: &Option<Condition>,
-) -> Result<Option<NamedCondition>, TableError>
+) -> Result<Option<NamedCondition>, AllocError>
     requires { length definitions.now.rule_names ≡ length numbers.now.rules }
-    ensures called { IfOk result (λ named. option_map (numbered definitions.now) named ≡
+    ensures { IfOk result (λ named. option_map (numbered definitions.now) named ≡
         option_map (numbered_condition numbers.now) (option_map records.condition condition.now)) }
-    ensures fault { IfErr result IsOfTable }
 {
     let Some(condition) = condition else {
         return Ok(None);
@@ -215,7 +224,7 @@ fn condition_called(
     let names = definitions.rule_names();
     if number >= names.len() {
         // Never: the rules of conditions were looked up before.
-        return Err(TableFault::NotSupported.on(condition.rule.line));
+        return Err(AllocError);
     }
     // Only for the proof: the contract says that no name stands there twice.
     let _names = definitions.set_names();

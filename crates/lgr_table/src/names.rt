@@ -1,14 +1,12 @@
 //! The names that types, sets and rules of a file get in its table.
-ghost use Rattle.std.specs.Prelude.{◌≡◌, IfErr, IfOk, bytes_eq};
+ghost use Rattle.std.specs.Prelude.{◌≡◌, IfOk, bytes_eq};
 ghost use Rattle.std.specs.List.{list_any};
 ghost use Rattle.ruleset_text.specs.Definitions.{all_names};
 ghost use Rattle.ruleset_text.specs.Names.{is_one_of as is_among};
 ghost use Rattle.lgr_table.specs.TableNames as words;
 ghost use Rattle.lgr_table.specs.TableNames.{IsCalled};
-ghost use Rattle.lgr_table.specs.inner.FaultSteps.{IsOfTable};
 ghost use Rattle.lgr_table.specs.inner.TableNames.{keeps, names_by};
 
-use crate::fault::{TableError, TableFault};
 use crate::numbers::named_in;
 use lgr_text::Definition;
 use ruleset_text::{Definitions, Name, is_name, is_one_of};
@@ -85,20 +83,18 @@ impl Named {
     }
 
     /// A name for what is defined next: the one that it has in the file, if it keeps that; or else the first of
-    /// `type_1`, `type_2` and so on that neither the file nor the table has. `Limit` on this line if there is none.
+    /// `type_1`, `type_2` and so on that neither the file nor the table has.
     pub(crate) fn given_name(
         self,
         alloc: Global,
         names: FileNames<'_>,
         definitions: &Definitions,
         name: &[u8],
-        line: usize,
-    ) -> Result<Name, TableError>
-        ensures called { let of = names_by names.entry in IfOk result (IsCalled of (keeps of self name.now) name.now) }
-        ensures fault { IfErr result IsOfTable }
+    ) -> Result<Name, AllocError>
+        ensures { let of = names_by names.entry in IfOk result (IsCalled of (keeps of self name.now) name.now) }
     {
         if self.keeps(names, name) {
-            return Ok(Name::copied(alloc, name)?);
+            return Name::copied(alloc, name);
         }
         for number in 1..=TRIES {
             let numbered = self.numbered(alloc, number)?;
@@ -106,7 +102,8 @@ impl Named {
                 return Ok(numbered);
             }
         }
-        Err(TableFault::Limit.on(line))
+        // Never: there are fewer names than tries.
+        Err(AllocError)
     }
 }
 

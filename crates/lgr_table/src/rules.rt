@@ -1,5 +1,5 @@
 //! The rules of a table, and the sets that they name.
-ghost use Rattle.std.specs.Prelude.{◌≡◌, ◌++◌, ◌∷◌, [], ℕ, List, Contains, IfErr, IfOk, OnOk, map};
+ghost use Rattle.std.specs.Prelude.{◌≡◌, ◌++◌, ◌∷◌, [], ℕ, Bool, List, Contains, IfErr, IfOk, OnOk, map};
 ghost use Rattle.label_patterns.specs.Trees.{pattern};
 ghost use Rattle.lgr_text.specs.Known.{HaveSpans};
 ghost use Rattle.lgr_text.specs.PartMatches.{BeginsWith};
@@ -7,9 +7,9 @@ ghost use Rattle.lgr_text.specs.Records.{entry as entry_of, file, meaning as mea
 ghost use Rattle.lgr_text.specs.inner.Branches.{HaveBranches};
 ghost use Rattle.lgr_text.specs.WellFormed.{IsWellFormedMeaning, IsWellFormedRuleset};
 ghost use Rattle.lgr_text.specs.declared.records.Ruleset as held;
-ghost use Rattle.lgr_table.specs.Faults.{IsFaultOfTable};
+ghost use Rattle.lgr_table.specs.Faults.{ComesNext, IsFaultOfTable};
 ghost use Rattle.lgr_table.specs.Tables.{may_stand};
-ghost use Rattle.lgr_table.specs.inner.FaultSteps.{HasRulesOf, IsOfTable};
+ghost use Rattle.lgr_table.specs.inner.FaultSteps.{HasRulesOf, IsLimitOn, KnowsRules};
 ghost use Rattle.lgr_table.specs.inner.RuleSteps.{AddsMeaning, HasNoRules, HasOtherRules, known_by};
 ghost use Rattle.lgr_table.specs.inner.Steps.{AddsRules};
 ghost use Rattle.lgr_table.specs.inner.TableNames.{AreRuleNames, names_by};
@@ -38,7 +38,8 @@ pub(crate) fn define_rules(
         AddsRules (may_stand builder.old.definitions.properties) (file ruleset.now) types.now rules.items
         builder.old builder.new) }
     ensures all { IfOk result (λ rules. HasRulesOf ruleset.now rules.items) }
-    ensures fault { IfErr result (IsFaultOfTable ruleset.now) }
+    ensures known { IfOk result (λ rules. KnowsRules ruleset.now rules.items builder.new.definitions.rules) }
+    ensures fault { (may : ℕ → Bool) → IfErr result (IsFaultOfTable may ruleset.now) }
 {
     let properties = builder.definitions().properties();
     let points = points_of(alloc, properties, &ruleset.entries)?;
@@ -92,8 +93,11 @@ fn take(
     ensures others { OnOk result (HasOtherRules builder.old builder.new) }
     ensures called { AreRuleNames (names_by names.entry) taken.old.rule_names.items builder.old.definitions →
         OnOk result (AreRuleNames (names_by names.entry) taken.new.rule_names.items builder.new.definitions) }
-    ensures fault { (r : held.Ruleset) → Contains r.definitions.items definition.now →
-        map entry_of r.entries.items ≡ map entry_of repertoire.entry.entries.now → IfErr result (IsFaultOfTable r) }
+    ensures fault { let entries = map entry_of repertoire.entry.entries.now in
+        let points = repertoire.entry.points.now in
+        let known = known_by entries points taken.old builder.old.definitions.rules in
+        (may : ℕ → Bool) (r : held.Ruleset) → Contains r.definitions.items definition.now →
+        ComesNext r definition.now known → IfErr result (IsFaultOfTable may r) }
 {
     let name = definition.name.as_slice();
     match &definition.meaning {
@@ -133,7 +137,7 @@ fn define_sets(
     ensures others { OnOk result (HasOtherRules builder.old builder.new) }
     ensures called { (rules : List (List ℕ)) → AreRuleNames (names_by names.entry) rules builder.old.definitions →
         OnOk result (AreRuleNames (names_by names.entry) rules builder.new.definitions) }
-    ensures fault { IfErr result IsOfTable }
+    ensures fault { IfErr result (IsLimitOn line) }
 {
     for number in builder.definitions().sets().len()..sets.len() {
         define_set(alloc, builder, names, &sets[number], line)?;
@@ -154,9 +158,9 @@ fn define_set(
     ensures others { OnOk result (HasOtherRules builder.old builder.new) }
     ensures called { (rules : List (List ℕ)) → AreRuleNames (names_by names.entry) rules builder.old.definitions →
         OnOk result (AreRuleNames (names_by names.entry) rules builder.new.definitions) }
-    ensures fault { IfErr result IsOfTable }
+    ensures fault { IfErr result (IsLimitOn line) }
 {
-    let name = Named::Set.given_name(alloc, names, builder.definitions(), b"", line)?;
+    let name = Named::Set.given_name(alloc, names, builder.definitions(), b"")?;
     let copy = set.copied(alloc)?;
     match builder.define(TableDefinition::Set(name, copy)) {
         Ok(()) => Ok(()),
@@ -178,87 +182,11 @@ fn define_rule(
     ensures others { OnOk result (HasOtherRules builder.old builder.new) }
     ensures called { (rules : List (List ℕ)) → AreRuleNames (names_by names.entry) rules builder.old.definitions →
         OnOk result (AreRuleNames (names_by names.entry) (rules ++ name.now ∷ []) builder.new.definitions) }
-    ensures fault { IfErr result IsOfTable }
+    ensures fault { IfErr result (IsLimitOn line) }
 {
-    let name = Named::Rule.given_name(alloc, names, builder.definitions(), name, line)?;
+    let name = Named::Rule.given_name(alloc, names, builder.definitions(), name)?;
     match builder.define(TableDefinition::Rule(name, tree)) {
         Ok(()) => Ok(()),
         Err(fault) => Err(TableError::of_definition(fault, line)),
-    }
-}
-
-#[cfg(test)]
-mod tests {
-    use super::*;
-    use idn_class::Properties;
-    use label_patterns::is_context_rule;
-    use lgr_text::read_ruleset;
-    use std::test::Fail;
-    use xml_text::read_document;
-
-    /// Digits after `a`, by a class that is defined last.
-    const TEXT: &[u8] = b"<lgr xmlns='urn:ietf:params:xml:ns:lgr-1.0'>\
-        <data><char cp='0061'/><range first-cp='0030' last-cp='0039'/></data>\
-        <rules>\
-        <rule name='after-a'><look-behind><char cp='0061'/></look-behind><anchor/></rule>\
-        <rule name='two'><rule by-ref='one'/><rule by-ref='one'/></rule>\
-        <rule name='one'><class by-ref='digit'/></rule>\
-        <class name='digit'>0030-0039</class>\
-        </rules></lgr>";
-
-    #[test]
-    fn defines_rules(rt: HostRuntime) -> Result<(), Fail> {
-        let alloc = rt.alloc();
-        let tokens = read_document(alloc, TEXT)?;
-        let ruleset = read_ruleset(alloc, &tokens)?;
-        let mut builder = TableBuilder::new(alloc, Properties::Unicode);
-        let rules = define_rules(alloc, &mut builder, &[], &ruleset)?;
-        let definitions = builder.definitions();
-        assert_eq!(rt; rules.len(), 3);
-        assert_eq!(rt; definitions.rules().len(), 3);
-        assert_eq!(rt; definitions.sets().len(), 1);
-        assert_eq!(rt; rules[0].as_slice(), b"after-a".as_slice());
-        assert_eq!(rt; definitions.rule_name(0), b"rule_1".as_slice());
-        assert_eq!(rt; rules[1].as_slice(), b"one".as_slice());
-        assert_eq!(rt; definitions.rule_name(1), b"one".as_slice());
-        Ok(())
-    }
-
-    /// Rules with the anchor, which name one another.
-    const ANCHORED: &[u8] = b"<lgr xmlns='urn:ietf:params:xml:ns:lgr-1.0'>\
-        <data><range first-cp='0061' last-cp='0063'/></data>\
-        <rules>\
-        <rule name='after-a'><look-behind><char cp='0061'/></look-behind><anchor/></rule>\
-        <rule name='one'><rule by-ref='after-a'/></rule>\
-        <rule name='two'><choice><rule by-ref='one'/>\
-        <rule><anchor/><look-ahead><char cp='0062'/></look-ahead></rule></choice></rule>\
-        <rule name='three'><choice><rule by-ref='two'/><rule by-ref='after-a'/></choice></rule>\
-        </rules></lgr>";
-
-    /// How many branches a pattern has.
-    fn branch_count(tree: &PatternTree) -> usize {
-        match tree {
-            PatternTree::Either(_, others) => branch_count(others).saturating_add(1),
-            _ => 1,
-        }
-    }
-
-    #[test]
-    fn makes_rules_that_name_anchored_rules(rt: HostRuntime) -> Result<(), Fail> {
-        let alloc = rt.alloc();
-        let tokens = read_document(alloc, ANCHORED)?;
-        let ruleset = read_ruleset(alloc, &tokens)?;
-        let mut builder = TableBuilder::new(alloc, Properties::Unicode);
-        let _names = define_rules(alloc, &mut builder, &[], &ruleset)?;
-        let rules = builder.definitions().rules();
-        assert_eq!(rt; rules.len(), 4);
-        assert_eq!(rt; branch_count(&rules[0]), 1);
-        assert_eq!(rt; branch_count(&rules[1]), 1);
-        assert_eq!(rt; branch_count(&rules[2]), 2);
-        assert_eq!(rt; branch_count(&rules[3]), 3);
-        for rule in rules {
-            assert!(rt; is_context_rule(rule));
-        }
-        Ok(())
     }
 }

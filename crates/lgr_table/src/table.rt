@@ -3,7 +3,7 @@ ghost use Rattle.std.specs.Prelude.{IfErr, IfOk};
 ghost use Rattle.lgr_text.specs.Records.{file};
 ghost use Rattle.lgr_text.specs.WellFormed.{IsWellFormedRuleset};
 ghost use Rattle.lgr_table.specs.Faults.{IsFaultOfTable};
-ghost use Rattle.lgr_table.specs.Tables.{IsTableOf};
+ghost use Rattle.lgr_table.specs.Tables.{IsTableOf, may_stand};
 
 use crate::actions::define_actions;
 use crate::entries::add_entries;
@@ -28,13 +28,10 @@ pub fn table_of(
 ) -> Result<Table, TableError>
     requires { IsWellFormedRuleset (file ruleset.now) }
     ensures table { IfOk result (IsTableOf properties (file ruleset.now)) }
-    ensures fault { IfErr result (IsFaultOfTable ruleset.now) }
+    ensures fault { IfErr result (IsFaultOfTable (may_stand properties) ruleset.now) }
 {
     let mut builder = TableBuilder::new(alloc, properties);
-    let types = match define_types(alloc, &mut builder, ruleset) {
-        Ok(types) => types,
-        Err(error) => return Err(error.as_limit()),
-    };
+    let types = define_types(alloc, &mut builder, ruleset)?;
     let rules = define_rules(alloc, &mut builder, &types, ruleset)?;
     let numbers = Numbers::new(types, rules);
     define_actions(alloc, &mut builder, &numbers, ruleset)?;

@@ -1,14 +1,15 @@
 //! The types of a table.
-ghost use Rattle.std.specs.Prelude.{◌≡◌, ◌++◌, ◌∷◌, [], false, ℕ, List, map, unwrap_or, IfOk, OnOk};
+ghost use Rattle.std.specs.Prelude.{◌≡◌, ◌++◌, ◌∷◌, [], false, ℕ, List, map, unwrap_or, IfErr, IfOk, OnOk};
 ghost use Rattle.std.specs.List.{flat_map};
 ghost use Rattle.std.specs.Option.{option_map};
 ghost use Rattle.lgr_text.specs.Records as records;
 ghost use Rattle.lgr_text.specs.Records.{file};
-ghost use Rattle.lgr_table.specs.Numbers.{trigger_types, variant_type};
+ghost use Rattle.lgr_table.specs.Entries.{needs_type};
+ghost use Rattle.lgr_table.specs.Numbers.{trigger_types, types_of as types_in, variant_type};
 ghost use Rattle.lgr_table.specs.Tables.{may_stand};
 ghost use Rattle.lgr_table.specs.inner.Steps.{AddsTypes, AreFileTypes};
 ghost use Rattle.lgr_table.specs.inner.TableNames.{DefinesType, DefinesTypes, names_by};
-ghost use Rattle.lgr_table.specs.inner.TypeSteps.{AreTypes};
+ghost use Rattle.lgr_table.specs.inner.TypeSteps.{AreTypes, TellsFull, TellsTypes};
 
 use crate::fault::{TableError, TableFault};
 use crate::names::{FileNames, Named};
@@ -17,7 +18,7 @@ use crate::untyped::untyped_line;
 use idn_class::Properties;
 use lgr_text::{Ruleset, Trigger, Variant};
 use ruleset_text::{Definition, Name};
-use std::alloc::Global;
+use std::alloc::{AllocError, Global};
 use variant_table::TableBuilder;
 
 /// How many types a table may have beside those that are predefined.
@@ -30,8 +31,10 @@ pub(crate) fn define_types(
     ruleset: &Ruleset,
 ) -> Result<Vec<Option<Name>>, TableError>
     requires { builder.old.definitions.types ≡ [] }
-    ensures { IfOk result (λ types. AddsTypes (may_stand builder.old.definitions.properties) (file «ruleset».now)
-        types.items builder.old builder.new) }
+    ensures added { IfOk result (λ types. AddsTypes (may_stand builder.old.definitions.properties)
+        (file «ruleset».now) types.items builder.old builder.new) }
+    ensures fault { let may = may_stand builder.old.definitions.properties in
+        IfErr result (TellsTypes (needs_type may (file «ruleset».now).entries) (types_in (file «ruleset».now))) }
 {
     let types = types_of(alloc, builder.definitions().properties(), ruleset)?;
     let names = FileNames {
@@ -49,7 +52,9 @@ fn types_of(
     properties: Properties,
     ruleset: &Ruleset,
 ) -> Result<Vec<Option<Name>>, TableError>
-    ensures { IfOk result (λ types. AreFileTypes (may_stand properties) (file «ruleset».now) types.items) }
+    ensures types { IfOk result (λ types. AreFileTypes (may_stand properties) (file «ruleset».now) types.items) }
+    ensures fault { let untyped = needs_type (may_stand properties) (file «ruleset».now).entries in
+        IfErr result (TellsTypes untyped (types_in (file «ruleset».now))) }
 {
     let mut types = Vec::new(alloc);
     for entry in &ruleset.entries {
@@ -72,8 +77,10 @@ fn add_of_variants(
     types: &mut Vec<Option<Name>>,
     variants: &[Variant],
 ) -> Result<(), TableError>
-    ensures { (names : List (List ℕ)) → AreTypes false names types.old.items → OnOk result
+    ensures types { (names : List (List ℕ)) → AreTypes false names types.old.items → OnOk result
         (AreTypes false (names ++ flat_map variant_type (map records.variant variants.now)) types.new.items) }
+    ensures fault { (names : List (List ℕ)) → AreTypes false names types.old.items → IfErr result
+        (TellsTypes false (names ++ flat_map variant_type (map records.variant variants.now))) }
 {
     for variant in variants {
         add_of_variant(alloc, types, variant)?;
@@ -87,8 +94,10 @@ fn add_of_variant(
     types: &mut Vec<Option<Name>>,
     variant: &Variant,
 ) -> Result<(), TableError>
-    ensures { (names : List (List ℕ)) → AreTypes false names types.old.items → OnOk result
+    ensures types { (names : List (List ℕ)) → AreTypes false names types.old.items → OnOk result
         (AreTypes false (names ++ variant_type (records.variant variant.now)) types.new.items) }
+    ensures fault { (names : List (List ℕ)) → AreTypes false names types.old.items → IfErr result
+        (TellsTypes false (names ++ variant_type (records.variant variant.now))) }
 {
     match &variant.type_name {
         Some(name) => add_named(alloc, types, name.as_slice(), variant.line),
@@ -103,8 +112,10 @@ fn add_of_trigger(
     trigger: &Option<Trigger>,
     line: usize,
 ) -> Result<(), TableError>
-    ensures { (names : List (List ℕ)) → AreTypes false names types.old.items → OnOk result
+    ensures types { (names : List (List ℕ)) → AreTypes false names types.old.items → OnOk result
         (AreTypes false (names ++ trigger_types (option_map records.trigger trigger.now)) types.new.items) }
+    ensures fault { (names : List (List ℕ)) → AreTypes false names types.old.items → IfErr result
+        (TellsTypes false (names ++ trigger_types (option_map records.trigger trigger.now))) }
 {
     let Some(trigger) = trigger else {
         return Ok(());
@@ -122,8 +133,10 @@ fn add_named(
     name: &[u8],
     line: usize,
 ) -> Result<(), TableError>
-    ensures { (names : List (List ℕ)) → AreTypes false names types.old.items →
+    ensures types { (names : List (List ℕ)) → AreTypes false names types.old.items →
         OnOk result (AreTypes false (names ++ name.now ∷ []) types.new.items) }
+    ensures fault { (names : List (List ℕ)) → AreTypes false names types.old.items →
+        IfErr result (TellsTypes false (names ++ name.now ∷ [])) }
 {
     if named_in(types, name).is_some() {
         return Ok(());
@@ -138,7 +151,8 @@ fn add_type(
     type_name: Option<Name>,
     line: usize,
 ) -> Result<(), TableError>
-    ensures { OnOk result (types.new.items ≡ types.old.items ++ type_name ∷ []) }
+    ensures added { OnOk result (types.new.items ≡ types.old.items ++ type_name ∷ []) }
+    ensures fault { IfErr result (TellsFull types.old.items) }
 {
     if types.len() >= MAX_TYPES {
         return Err(TableFault::Limit.on(line));
@@ -152,7 +166,7 @@ fn define_each(
     alloc: Global,
     builder: &mut TableBuilder,
     names: FileNames<'_>,
-) -> Result<(), TableError>
+) -> Result<(), AllocError>
     requires { builder.old.definitions.types ≡ [] }
     ensures { OnOk result (DefinesTypes (names_by names.entry) builder.old builder.new) }
 {
@@ -162,20 +176,21 @@ fn define_each(
     Ok(())
 }
 
-/// Defines one more type. The table takes it, if there is memory: it isn't one too many, and its name is new.
+/// Defines one more type.
 fn define_type(
     alloc: Global,
     builder: &mut TableBuilder,
     names: FileNames<'_>,
     type_name: &Option<Name>,
-) -> Result<(), TableError>
+) -> Result<(), AllocError>
     ensures { OnOk result (DefinesType (names_by names.entry) type_name.now builder.old builder.new) }
 {
     let name = name_of(type_name);
-    let given = Named::Type.given_name(alloc, names, builder.definitions(), name, 1)?;
+    let given = Named::Type.given_name(alloc, names, builder.definitions(), name)?;
     match builder.define(Definition::VariantType(given)) {
         Ok(()) => Ok(()),
-        Err(fault) => Err(TableError::of_definition(fault, 1)),
+        // Never but for lack of memory: it isn't one too many, and its name is new.
+        Err(_) => Err(AllocError),
     }
 }
 

@@ -1,5 +1,5 @@
 -- What each step of adding entries makes of a table.
-use Rattle.std.specs.Prelude.{◌≡◌, ℕ, Bool, IsTrue, List, [], ◌∷◌, ◌++◌, All, filter, map}
+use Rattle.std.specs.Prelude.{◌≡◌, ℕ, Bool, List, ◌++◌, All, filter, map}
 use Rattle.lgr_text.specs.Records.{Entry}
 use Rattle.lgr_table.specs.Entries.{HasOneType, entries_of, entry_with, kept_sources, may_be}
 use Rattle.lgr_table.specs.Names.{asked_by}

@@ -8,7 +8,8 @@ use Rattle.lgr_table.proofs.ActionLemmas.{one_more}
 use Rattle.std.specs.Prelude.{Contains, IfSome}
 use Rattle.std.proofs.lemmas.Result.{err_from_is_err_and}
 use Rattle.lgr_table.specs.Faults.{given}
-use Rattle.lgr_table.proofs.FaultLemmas.{of-action}
+use Rattle.lgr_table.specs.inner.FaultSteps.{KnowsRules}
+use Rattle.variant_table.specs.Entries.{TableValue}
 use Rattle.lgr_table.proofs.DemandLemmas.{demanded-more, demanded-same, none-of}
 use Rattle.lgr_table.proofs.actions.define_demands.Goals as goal
 use Rattle.lgr_table.proofs.actions.define_demands.Goals.{in-Some+in_ok-define_demand, in_default}
@@ -33,11 +34,12 @@ loop-action-preserved c =
     ])
 
 pub returns-in_err-define_demand-clause-fault : goal.returns-in_err-define_demand-clause-fault
-returns-in_err-define_demand-clause-fault c = λ r all has.
+returns-in_err-define_demand-clause-fault c = λ may r all has knows.
     let p = err_from_is_err_and c.from_residual.result c.from_residual.ensures.1 in
     let this = c.action-item.result in
     let there : Contains r.actions.items this =
     subst (Contains r.actions.items) (sym c.action-item.is) (all c.loop-action.action-index this c.loop-action-test.true) in
     let own : Contains (given this.condition) c.in-Some.condition.now =
     subst (λ o. IfSome o (λ x. Contains (given this.condition) x.now)) c.in-Some.is c.rule_alone.ensures.given in
-    rw (p.1, p.2) (c.in_err-define_demand.ensures.fault r (of-action r this there c.in-Some.condition.now own) has)
+    let still = ap (λ (t : TableValue). t.definitions.rules) c.loop-action.invariant.others in
+    rw (p.1, p.2) (c.in_err-define_demand.ensures.fault may r this there own has (subst (KnowsRules r c.args.numbers.now.rules) (sym still) knows))

@@ -1,8 +1,10 @@
-use Rattle.std.proofs.Common.{◌≡◌, ◌++◌, ◌∷◌, [], ap, map, subst, sym, take, append_assoc, ◌∙◌}
+use Rattle.std.proofs.Common.{◌++◌, ◌∷◌, [], ap, map, subst, sym, take, append_assoc, ◌∙◌}
 use Rattle.std.specs.Prelude.{Contains}
 use Rattle.std.proofs.lemmas.Result.{err_from_is_err_and}
 use Rattle.lgr_text.specs.Records.{action}
+use Rattle.lgr_table.specs.inner.FaultSteps.{KnowsRules}
 use Rattle.lgr_table.specs.inner.Steps.{HaveDefined}
+use Rattle.variant_table.specs.Entries.{TableValue}
 use Rattle.lgr_table.proofs.ActionLemmas.{defined_more, one_more}
 use Rattle.lgr_table.proofs.DemandLemmas.{rules-still, types-still}
 use Rattle.lgr_table.proofs.actions.define_each.Goals as goal
@@ -16,6 +18,7 @@ loop-action-preserved c =
     let some = map action (take c.loop-action.action-index c.args.actions.now) in
     let more = one_more c.args.actions.now c.loop-action.action-index c.action-item.result c.loop-action-test.true c.action-item.is in
     record {
+      still = ap (λ (t : TableValue). t.definitions.rules) c.in_ok-define_action.ensures.added.added ∙ c.loop-action.invariant.still;
       rules = rules-still n a old new _ c.in_ok-define_action.ensures.added c.loop-action.invariant.rules;
       types = types-still n a old new c.args.types.now c.in_ok-define_action.ensures.added c.loop-action.invariant.types;
       defined = λ t before h.
@@ -24,8 +27,9 @@ loop-action-preserved c =
     }
 
 pub returns-in_err-define_action-clause-fault : goal.returns-in_err-define_action-clause-fault
-returns-in_err-define_action-clause-fault c = λ r all has.
+returns-in_err-define_action-clause-fault c = λ may r all has knows.
     let p = err_from_is_err_and c.from_residual.result c.from_residual.ensures.1 in
     let this = c.action-item.result in
-    rw (p.1, p.2) (c.in_err-define_action.ensures.fault r
-    (subst (Contains r.actions.items) (sym c.action-item.is) (all c.loop-action.action-index this c.loop-action-test.true)) has)
+    rw (p.1, p.2) (c.in_err-define_action.ensures.fault may r
+    (subst (Contains r.actions.items) (sym c.action-item.is) (all c.loop-action.action-index this c.loop-action-test.true)) has
+    (subst (KnowsRules r c.args.numbers.now.rules) (sym c.loop-action.invariant.still) knows))

@@ -8,6 +8,7 @@ use Rattle.lgr_table.proofs.actions.define_each.Given as goal
 -- those so far
 abbrev pub invariant-loop-action : goal.invariant-loop-action
 invariant-loop-action l = record {
+  still : l.builder.definitions.rules ≡ l.initial.builder.definitions.rules;
   rules : length l.builder.definitions.rule_names ≡ length l.numbers.rules;
   types : AreNamesOf l.numbers l.builder.definitions l.types;
   defined : (t : TableValue) (before : List Action) → HaveDefined l.numbers t l.initial.builder before

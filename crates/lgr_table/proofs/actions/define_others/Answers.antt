@@ -1,4 +1,4 @@
-use Rattle.std.proofs.Common.{◌≡◌, ◌+◌, ◌++◌, ◌∷◌, [], Some, None, ap, length, map, not, subst, sym, take, ◌∙◌}
+use Rattle.std.proofs.Common.{◌≡◌, ◌+◌, Some, None, ap, length, map, not, subst, sym, take, ◌∙◌}
 use Rattle.std.specs.Prelude.{filter}
 use Rattle.std.specs.Prelude.{Contains}
 use Rattle.std.proofs.lemmas.Result.{err_from_is_err_and}
@@ -8,6 +8,7 @@ use Rattle.lgr_table.specs.inner.Steps.{HaveDefined}
 use Rattle.lgr_table.specs.inner.TypeNames.{AreNamesOf}
 use Rattle.lgr_table.proofs.ActionLemmas.{defined_more, one_more}
 use Rattle.lgr_table.proofs.DemandLemmas.{is_other, none-where, other-more, other-same, rules-still, some-where, types-still}
+use Rattle.lgr_table.specs.inner.FaultSteps.{KnowsRules}
 use Rattle.variant_table.specs.Entries.{TableValue}
 use Rattle.lgr_table.proofs.actions.define_others.Goals as goal
 use Rattle.lgr_table.proofs.actions.define_others.Goals.{then-is_none+in_ok-define_action, else-is_none}
@@ -43,8 +44,10 @@ loop-action-preserved c =
     ]
 
 pub returns-in_err-define_action-clause-fault : goal.returns-in_err-define_action-clause-fault
-returns-in_err-define_action-clause-fault c = λ r all has.
+returns-in_err-define_action-clause-fault c = λ may r all has knows.
     let p = err_from_is_err_and c.from_residual.result c.from_residual.ensures.1 in
     let this = c.action-item.result in
-    rw (p.1, p.2) (c.in_err-define_action.ensures.fault r
-    (subst (Contains r.actions.items) (sym c.action-item.is) (all c.loop-action.action-index this c.loop-action-test.true)) has)
+    let still = ap (λ (t : TableValue). t.definitions.rules) c.loop-action.invariant.defined.others in
+    rw (p.1, p.2) (c.in_err-define_action.ensures.fault may r
+    (subst (Contains r.actions.items) (sym c.action-item.is) (all c.loop-action.action-index this c.loop-action-test.true)) has
+    (subst (KnowsRules r c.args.numbers.now.rules) (sym still) knows))

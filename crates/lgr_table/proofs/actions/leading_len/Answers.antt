@@ -1,8 +1,6 @@
-use Rattle.std.proofs.Common.{◌≡◌, false, map, sym, subst, ◌∙◌}
+use Rattle.std.proofs.Common.{map, sym, subst, ◌∙◌}
 use Rattle.std.proofs.lemmas.List.{take_all}
 use Rattle.lgr_text.specs.Records.{action}
-use Rattle.lgr_text.specs.declared.records.Action.{Action as Held}
-use Rattle.lgr_table.specs.Tables.{makes_invalid}
 use Rattle.lgr_table.proofs.DemandLemmas.{AllInvalid, all-following, all-leading, following-cut, leading-cut}
 use Rattle.lgr_table.proofs.actions.leading_len.Goals as goal
 

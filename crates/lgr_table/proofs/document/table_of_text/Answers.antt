@@ -2,16 +2,18 @@ use Rattle.std.proofs.Common.{ℕ, List, Result, Ok, Err, inr}
 use Rattle.std.specs.Prelude.{IfErr}
 use Rattle.lgr_text.specs.Records.{file}
 use Rattle.lgr_text.specs.declared.records.Ruleset.{Ruleset}
+use Rattle.idn_class.specs.declared.properties.Properties.{Properties}
 use Rattle.lgr_table.specs.Faults.{IsFaultOfTable}
+use Rattle.lgr_table.specs.Tables.{may_stand}
 use Rattle.lgr_table.specs.Texts.{IsToldOf, SaysRuleset}
 use Rattle.lgr_table.specs.declared.fault.TableError.{TableError}
 use Rattle.lgr_table.proofs.document.table_of_text.Goals as goal
 
 -- a fault of the ruleset is told of its text
-told-of : {X : Type 0} (text : List ℕ) (r : Ruleset) (result : Result X TableError) → SaysRuleset text (file r)
-    → IfErr result (IsFaultOfTable r) → IfErr result (IsToldOf text)
-told-of text r (Ok x) said told = tt
-told-of text r (Err e) said told = inr (inr (inr (inr (record { ruleset_ = r; said = said; told = told }))))
+told-of : {X : Type 0} (text : List ℕ) (properties : Properties) (r : Ruleset) (result : Result X TableError) → SaysRuleset text (file r)
+    → IfErr result (IsFaultOfTable (may_stand properties) r) → IfErr result (IsToldOf text)
+told-of text properties r (Ok x) said told = tt
+told-of text properties r (Err e) said told = inr (inr (inr (inr (record { ruleset_ = r; said = said; properties = properties; told = told }))))
 
 pub returns-clause-fault : goal.returns-clause-fault
-returns-clause-fault c = told-of _ _ c.table_of.result c.in_ok-ruleset.ensures.says c.table_of.ensures.fault
+returns-clause-fault c = told-of _ _ _ c.table_of.result c.in_ok-ruleset.ensures.says c.table_of.ensures.fault

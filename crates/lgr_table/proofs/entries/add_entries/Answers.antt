@@ -1,13 +1,17 @@
-use Rattle.std.proofs.Common.{◌≡◌, suc, List, drop, length, map, take, sym, ap, subst, ◌∙◌}
+use Rattle.std.proofs.Common.{◌≡◌, suc, ◌∷◌, ◌++◌, List, drop, length, map, take, sym, ap, subst, ◌∙◌}
 use Rattle.std.proofs.lemmas.List.{take_all}
 use Rattle.std.proofs.lemmas.Result.{err_from_is_err_and}
 use Rattle.lgr_text.specs.Records.{Entry, entry, file}
+use Rattle.lgr_text.specs.declared.records.Entry.{Entry as HeldEntry}
+use Rattle.lgr_table.specs.Faults.{IsFaultOfTable}
+use Rattle.lgr_table.specs.inner.FaultSteps.{HasEntriesOf, HasRulesOf}
+use Rattle.variant_table.specs.WellFormed.{IsTable}
 use Rattle.lgr_table.specs.Tables.{may_stand}
 use Rattle.lgr_table.specs.inner.EntrySteps.{AddsEntry}
 use Rattle.lgr_table.specs.inner.Steps.{AddsEntries}
 use Rattle.lgr_table.proofs.CalledLemmas.{mapped-more}
 use Rattle.lgr_table.proofs.EntryLemmas.{entries-more, entries-none, with_only}
-use Rattle.lgr_table.proofs.SourceLemmas.{sources-of, split-at}
+use Rattle.lgr_table.proofs.SourceLemmas.{split-at}
 use Rattle.ruleset_text.specs.Definitions.{Definitions}
 use Rattle.variant_table.specs.Entries.{TableValue}
 use Rattle.lgr_table.proofs.entries.add_entries.Goals as goal
@@ -48,12 +52,12 @@ returns-clause-added c =
     (take_all c.loop-entry.entry-index c.deref-entry-items.result.now c.loop-entry-test.false ∙ c.deref-entry-items.ensures.value) c.loop-entry.invariant
 
 pub returns-in_err-check_ranges-clause-fault : goal.returns-in_err-check_ranges-clause-fault
-returns-in_err-check_ranges-clause-fault c = λ spans rules.
+returns-in_err-check_ranges-clause-fault c = λ spans rules is_table.
     let p = err_from_is_err_and c.from_residual.result c.from_residual.ensures.1 in
-    rw (p.1, p.2) (c.in_err-check_ranges.ensures c.args.ruleset.now (sym c.deref.ensures.value) spans)
+    rw (p.1, p.2) (c.in_err-check_ranges.ensures (may_stand c.args.builder.now.definitions.properties) c.args.ruleset.now (sym c.deref.ensures.value) spans)
 
 pub returns-in_err-add_entry-clause-fault : goal.returns-in_err-add_entry-clause-fault
-returns-in_err-add_entry-clause-fault c = λ spans rules.
+returns-in_err-add_entry-clause-fault c = λ spans rules is_table.
     let p = err_from_is_err_and c.from_residual-in_err-add_entry.result c.from_residual-in_err-add_entry.ensures.1 in
     let t = c.args.builder.now in
     let u = c.loop-entry.builder in
@@ -61,6 +65,11 @@ returns-in_err-add_entry-clause-fault c = λ spans rules.
     let xs = c.deref-entry-items.result.now in
     let i = c.loop-entry.entry-index in
     let this = c.entry-item.result in
-    rw (p.1, p.2) (c.in_err-add_entry.ensures.fault c.args.ruleset.now (take i xs) (drop (suc i) xs)
-    (sym c.deref-entry-items.ensures.value ∙ split-at xs i this c.loop-entry-test.true c.entry-item.is)
-    (sources-of (may_stand t.definitions.properties) n (take i xs) u (ap (λ (w : TableValue). w.entries) c.loop-entry.invariant.others)) rules)
+    let r = c.args.ruleset.now in
+    let same : u.definitions ≡ t.definitions = ap (λ (w : TableValue). w.definitions) c.loop-entry.invariant.others in
+    let tells =
+    subst (λ (d : Definitions). (before after : List HeldEntry) (w : TableValue) → r.entries.items ≡ before ++ this ∷ after
+    → HasEntriesOf (may_stand d.properties) n before w u → IsTable w → HasRulesOf r n.rules
+    → IsFaultOfTable (may_stand d.properties) r c.in_err-add_entry.field-0.0) same (c.in_err-add_entry.ensures.fault r) in
+    rw (p.1, p.2) (tells (take i xs) (drop (suc i) xs) t (sym c.deref-entry-items.ensures.value ∙ split-at xs i this c.loop-entry-test.true c.entry-item.is)
+    c.loop-entry.invariant.others is_table rules)

@@ -1,11 +1,8 @@
 use Rattle.std.proofs.lemmas.Result.{err_from_is_err_and}
 use Rattle.lgr_text.specs.Records.{entry}
-use Rattle.std.proofs.Common.{◌∷◌, ◌++◌, arith, refl, subst, sym}
-use Rattle.std.specs.Prelude.{Contains}
-use Rattle.std.proofs.lemmas.List.Elements.{Contains-append_right}
 use Rattle.lgr_table.specs.Tables.{may_stand}
 use Rattle.lgr_table.proofs.EntryLemmas.{entry-added}
-use Rattle.lgr_table.proofs.SourceLemmas.{told-entry}
+use Rattle.lgr_table.proofs.SourceLemmas.{stands-there, told-entry}
 use Rattle.lgr_table.proofs.entries.add_entry.Goals as goal
 
 pub returns-clause-added : goal.returns-clause-added
@@ -15,13 +12,13 @@ returns-clause-added c =
     c.in_ok-add_sources.ensures.added c.in_ok-check_rules.ensures.among
 
 pub returns-in_err-check_rules-clause-fault : goal.returns-in_err-check_rules-clause-fault
-returns-in_err-check_rules-clause-fault c = λ r before after all has rules.
+returns-in_err-check_rules-clause-fault c = λ r before after t all has is_table rules.
     let p = err_from_is_err_and c.from_residual.result c.from_residual.ensures.1 in
-    let e = c.args.entry.now in
-    let here : Contains r.entries.items e = subst (λ l. Contains l e) (sym all) (Contains-append_right before (e ∷ after) e (0, omega arith, refl)) in
-    rw (p.1, p.2) (c.in_err-check_rules.ensures.fault r here rules)
+    let may = may_stand c.args.builder.now.definitions.properties in
+    rw (p.1, p.2) (c.in_err-check_rules.ensures.fault may r (stands-there r before after c.args.entry.now all) rules)
 
 pub returns-in_err-add_sources-clause-fault : goal.returns-in_err-add_sources-clause-fault
-returns-in_err-add_sources-clause-fault c = λ r before after all has rules.
+returns-in_err-add_sources-clause-fault c = λ r before after t all has is_table rules.
     let p = err_from_is_err_and c.from_residual-in_err-add_sources.result c.from_residual-in_err-add_sources.ensures.1 in
-    rw (p.1, p.2) (told-entry r before after c.args.entry.now c.args.builder.now _ all has c.in_err-add_sources.ensures.fault c.in_err-add_sources.ensures.again)
+    let may = may_stand c.args.builder.now.definitions.properties in
+    rw (p.1, p.2) (told-entry may r c.args.numbers.now before after c.args.entry.now t c.args.builder.now _ all has is_table c.in_err-add_sources.ensures.fault)

@@ -1,10 +1,11 @@
-use Rattle.std.proofs.Common.{◌≡◌, ℕ, ◌+◌, ◌-◌, ◌∷◌, [], ◌++◌, List, length, sym, ap, subst, ◌∙◌, arith}
+use Rattle.std.proofs.Common.{◌≡◌, ℕ, ◌+◌, ◌-◌, ◌∷◌, [], List, length, sym, ap, subst, ◌∙◌, arith}
 use Rattle.std.proofs.lemmas.Result.{err_from_is_err_and}
 use Rattle.lgr_text.specs.Records.{entry}
 use Rattle.lgr_table.specs.Tables.{may_stand}
 use Rattle.lgr_table.specs.inner.EntrySteps.{AddsSources}
+use Rattle.lgr_table.specs.inner.FaultSteps.{TellsSources}
 use Rattle.lgr_table.proofs.EntryLemmas.{same_definitions, singles, singles-push, sources-more, sources-none}
-use Rattle.lgr_table.proofs.SourceLemmas.{range-again}
+use Rattle.lgr_table.proofs.SourceLemmas.{range-told}
 use Rattle.ruleset_text.specs.Definitions.{Definitions}
 use Rattle.lgr_table.proofs.entries.add_range.Goals as goal
 
@@ -56,11 +57,18 @@ returns-clause-added c =
     subst (λ k. AddsSources (may_stand t.definitions.properties) c.args.numbers.now (entry c.args.entry.now) (singles first k) t c.loop-offset.builder) all
     c.loop-offset.invariant
 
-pub returns-in_err-add_source-clause-again : goal.returns-in_err-add_source-clause-again
-returns-in_err-add_source-clause-again c =
+pub returns-in_err-add_source-clause-fault : goal.returns-in_err-add_source-clause-fault
+returns-in_err-add_source-clause-fault c =
     let t = c.args.builder.now in
+    let u = c.loop-offset.builder in
+    let n = c.args.numbers.now in
+    let e = c.args.entry.now in
+    let may = may_stand t.definitions.properties in
     let first = c.args.span.first in
+    let k = c.loop-offset.offset in
     let p = err_from_is_err_and c.from_residual.result c.from_residual.ensures.1 in
-    let has = range-again (may_stand t.definitions.properties) c.args.numbers.now (entry c.args.entry.now) first (c.args.span.last + 1 - first) c.loop-offset.offset t c.loop-offset.builder c.in_err-add_source.field-0.0
-    c.loop-offset.invariant (omega arith) c.in_err-add_source.ensures.again in
-    rw (p.1, p.2) has
+    let same = same_definitions may n (entry e) (singles first k) t u c.loop-offset.invariant in
+    let told = c.in_err-add_source.field-0.0 in
+    let tells : TellsSources may n e (((first + k) ∷ []) ∷ []) u told =
+    subst (λ (d : Definitions). TellsSources (may_stand d.properties) n e (((first + k) ∷ []) ∷ []) u told) same c.in_err-add_source.ensures.fault in
+    rw (p.1, p.2) (range-told may n e first (c.args.span.last + 1 - first) k t u told c.loop-offset.invariant (omega arith) tells)

@@ -18,11 +18,11 @@ returns-then-rule_number-rules-clause-among c =
     asked-among rules (option_map condition c.args.condition.now) (condition asks) (ap (option_map condition) c.in-Some.is) less
 
 pub returns-else-rule_number-rules-clause-fault : goal.returns-else-rule_number-rules-clause-fault
-returns-else-rule_number-rules-clause-fault c = λ r among has.
+returns-else-rule_number-rules-clause-fault c = λ may r among has.
     let rules = c.args.numbers.now.rules in
     let asks = c.in-Some.condition in
     let number : c.rule_number.result ≡ number_of rules asks.rule.name = c.rule_number.ensures.is ∙ ap (number_of rules) c.as_slice.ensures in
     let count : length c.rules.result.now ≡ length rules = ap length c.rules.ensures in
     let none : length rules ≤ number_of rules asks.rule.name = omega (arith, number, count) in
     let here : Contains (given c.args.condition.now) asks = subst (λ o. Contains (given o) asks) (sym c.in-Some.is) (0, omega arith, refl) in
-    subst (IsFaultOfTable r) (sym c.on.ensures) (asks-for-none r rules asks (among asks here) has none)
+    subst (IsFaultOfTable may r) (sym c.on.ensures) (asks-for-none r rules asks (among asks here) has none)

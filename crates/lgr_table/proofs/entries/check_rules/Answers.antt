@@ -21,16 +21,16 @@ returns-clause-among c =
     (subst (λ l. AreAmong rules (flat_map f (map variant l))) c.deref.ensures.value c.in_ok-check_rules_of_variants.ensures.among)
 
 pub returns-in_err-check_rule-clause-fault : goal.returns-in_err-check_rule-clause-fault
-returns-in_err-check_rule-clause-fault c = λ r among has.
+returns-in_err-check_rule-clause-fault c = λ may r among has.
     let p = err_from_is_err_and c.from_residual.result c.from_residual.ensures.1 in
     let e = c.args.entry.now in
-    rw (p.1, p.2) (c.in_err-check_rule.ensures.fault r
+    rw (p.1, p.2) (c.in_err-check_rule.ensures.fault may r
     (λ k h. of-entry r e among k (Contains-append_left (given e.condition) (flat_map (λ (v : Variant). given v.condition) e.variants.items) k h)) has)
 
 pub returns-in_err-check_rules_of_variants-clause-fault : goal.returns-in_err-check_rules_of_variants-clause-fault
-returns-in_err-check_rules_of_variants-clause-fault c = λ r among has.
+returns-in_err-check_rules_of_variants-clause-fault c = λ may r among has.
     let p = err_from_is_err_and c.from_residual-in_err-check_rules_of_variants.result c.from_residual-in_err-check_rules_of_variants.ensures.1 in
     let e = c.args.entry.now in
-    rw (p.1, p.2) (c.in_err-check_rules_of_variants.ensures.fault r
+    rw (p.1, p.2) (c.in_err-check_rules_of_variants.ensures.fault may r
     (λ k h. of-entry r e among k (Contains-append_right (given e.condition) (flat_map (λ (v : Variant). given v.condition) e.variants.items) k
     (subst (λ l. Contains (flat_map (λ (v : Variant). given v.condition) l) k) c.deref.ensures.value h))) has)

@@ -1,4 +1,4 @@
-use Rattle.std.proofs.Common.{List, ℕ, ◌++◌, [], map, take, subst}
+use Rattle.std.proofs.Common.{List, ℕ, [], map, take, subst}
 use Rattle.std.specs.List.{Contains, flat_map}
 use Rattle.std.proofs.lemmas.List.{take_all}
 use Rattle.std.proofs.lemmas.List.Elements.{All-append, All-nil}
@@ -33,9 +33,9 @@ returns-clause-among c =
     subst (λ l. AreAmong rules (flat_map f (map variant l))) (take_all c.loop-variant.variant-index c.args.variants.now c.loop-variant-test.false) c.loop-variant.invariant
 
 pub returns-in_err-check_rule-clause-fault : goal.returns-in_err-check_rule-clause-fault
-returns-in_err-check_rule-clause-fault c = λ r all has.
+returns-in_err-check_rule-clause-fault c = λ may r all has.
     let p = err_from_is_err_and c.from_residual.result c.from_residual.ensures.1 in
     let xs = c.args.variants.now in
     let this = c.variant-item.result in
     let read = is-read xs c.loop-variant.variant-index this c.loop-variant-test.true c.variant-item.is in
-    rw (p.1, p.2) (c.in_err-check_rule.ensures.fault r (λ k h. all k (in-flat (λ (v : Variant). given v.condition) xs this k read h)) has)
+    rw (p.1, p.2) (c.in_err-check_rule.ensures.fault may r (λ k h. all k (in-flat (λ (v : Variant). given v.condition) xs this k read h)) has)

@@ -7,8 +7,8 @@ use Rattle.lgr_table.proofs.CalledLemmas.{condition-back}
 use Rattle.ruleset_text.specs.Names.{number_of}
 use Rattle.lgr_table.proofs.mapped.condition_called.Goals as goal
 
-pub returns-clause-called : goal.returns-clause-called
-returns-clause-called c =
+pub returns : goal.returns
+returns c =
     let d = c.args.definitions.now in
     let n = c.args.numbers.now in
     let asks = c.in-Some.condition in

@@ -1,4 +1,5 @@
-use Rattle.std.proofs.Common.{◌≡◌, ◌+◌, ◌<◌, ◌∷◌, [], ◌++◌, List, false, length, map, refl, sym, ap, subst, ◌∙◌, arith}
+use Rattle.std.proofs.Common.{◌≡◌, ◌∷◌, [], ◌++◌, false, map, refl, sym, ap, subst, ◌∙◌, arith}
+use Rattle.std.proofs.lemmas.Result.{err_from_is_err_and}
 use Rattle.lgr_text.specs.Records.{variant}
 use Rattle.lgr_table.specs.Entries.{reflexive_type, variants_of}
 use Rattle.lgr_table.specs.Tables.{may_stand}
@@ -22,5 +23,10 @@ returns-clause-is c =
     let first : c.push.new.self.items ≡ m ∷ [] = c.in_ok-push.ensures.items ∙ ap (λ l. l ++ m ∷ []) c.new-mapped.ensures.items in
     entry-pushed d c.push.new.self.items c.push_variants.new.mapped.items m s (reflexive_type n s (map variant c.args.entry.now.variants.items)) _
     (variants_of may n s (map variant c.args.entry.now.variants.items)) first refl c.in_ok-points.ensures.items
-    (c.in_ok-type_name.ensures ∙ c.reflexive_type-number.ensures ∙ ap (λ l. reflexive_type n s (map variant l)) c.deref.ensures.value) c.in_ok-condition.ensures.called
-    (subst (λ l. PushesVariants d c.push.new.self.items c.push_variants.new.mapped.items (variants_of may n s (map variant l))) c.deref-2.ensures.value c.in_ok-push_variants.ensures.pushed)
+    (c.in_ok-type_name.ensures ∙ c.reflexive_type-number.ensures ∙ ap (λ l. reflexive_type n s (map variant l)) c.deref.ensures.value) c.in_ok-condition.ensures
+    (subst (λ l. PushesVariants d c.push.new.self.items c.push_variants.new.mapped.items (variants_of may n s (map variant l))) c.deref-2.ensures.value c.in_ok-push_variants.ensures)
+
+pub returns-in_err-check_points-clause-fault : goal.returns-in_err-check_points-clause-fault
+returns-in_err-check_points-clause-fault c =
+    let p = err_from_is_err_and c.from_residual-in_err-check_points.result c.from_residual-in_err-check_points.ensures.1 in
+    rw (p.1, p.2) (c.in_err-check_points.ensures c.args.source.now)

@@ -1,4 +1,4 @@
-use Rattle.std.proofs.Common.{◌≡◌, ℕ, List, [], ◌∷◌, false, true, not, ◌&&◌, sym, ap, ◌∙◌, subst}
+use Rattle.std.proofs.Common.{◌≡◌, ℕ, List, [], ◌∷◌, false, true, not, sym, ap, ◌∙◌, subst}
 use Rattle.std.proofs.lemmas.Bool.{and_from, and_left, and_right}
 use Rattle.lgr_text.specs.Records.{variant}
 use Rattle.lgr_table.specs.Entries.{is_reflexive, may_be, variant_of, variants_of}
@@ -11,8 +11,8 @@ use Rattle.lgr_table.proofs.mapped.push_variant.Goals as goal
 asked_is : {p q : Properties} {a b : List ℕ} → p ≡ q → a ≡ b → may_be (may_stand q) b ≡ may_be (may_stand p) a
 asked_is {p} {q} {a} {b} e f = sym (ap (λ x. may_be (may_stand x) a) e ∙ ap (may_be (may_stand q)) f)
 
-pub returns-then-is_reflexive-clause-pushed : goal.returns-then-is_reflexive-clause-pushed
-returns-then-is_reflexive-clause-pushed c =
+pub returns-then-is_reflexive : goal.returns-then-is_reflexive
+returns-then-is_reflexive c =
     let may = may_stand c.args.definitions.now.properties in
     let v = variant c.args.variant.now in
     let s = c.args.source.now in
@@ -20,8 +20,8 @@ returns-then-is_reflexive-clause-pushed c =
     pushes-none c.args.definitions.now c.args.mapped.now.items _
     (variants-left may c.args.numbers.now s v (and_right (may_be may v.points) (not (is_reflexive s v)) same))
 
-pub returns-then-not-kept-clause-pushed : goal.returns-then-not-kept-clause-pushed
-returns-then-not-kept-clause-pushed c =
+pub returns-then-not-kept : goal.returns-then-not-kept
+returns-then-not-kept c =
     let may = may_stand c.args.definitions.now.properties in
     let v = variant c.args.variant.now in
     let s = c.args.source.now in
@@ -29,8 +29,8 @@ returns-then-not-kept-clause-pushed c =
     pushes-none c.args.definitions.now c.args.mapped.now.items _
     (variants-left may c.args.numbers.now s v (and_left (may_be may v.points) (not (is_reflexive s v)) bad))
 
-pub returns-clause-pushed : goal.returns-clause-pushed
-returns-clause-pushed c =
+pub returns : goal.returns
+returns c =
     let d = c.args.definitions.now in
     let may = may_stand d.properties in
     let v = variant c.args.variant.now in
@@ -39,4 +39,4 @@ returns-clause-pushed c =
     let good : may_be may v.points ≡ true = asked_is c.properties.ensures c.deref.ensures.value ∙ sym c.in_ok-kept.ensures ∙ c.if-not-kept.false in
     subst (λ l. PushesVariants d c.args.mapped.now.items l (variants_of may c.args.numbers.now s (v ∷ []))) (sym c.in_ok-push.ensures.items)
     (pushes-one d c.args.mapped.now.items c.in_ok-called.called (variant_of c.args.numbers.now v) _
-    (variants-kept may c.args.numbers.now s v (and_from (may_be may v.points) (not (is_reflexive s v)) good other)) c.in_ok-called.ensures.called)
+    (variants-kept may c.args.numbers.now s v (and_from (may_be may v.points) (not (is_reflexive s v)) good other)) c.in_ok-called.ensures)

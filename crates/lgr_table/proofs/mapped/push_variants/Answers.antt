@@ -1,5 +1,4 @@
-use Rattle.std.proofs.Common.{◌≡◌, ◌∷◌, [], ◌++◌, List, map, take, sym, ap, subst, ◌∙◌, refl}
-use Rattle.std.proofs.lemmas.List.{map-append, take_more}
+use Rattle.std.proofs.Common.{◌∷◌, [], List, map, take, ap, subst, ◌∙◌, refl}
 use Rattle.lgr_text.specs.Records.{variant}
 use Rattle.lgr_text.specs.Records as lgr
 use Rattle.lgr_table.specs.Entries.{variants_of}
@@ -24,4 +23,4 @@ loop-variant-preserved c =
     (variants-more may c.args.numbers.now c.args.source.now (map variant (take i vs)) (variant this)
     ∙ ap all (mapped-more variant vs i this c.loop-variant-test.true c.variant-item.is))
     (pushes-more d c.args.mapped.now.items c.loop-variant.mapped.items c.push_variant.new.mapped.items (all (map variant (take i vs))) (all (variant this ∷ []))
-    c.loop-variant.invariant c.in_ok-push_variant.ensures.pushed)
+    c.loop-variant.invariant c.in_ok-push_variant.ensures)

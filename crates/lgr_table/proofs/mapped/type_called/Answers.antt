@@ -1,4 +1,4 @@
-use Rattle.std.proofs.Common.{◌≡◌, Some, sym, ap, ◌∙◌}
+use Rattle.std.proofs.Common.{Some, sym, ap, ◌∙◌}
 use Rattle.ruleset_text.specs.Definitions.{type_number}
 use Rattle.lgr_table.proofs.CalledLemmas.{type-back}
 use Rattle.lgr_table.proofs.mapped.type_called.Goals as goal

@@ -1,4 +1,4 @@
-use Rattle.std.proofs.Common.{◌≡◌, ◌+◌, ◌<◌, length, sym, ◌∙◌, arith}
+use Rattle.std.proofs.Common.{sym, ◌∙◌, arith}
 use Rattle.lgr_table.proofs.CalledLemmas.{number-within}
 use Rattle.lgr_table.proofs.mapped.variant_called.Goals as goal
 

@@ -1,5 +1,4 @@
 use Rattle.std.proofs.Common.{◌≡◌, ◌||◌, true, false, sym, ap, ◌∙◌}
-use Rattle.ruleset_text.specs.Definitions.{type_names}
 use Rattle.ruleset_text.specs.Names.{is_one_of}
 use Rattle.lgr_table.proofs.FreshLemmas.{one_of-all_names}
 use Rattle.lgr_table.proofs.names.is_taken.Goals as goal

@@ -24,5 +24,5 @@ pub returns-in-Ok-clause-called : goal.returns-in-Ok-clause-called
 returns-in-Ok-clause-called c = λ names are.
     let t = c.args.builder.now in
     let added = rule-added (room_for_definitions t) t c.define.new.self c.in_ok-name.name (pattern c.args.tree) c.in-Ok.ensures.others c.in-Ok.ensures.added.1 in
-    rule-named (names_by c.args.names) names t.definitions c.define.new.self.definitions c.in_ok-name.name c.args.name.now are c.in_ok-name.ensures.called added.set_names
+    rule-named (names_by c.args.names) names t.definitions c.define.new.self.definitions c.in_ok-name.name c.args.name.now are c.in_ok-name.ensures added.set_names
     added.rule_names

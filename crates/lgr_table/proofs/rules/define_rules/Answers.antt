@@ -1,4 +1,4 @@
-use Rattle.std.proofs.Common.{◌≡◌, ◌+◌, ◌<◌, ℕ, List, length, get_or, map, take, refl, sym, ap, subst, ◌∙◌}
+use Rattle.std.proofs.Common.{◌≡◌, ℕ, List, get_or, map, take, refl, sym, ap, subst, ◌∙◌}
 use Rattle.std.specs.Prelude.{◌↔◌, IsTrue}
 use Rattle.std.proofs.lemmas.List.{take_all}
 use Rattle.std.proofs.lemmas.Result.{err_from_is_err_and}
@@ -6,16 +6,17 @@ use Rattle.idn_class.specs.declared.properties.Properties.{Properties}
 use Rattle.label_patterns.specs.Sets.{is_in}
 use Rattle.ruleset_text.specs.Definitions.{Definitions}
 use Rattle.lgr_text.specs.DefinitionOrder.{IsOrder, IsOrderFault}
-use Rattle.lgr_text.specs.Records.{definition, entry, file}
+use Rattle.lgr_text.specs.Records.{definition, entry}
 use Rattle.lgr_text.specs.declared.records.Definition.{Definition as Held}
 use Rattle.lgr_text.specs.declared.records.Entry.{Entry as HeldEntry}
 use Rattle.lgr_table.specs.Meanings.{IsKept}
 use Rattle.lgr_table.specs.Tables.{may_stand}
 use Rattle.lgr_table.specs.inner.RuleSteps.{known_by}
 use Rattle.lgr_table.specs.inner.TableNames.{AreRuleNames}
-use Rattle.lgr_table.proofs.TableNameLemmas.{names-none, names-with}
+use Rattle.lgr_table.proofs.TableNameLemmas.{names-with}
 use Rattle.lgr_table.proofs.OtherRulesLemmas.{others-too}
 use Rattle.lgr_table.proofs.RuleLemmas.{adds-rules, all-rules}
+use Rattle.lgr_table.proofs.KnownLemmas.{comes-next, knows-all}
 use Rattle.lgr_table.proofs.StepLemmas.{meaning-formed, taken-step}
 use Rattle.lgr_table.proofs.TakenLemmas.{AreTaken}
 use Rattle.lgr_table.proofs.TakenOrderLemmas.{chosen, within}
@@ -84,22 +85,32 @@ returns c =
       added = adds-rules own held order points known c.args.builder.now u is are taken refl c.loop-number.invariant.others c.args.types.now
           (subst (λ n. AreRuleNames n c.loop-number.taken.rule_names.items u.definitions) names c.loop-number.invariant.called);
       all = all-rules own held order points known c.args.builder.now u is are taken refl c.loop-number.invariant.others;
-      fault = tt;
+      known = (known, knows-all held order points known u.definitions.sets is taken c.loop-number.invariant.branches, refl, refl);
+      fault = λ may. tt;
     }
 
 pub returns-in-Err-clause-fault : goal.returns-in-Err-clause-fault
-returns-in-Err-clause-fault c =
-    c.of_order.ensures c.args.«ruleset».now
+returns-in-Err-clause-fault c = λ may.
+    c.of_order.ensures may c.args.«ruleset».now
     (subst (λ (l : List Held). IsOrderFault l c.in-Err.error) c.deref-3.ensures.value c.in-Err.ensures.fault)
 
 pub returns-in_err-take-clause-fault : goal.returns-in_err-take-clause-fault
-returns-in_err-take-clause-fault c =
+returns-in_err-take-clause-fault c = λ may.
     let p = err_from_is_err_and c.from_residual-in_err-take.result c.from_residual-in_err-take.ensures.1 in
-    let raw = c.args.«ruleset».now.definitions.items in
+    let r = c.args.«ruleset».now in
+    let raw = r.definitions.items in
     let order = c.deref-number-items.result.now in
     let is : IsOrder raw order =
     subst (λ (l : List ℕ). IsOrder raw l) (sym c.deref-number-items.ensures.value)
     (subst (λ (l : List Held). IsOrder l c.in-Ok.order.items) c.deref-3.ensures.value c.in-Ok.ensures.order) in
     let i = c.loop-number.number-index in
-    rw (p.1, p.2) (c.in_err-take.ensures.fault c.args.«ruleset».now
-    (get_or order i 0, within raw order i is c.loop-number-test.true, sym c.index-definition.ensures) (ap (map entry) (sym c.deref-2.ensures.value)))
+    let d = c.index-definition.result.now in
+    let entries = map entry c.deref-2.result.now in
+    let points = c.in_ok-points.points in
+    let known = known_by entries points c.loop-number.taken c.loop-number.builder.definitions.rules in
+    let sets = c.loop-number.builder.definitions.sets in
+    let taken : AreTaken (map entry r.entries.items) points known sets (chosen (map definition raw) (take i order)) =
+    subst (λ (l : List HeldEntry). AreTaken (map entry l) points known sets (chosen (map definition raw) (take i order))) c.deref-2.ensures.value
+    c.loop-number.invariant.taken in
+    rw (p.1, p.2) (c.in_err-take.ensures.fault may r (get_or order i 0, within raw order i is c.loop-number-test.true, sym c.index-definition.ensures)
+    (comes-next r order i d points known sets is c.loop-number-test.true c.index-definition.ensures taken c.loop-number.invariant.branches))

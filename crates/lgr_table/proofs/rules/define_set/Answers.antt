@@ -1,4 +1,4 @@
-use Rattle.std.proofs.Common.{◌≡◌, ◌∷◌, [], ◌++◌, List, ap, ◌∙◌}
+use Rattle.std.proofs.Common.{◌∷◌, [], ◌++◌, List, ap, ◌∙◌}
 use Rattle.label_patterns.specs.declared.span.Span.{Span}
 use Rattle.variant_table.specs.DefinitionLines.{room_for_definitions}
 use Rattle.lgr_table.proofs.OtherRulesLemmas.{set-added}
@@ -26,4 +26,4 @@ pub returns-in-Ok-clause-called : goal.returns-in-Ok-clause-called
 returns-in-Ok-clause-called c = λ names are.
     let t = c.args.builder.now in
     let added = set-added (room_for_definitions t) t c.define.new.self c.in_ok-name.name c.in_ok-copy.copy c.in-Ok.ensures.others c.in-Ok.ensures.added.1 in
-    set-named (names_by c.args.names) names t.definitions c.define.new.self.definitions c.in_ok-name.name _ are c.in_ok-name.ensures.called added.set_names added.rule_names
+    set-named (names_by c.args.names) names t.definitions c.define.new.self.definitions c.in_ok-name.name _ are c.in_ok-name.ensures added.set_names added.rule_names

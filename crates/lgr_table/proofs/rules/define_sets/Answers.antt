@@ -1,4 +1,4 @@
-use Rattle.std.proofs.Common.{◌≡◌, ◌++◌, ◌∷◌, [], take, sym, ap, ◌∙◌}
+use Rattle.std.proofs.Common.{◌++◌, ◌∷◌, [], take, sym, ap, ◌∙◌}
 use Rattle.std.proofs.lemmas.List.{get_or_read, take_more}
 use Rattle.lgr_table.proofs.OtherRulesLemmas.{others-too}
 use Rattle.lgr_table.proofs.rules.define_sets.Goals as goal

@@ -1,14 +1,15 @@
 use Rattle.std.proofs.Common.{◌≡◌, ◌∷◌, [], ◌++◌, List, ℕ, map, sym, ap, subst, ◌∙◌}
-use Rattle.label_patterns.specs.declared.span.Span.{Span}
 use Rattle.label_patterns.specs.Patterns.{Pattern}
 use Rattle.label_patterns.specs.Trees.{pattern}
 use Rattle.ruleset_text.specs.Definitions.{Definitions}
+use Rattle.std.proofs.lemmas.Result.{err_from_is_err_and}
 use Rattle.lgr_text.specs.Known.{known as known_of}
+use Rattle.lgr_table.specs.Faults.{ComesNext}
 use Rattle.lgr_text.specs.Records.{entry, meaning, part}
 use Rattle.lgr_table.specs.inner.RuleSteps.{AddsMeaning, known_by}
 use Rattle.lgr_table.specs.inner.TableNames.{AreRuleNames, names_by}
 use Rattle.lgr_table.proofs.StepLemmas.{rule-adds}
-use Rattle.lgr_table.proofs.FaultLemmas.{told-class, told-rule}
+use Rattle.lgr_table.proofs.FaultLemmas.{no-room, told-class, told-rule}
 use Rattle.lgr_table.proofs.rules.take.Goals as goal
 
 pub returns-in_ok-push-in-Ok-pattern_of_rule-clause-added :
@@ -46,16 +47,38 @@ returns-in_ok-push-in-Ok-pattern_of_rule-clause-added c =
     (sym c.in-Rule.is) adds
 
 pub returns-in-Err-clause-fault : goal.returns-in-Err-clause-fault
-returns-in-Err-clause-fault c = λ r among same.
-    let known = known_by (map entry c.args.repertoire.entries.now) c.args.repertoire.points.now c.args.taken.now (map pattern c.rules-rules.result.now) in
-    c.of_rule.ensures r (told-class r c.args.definition.now known _ _ among (sym same) (ap meaning c.in-Class.is) c.in-Err.ensures.fault)
+returns-in-Err-clause-fault c = λ may r among next.
+    let entries = map entry c.args.repertoire.entries.now in
+    let points = c.args.repertoire.points.now in
+    let all : map pattern c.rules-rules.result.now ≡ c.args.builder.now.definitions.rules =
+    c.rules-rules.ensures.is ∙ ap (λ (d : Definitions). d.rules) c.definitions.ensures in
+    let known = known_by entries points c.args.taken.now (map pattern c.rules-rules.result.now) in
+    let comes : ComesNext r c.args.definition.now known =
+    subst (λ (rules : List Pattern). ComesNext r c.args.definition.now (known_by entries points c.args.taken.now rules)) (sym all) next in
+    c.of_rule.ensures may r (told-class r c.args.definition.now known _ _ comes (ap meaning c.in-Class.is) c.in-Err.ensures.fault)
 
 pub returns-in-Err-pattern_of_rule-clause-fault : goal.returns-in-Err-pattern_of_rule-clause-fault
-returns-in-Err-pattern_of_rule-clause-fault c = λ r among same.
-    let entries : (known_of c.known-known.result).entries ≡ map entry r.entries.items = ap (λ k. k.entries) c.known-known.ensures ∙ sym same in
-    c.of_rule-in-Err-pattern_of_rule.ensures r
-    (told-rule r c.args.definition.now (known_of c.known-known.result) c.args.made.now.atoms_left (part c.in-Rule.rule) _ among entries
-    (ap meaning c.in-Rule.is) c.in-Err-pattern_of_rule.ensures.fault)
+returns-in-Err-pattern_of_rule-clause-fault c = λ may r among next.
+    let found = known_of c.known-known.result in
+    let same : found ≡ known_by (map entry c.args.repertoire.entries.now) c.args.repertoire.points.now c.args.taken.now c.args.builder.now.definitions.rules =
+    c.known-known.ensures ∙ ap (λ (l : List Pattern). known_by (map entry c.args.repertoire.entries.now) c.args.repertoire.points.now c.args.taken.now l)
+    (c.rules.ensures.is ∙ ap (λ (d : Definitions). d.rules) c.definitions-in-Rule.ensures) in
+    let comes : ComesNext r c.args.definition.now found = subst (ComesNext r c.args.definition.now) (sym same) next in
+    c.of_rule-in-Err-pattern_of_rule.ensures may r
+    (told-rule r c.args.definition.now found c.args.made.now.atoms_left (part c.in-Rule.rule) _ among comes (ap meaning c.in-Rule.is)
+    c.in-Err-pattern_of_rule.ensures.fault)
+
+pub returns-in_err-define_sets-in-Ok-pattern_of_rule-clause-fault : goal.returns-in_err-define_sets-in-Ok-pattern_of_rule-clause-fault
+returns-in_err-define_sets-in-Ok-pattern_of_rule-clause-fault c = λ may r among next.
+    let p = err_from_is_err_and c.from_residual.result c.from_residual.ensures.1 in
+    rw (p.1, p.2) (no-room may r c.args.definition.now (part c.in-Rule.rule) _ among (ap meaning c.in-Rule.is)
+    c.in_err-define_sets-in-Ok-pattern_of_rule.ensures.fault)
+
+pub returns-in_err-define_rule-in-Ok-pattern_of_rule-clause-fault : goal.returns-in_err-define_rule-in-Ok-pattern_of_rule-clause-fault
+returns-in_err-define_rule-in-Ok-pattern_of_rule-clause-fault c = λ may r among next.
+    let p = err_from_is_err_and c.from_residual-in_err-define_rule-in-Ok-pattern_of_rule.result c.from_residual-in_err-define_rule-in-Ok-pattern_of_rule.ensures.1 in
+    rw (p.1, p.2) (no-room may r c.args.definition.now (part c.in-Rule.rule) _ among (ap meaning c.in-Rule.is)
+    c.in_err-define_rule-in-Ok-pattern_of_rule.ensures.fault)
 
 pub returns-in_ok-push-in-Ok-pattern_of_rule-clause-called :
     goal.returns-in_ok-push-in-Ok-pattern_of_rule-clause-called

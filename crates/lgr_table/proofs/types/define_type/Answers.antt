@@ -16,6 +16,6 @@ returns-in-Ok c =
     let added = is-added (room_for_definitions t) t.definitions u.definitions (VariantType given) c.in-Ok.ensures.added.1 in
     record {
       given = given;
-      called = subst (λ (n : List ℕ). IsCalled (names_by c.args.names) (is_name n) n given) c.name_of-name.ensures c.in_ok-given.ensures.called;
+      called = subst (λ (n : List ℕ). IsCalled (names_by c.args.names) (is_name n) n given) c.name_of-name.ensures c.in_ok-given.ensures;
       added = c.in-Ok.ensures.others ∙ ap (λ (d : Definitions). record t { definitions = d }) (sym added);
     }

@@ -1,4 +1,4 @@
-use Rattle.std.proofs.Common.{◌≡◌, sym, ◌∙◌}
+use Rattle.std.proofs.Common.{sym, ◌∙◌}
 use Rattle.lgr_text.specs.Records.{entry}
 use Rattle.lgr_table.specs.Tables.{may_stand}
 use Rattle.lgr_table.specs.inner.Wanted.{keeps_in}

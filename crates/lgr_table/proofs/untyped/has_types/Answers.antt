@@ -1,4 +1,4 @@
-use Rattle.std.proofs.Common.{◌≡◌, Bool, sym, ◌∙◌}
+use Rattle.std.proofs.Common.{Bool, sym, ◌∙◌}
 use Rattle.std.specs.Prelude.{is_some}
 use Rattle.lgr_text.specs.Records.{variant}
 use Rattle.lgr_text.specs.Records as lgr

@@ -1,4 +1,4 @@
-use Rattle.std.proofs.Common.{◌≡◌, Bool, map, sym, ap, ◌∙◌}
+use Rattle.std.proofs.Common.{Bool, map, sym, ap, ◌∙◌}
 use Rattle.std.specs.Prelude.{is_some}
 use Rattle.std.specs.List.{list_any}
 use Rattle.lgr_text.specs.Records.{entry, variant}

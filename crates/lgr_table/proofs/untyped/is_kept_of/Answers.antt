@@ -1,4 +1,4 @@
-use Rattle.std.proofs.Common.{◌≡◌, sym, ap, ◌∙◌}
+use Rattle.std.proofs.Common.{sym, ap, ◌∙◌}
 use Rattle.lgr_text.specs.Records.{variant}
 use Rattle.lgr_table.specs.Entries.{may_be}
 use Rattle.lgr_table.specs.Tables.{may_stand}
