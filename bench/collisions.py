@@ -15,7 +15,7 @@ bench.py. What the lines of the tables say:
                 microseconds a jump
                 each of these words, or of these Han labels, asked for among all of them; and the same with --others, as
                 an audit of a register does
-                labels of each of tables/rulesets that it admits, among labels of its letters; in microseconds a label
+                labels of each of tables/rulesets, among such labels; in microseconds a label
     jump        `idn2 --variants TABLE --jump`, in microseconds a jump: requests from a file, by the processor; and one at a
                 time from a co-process, by the clock, with what Python takes for it
 
@@ -182,10 +182,11 @@ def show_searches(options, all_letters, between, asked_of_themselves):
 def show_rulesets(options, folder):
     print("\nrulesets: microseconds beyond the load")
     cells("", "labels", "asked", "", "a label", "wanted")
-    for path in sorted((TABLE.parent / "rulesets").glob("*.txt")):
-        labels = registered.ruleset_labels(options.ours, path, options.labels)
-        kept = Registered(options, folder, path.stem, path, labels, "--ruleset")
-        asked = registered.accepted(options.ours, ["--ruleset", path, "--tries", "1"], labels)[:COMPARED]
+    for path in registered.RULESETS:
+        drawn = registered.Drawn(options.ours, path)
+        labels = drawn.labels(options.labels)
+        kept = Registered(options, folder, path.stem, path, labels, drawn.listing)
+        asked = labels[:COMPARED]
         _, search = beyond_load(options, kept, asked)
         cells(path.stem, f"{len(labels):,}", f"{len(asked):,}", "", f"{1e6 * search / len(asked):.1f}", LABEL_WANTED)
 

@@ -1,18 +1,21 @@
 #!/usr/bin/env python3
-"""Times idn2-registry with a register of labels like German words: python3 bench/registry.py
+"""Times idn2-registry with a register of labels of each of some tables: python3 bench/registry.py
 
-    check       one label after the other against all registered ones, by the clock: in milliseconds the middle of all, and the
-                slowest; and the slowest of those that nothing else kept from a processor, since the clock counts that, too
-    audit       of all of them: how often it takes the processor time of the run of the program alone that it stands on, which is
-                --among with --others; each the least of some rounds
+    check       one label after the other, each near a registered one, against all registered ones, by the clock: in
+                milliseconds the middle of all, and the slowest; and the slowest of those that nothing else kept from a
+                processor, since the clock counts that, too
+    audit       of all of them: how often it takes the processor time of the run of the program alone that it stands on,
+                which is --among with --others; each the least of some rounds
 
-The register is a file of SQLite, and then, where Debian's packages of it are installed, a database of PostgreSQL.
+The tables are tables/german.txt, with labels like German words, and each of tables/rulesets; or those that --tables
+names, which may be rulesets in XML. The register is a file of SQLite, and then, where Debian's packages of it are
+installed, a database of PostgreSQL.
 """
 
 import gc
+import math
 import os
 import pathlib
-import random
 import resource
 import statistics
 import subprocess
@@ -21,7 +24,6 @@ import time
 
 import registered
 from bench import HERE
-from inputs import SEED
 from runs import Failed, before_others, children, lost, measured, words_of
 
 sys.path += [str(HERE.parent / folder) for folder in ("registry", "tests")]
@@ -30,7 +32,7 @@ from postgresql import server, uri_of
 from program import python_with
 
 CHECK_WANTED, WORST_WANTED, AUDIT_WANTED = 2, 10, 1.5
-ASKED = 100_000
+SQLITE, POSTGRESQL = "sqlite", "postgresql"
 
 
 def processor_time(words, folder, source=os.devnull):
@@ -46,16 +48,14 @@ def processor_time(words, folder, source=os.devnull):
     return after.ru_utime + after.ru_stime - before.ru_utime - before.ru_stime
 
 
-def checks(options, folder, labels, server_process):
-    """Milliseconds of each check, and of those during which the processors did nothing else."""
+def checks(options, folder, asked, server_process):
+    """Milliseconds of each check; and with their labels those during which the processors did nothing else."""
     from idn2_registry import Zone
 
-    chance = random.Random(f"{SEED} checks")
-    asked = [chance.choice(labels)[:-1] + chance.choice("aeß") for _ in range(min(ASKED, len(labels)))]
     # Python doesn't look for garbage in the lists that only this script has.
     gc.freeze()
     with before_others(), Zone.open(folder / "registry.toml", options.ours) as zone:
-        zone.check("erste")
+        zone.check(asked[0])
         processes = [os.getpid(), *children(os.getpid()), *(children(server_process) if server_process else ())]
         times, undisturbed = [], []
         for label in asked:
@@ -63,40 +63,61 @@ def checks(options, folder, labels, server_process):
             answer = zone.check(label)
             times.append((time.perf_counter() - start) * 1000)
             if lost(processes) - before < 1:
-                undisturbed.append(times[-1])
+                undisturbed.append((times[-1], label))
             if answer.reason:
                 raise Failed(f"no answer for {label}")
     return times, undisturbed
 
 
 def measure(options, folder):
-    labels = registered.german_words(options.labels)
+    print(f"{'':<25}load, s   check, ms: middle   slowest   undisturbed   audit, times the program's own")
+    print(f"{'wanted':<32}{CHECK_WANTED:21}{WORST_WANTED:10}{WORST_WANTED:10}   {AUDIT_WANTED}", flush=True)
+    for table in options.tables:
+        measure_table(options, folder, table)
+
+
+def measure_table(options, folder, table):
+    drawn = registered.Drawn(options.ours, table)
+    labels = drawn.labels(options.labels)
     (folder / "labels.txt").write_text("".join(f"{label}\n" for label in labels), "utf-8")
-    words = [options.ours, "--variants", registered.GERMAN, "--among", "labels.txt", "--others"]
+    asked = drawn.near(labels, options.asked)
+    words = [options.ours, drawn.listing, table, "--among", "labels.txt", "--others"]
     alone = min(processor_time(words, folder, folder / "labels.txt") for _ in range(options.rounds))
-    measure_register(options, folder, labels, alone, "sqlite:register.db")
+    if SQLITE in options.registers:
+        measure_register(options, folder, table, asked, alone, "sqlite:register.db")
+        (folder / "register.db").unlink()
+    if POSTGRESQL not in options.registers:
+        return
     with before_others(), server() as (environment, _):
         if environment:
             [process, *_] = (pathlib.Path(environment["PGHOST"]) / "data" / "postmaster.pid").read_text("ascii").split()
-            measure_register(options, folder, labels, alone, uri_of(environment), int(process))
+            measure_register(options, folder, table, asked, alone, uri_of(environment), int(process))
 
 
-def measure_register(options, folder, labels, alone, register, server_process=None):
+def measure_register(options, folder, table, asked, alone, register, server_process=None):
     """A register with the labels, of which an audit by the program alone takes so many seconds."""
     command = [sys.executable, "-m", "idn2_registry"]
-    (folder / "registry.toml").write_text(f'register = "{register}"\n[tables]\nde = "{registered.GERMAN}"\n', "utf-8")
+    (folder / "registry.toml").write_text(f'register = "{register}"\n[tables]\nasked = "{table}"\n', "utf-8")
     load = processor_time([*command, "load", "--idn2", options.ours, "labels.txt"], folder)
-    times, undisturbed = checks(options, folder, labels, server_process)
+    times, undisturbed = checks(options, folder, asked, server_process)
     audit = min(processor_time([*command, "audit", "--idn2", options.ours], folder) for _ in range(options.rounds))
-    print(f"{register.partition(':')[0]}: load {load:.1f} s; check {statistics.median(times):.2f} ms ({CHECK_WANTED} wanted), at "
-          f"worst {max(times):.2f} ms ({WORST_WANTED} wanted), and {max(undisturbed):.2f} ms of {len(undisturbed):,} undisturbed "
-          f"ones; audit {audit / alone:.2f} times the program's own {alone:.1f} s ({AUDIT_WANTED} wanted)", flush=True)
+    worst, label = max(undisturbed, default=(math.nan, ""))
+    print(f"{table.stem:<14}{register.partition(':')[0]:<11}{load:7.1f}{statistics.median(times):21.2f}"
+          f"{max(times):10.2f}{worst:10.2f} of {len(undisturbed):,}: {label}   {audit / alone:.2f} of {alone:.1f} s", flush=True)
+
+
+def words():
+    taken = words_of(__doc__, 3)
+    taken.add_argument("--labels", default=1_000_000, type=int, help="registered labels")
+    taken.add_argument("--asked", default=100_000, type=int, help="labels that are checked")
+    taken.add_argument("--tables", nargs="+", metavar="FILE", default=[registered.GERMAN, *registered.RULESETS],
+                       type=lambda path: pathlib.Path(path).resolve(), help="the tables")
+    taken.add_argument("--registers", default=f"{SQLITE},{POSTGRESQL}", help="which are measured")
+    return taken
 
 
 if __name__ == "__main__":
-    words = words_of(__doc__, 3)
-    words.add_argument("--labels", default=1_000_000, type=int, help="registered labels")
     python = python_with("psycopg")
     if python and python != sys.executable:
         os.execv(python, [python, *sys.argv])
-    sys.exit(measured(words, measure))
+    sys.exit(measured(words(), measure))

@@ -621,10 +621,13 @@ def prints_what_the_documents_show(folder):
 
 
 def prints_in_a_locale_what_the_documents_show(folder, locale):
-    os.symlink(PROGRAM, os.path.join(folder, "idn2"))
+    # As where it is installed, the program isn't in the folder.
+    installed = os.path.join(folder, "bin")
+    os.mkdir(installed)
+    os.symlink(PROGRAM, os.path.join(installed, "idn2"))
     os.symlink(TABLES, os.path.join(folder, "tables"))
-    pack_registry(folder)
-    environment = {**os.environ, "LC_ALL": locale, "PATH": folder + os.pathsep + os.environ["PATH"]}
+    pack_registry(installed)
+    environment = {**os.environ, "LC_ALL": locale, "PATH": installed + os.pathsep + os.environ["PATH"]}
     documents = {"README.md": markdown_blocks, "docs/GUIDE.md": markdown_blocks, "docs/NOTATION.md": markdown_blocks,
                  "docs/DEFINITIONS.md": markdown_blocks, "docs/JSON.md": markdown_blocks, "docs/idn2.1": manual_blocks}
     for (name, blocks), least in zip(documents.items(), (8, 60, 7, 14, 2, 6)):

@@ -17,7 +17,7 @@ from .output import Output
 from .program import HeldFile, Program
 from .register import text_of
 from .since import Earlier
-from .tables import Table, check_for_collisions, read_table
+from .tables import Table, check_for_collisions, table_of
 from .words import counted, registered_words, shown
 from .work import Means, Task, parts_of, results
 
@@ -218,7 +218,7 @@ def audit(configuration: Configuration, program: Program, holdings: Holdings, me
     """Tells of each label that no table admits any more, of each group that collides, and how many there are. With the output
     of an earlier audit it tells only what that doesn't have."""
     earlier = Earlier.read(since)
-    tables = {name: read_table(name, path, program) for name, path in configuration.tables.items()}
+    tables = {name: table_of(configuration, name, program) for name in configuration.tables}
     admitting = [tables[name] for name in configuration.admitting]
     found = findings(program, admitting, tables[configuration.zone], holdings, means, "audit")
     groups = found.groups()

@@ -13,7 +13,7 @@ from .faults import Unknown, Unusable
 from .holdings import Holdings
 from .output import Output
 from .program import Program
-from .tables import Table, read_table
+from .tables import Table, read_table, table_of
 from .words import counted, registered_words, shown
 from .work import Means, parts_of, results
 
@@ -95,7 +95,7 @@ def change(configuration: Configuration, program: Program, holdings: Holdings, m
            output: Output) -> None:
     """Tells what the new table changes, label by label, and at last how many labels it changes."""
     new = changed_table(configuration, name_and_file, program)
-    tables = {name: read_table(name, path, program) for name, path in configuration.tables.items()}
+    tables = {name: table_of(configuration, name, program) for name in configuration.tables}
     old = tables[new.name]
     task = ChangeTask(program, old, new, configuration.limits)
     state = [program.state, old.data, new.data, repr(configuration.limits).encode()]

@@ -26,7 +26,7 @@ def check_tables(configuration: Configuration, program: Program, output: Output)
     tables: dict[str, Table] = {}
     for name, path in configuration.tables.items():
         try:
-            table = table_of_zone(name, path, program)
+            table = table_of_zone(configuration, name, program)
         except Unusable as error:
             output.fact({"table": name, "fault": str(error)}, str(error), ExitStatus.NOT_KNOWN)
             continue

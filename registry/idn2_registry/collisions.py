@@ -18,7 +18,7 @@ NONE, ALLOCATABLE = "none", "allocatable"
 REGARDS = {NONE, "variant", "blocked", ALLOCATABLE}
 # No label has a greater code point.
 LAST = "\U0010FFFF"
-# A search for collisions is in one span for so many turns, and then in about so many at once.
+# A search for collisions is in two spans for so many turns, and then in about so many at once.
 WHOLE_TURNS, MOST_SPANS = 2, 16
 
 
@@ -38,7 +38,7 @@ class Near(NamedTuple):
 class Span(NamedTuple):
     """The texts from one on, and before another one if there is one."""
 
-    start: str = ""
+    start: str
     end: str | None = None
 
     def has(self, text: str) -> bool:
@@ -67,7 +67,8 @@ class Collisions:
         """The registered labels that collide with a label, in label order, each with its holder; itself among them.
         Raises Unknown if the table refuses the label."""
         found: list[Row] = []
-        spans, turn = [Span()], 0
+        # What is near a label lies mostly on both sides of it.
+        spans, turn = [Span("", label), Span(label)], 0
         # The program and the register take turns: each goes on from what the other has, in all spans at once.
         while asked := await self._first_in_each(label, spans, questions):
             rows = await transaction.first_from_each([near.label for _, near in asked])

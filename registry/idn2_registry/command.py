@@ -182,7 +182,7 @@ def named_tables(words: Words, names: Sequence[str]) -> tuple[list[Table], Progr
     """Tables by their names in the configuration, or by their paths; and the program that has checked them."""
     configuration = found_configuration(words)
     asked = program(words, configuration)
-    return read_tables(configuration.tables if configuration else {}, names, asked), asked
+    return read_tables(configuration, names, asked), asked
 
 
 def join(words: Words, output: Output) -> None:

@@ -50,11 +50,44 @@ MOST_PROCESSES = 1024
 MOST_CONNECTIONS = 100_000
 
 
+class TomlFile:
+    """A file of TOML as it was read, by whose lines faults are told."""
+
+    def __init__(self, path: Path) -> None:
+        self.path = path
+        try:
+            self.text = path.read_text(encoding="utf-8")
+        except OSError as error:
+            raise Unusable(f"{path}: {error.strerror}: write one, or name it with --config FILE") from error
+        except UnicodeDecodeError as error:
+            raise Unusable(f"{path}: not UTF-8 at byte {error.start + 1}: save it as UTF-8") from error
+
+    def fault(self, key: str, words: str, section: str = "") -> Unusable:
+        """What is wrong with a key, with the line where it stands."""
+        return Unusable(f"{self.place(key, section)}: {words}")
+
+    def place(self, key: str, section: str = "") -> str:
+        """Where a key stands, as an operator is told."""
+        return f"{self.path}: line {self.line_of(key, section)}: {key}"
+
+    def line_of(self, key: str, section: str) -> int:
+        """The line of a key, else that of its section, else the last line."""
+        inside, head = "", 0
+        for number, line in enumerate(self.text.splitlines(), 1):
+            if found := re.match(r"\s*\[\s*([^\]]*?)\s*\]", line):
+                inside = found[1]
+                head = number if inside in (section, key) else head
+            is_here = inside == section and re.match(rf"\s*[\"']?{re.escape(key)}[\"']?\s*[=.]", line)
+            if is_here or section and re.match(rf"\s*{section}\s*(\.\s*[\"']?{re.escape(key)}\b|=)", line):
+                return number
+        return head or max(1, len(self.text.splitlines()))
+
+
 @dataclass(frozen=True)
 class Configuration:
     """A zone: its register, its tables by their names in the order of the file, and under which of them labels collide."""
 
-    path: Path
+    file: TomlFile
     register: str
     tables: dict[str, Path]
     zone: str
@@ -62,6 +95,11 @@ class Configuration:
     processes: int
     labels: LabelRules = LabelRules.PROFILE
     service: Service = field(default_factory=Service)
+
+    @property
+    def path(self) -> Path:
+        """The path of its file."""
+        return self.file.path
 
     @property
     def admitting(self) -> tuple[str, ...]:
@@ -76,17 +114,11 @@ def read_configuration(path: str | os.PathLike[str] = DEFAULT_PATH) -> Configura
     return Reader(Path(path)).configuration()
 
 
-class Reader:
+class Reader(TomlFile):
     """Reads one file."""
 
     def __init__(self, path: Path) -> None:
-        self.path = path
-        try:
-            self.text = path.read_text(encoding="utf-8")
-        except OSError as error:
-            raise Unusable(f"{path}: {error.strerror}: write one, or name it with --config FILE") from error
-        except UnicodeDecodeError as error:
-            raise Unusable(f"{path}: not UTF-8 at byte {error.start + 1}: save it as UTF-8") from error
+        super().__init__(path)
         try:
             self.values: dict[str, Any] = tomllib.loads(self.text)
         except tomllib.TOMLDecodeError as error:
@@ -98,22 +130,6 @@ class Reader:
         words, line = (found[1], found[2]) if found else (message, None)
         return f"{self.path}: line {line or len(self.text.splitlines())}: {words}: mend the TOML there"
 
-    def fault(self, key: str, words: str, section: str = "") -> Unusable:
-        """What is wrong with a key, with the line where it stands."""
-        return Unusable(f"{self.path}: line {self.line_of(key, section)}: {key}: {words}")
-
-    def line_of(self, key: str, section: str) -> int:
-        """The line of a key, else that of its section, else the last line."""
-        inside, head = "", 0
-        for number, line in enumerate(self.text.splitlines(), 1):
-            if found := re.match(r"\s*\[\s*([^\]]*?)\s*\]", line):
-                inside = found[1]
-                head = number if inside in (section, key) else head
-            is_here = inside == section and re.match(rf"\s*[\"']?{re.escape(key)}[\"']?\s*[=.]", line)
-            if is_here or section and re.match(rf"\s*{section}\s*(\.\s*[\"']?{re.escape(key)}\b|=)", line):
-                return number
-        return head or max(1, len(self.text.splitlines()))
-
     def configuration(self) -> Configuration:
         """All of it."""
         for key in self.values:
@@ -121,7 +137,7 @@ class Reader:
                 raise self.fault(key, f"nothing has this name: write one of {', '.join(KEYS)}")
         register, tables = self.register(), self.tables()
         zone, limits, processes = self.zone(tables), self.limits(), self.processes()
-        return Configuration(self.path, register, tables, zone, limits, processes, self.labels(), self.service())
+        return Configuration(self, register, tables, zone, limits, processes, self.labels(), self.service())
 
     def register(self) -> str:
         """Where the register is; a file's path is made whole from the folder of the configuration."""

@@ -25,7 +25,7 @@ class Tables:
     def __init__(self, configuration: Configuration, program: Program) -> None:
         self.limits = configuration.limits
         self.program = program
-        tables = {name: table_of_zone(name, path, program) for name, path in configuration.tables.items()}
+        tables = {name: table_of_zone(configuration, name, program) for name in configuration.tables}
         self.by_name = tables
         self.admitting = {name: tables[name] for name in configuration.admitting}
         self._asked = {name: Collisions(table) for name, table in tables.items()}

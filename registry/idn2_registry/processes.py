@@ -4,11 +4,11 @@ import json
 import os
 import select
 import subprocess
+import threading
 import time
 from collections import deque
 from collections.abc import Iterable, Iterator, Sequence
 from dataclasses import dataclass
-from queue import Empty, SimpleQueue
 
 from .answers import Object
 from .faults import Unknown
@@ -152,16 +152,50 @@ def pipefuls(requests: Sequence[bytes]) -> Iterator[list[bytes]]:
     yield some
 
 
+class Places:
+    """So many may be taken at once. Who waits longest has the next one: under a queue or a semaphore of the standard library
+    one that asks again and again goes before those that wait, some of them until their time is over."""
+
+    def __init__(self, count: int) -> None:
+        self._lock = threading.Lock()
+        self._free = count
+        # Of each that waits a lock, which is opened when its turn comes.
+        self._waiting: deque[threading.Lock] = deque()
+
+    def take(self, seconds: float) -> bool:
+        """Whether there is one within so many seconds."""
+        with self._lock:
+            if self._free:
+                self._free -= 1
+                return True
+            turn = threading.Lock()
+            turn.acquire()
+            self._waiting.append(turn)
+        if turn.acquire(timeout=seconds):
+            return True
+        with self._lock:
+            # It may have come at the last moment.
+            if turn not in self._waiting:
+                return True
+            self._waiting.remove(turn)
+            return False
+
+    def give_back(self) -> None:
+        """Gives one to who waits longest."""
+        with self._lock:
+            if self._waiting:
+                self._waiting.popleft().release()
+            else:
+                self._free += 1
+
+
 class Pool:
     """Processes for several questions; at most so many are asked at once."""
 
     def __init__(self, program: Program, most: int, seconds: float) -> None:
         self.program = program
         self.seconds = seconds
-        # One for each that may be asked at once: a semaphore of the standard library takes several times as long.
-        self._places: SimpleQueue[None] = SimpleQueue()
-        for _ in range(most):
-            self._places.put(None)
+        self._places = Places(most)
         self._idle: Idle[Process] = Idle()
 
     def ask(self, question: Question, requests: Sequence[bytes], until: Time) -> list[list[Object] | Unknown]:
@@ -177,11 +211,10 @@ class Pool:
         """What one process, which nobody else asks, answers up to the line at which it fails. One that failed is replaced."""
         told: list[list[Object] | Unknown] = []
         try:
-            self._places.get(timeout=until.left())
+            if not self._places.take(until.left()):
+                return [busy(self.seconds)]
         except Unknown as fault:
             return [fault]
-        except Empty:
-            return [busy(self.seconds)]
         try:
             process = self._taken(question)
             try:
@@ -197,7 +230,7 @@ class Pool:
         except Unknown as fault:
             told.append(fault)
         finally:
-            self._places.put(None)
+            self._places.give_back()
         return told
 
     def _taken(self, question: Question) -> Process:

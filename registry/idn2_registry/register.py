@@ -8,7 +8,7 @@ from contextlib import AbstractContextManager
 from typing import TypeVar
 
 from .answers import CONTROL_CHARACTER
-from .configuration import Configuration, Reader
+from .configuration import Configuration
 from .faults import Unknown, Unusable
 from .together import Ask
 
@@ -44,9 +44,9 @@ class Transaction(abc.ABC):
 class Register(abc.ABC):
     """A register. Each call raises Unusable where it can't be used at all, and Unknown where it failed this time."""
 
-    def __init__(self, name: str) -> None:
-        # Where it is, as an operator is told.
-        self.name = name
+    def __init__(self, place: str, name: str) -> None:
+        # Where the configuration names it, and where it is, as an operator is told.
+        self.name = f"{place}: {name}"
 
     def unusable(self, words: str) -> Unusable:
         """Why it can't be used."""
@@ -95,16 +95,17 @@ class Register(abc.ABC):
 def open_register(configuration: Configuration, must_be: bool = True) -> Register:
     """The register of a configuration. Raises Unusable if it can't be used, and also if there is none and it must be."""
     kind, _, rest = configuration.register.partition(":")
+    place, seconds = configuration.file.place("register"), configuration.limits.seconds
     if kind == "sqlite":
         from .sqlite import SqliteRegister
 
-        return SqliteRegister(rest, configuration.limits.seconds, must_be)
+        return SqliteRegister(place, rest, seconds, must_be)
     from .postgresql import PostgresqlRegister
 
     try:
-        return PostgresqlRegister(configuration.register, configuration.limits.seconds, must_be)
+        return PostgresqlRegister(place, configuration.register, seconds, must_be)
     except ValueError as error:
-        raise Reader(configuration.path).fault("register", f"{error}: write a URI as libpq takes it") from error
+        raise configuration.file.fault("register", f"{error}: write a URI as libpq takes it") from error
 
 
 def text_of(lines: Iterable[str]) -> bytes:

@@ -43,8 +43,9 @@ class SqliteRegister(Register):
     immediate`): so nothing comes between the answer that a label is free and its registration. A process that is killed
     leaves its journal, by which the next one undoes what was half done."""
 
-    def __init__(self, path: str, seconds: float, must_be: bool) -> None:
-        super().__init__(path)
+    def __init__(self, place: str, path: str, seconds: float, must_be: bool) -> None:
+        super().__init__(place, path)
+        self._path = Path(path)
         self._seconds = seconds
         self._idle: Idle[sqlite3.Connection] = Idle()
         # Device and number of the file that was opened.
@@ -55,7 +56,7 @@ class SqliteRegister(Register):
 
     def _open(self, mode: str = "rw") -> sqlite3.Connection:
         """A connection; a file is made only for a load, since under an empty register each label would be free."""
-        uri = f"{Path(self.name).absolute().as_uri()}?mode={mode}"
+        uri = f"{self._path.absolute().as_uri()}?mode={mode}"
         opened = sqlite3.connect(uri, uri=True, timeout=self._seconds, isolation_level=None, check_same_thread=False)
         self._file = self._file or self._file_there()
         return opened
@@ -63,7 +64,7 @@ class SqliteRegister(Register):
     def _file_there(self) -> tuple[int, int] | None:
         """The file that stands there now, if one does."""
         try:
-            found = os.stat(self.name)
+            found = os.stat(self._path)
         except OSError:
             return None
         return found.st_dev, found.st_ino
@@ -95,15 +96,18 @@ class SqliteRegister(Register):
         """What a fault of SQLite says of the request."""
         code = getattr(error, "sqlite_errorname", "")
         if code == "SQLITE_CANTOPEN":
-            is_missing = Path(self.name).parent.is_dir() and not Path(self.name).exists()
-            remedy = MISSING if is_missing else f"{error}: look at it and at its folder, and at their rights"
-            return self.unusable(remedy)
+            remedy = "look at it and at its folder, and at their rights, or mend register"
+            return self.unusable(MISSING if self._is_missing() else f"{error}: {remedy}")
         if code in ("SQLITE_NOTADB", "SQLITE_CORRUPT"):
             return self.unusable(f"{error}: put back its backup")
         # There is no code of its own for it.
         if str(error).startswith("no such table"):
             return self.unusable(MISSING)
         return self.unknown(str(error))
+
+    def _is_missing(self) -> bool:
+        """Whether there is no such file, and one could be made."""
+        return self._path.parent.is_dir() and not self._path.exists()
 
     def _check(self, connection: sqlite3.Connection) -> None:
         """That it is a register."""
@@ -155,7 +159,7 @@ class SqliteRegister(Register):
             connection.execute("commit")
 
     def is_made(self) -> bool:
-        if not Path(self.name).exists():
+        if self._is_missing():
             return False
         with self._connection() as connection:
             return connection.execute("select 1 from sqlite_master where name = 'registered'").fetchone() is not None

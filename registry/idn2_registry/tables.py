@@ -1,7 +1,8 @@
 """Tables and rulesets: what is read of them, and what the program says of them."""
 
+import errno
 import json
-from collections.abc import Iterable, Mapping, Sequence
+from collections.abc import Iterable, Sequence
 from dataclasses import dataclass, field, replace
 from enum import Enum
 from pathlib import Path
@@ -9,6 +10,7 @@ from subprocess import CompletedProcess
 from typing import Any
 
 from .answers import Object, Refusal
+from .configuration import Configuration
 from .faults import Unknown, Unusable
 from .program import HeldFile, Program, ended
 
@@ -105,21 +107,36 @@ class Faulty(Unusable):
 
 
 def read_table(name: str, path: Path, program: Program) -> Table:
-    """The table in a file. Raises Unusable with the file, the line and the remedy."""
+    """The table in a file that a command names. Raises Unusable with the file, the line and the remedy."""
     try:
-        with open(path, "rb") as file:
-            data = file.read(MOST_BYTES + 1)
+        data = data_of(path)
     except OSError as error:
-        remedy = "name a table of the configuration, or a file" if name == str(path) else f"mend the path of {name} in [tables]"
-        raise Unusable(f"{path}: {error.strerror}: {remedy}") from error
-    if len(data) > MOST_BYTES:
-        raise Unusable(f"{path}: more than {MOST_BYTES:,} bytes, and no table has so many")
+        raise Unusable(f"{path}: {error.strerror}: name a table of the configuration, or a file") from error
     return checked(Table(name, path, data), program)
 
 
-def table_of_zone(name: str, path: Path, program: Program) -> Table:
-    """The table in a file, by which collisions are asked for. Raises Unusable."""
-    table = read_table(name, path, program)
+def table_of(configuration: Configuration, name: str, program: Program) -> Table:
+    """A table of a configuration. Raises Unusable with the file, the line and the remedy."""
+    path = configuration.tables[name]
+    try:
+        data = data_of(path)
+    except OSError as error:
+        raise configuration.file.fault(name, f"{path}: {error.strerror}: mend its path", "tables") from error
+    return checked(Table(name, path, data), program)
+
+
+def data_of(path: Path) -> bytes:
+    """What is in the file of a table. Raises OSError."""
+    with open(path, "rb") as file:
+        data = file.read(MOST_BYTES + 1)
+    if len(data) > MOST_BYTES:
+        raise OSError(errno.EFBIG, f"more than {MOST_BYTES:,} bytes, and no table has so many")
+    return data
+
+
+def table_of_zone(configuration: Configuration, name: str, program: Program) -> Table:
+    """A table of a configuration, by which collisions are asked for. Raises Unusable."""
+    table = table_of(configuration, name, program)
     check_for_collisions(table, program)
     return table
 
@@ -129,9 +146,10 @@ def check_for_collisions(table: Table, program: Program) -> None:
     answers_about(table, program, table.listing("--jump"))
 
 
-def read_tables(paths: Mapping[str, Path], names: Iterable[str], program: Program) -> list[Table]:
+def read_tables(configuration: Configuration | None, names: Iterable[str], program: Program) -> list[Table]:
     """Tables by their names in a configuration, or by their paths."""
-    return [read_table(name, paths.get(name, Path(name)), program) for name in names]
+    return [table_of(configuration, name, program) if configuration and name in configuration.tables
+            else read_table(name, Path(name), program) for name in names]
 
 
 def answers_about(table: Table, program: Program, words: Sequence[str]) -> list[Object]:

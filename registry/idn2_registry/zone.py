@@ -15,6 +15,9 @@ from .program import Program
 from .register import Register, Transaction, checked_holder, open_register
 from .together import Request, alone, together
 
+# What a zone that was opened keeps of its configuration.
+KEPT = ("register", "labels", "processes", "service")
+
 
 @dataclass(frozen=True)
 class Check:
@@ -78,8 +81,9 @@ class Zone:
         """Reads the configuration's tables again. Requests that are being answered end under the old ones. Raises Unusable
         if one is faulty; then the old tables stay."""
         configuration = read_configuration(self.configuration.path)
-        if fixed(configuration) != fixed(self.configuration):
-            raise Unusable(f"{configuration.path}: line 1: register, labels, processes or service changed: start again")
+        for key in KEPT:
+            if getattr(configuration, key) != getattr(self.configuration, key):
+                raise configuration.file.fault(key, "it changed: start again")
         new = Tables(configuration, self.program)
         with self._lock:
             old, self._tables, self.configuration = self._tables, new, configuration
@@ -227,11 +231,6 @@ class Zone:
 def answer_of(check: Check, told: Answer | Fault) -> Answer:
     """The answer to a check, also where something went wrong."""
     return Answer.unknown(check.label, told) if isinstance(told, Fault) else told
-
-
-def fixed(configuration: Configuration) -> tuple[object, ...]:
-    """What a zone that was opened keeps."""
-    return configuration.register, configuration.labels, configuration.processes, configuration.service
 
 
 def checked_page(page: int | None) -> int | None:

@@ -1,12 +1,15 @@
 """A faulty configuration is told by file, line and remedy, before any label is answered."""
 
+import contextlib
+import importlib.util
 import os
+from collections.abc import Callable, Sequence
 from pathlib import Path
 
 import pytest
 from conftest import PROGRAM, TABLES, Place
 
-from idn2_registry import Unusable, Zone
+from idn2_registry import Status, Unusable, Zone
 from idn2_registry.configuration import LabelRules, Limits, read_configuration
 from idn2_registry.program import Program
 
@@ -83,7 +86,6 @@ def test_reads_all_of_it(bare: Place) -> None:
 def test_tells_what_can_not_be_used(bare: Place) -> None:
     bare.configure(de="table.txt")
     rows = (
-        (None, "table.txt: No such file or directory: mend the path of de in [tables]"),
         ("", "table.txt: line 1: no entry in it"),
         ("# nothing\n", "table.txt: line 1: no entry in it"),
         ("%version 3\n%set a 0061\n", "table.txt: line 1: no entry in it"),
@@ -91,12 +93,94 @@ def test_tells_what_can_not_be_used(bare: Place) -> None:
         ("0061\n", "register.db: there is no register: idn2-registry load FILE makes it"),
     )
     for text, told in rows:
-        if text is not None:
-            bare.write("table.txt", text)
+        bare.write("table.txt", text)
         for job in (["check", "a"], ["register", "a"], ["release", "a"], ["variants", "a"], ["ask"]):
             done = bare.run(*job, given=b'{"job":"check","label":"a"}\n')
             [line] = done.stderr.decode().splitlines()
             assert told in line and (done.stdout, done.returncode) == (b"", 75), (job, line)
+
+
+# Where it can't serve, it says so first.
+SERVING = (["serve"],) if importlib.util.find_spec("aiohttp") else ()
+ASKING = (["check", "a"], ["register", "a"], ["release", "a"], ["variants", "a"], ["tables-of", "a"], ["ask"], *SERVING)
+MAKING = "idn2-registry load FILE makes it, and load /dev/null an empty one"
+READING_TABLES = (*ASKING, ["audit"], ["change", f"de={GERMAN}"])
+READING_A_REGISTER = (*READING_TABLES, ["dump"])
+OPENING_A_REGISTER = (*READING_A_REGISTER, ["load", "/dev/null"])
+NAMING_A_TABLE = (["publish", "--as", "html", "de"], ["join", "de"], ["compare", "de", str(GERMAN)])
+
+
+def expect_told(place: Place, jobs: Sequence[Sequence[str]], path: str, told: str, remedy: str) -> None:
+    """Some jobs, the check of the configuration and the package tell it in one line, and answer nothing."""
+    def is_told(line: str) -> bool:
+        return line.startswith(f"{path}: {told}: ") and line.endswith(f": {remedy}")
+
+    for job in jobs:
+        done = place.run(*job, "--config", path, given=b'{"job":"check","label":"a"}\n')
+        [line] = done.stderr.decode().splitlines()
+        assert is_told(line.removeprefix("idn2-registry: ")), (job, line)
+        assert (done.stdout, done.returncode) == (b"", 75), (job, done)
+    done = place.run("check-config", "--config", path)
+    assert any(map(is_told, done.stdout.decode().splitlines())) and done.returncode == 75, done
+    with contextlib.chdir(place.folder), pytest.raises(Unusable) as raised:
+        Zone.open(path, PROGRAM)
+    assert is_told(str(raised.value)), raised
+
+
+def test_names_the_line_of_a_register_that_is_missing(bare: Place) -> None:
+    told = "register.db: there is no register"
+    bare.write("registry.toml", f"\n{HEAD}")
+    expect_told(bare, READING_A_REGISTER, "registry.toml", f"line 2: register: {told}", MAKING)
+    (bare.folder / "zone").mkdir()
+    bare.write("zone/other.toml", f"# Its folder is that of the file.\n\n{HEAD}")
+    expect_told(bare, READING_A_REGISTER, "zone/other.toml", f"line 3: register: zone/{told}", MAKING)
+
+
+@pytest.mark.parametrize("name", ["none/register.db", "folder"])
+def test_names_the_line_of_a_register_that_can_not_be_opened(bare: Place, name: str) -> None:
+    (bare.folder / "folder").mkdir()
+    bare.write("registry.toml", HEAD.replace("register.db", name))
+    expect_told(bare, OPENING_A_REGISTER, "registry.toml", f"line 1: register: {name}: unable to open database file",
+                "look at it and at its folder, and at their rights, or mend register")
+
+
+def test_names_the_line_of_a_database_that_is_away(bare: Place, tmp_path: Path) -> None:
+    pytest.importorskip("psycopg", reason="python3-psycopg")
+    uri = f"postgresql://postgres@/x?host={tmp_path}&password=secret"
+    bare.write("other.toml", "\n" + HEAD.replace("sqlite:register.db", uri))
+    expect_told(bare, OPENING_A_REGISTER, "other.toml", f"line 2: register: postgresql: host {tmp_path}, dbname x",
+                "start the database, or mend register")
+
+
+def test_names_the_line_of_a_database_without_a_register(server: Callable[[str], str], bare: Place) -> None:
+    uri = server("without")
+    bare.write("registry.toml", HEAD.replace("sqlite:register.db", uri))
+    told = f"line 1: register: postgresql: host {uri.partition('host=')[2]}, dbname without: there is no register"
+    expect_told(bare, READING_A_REGISTER, "registry.toml", told, MAKING)
+
+
+@pytest.mark.parametrize(("name", "why"), [("none.txt", "No such file or directory"), ("folder", "Is a directory")])
+def test_names_the_line_of_a_table_that_can_not_be_read(place: Place, name: str, why: str) -> None:
+    (place.folder / "folder").mkdir()
+    lines = ["labels = 'profile'", "[tables]", "", "zone = 'zone.txt'", f"'de' = '{name}'"]
+    place.write("other.toml", "\n".join(["zone = 'zone'", 'register = "sqlite:register.db"', *lines]))
+    place.write("zone.txt", "0061\n")
+    expect_told(place, (*READING_TABLES, *NAMING_A_TABLE), "other.toml", f"line 7: de: {name}: {why}", "mend its path")
+    # One that the words name stands in no line.
+    for job in (["join", name], ["change", f"de={name}"]):
+        place.expect(job, "", 75, f"idn2-registry: {name}: {why}: name a table of the configuration, or a file\n")
+
+
+@pytest.mark.parametrize("line", ['register = "sqlite:other.db"', "labels = 'standard'", "processes = 7"])
+def test_names_the_line_of_what_a_reload_does_not_change(place: Place, line: str) -> None:
+    """The zone goes on as it was."""
+    with place.zone() as zone:
+        kept = [] if line.startswith("register") else ['register = "sqlite:register.db"']
+        place.write("registry.toml", "\n".join([*kept, "", line, "[tables]", f'de = "{GERMAN}"\n']))
+        told = f"registry.toml: line {len(kept) + 2}: {line.partition(' ')[0]}: it changed: start again"
+        with pytest.raises(Unusable, match=told):
+            zone.reload()
+        assert zone.check("haus").status is Status.AVAILABLE
 
 
 def test_takes_no_other_file_for_a_register(bare: Place) -> None:

@@ -3,6 +3,7 @@
 import asyncio
 import json
 import os
+import queue
 import signal
 import threading
 import time
@@ -11,11 +12,12 @@ from concurrent.futures import ThreadPoolExecutor
 from pathlib import Path
 
 import pytest
-from conftest import PROGRAM, TABLES, Place
+from conftest import LIMIT, PROGRAM, TABLES, Place
 
 from idn2_registry import Check, Status, Unusable, Zone
 from idn2_registry.async_zone import AsyncZone, Calls
 from idn2_registry.idle import Idle
+from idn2_registry.processes import Places
 
 # A program that does with the label 'odd' what stands in its place, once, and else what the program does.
 FAULTY = """#!/usr/bin/env python3
@@ -63,7 +65,7 @@ def test_replaces_a_process(place: Place, kind: str) -> None:
 @pytest.mark.parametrize("kind", [kind for kind in ACTIONS if kind != "is late"])
 def test_of_checks_together_only_one_is_unknown(place: Place, kind: str) -> None:
     """The one at which the process failed, also if it hangs."""
-    place.configure("[limits]\nseconds = 10")
+    place.configure("[limits]\nseconds = 20")
     place.load("laus1")
     text = FAULTY.format(program=str(PROGRAM), mark=str(place.folder / "mark"), action=ACTIONS[kind])
     os.chmod(place.write("faulty", text), 0o755)
@@ -118,6 +120,27 @@ def test_answers_many_threads(place: Place) -> None:
         answers = list(executor.map(zone.check, labels))
     assert [answer.label for answer in answers] == labels
     assert [answer.label for answer in answers if answer.status is not Status.AVAILABLE] == ["straße1", "straße3"]
+
+
+def test_who_waits_longest_has_the_next_place() -> None:
+    """Who had it and wants it again at once comes after all that wait. One that waits in vain takes none away."""
+    places, had = Places(1), queue.Queue[str]()
+
+    def have(name: str) -> None:
+        assert places.take(LIMIT)
+        had.put(name)
+
+    assert places.take(0) and not places.take(0.01)
+    with ThreadPoolExecutor(3) as executor:
+        for number, name in enumerate("abc", 1):
+            executor.submit(have, name)
+            while len(places._waiting) < number:
+                time.sleep(0.001)
+        for name in "abc":
+            places.give_back()
+            assert not places.take(0) and had.get(timeout=LIMIT) == name
+    places.give_back()
+    assert places.take(0) and not places.take(0)
 
 
 def test_reads_tables_again_and_loses_no_request(place: Place) -> None:

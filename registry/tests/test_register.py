@@ -316,9 +316,13 @@ def test_texts_that_postgresql_cannot_have_are_no_others(server: Callable[[str],
         with zone.registered.reading() as transaction:
             maus = ("maus", "Ä 'x' \\ %s $1")
             texts = ["", 'm"', "m\\", "maut", "\U0001f600", "m"]
-            assert transaction.first_rows(texts) == [maus, maus, maus, None, None, maus]
-        with pytest.raises(Unknown, match="Unicode"), zone.registered.reading() as transaction:
-            transaction.first_rows(["maus\0x"])
+            wanted = [maus, maus, maus, None, None, maus]
+            assert transaction.first_rows(texts) == wanted
+            assert [transaction.first_rows([text]) for text in texts] == [[row] for row in wanted]
+            assert transaction.first_rows(["m"] * 16 + [""]) == [maus] * 17
+        for texts, told in ((["maus\0x"], "no NUL"), (["m", "maus\0x"], "no NUL"), (["m", "maus\n"], "no line feed")):
+            with pytest.raises(Unknown, match=told), zone.registered.reading() as transaction:
+                transaction.first_rows(texts)
 
 
 def test_knows_nothing_while_the_register_is_locked(place: Place) -> None:

@@ -141,8 +141,8 @@ def test_tells_what_lasts_until_an_operator_mends_it(bare: Place) -> None:
     # One for all answers of a minute.
     stale = "own.txt: line 1: 30 table syntax at byte 6: mend it (docs/NOTATION.md); the old tables stay"
     assert messages == [f"idn2-registry: {stale}",
-                        "idn2-registry: 1 answer not known, the last one because: register.db: no longer "
-                        "the file that was opened: put that back, or start again"], messages
+                        "idn2-registry: 1 answer not known, the last one because: registry.toml: line 1: register: "
+                        "register.db: no longer the file that was opened: put that back, or start again"], messages
 
 
 def test_only_the_log_says_where_the_register_is(bare: Place, server: Callable[[str], str]) -> None:

@@ -181,9 +181,9 @@ def test_says_why_it_does_not_start(place: Place) -> None:
             ("connections = 0", "line 6: connections: write a number from 1 to"),
             ("token = 1", "line 6: token: not a path"),
             ("tokens = 1", "line 6: tokens: nothing has this name: write one of listen"),
-            ('token = "none.txt"', "none.txt: No such file or directory: mend the path of token"),
+            ('token = "none.txt"', "line 6: token: none.txt: No such file or directory: mend its path"),
             ('token = "short.txt"', "short.txt: a token is a word of 32 letters or more: openssl rand -hex 32"),
-            ('listen = "unix:none/socket"', "none/socket: No such file or directory: "))
+            ('listen = "unix:none/socket"', "line 6: listen: none/socket: No such file or directory: end what"))
     place.write("short.txt", "secret\n")
     for line, message in rows:
         place.configure(f"[service]\n{line}")

@@ -12,7 +12,6 @@ from pathlib import Path
 from aiohttp import web
 
 from ..configuration import Configuration
-from ..faults import Unusable
 from ..output import complain
 from ..zone import Zone
 from .answering import Answering
@@ -30,8 +29,7 @@ FIRST_PASSED = 3
 
 def serve(zone: Zone) -> None:
     """Serves until a signal ends it. Raises Unusable if it can't listen."""
-    told = zone.configuration.service
-    token = None if told.token is None else read_token(told.token)
+    token = read_token(zone.configuration)
     listening = passed_sockets() or [listener(zone.configuration)]
     sys.setswitchinterval(SWITCH_SECONDS)
     asyncio.run(served(zone, token, listening))
@@ -51,7 +49,8 @@ def listener(configuration: Configuration) -> socket.socket:
         return unix_listener(listen) if isinstance(listen, Path) else tcp_listener(*listen)
     except OSError as error:
         where = listen if isinstance(listen, Path) else f"{listen[0]}:{listen[1]}"
-        raise Unusable(f"{where}: {error.strerror}: end what listens there, or mend listen in [service]") from error
+        words = f"{where}: {error.strerror}: end what listens there, or mend it"
+        raise configuration.file.fault("listen", words, "service") from error
 
 
 def tcp_listener(host: str, port: int) -> socket.socket:
