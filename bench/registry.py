@@ -24,7 +24,7 @@ import time
 
 import registered
 from bench import HERE
-from runs import Failed, before_others, children, lost, measured, words_of
+from runs import Failed, before_others, children, lost, lost_since, measured, words_of
 
 sys.path += [str(HERE.parent / folder) for folder in ("registry", "tests")]
 
@@ -62,7 +62,7 @@ def checks(options, folder, asked, server_process):
             before, start = lost(processes), time.perf_counter()
             answer = zone.check(label)
             times.append((time.perf_counter() - start) * 1000)
-            if lost(processes) - before < 1:
+            if lost_since(before) < 1:
                 undisturbed.append((times[-1], label))
             if answer.reason:
                 raise Failed(f"no answer for {label}")

@@ -2,7 +2,7 @@
 
 import contextlib
 import json
-from collections.abc import Iterable, Sequence
+from collections.abc import Iterable, Iterator, Sequence
 from dataclasses import dataclass
 from functools import cached_property
 from typing import Any, TypeVar
@@ -14,12 +14,12 @@ from .faults import NotRegistered, Unknown
 from .holdings import Holdings
 from .old_labels import MARK, Barred
 from .output import Output
-from .program import HeldFile, Program
+from .program import HeldFile, OpenRun, Program
 from .register import text_of
 from .since import Earlier
 from .tables import Table, check_for_collisions, table_of
 from .words import counted, registered_words, shown
-from .work import Means, Task, parts_of, results
+from .work import SLOW_PART_LINES, Means, Task, parts_of, results
 
 Pairs = list[tuple[str, str]]
 Refused = dict[str, dict[str, Any]]
@@ -32,10 +32,11 @@ class TestTask:
 
     program: Program
 
-    def done(self, part: bytes) -> bytes:
+    def done(self, parts: Iterable[bytes]) -> Iterator[bytes]:
         """Their refusals, and which of them are of older rules."""
-        found = Barred.among(self.program, part)
-        return json.dumps([found.refusals, found.old]).encode()
+        for part in parts:
+            found = Barred.among(self.program, part)
+            yield json.dumps([found.refusals, found.old]).encode()
 
 
 @dataclass(frozen=True)
@@ -75,18 +76,27 @@ class AdmissionTask:
     program: Program
     admitting: tuple[Table, ...]
 
-    def done(self, part: bytes) -> bytes:
+    def done(self, parts: Iterable[bytes]) -> Iterator[bytes]:
         """The refusals of what all of them refuse, of each label the furthest."""
-        labels = part.split(b"\n")[:-1]
-        runs = {table.name: admission_words(table) for table in self.admitting}
-        for words, files in runs.values():
-            output, refused = self.program.plain(words, part, files)
-            # No label has a number sign, with which the last line of each answer begins.
-            check_answered(output.count(b"#") + len(refused), len(labels))
-            labels = labels_at(part, refused)
-            part = lines_of(labels)
-        told = {name: causes(self.program, run, labels) for name, run in runs.items()}
-        return json.dumps({label: furthest(told, label).object() for label in map(bytes.decode, labels)}).encode()
+        asked = {table.name: admission_words(table) for table in self.admitting}
+        with contextlib.ExitStack() as stack:
+            runs = [stack.enter_context(self.program.opened(*each)) for each in asked.values()]
+            for part in parts:
+                labels = not_admitted(runs, part)
+                told = {name: causes(self.program, each, labels) for name, each in asked.items()}
+                yield json.dumps({label: furthest(told, label).object() for label in map(bytes.decode, labels)}).encode()
+
+
+def not_admitted(runs: Iterable[OpenRun], part: bytes) -> list[bytes]:
+    """The labels of a part that all of some runs refuse, each by a table."""
+    labels = part.split(b"\n")[:-1]
+    for run in runs:
+        output, refused = run.plain(part)
+        # No label has a number sign, with which the last line of each answer begins.
+        check_answered(output.count(b"#") + len(refused), len(labels))
+        labels = labels_at(part, refused)
+        part = lines_of(labels)
+    return labels
 
 
 def furthest(told: dict[str, Refused], label: str) -> Refusal:
@@ -111,12 +121,13 @@ class AuditTask:
     def __getstate__(self) -> dict[str, Any]:
         return {name: value for name, value in self.__dict__.items() if name != "held"}
 
-    def done(self, part: bytes) -> bytes:
+    def done(self, parts: Iterable[bytes]) -> Iterator[bytes]:
         """The labels that are refused, and the pairs that collide."""
-        words, files = Collisions(self.zone).audit_words(self.held)
-        output, refused = self.program.plain(words, part, files)
-        labels = [label.decode() for label in labels_at(part, refused)]
-        return json.dumps({"refused": labels, "pairs": pairs_in(output)}).encode()
+        with self.program.opened(*Collisions(self.zone).audit_words(self.held)) as run:
+            for part in parts:
+                output, refused = run.plain(part)
+                labels = [label.decode() for label in labels_at(part, refused)]
+                yield json.dumps({"refused": labels, "pairs": pairs_in(output)}).encode()
 
 
 def admission_words(table: Table) -> tuple[list[str], list[int]]:
@@ -191,24 +202,24 @@ def findings_of(program: Program, admitting: Sequence[Table], zone: Table, teste
     """The same of labels that were tested. Those that may be registered are asked, and what they collide with may be a label
     of older rules, too."""
     check_for_collisions(zone, program)
-    parts = parts_of(tested.valid, means.lines_of_a_part(tested.valid.count(b"\n")))
+    parts, readers = parts_of(tested.valid, SLOW_PART_LINES), means.reading(tested.registered.count(b"\n"))
     task = AuditTask(program, zone, tested.registered)
     # Where all labels are valid, the parts are the registered labels.
     state = [program.state, zone.data, *([] if tested.registered == tested.valid else [tested.registered])]
-    told = [json.loads(result) for result in results(means, name, task, parts, state)]
+    told = [json.loads(result) for result in results(readers, name, task, parts, state)]
     pairs = [(first, second) for each in told for first, second in each["pairs"]]
     if list(admitting) == [zone]:
         refused = [label.encode() for each in told for label in each["refused"]]
         return Findings(tested.refused | causes(program, admission_words(zone), refused), pairs)
     state = [program.state, *(table.data for table in admitting)]
-    not_admitted = refusals(AdmissionTask(program, tuple(admitting)), tested.valid, means, f"{name}-tables", state)
-    return Findings(tested.refused | not_admitted, pairs)
+    admission = AdmissionTask(program, tuple(admitting))
+    return Findings(tested.refused | refusals(admission, tested.valid, means, f"{name}-tables", state), pairs)
 
 
 def refusals(task: Task, text: bytes, means: Means, name: str, state: Sequence[bytes]) -> Refused:
     """What a task refuses."""
     found: Refused = {}
-    for result in results(means, name, task, parts_of(text), state):
+    for result in results(means, name, task, parts_of(text, SLOW_PART_LINES), state):
         found |= json.loads(result)
     return found
 

@@ -1,7 +1,8 @@
 """`change`: what a new table changes for registered labels."""
 
+import contextlib
 import json
-from collections.abc import Iterator, Sequence
+from collections.abc import Iterable, Iterator, Sequence
 from dataclasses import dataclass
 from pathlib import Path
 from typing import Any
@@ -12,10 +13,10 @@ from .configuration import Configuration, Limits
 from .faults import Unknown, Unusable
 from .holdings import Holdings
 from .output import Output
-from .program import Program
+from .program import OpenRun, Program
 from .tables import Table, read_table, table_of
 from .words import counted, registered_words, shown
-from .work import Means, parts_of, results
+from .work import SLOWEST_PART_LINES, Means, parts_of, results
 
 
 def blocks(output: bytes) -> Iterator[list[bytes]]:
@@ -37,23 +38,27 @@ class ChangeTask:
     new: Table
     limits: Limits
 
-    def listed(self, table: Table, part: bytes) -> bytes:
-        """All variants of the labels."""
+    def listing(self, table: Table) -> contextlib.AbstractContextManager[OpenRun]:
+        """What lists all variants of labels."""
         words = table.listing("--tries", str(self.limits.tries), "--steps", str(self.limits.steps))
-        return self.program.answered(words, part, [table.held.descriptor])
+        return self.program.opened(["--json", *words], [table.held.descriptor])
 
-    def done(self, part: bytes) -> bytes:
+    def done(self, parts: Iterable[bytes]) -> Iterator[bytes]:
         """The changes of labels, in their order."""
-        changes: list[Object] = []
-        labels = part.decode().split("\n")[:-1]
-        pairs = zip(labels, blocks(self.listed(self.old, part)), blocks(self.listed(self.new, part)), strict=True)
-        try:
-            for label, old, new in pairs:
-                if old != new:
-                    changes += [{"of": label, **change} for change in changes_of(old, new)]
-        except ValueError as error:
-            raise Unknown("the program didn't answer each label") from error
-        return json.dumps(changes).encode()
+        with self.listing(self.old) as old, self.listing(self.new) as new:
+            for part in parts:
+                yield json.dumps([*changes_in(part, old.answered(part), new.answered(part))]).encode()
+
+
+def changes_in(part: bytes, old: bytes, new: bytes) -> Iterator[Object]:
+    """What two listings of the labels of a part differ in."""
+    labels = part.decode().split("\n")[:-1]
+    try:
+        for label, before, after in zip(labels, blocks(old), blocks(new), strict=True):
+            if before != after:
+                yield from ({"of": label, **change} for change in changes_of(before, after))
+    except ValueError as error:
+        raise Unknown("the program didn't answer each label") from error
 
 
 def changes_of(old: Sequence[bytes], new: Sequence[bytes]) -> Iterator[Object]:
@@ -100,7 +105,7 @@ def change(configuration: Configuration, program: Program, holdings: Holdings, m
     task = ChangeTask(program, old, new, configuration.limits)
     state = [program.state, old.data, new.data, repr(configuration.limits).encode()]
     changes: list[Object] = []
-    for result in results(means, "change", task, parts_of(holdings.text), state):
+    for result in results(means, "change", task, parts_of(holdings.text, SLOWEST_PART_LINES), state):
         changes += json.loads(result)
     colliding = newly_colliding(configuration, program, holdings, means, tables, new)
     named = holdings.named([*(told["of"] for told in changes), *(label for group in colliding for label in group)], program)

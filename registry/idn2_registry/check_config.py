@@ -1,7 +1,9 @@
 """`check-config`: whether the configuration, its tables and its register can be used, and what they lack."""
 
+import contextlib
+
 from .answers import ExitStatus
-from .configuration import Configuration
+from .configuration import Configuration, read_token
 from .faults import Fault, Unusable
 from .join import lacking
 from .output import Output
@@ -18,6 +20,7 @@ def check_configuration(configuration: Configuration, program: Program, output: 
     """Tells of each part that it can be used, or what is wrong with it, by file and line."""
     check_tables(configuration, program, output)
     check_register(configuration, output)
+    check_token(configuration, output)
     output.fact({"program": program.path, "version": program.version}, f"{program.path}: {program.version}", ExitStatus.YES)
 
 
@@ -52,15 +55,22 @@ def check_tables(configuration: Configuration, program: Program, output: Output)
 
 def check_register(configuration: Configuration, output: Output) -> None:
     """The register."""
+    # The address of a database may have a password, and what isn't open doesn't say where it is.
+    where = configuration.register.partition(":")[0]
     try:
-        register = open_register(configuration)
-        faults = register.faults()
-        count = sum(1 for _ in register.rows())
-        register.close()
+        with contextlib.closing(open_register(configuration)) as register:
+            where, faults, count = register.where(), register.faults(), sum(1 for _ in register.rows())
     except Fault as error:
-        output.fact({"register": configuration.register, "fault": str(error)}, str(error), ExitStatus.NOT_KNOWN)
+        output.fact({"register": where, "fault": str(error)}, str(error), ExitStatus.NOT_KNOWN)
         return
     for fault in faults:
-        output.fact({"register": configuration.register, "lacks": fault}, fault, ExitStatus.NO)
-    output.fact({"register": configuration.register, "labels": count}, f"{configuration.register}: {counted(count, 'label')}",
-                ExitStatus.YES)
+        output.fact({"register": where, "lacks": fault}, fault, ExitStatus.NO)
+    output.fact({"register": where, "labels": count}, f"{where}: {counted(count, 'label')}", ExitStatus.YES)
+
+
+def check_token(configuration: Configuration, output: Output) -> None:
+    """The token of the service, which isn't told."""
+    try:
+        read_token(configuration)
+    except Fault as error:
+        output.fact({"service": "token", "fault": str(error)}, str(error), ExitStatus.NOT_KNOWN)

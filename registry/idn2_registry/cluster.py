@@ -1,4 +1,5 @@
-"""Long work on several machines, by Dask: its scheduler sends parts to its workers, and a part again if its worker is lost."""
+"""Long work on several machines, by Dask: its scheduler sends batches of parts to its workers, and one again if its
+worker is lost."""
 
 import itertools
 import sys
@@ -19,45 +20,46 @@ except ImportError as error:
 SECONDS = 10
 
 
-def done_by_cluster(address: str, task: Task, parts: dict[int, bytes]) -> Iterator[tuple[int, bytes]]:
-    """The numbers and results of parts, as the workers have done them. Each worker needs this package and the program."""
+def done_by_cluster(address: str, task: Task, batches: Iterator[dict[int, bytes]]) -> Iterator[tuple[int, bytes]]:
+    """The numbers and results of parts, as the workers have done them batch by batch. Each worker needs this package and the
+    program."""
     try:
         client = distributed.Client(address, timeout=SECONDS)
     except (OSError, ValueError) as error:
         raise Unusable(f"{address}: no scheduler there: dask-scheduler starts one") from error
     with client:
         try:
-            yield from Sending(client, task, parts).results()
+            yield from Sending(client, task, batches).results()
         except (OSError, CancelledError, distributed.scheduler.KilledWorker) as error:
             raise Unknown(f"{address}: {error}") from error
 
 
 class Sending:
-    """Parts on their way: two for each worker, since the task goes with each. A part that stood on what another worker has
+    """Batches on their way: two for each worker, since the task goes with each. A batch that stood on what another worker has
     might wait for ever once that worker is lost."""
 
-    def __init__(self, client: Any, task: Task, parts: dict[int, bytes]) -> None:
-        self._client, self._task, self._left = client, task, iter(parts.items())
-        self._numbers: dict[Any, int] = {}
+    def __init__(self, client: Any, task: Task, batches: Iterator[dict[int, bytes]]) -> None:
+        self._client, self._task, self._left = client, task, batches
+        self._numbers: dict[Any, list[int]] = {}
         self._done = distributed.as_completed()
 
     def results(self) -> Iterator[tuple[int, bytes]]:
         """The numbers and results of all parts, as they are done."""
         self._send()
         for future in self._done:
-            number, result = self._numbers.pop(future), future.result()
+            numbers, results = self._numbers.pop(future), future.result()
             self._send()
-            yield number, result
+            yield from zip(numbers, results, strict=True)
 
     def _send(self) -> None:
-        """Sends more of the parts that are left."""
+        """Sends more of the batches that are left."""
         room = 2 * max(1, len(self._client.scheduler_info()["workers"])) - len(self._numbers)
-        for number, part in itertools.islice(self._left, max(0, room)):
-            future = self._client.submit(done_there, self._task, part, pure=False)
-            self._numbers[future] = number
+        for batch in itertools.islice(self._left, max(0, room)):
+            future = self._client.submit(done_there, self._task, [*batch.values()], pure=False)
+            self._numbers[future] = [*batch]
             self._done.add(future)
 
 
-def done_there(task: Task, part: bytes) -> bytes:
-    """The result of a part, on a worker."""
-    return task.done(part)
+def done_there(task: Task, parts: list[bytes]) -> list[bytes]:
+    """The results of parts, on a worker."""
+    return [*task.done(parts)]

@@ -1,6 +1,5 @@
 """`ask`: a co-process that answers requests, one object for each."""
 
-import json
 import signal
 import sys
 from dataclasses import dataclass
@@ -9,7 +8,7 @@ from typing import Any
 from .answers import Object
 from .faults import Unusable
 from .output import Output, complain, text_of
-from .requests import Request
+from .requests import Request, told_in
 from .zone import Zone
 
 # Of a request, its line feed among them.
@@ -51,7 +50,7 @@ class CoProcess:
                 line = sys.stdin.buffer.readline(MOST_BYTES)
             return {"fault": f"more than {MOST_BYTES} bytes"}
         try:
-            request = json.loads(line)
+            request = told_in(line)
             told = Request.read(request).answer(self.zone).object()
         except (ValueError, RecursionError) as error:
             told = {"fault": str(error)}

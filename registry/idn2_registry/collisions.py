@@ -8,7 +8,7 @@ from typing import NamedTuple
 
 from .answers import NOT_MADE, NOT_VALID, Object, Refusal
 from .faults import Unknown
-from .processes import Question, Questions, only
+from .processes import Asked, Question, Questions, only
 from .program import HeldFile
 from .register import Row, Transaction
 from .tables import Table
@@ -19,7 +19,7 @@ REGARDS = {NONE, "variant", "blocked", ALLOCATABLE}
 # No label has a greater code point.
 LAST = "\U0010FFFF"
 # A search for collisions is in two spans for so many turns, and then in about so many at once.
-WHOLE_TURNS, MOST_SPANS = 2, 16
+WHOLE_TURNS, MOST_SPANS = 1, 16
 
 
 class Near(NamedTuple):
@@ -56,6 +56,22 @@ class Span(NamedTuple):
         yield Span(start, self.end)
 
 
+def first_spans(label: str) -> list[Span]:
+    """With which a search begins: what is near a label lies mostly on both sides of it."""
+    return [Span("", label), Span(label)]
+
+
+def refusal_in(told: Sequence[Object]) -> Refusal | None:
+    """Why a table refuses a label that may be registered; None if it admits it."""
+    answer = only(told, "ulabel")
+    if "refusal" not in answer:
+        return None
+    refusal = Refusal.read(answer["refusal"])
+    if refusal.number not in (NOT_MADE, NOT_VALID):
+        raise Unknown(f"the program gave another answer than it should: {refusal}")
+    return refusal
+
+
 class Collisions:
     """Collisions under one table, whichever of two labels is a variant of the other."""
 
@@ -67,8 +83,7 @@ class Collisions:
         """The registered labels that collide with a label, in label order, each with its holder; itself among them.
         Raises Unknown if the table refuses the label."""
         found: list[Row] = []
-        # What is near a label lies mostly on both sides of it.
-        spans, turn = [Span("", label), Span(label)], 0
+        spans, turn = first_spans(label), 0
         # The program and the register take turns: each goes on from what the other has, in all spans at once.
         while asked := await self._first_in_each(label, spans, questions):
             rows = await transaction.first_from_each([near.label for _, near in asked])
@@ -85,29 +100,29 @@ class Collisions:
                 spans += left.parts(near.label) if turn > WHOLE_TURNS and len(spans) < MOST_SPANS else [left]
         return sorted(found)
 
-    async def refusal(self, label: str, questions: Questions) -> Refusal | None:
-        """Why the table refuses a label that may be registered; None if it admits it."""
-        answer = only(await questions.ask(self._jump, label.encode()), "ulabel")
-        if "refusal" not in answer:
-            return None
-        refusal = Refusal.read(answer["refusal"])
-        if refusal.number not in (NOT_MADE, NOT_VALID):
-            raise Unknown(f"the program gave another answer than it should: {refusal}")
-        return refusal
+    def asked_first(self, label: str) -> list[Asked]:
+        """What a search is asked first, so that it can be asked with something else in one turn."""
+        return self._asked(label, first_spans(label))
 
-    async def admits(self, label: str, questions: Questions) -> bool:
-        """Whether a registered label may be registered today, and the table admits it."""
-        return "refusal" not in only(await questions.ask(self._jump, label.encode()), "ulabel")
+    def asked_of(self, label: str) -> Asked:
+        """What is asked to know whether the table refuses a label."""
+        return self._jump, label.encode()
 
-    async def is_offered(self, label: str, registered: str, questions: Questions) -> bool:
-        """Whether the holder of a registered label may have the label, too: it is one of its allocatable variants."""
-        asked = await self._first_in_each(label, [Span(registered)], questions)
-        return any((near.label, near.back) == (registered, ALLOCATABLE) for _, near in asked)
+    def asked_between(self, label: str, registered: str) -> Asked:
+        """What is asked to know what a label and a registered one are to each other."""
+        return self._asked(label, [Span(registered)])[0]
+
+    def is_offered(self, told: Sequence[Object], registered: str) -> bool:
+        """Whether the holder of a registered label may have the other one, too: it is one of its allocatable variants."""
+        near = self._near(only(told, "ulabel"), registered)
+        return near is not None and (near.label, near.back) == (registered, ALLOCATABLE)
+
+    def _asked(self, label: str, spans: Sequence[Span]) -> list[Asked]:
+        return [(self._jump, (f"{label}\t{span.start}" if span.start else label).encode()) for span in spans]
 
     async def _first_in_each(self, label: str, spans: Sequence[Span], questions: Questions) -> list[tuple[Span, Near]]:
         """The first label that may collide in each of some spans, where there is one."""
-        lines = ((f"{label}\t{span.start}" if span.start else label).encode() for span in spans)
-        told = await questions.ask_each(self._jump, lines)
+        told = await questions.ask_all(self._asked(label, spans))
         found = ((span, self._near(only(objects, "ulabel"), span.start)) for span, objects in zip(spans, told, strict=True))
         return [(span, near) for span, near in found if near is not None and span.has(near.label)]
 

@@ -22,7 +22,7 @@ from .output import Output, complain
 from .program import Program
 from .register import checked_holder, open_register
 from .tables import Table, read_tables
-from .work import Means
+from .work import Kept, Means
 from .zone import Zone, checked_after, checked_page
 
 Words = argparse.Namespace
@@ -129,12 +129,14 @@ def check_config(words: Words, output: Output) -> None:
 
 def program(words: Words, configuration: Configuration | None) -> Program:
     """The program, which tests labels as the configuration says."""
-    return Program(words.idn2, configuration.labels) if configuration else Program(words.idn2)
+    return Program.of(configuration, words.idn2) if configuration else Program(words.idn2)
 
 
-def means(words: Words, configuration: Configuration) -> Means:
-    """With what long work is done. What is done of it is kept beside the configuration."""
-    return Means(configuration.path, configuration.processes, words.scheduler, words.resume)
+@contextlib.contextmanager
+def means(words: Words, configuration: Configuration, job: str) -> Iterator[Means]:
+    """With what a long job is done. What is done of it is kept beside the configuration."""
+    with Kept(Path(f"{configuration.path}.{job}-parts"), words.resume) as kept:
+        yield Means(kept, configuration.processes, words.scheduler)
 
 
 def holdings(configuration: Configuration) -> Holdings:
@@ -149,8 +151,9 @@ def holdings(configuration: Configuration) -> Holdings:
 def load(words: Words, output: Output) -> None:
     """Puts the labels of a file into the register, all or none. Each line is a label, or a label, a tab and a holder."""
     configuration = read_configuration(words.config)
-    load_file(configuration, program(words, configuration), means(words, configuration), words.file, words.old, words.rest,
-              output)
+    asked = program(words, configuration)
+    with means(words, configuration, "load") as by:
+        load_file(configuration, asked, by, words.file, words.old, words.rest, output)
 
 
 def dump(words: Words, output: Output) -> None:
@@ -163,14 +166,18 @@ def audit(words: Words, output: Output) -> None:
     """Tells which registered labels are no longer valid, and which collide."""
     configuration = read_configuration(words.config)
     asked = program(words, configuration)
-    audit_all(configuration, asked, holdings(configuration), means(words, configuration), words.since, output)
+    registered = holdings(configuration)
+    with means(words, configuration, "audit") as by:
+        audit_all(configuration, asked, registered, by, words.since, output)
 
 
 def change(words: Words, output: Output) -> None:
     """Tells what a new table changes for registered labels."""
     configuration = read_configuration(words.config)
     asked = program(words, configuration)
-    change_all(configuration, asked, holdings(configuration), means(words, configuration), words.new, output)
+    registered = holdings(configuration)
+    with means(words, configuration, "change") as by:
+        change_all(configuration, asked, registered, by, words.new, output)
 
 
 def found_configuration(words: Words) -> Configuration | None:

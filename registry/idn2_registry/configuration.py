@@ -60,7 +60,10 @@ class TomlFile:
         except OSError as error:
             raise Unusable(f"{path}: {error.strerror}: write one, or name it with --config FILE") from error
         except UnicodeDecodeError as error:
-            raise Unusable(f"{path}: not UTF-8 at byte {error.start + 1}: save it as UTF-8") from error
+            line = error.object.count(b"\n", 0, error.start) + 1
+            raise Unusable(f"{path}: line {line}: not UTF-8 at byte {error.start + 1}: save it as UTF-8") from error
+        # A line ends nowhere else.
+        self.lines = self.text.removesuffix("\n").split("\n")
 
     def fault(self, key: str, words: str, section: str = "") -> Unusable:
         """What is wrong with a key, with the line where it stands."""
@@ -73,14 +76,14 @@ class TomlFile:
     def line_of(self, key: str, section: str) -> int:
         """The line of a key, else that of its section, else the last line."""
         inside, head = "", 0
-        for number, line in enumerate(self.text.splitlines(), 1):
-            if found := re.match(r"\s*\[\s*([^\]]*?)\s*\]", line):
+        for number, line in enumerate(self.lines, 1):
+            if found := re.match(r"\s*\[+\s*[\"']?([^\]]*?)[\"']?\s*\]", line):
                 inside = found[1]
                 head = number if inside in (section, key) else head
             is_here = inside == section and re.match(rf"\s*[\"']?{re.escape(key)}[\"']?\s*[=.]", line)
             if is_here or section and re.match(rf"\s*{section}\s*(\.\s*[\"']?{re.escape(key)}\b|=)", line):
                 return number
-        return head or max(1, len(self.text.splitlines()))
+        return head or len(self.lines)
 
 
 @dataclass(frozen=True)
@@ -88,7 +91,8 @@ class Configuration:
     """A zone: its register, its tables by their names in the order of the file, and under which of them labels collide."""
 
     file: TomlFile
-    register: str
+    # The address of a database may have a password.
+    register: str = field(repr=False)
     tables: dict[str, Path]
     zone: str
     limits: Limits
@@ -114,6 +118,23 @@ def read_configuration(path: str | os.PathLike[str] = DEFAULT_PATH) -> Configura
     return Reader(Path(path)).configuration()
 
 
+def read_token(configuration: Configuration) -> bytes | None:
+    """The token that callers of the service show, in the file that is named for it, if one is. Raises Unusable for one that can
+    be guessed."""
+    path = configuration.service.token
+    if path is None:
+        return None
+    try:
+        with open(path, "rb") as file:
+            token = file.read(4097).strip()
+    except OSError as error:
+        raise configuration.file.fault("token", f"{path}: {error.strerror}: mend its path", "service") from error
+    if not 32 <= len(token) <= 4096 or not token.isascii() or len(token.split()) != 1:
+        words = f"{path}: a token is a word of 32 letters or more: openssl rand -hex 32 makes one"
+        raise configuration.file.fault("token", words, "service")
+    return token
+
+
 class Reader(TomlFile):
     """Reads one file."""
 
@@ -128,7 +149,7 @@ class Reader(TomlFile):
         """A message of tomllib with its line in front."""
         found = re.fullmatch(r"(.*) \(at (?:line (\d+), column \d+|end of document)\)", message, re.DOTALL)
         words, line = (found[1], found[2]) if found else (message, None)
-        return f"{self.path}: line {line or len(self.text.splitlines())}: {words}: mend the TOML there"
+        return f"{self.path}: line {line or len(self.lines)}: {words}: mend the TOML there"
 
     def configuration(self) -> Configuration:
         """All of it."""

@@ -5,11 +5,11 @@ from collections.abc import Sequence
 from dataclasses import replace
 
 from .answers import Answer, Object, Refusal, RegisteredLabel, Status, Variant, bytes_of, furthest_first
-from .collisions import Collisions
+from .collisions import Collisions, refusal_in
 from .configuration import Configuration
 from .faults import Unknown
 from .old_labels import alabel_of
-from .processes import Pool, Question, Questions, only
+from .processes import Asked, Pool, Question, Questions, only
 from .program import Program
 from .register import Transaction
 from .tables import Table, table_of_zone
@@ -45,27 +45,26 @@ class Tables:
         limits = self.limits
         return "--limit", str(most), "--tries", str(limits.tries), "--steps", str(limits.steps)
 
-    async def tested(self, label: str, questions: Questions) -> Answer:
-        """A label as it is registered, with the tables that admit it; or refused."""
+    async def tested(self, label: str, questions: Questions, is_searched: bool = False) -> Answer:
+        """A label as it is registered, with the tables that admit it; or refused. A search for what it collides with may begin
+        in the same turn."""
         if refusal := Refusal.of_control_character(label):
             return Answer(label, Status.REFUSED, refusal=refusal)
         told = only(await questions.ask(REGISTER, bytes_of(label)), "alabel")
         if "refusal" in told:
             return Answer(label, Status.REFUSED, refusal=Refusal.read(told["refusal"]))
-        refusals = await self.refusals(told["ulabel"], questions)
+        ulabel = told["ulabel"]
+        refusals = await self.refusals(ulabel, questions, self.collisions.asked_first(ulabel) if is_searched else ())
         tables = tuple(name for name in self.admitting if name not in refusals)
         refusal = None if tables else next(iter(refusals.values()))
         status = Status.REFUSED if refusal else Status.ADMITTED
-        return Answer(label, status, told["ulabel"], told["alabel"], tables, refusal)
+        return Answer(label, status, ulabel, told["alabel"], tables, refusal)
 
-    async def refusals(self, ulabel: str, questions: Questions) -> dict[str, Refusal]:
-        """Why the tables that don't admit a label refuse it, the furthest first."""
-        told = {name: await self.refusal(name, ulabel, questions) for name in self.admitting}
-        return furthest_first({name: refusal for name, refusal in told.items() if refusal is not None})
-
-    async def refusal(self, name: str, ulabel: str, questions: Questions) -> Refusal | None:
-        """Why a table refuses a label; None if it admits it."""
-        return await self._asked[name].refusal(ulabel, questions)
+    async def refusals(self, ulabel: str, questions: Questions, more: Sequence[Asked] = ()) -> dict[str, Refusal]:
+        """Why the tables that don't admit a label refuse it, the furthest first. More may be asked in the same turn."""
+        told = await questions.ask_all([*(self._asked[name].asked_of(ulabel) for name in self.admitting), *more])
+        refusals = zip(self.admitting, map(refusal_in, told[:len(self.admitting)]), strict=True)
+        return furthest_first({name: refusal for name, refusal in refusals if refusal is not None})
 
     async def variants(self, name: str, ulabel: str, page: int | None, after: str | None,
                        questions: Questions) -> tuple[tuple[Variant, ...], str | None]:
@@ -99,7 +98,7 @@ class Tables:
         alabels = await self.alabels_of([each for each, _ in rows], questions)
         taken_by = tuple(RegisteredLabel(each, alabel, held) for (each, held), alabel in zip(rows, alabels, strict=True))
         is_own = holder is not None and all(each.ulabel != label and each.holder == holder for each in taken_by)
-        is_offered = is_own and all([await self.is_offered(tested, each.ulabel, questions) for each in taken_by])
+        is_offered = is_own and await self.is_offered(tested, [each.ulabel for each in taken_by], questions)
         if taken_by and not is_offered:
             return replace(tested, status=Status.TAKEN, taken_by=taken_by)
         if self.doubt:
@@ -112,14 +111,19 @@ class Tables:
         told = await questions.ask_each(REGISTER, [ulabel.encode() for ulabel in ulabels])
         return [alabel_of(ulabel, only(objects, "alabel")) for ulabel, objects in zip(ulabels, told, strict=True)]
 
-    async def is_offered(self, tested: Answer, registered: str, questions: Questions) -> bool:
-        """Whether the holder of a registered label may have an admitted label, too: under each table that admits both,
-        and one does."""
+    async def is_offered(self, tested: Answer, registered: Sequence[str], questions: Questions) -> bool:
+        """Whether the holder of registered labels may have an admitted label, too: with each of them under each table that
+        admits both, and one does. Whether a table admits a registered label is asked in the same turn."""
         assert tested.ulabel is not None
-        label = tested.ulabel
-        asked = [self._asked[name] for name in tested.tables or ()]
-        both = [each for each in asked if await each.admits(registered, questions)]
-        return bool(both) and all([await each.is_offered(label, registered, questions) for each in both])
+        label, tables = tested.ulabel, [self._asked[name] for name in tested.tables or ()]
+        pairs = [(each, table) for each in registered for table in tables]
+        told = iter(await questions.ask_all([asked for each, table in pairs
+                                             for asked in (table.asked_of(each), table.asked_between(label, each))]))
+        offers: dict[str, list[bool]] = {each: [] for each in registered}
+        for (each, table), admission, regard in zip(pairs, told, told, strict=True):
+            if "refusal" not in only(admission, "ulabel"):
+                offers[each].append(table.is_offered(regard, each))
+        return all(offer and all(offer) for offer in offers.values())
 
 
 def doubt_of(zone: Table, admitting: list[Table]) -> str | None:

@@ -1,7 +1,7 @@
 """`load`: labels into the register, whole or not at all; and `dump`, labels out of it."""
 
 import json
-from collections.abc import Iterator
+from collections.abc import Iterable, Iterator, Sequence
 from dataclasses import dataclass
 from typing import Any
 
@@ -13,7 +13,7 @@ from .output import Output
 from .program import Program
 from .register import NO_HOLDER, open_register, text_of
 from .words import counted
-from .work import Means, parts_of, results
+from .work import Means, Progress, parts_of, results
 
 DUMPED = 10_000
 TAB = "\t"
@@ -26,9 +26,14 @@ class LoadTask:
     program: Program
     takes_old: bool
 
-    def done(self, part: bytes) -> bytes:
+    def done(self, parts: Iterable[bytes]) -> Iterator[bytes]:
         """For each line a label with its holder, or a refusal."""
-        read: list[tuple[str | None, str | None, Object | None]] = [read_line(line) for line in part.split(b"\n")[:-1]]
+        for part in parts:
+            yield json.dumps(self._read(part.split(b"\n")[:-1])).encode()
+
+    def _read(self, lines: Sequence[bytes]) -> list[tuple[str | None, str | None, Object | None]]:
+        """The same of some lines."""
+        read: list[tuple[str | None, str | None, Object | None]] = [read_line(line) for line in lines]
         asked = [number for number, (label, _, _) in enumerate(read) if label is not None]
         labels = [(read[number][0] or "").encode("utf-8", "surrogateescape") for number in asked]
         told = self.program.decoded(labels) if self.takes_old else self.program.tested(labels)
@@ -37,7 +42,7 @@ class LoadTask:
             # What a name of older rules stands for may have one.
             control = Refusal.of_control_character(label or "")
             read[number] = (label, read[number][1], control.object() if control else answer.get("refusal"))
-        return json.dumps(read).encode()
+        return read
 
 
 def read_line(line: bytes) -> tuple[str | None, str | None, Object | None]:
@@ -113,7 +118,8 @@ def load(configuration: Configuration, program: Program, means: Means, path: str
     is_loaded = with_rest or not loading.refused
     if is_loaded:
         register = open_register(configuration, must_be=False)
-        register.load(loading.new.items())
+        with Progress("load, registered", len(loading.new), 0) as progress:
+            register.load(progress.over(loading.new.items()))
         register.close()
     counts = {"lines": len(lines), "loaded": len(loading.new) if is_loaded else 0, "refused": len(loading.refused),
               "known": loading.known}

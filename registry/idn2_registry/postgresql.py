@@ -44,6 +44,9 @@ OPTIONS = r"-c default_transaction_isolation=repeatable\ read -c default_transac
 CHANGE = "begin isolation level serializable read write"
 DONE = (pq.ExecStatus.COMMAND_OK, pq.ExecStatus.TUPLES_OK)
 Connection = psycopg.Connection[Any]
+SCHEME = "postgresql://"
+# The parts of a URI that say where a database is.
+PLACE = ("host", "port", "dbname")
 
 
 class TooSlow(psycopg.OperationalError):
@@ -219,13 +222,8 @@ class PostgresqlRegister(Register):
 
     def __init__(self, place: str, uri: str, seconds: float, must_be: bool) -> None:
         """Raises ValueError for what is no URI."""
-        try:
-            told = psycopg.conninfo.conninfo_to_dict(uri)
-        except psycopg.Error as error:
-            # What is quoted there may have a password in it.
-            raise ValueError(first_line(error).partition('"')[0].rstrip(": ")) from error
-        parts = [f"{name} {told[name]}" for name in ("host", "port", "dbname") if name in told]
-        super().__init__(place, "postgresql: " + ", ".join(parts))
+        told = parts_of(uri)
+        super().__init__(place, named(*(told.get(name) for name in PLACE)))
         self._uri = uri
         self._seconds = seconds
         self._idle: Idle[Session] = Idle()
@@ -368,6 +366,11 @@ class PostgresqlRegister(Register):
         with self._connected() as connection:
             return value(connection, "select to_regclass('registered')") is not None
 
+    def where(self) -> str:
+        with self._connected() as connection:
+            # What the URI doesn't say libpq knows.
+            return named(connection.info.host, connection.info.port, connection.info.dbname)
+
     def faults(self) -> list[str]:
         with self._connected() as connection:
             connection.execute("set enable_seqscan = off")
@@ -380,6 +383,27 @@ class PostgresqlRegister(Register):
 
     def close(self) -> None:
         self._idle.close()
+
+
+def parts_of(uri: str) -> dict[str, Any]:
+    """The parts of a URI, of which those of its place have nothing of a password. Raises ValueError for what is no URI."""
+    before, _, path = uri.partition("?")[0].removeprefix(SCHEME).partition("/")
+    # Of a password with such a letter libpq takes the rest for the place.
+    if before.count("@") > 1 or "@" in path:
+        raise ValueError("the user or the password has an @ or a /, which is %40 or %2F there")
+    try:
+        told = psycopg.conninfo.conninfo_to_dict(uri)
+    except psycopg.Error as error:
+        # What is quoted there may have a password in it.
+        raise ValueError(first_line(error).partition('"')[0].rstrip(": ")) from error
+    if not set(told.get("port", "")) <= set("0123456789,"):
+        raise ValueError("the port is no number; or the user or the password has a /, : or ?, which is %2F, %3A or %3F there")
+    return told
+
+
+def named(*parts: object) -> str:
+    """A place as an operator is told."""
+    return "postgresql: " + ", ".join(f"{name} {part}" for name, part in zip(PLACE, parts, strict=True) if part)
 
 
 def pages(connection: Connection, text: str, which: str) -> Iterator[bytes]:

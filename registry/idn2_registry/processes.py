@@ -1,5 +1,6 @@
 """Processes of the program that answer one request after another, and are replaced where they fail."""
 
+import fcntl
 import json
 import os
 import select
@@ -18,8 +19,6 @@ from .together import Ask
 
 # A request is no longer than this; the program refuses a longer line (2) whatever follows.
 MOST_BYTES = 1_025
-# So much a pipe takes at once if nothing is in it.
-PIPE_BYTES = 4_096
 # Lines are counted from the start of a process, up to 4,294,967,296.
 MOST_REQUESTS = 1_000_000_000
 
@@ -30,6 +29,10 @@ class Question:
 
     options: tuple[str, ...]
     files: tuple[HeldFile, ...] = ()
+
+
+# A line, and of which question it is.
+Asked = tuple[Question, bytes]
 
 
 class Time:
@@ -69,6 +72,8 @@ class Process:
             raise Unknown(f"{program.path}: {told}: {error.strerror}", told) from error
         assert self._child.stdin and self._child.stdout
         self._requests, self._answers = self._child.stdin.fileno(), self._child.stdout.fileno()
+        # So much the pipe takes at once if nothing is in it.
+        self._room = fcntl.fcntl(self._requests, fcntl.F_GETPIPE_SZ)
         self._poll = select.poll()
         self._poll.register(self._answers, select.POLLIN | select.POLLHUP)
 
@@ -84,7 +89,7 @@ class Process:
 
     def ask(self, requests: Sequence[bytes], until: Time) -> Iterator[list[Object]]:
         """The objects that answer each line. Raises Unknown where there is no answer, or not in time."""
-        for some in pipefuls(requests):
+        for some in pipefuls(requests, self._room):
             try:
                 # The process has read all before.
                 os.write(self._requests, b"".join(request + b"\n" for request in some))
@@ -139,13 +144,13 @@ class Process:
                 stream.close()
 
 
-def pipefuls(requests: Sequence[bytes]) -> Iterator[list[bytes]]:
-    """Requests in pieces, each of which a pipe takes at once."""
+def pipefuls(requests: Sequence[bytes], room: int) -> Iterator[list[bytes]]:
+    """Requests in pieces, each of which a pipe with so much room takes at once."""
     some: list[bytes] = []
     size = 0
     for request in requests:
         size += len(request) + 1
-        if some and size > PIPE_BYTES:
+        if some and size > room:
             yield some
             some, size = [], len(request) + 1
         some.append(request)
@@ -253,7 +258,7 @@ class Questions:
     def __init__(self, pool: Pool, count: int = 1) -> None:
         self._pool = pool
         self._until = Time(pool.seconds, count)
-        self._told: dict[tuple[Question, bytes], list[Object] | Unknown] = {}
+        self._told: dict[Asked, list[Object] | Unknown] = {}
 
     async def ask(self, question: Question, request: bytes) -> list[Object]:
         """The objects that answer one line. Raises Unknown."""
@@ -262,9 +267,13 @@ class Questions:
 
     async def ask_each(self, question: Question, requests: Iterable[bytes]) -> list[list[Object]]:
         """The objects that answer each line. Raises Unknown."""
-        return await Ask(self._tell, [(question, request) for request in requests])
+        return await self.ask_all([(question, request) for request in requests])
 
-    def _tell(self, asked: Sequence[tuple[Question, bytes]]) -> list[list[Object] | Unknown]:
+    async def ask_all(self, asked: Sequence[Asked]) -> list[list[Object]]:
+        """The objects that answer each line of each question, all in one turn. Raises Unknown."""
+        return await Ask(self._tell, asked)
+
+    def _tell(self, asked: Sequence[Asked]) -> list[list[Object] | Unknown]:
         new: dict[Question, dict[bytes, None]] = {}
         for question, request in asked:
             if (question, request) not in self._told:
@@ -280,7 +289,7 @@ def busy(seconds: float) -> Unknown:
     return Unknown(f"all processes are busy for {seconds:g} seconds: raise processes in the configuration")
 
 
-def only(objects: list[Object], *members: str) -> Object:
+def only(objects: Sequence[Object], *members: str) -> Object:
     """The one object of an answer, which has one of the members or a refusal."""
     if len(objects) != 1 or not any(member in objects[0] for member in (*members, "refusal")):
         raise Unknown(f"the program gave another answer than it should: {objects[-1]}")

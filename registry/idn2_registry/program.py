@@ -1,9 +1,11 @@
 """The program `idn2`, which decides: where it is, and runs of it that end."""
 
+import contextlib
 import json
 import os
 import pkgutil
 import re
+import select
 import shutil
 import subprocess
 import sys
@@ -12,7 +14,7 @@ from collections.abc import Iterator, Sequence
 from pathlib import Path
 
 from .answers import Object
-from .configuration import LabelRules
+from .configuration import Configuration, LabelRules
 from .faults import NotRegistered, Unknown, Unusable
 
 # Under which name the program is installed beside this one; `make install` writes another name here if it has one.
@@ -39,6 +41,10 @@ def candidates(name: str) -> Iterator[Path]:
         yield Path(found)
 
 
+class LacksRules(Unusable):
+    """A program can't test labels as a configuration says."""
+
+
 class Program:
     """The program in a file, which tests labels by some rules in every run."""
 
@@ -59,8 +65,16 @@ class Program:
             raise Unusable(f"{self.path}: another program of this name: name the right one with --idn2 PROGRAM")
         self.options = OPTIONS[rules]
         if self.run(["--register"]).returncode != 0:
-            raise Unusable(f"{self.path}: {self.version} can't test labels by labels = \"{rules.value}\": name a newer one "
-                           "with --idn2 PROGRAM")
+            raise LacksRules(f"{self.path}: {self.version} can't test labels by labels = \"{rules.value}\": name a newer one "
+                             "with --idn2 PROGRAM")
+
+    @classmethod
+    def of(cls, configuration: Configuration, path: str | os.PathLike[str] | None) -> "Program":
+        """The program as a configuration wants it. Raises Unusable, with the line if it is that which can't be done."""
+        try:
+            return cls(path, configuration.labels)
+        except LacksRules as error:
+            raise configuration.file.fault("labels", str(error)) from error
 
     @property
     def state(self) -> bytes:
@@ -76,7 +90,25 @@ class Program:
         except subprocess.TimeoutExpired as error:
             raise Unknown(f"no answer within {seconds:g} seconds") from error
         except OSError as error:
-            raise Unusable(f"{self.path}: {error.strerror}: name another program with --idn2 PROGRAM") from error
+            raise self._unusable(error) from error
+
+    def _unusable(self, error: OSError) -> Unusable:
+        """Why it can't be started."""
+        return Unusable(f"{self.path}: {error.strerror}: name another program with --idn2 PROGRAM")
+
+    @contextlib.contextmanager
+    def opened(self, words: Sequence[str], files: Sequence[int] = ()) -> Iterator["OpenRun"]:
+        """A run that is given its lines in parts. Raises Unusable if the program can't be started."""
+        try:
+            child = subprocess.Popen([self.path, *self.options, *words], stdin=subprocess.PIPE, stdout=subprocess.PIPE,
+                                     stderr=subprocess.PIPE, pass_fds=tuple(files), bufsize=0)
+        except OSError as error:
+            raise self._unusable(error) from error
+        with child:
+            try:
+                yield OpenRun(child)
+            finally:
+                child.kill()
 
     def answered(self, words: Sequence[str], given: bytes = b"", files: Sequence[int] = (),
                  seconds: float | None = None) -> bytes:
@@ -115,12 +147,93 @@ class Program:
         """The output, without objects, of a run that answered each line, and the numbers of the lines that it refused. Raises
         NotRegistered where it refused its registered labels, and Unknown for any other."""
         done = self.run(words, given, files, None)
-        if done.stderr.startswith(NOT_REGISTERED):
-            raise NotRegistered(ended(done.returncode, done.stderr))
-        refused = [int(line) for line in REFUSED.findall(done.stderr)]
-        if done.returncode not in ANSWERED or len(refused) != done.stderr.count(b"\n"):
-            raise Unknown(ended(done.returncode, done.stderr))
+        refused = refused_lines(done.stderr)
+        if done.returncode not in ANSWERED or refused is None:
+            raise unanswered(done.returncode, done.stderr)
         return done.stdout, refused
+
+
+class OpenRun:
+    """A run that is given its lines in parts. Behind each part stands an empty line, which is refused: what the program writes
+    of the part is written before it says that."""
+
+    def __init__(self, child: "subprocess.Popen[bytes]") -> None:
+        assert child.stdin and child.stdout and child.stderr
+        self._child = child
+        self._given, self._output, self._messages = child.stdin.fileno(), child.stdout.fileno(), child.stderr.fileno()
+        os.set_blocking(self._given, False)
+        # How many lines it was given.
+        self._count = 0
+
+    def plain(self, part: bytes) -> tuple[bytes, list[int]]:
+        """The output, without objects, of a part, and the numbers of its lines that it refused. Raises NotRegistered where it
+        refused its registered labels, and Unknown where it ended or said anything else."""
+        before = self._count
+        output, messages = self._told(part, self._messages, b"idn2: line %d: ")
+        refused = refused_lines(messages)
+        if refused is None:
+            raise Unknown(f"the program gave another answer than it should: {messages!r}")
+        return output, [number - before for number in refused[:-1]]
+
+    def answered(self, part: bytes) -> bytes:
+        """The output of a part, with `--json`. Raises Unknown where it ended."""
+        output, _ = self._told(part, self._output, b'{"line":%d,"input":"",')
+        return output[:output.rfind(b"\n", 0, -1) + 1]
+
+    def _told(self, part: bytes, stream: int, end: bytes) -> tuple[bytes, bytes]:
+        """What it writes of a part, and its messages, up to a line of one of them that begins as it says of the empty line."""
+        self._count += part.count(b"\n") + 1
+        end %= self._count
+        told = {self._output: bytearray(), self._messages: bytearray()}
+        left = memoryview(part + b"\n")
+        poll = select.poll()
+        poll.register(self._given, select.POLLOUT)
+        for each in told:
+            poll.register(each, select.POLLIN)
+        while True:
+            is_answered = last_line(told[stream]).startswith(end)
+            # What it wrote before that is there by now.
+            ready = poll.poll(0 if is_answered else None)
+            if is_answered and not ready:
+                return bytes(told[self._output]), bytes(told[self._messages])
+            for each, _ in ready:
+                if each == self._given:
+                    left = self._rest(left)
+                    if not left:
+                        poll.unregister(each)
+                elif piece := os.read(each, 65_536):
+                    told[each] += piece
+                else:
+                    raise self._ended(told[self._messages])
+
+    def _rest(self, left: memoryview) -> memoryview:
+        """What is left to be written of some bytes."""
+        try:
+            return left[os.write(self._given, left):]
+        except BrokenPipeError:
+            return left[:0]
+
+    def _ended(self, messages: bytearray) -> Unknown:
+        """Why it ended."""
+        assert self._child.stderr
+        messages += self._child.stderr.read()
+        return unanswered(self._child.wait(), bytes(messages))
+
+
+def last_line(text: bytearray) -> bytearray:
+    """The last line of a text, if it is whole."""
+    return text[text.rfind(b"\n", 0, -1) + 1:] if text.endswith(b"\n") else bytearray()
+
+
+def refused_lines(messages: bytes) -> list[int] | None:
+    """The numbers of the lines that a run without objects refused; None if it said anything else."""
+    refused = [int(line) for line in REFUSED.findall(messages)]
+    return refused if len(refused) == messages.count(b"\n") else None
+
+
+def unanswered(status: int, messages: bytes) -> Unknown:
+    """Why a run answered nothing."""
+    return (NotRegistered if messages.startswith(NOT_REGISTERED) else Unknown)(ended(status, messages))
 
 
 def ended(status: int, messages: bytes) -> str:

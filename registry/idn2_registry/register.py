@@ -84,6 +84,10 @@ class Register(abc.ABC):
         """Whether there is a register, of which this only is asked if it must not be."""
 
     @abc.abstractmethod
+    def where(self) -> str:
+        """Where it is, without any password."""
+
+    @abc.abstractmethod
     def faults(self) -> list[str]:
         """What it lacks, each with its remedy."""
 
@@ -100,8 +104,10 @@ def open_register(configuration: Configuration, must_be: bool = True) -> Registe
         from .sqlite import SqliteRegister
 
         return SqliteRegister(place, rest, seconds, must_be)
-    from .postgresql import PostgresqlRegister
-
+    try:
+        from .postgresql import PostgresqlRegister
+    except Unusable as error:
+        raise configuration.file.fault("register", str(error)) from error
     try:
         return PostgresqlRegister(place, configuration.register, seconds, must_be)
     except ValueError as error:

@@ -1,10 +1,11 @@
 """Requests, as `ask` and `serve` take them: a job, a label, and what the job takes."""
 
+import json
 from collections.abc import Awaitable, Callable
 from dataclasses import dataclass, field
 from typing import TYPE_CHECKING, Any, overload
 
-from .answers import Answer
+from .answers import Answer, Object
 from .zone import Zone
 
 if TYPE_CHECKING:
@@ -18,6 +19,19 @@ JOBS: dict[str, tuple[str, ...]] = {
     "tables-of": (),
 }
 TYPES: dict[str, type] = {"holder": str, "variants": bool, "table": str, "page": int, "after": str}
+
+
+def told_in(text: bytes) -> Any:
+    """What a text of JSON says. Raises ValueError or RecursionError for what is none. It is UTF-8 alone, by which every reader
+    has the same text (RFC 8259, section 8.1)."""
+    return json.loads(text.decode("utf-8-sig"), object_pairs_hook=object_of)
+
+
+def object_of(members: list[tuple[str, Any]]) -> Object:
+    """An object of its members. Raises ValueError if one comes twice, since readers don't agree which of them holds."""
+    if len(dict(members)) != len(members):
+        raise ValueError("a member comes twice")
+    return dict(members)
 
 
 @dataclass(frozen=True)

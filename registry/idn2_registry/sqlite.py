@@ -164,6 +164,9 @@ class SqliteRegister(Register):
         with self._connection() as connection:
             return connection.execute("select 1 from sqlite_master where name = 'registered'").fetchone() is not None
 
+    def where(self) -> str:
+        return f"sqlite:{self._path}"
+
     def faults(self) -> list[str]:
         with self._connection() as connection:
             plan = " ".join(str(row[3]) for row in connection.execute(f"explain query plan {FIRST}", ("",)))

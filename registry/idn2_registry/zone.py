@@ -53,7 +53,7 @@ class Zone:
         """The zone of a configuration, asked by the program at a path, else by the one beside this package or on the path.
         Raises Unusable."""
         configuration = read_configuration(path)
-        return cls(configuration, Program(program, configuration.labels))
+        return cls(configuration, Program.of(configuration, program))
 
     def __enter__(self) -> "Zone":
         return self
@@ -105,7 +105,7 @@ class Zone:
         tables = self.tables
         questions = Questions(tables.pool, len(checks))
         admitted: dict[int, Answer] = {}
-        for number, told in together([tables.tested(check.label, questions) for check in checks]):
+        for number, told in together([tables.tested(check.label, questions, True) for check in checks]):
             if isinstance(told, Answer) and told.status is Status.ADMITTED:
                 admitted[number] = told
             else:
@@ -134,7 +134,7 @@ class Zone:
         holder = checked_holder(holder)
 
         async def asked(tables: Tables, questions: Questions) -> Answer:
-            tested = await tables.tested(label, questions)
+            tested = await tables.tested(label, questions, True)
             if tested.status is not Status.ADMITTED or tested.ulabel is None:
                 return tested
             ulabel = tested.ulabel
@@ -192,7 +192,7 @@ class Zone:
             if name not in tested.tables:
                 if name not in tables.admitting:
                     raise ValueError(f"no table admits labels by the name {name}")
-                refusal = await tables.refusal(name, tested.ulabel, questions)
+                refusal = (await tables.refusals(tested.ulabel, questions))[name]
                 return replace(tested, status=Status.REFUSED, refusal=refusal)
             found, rest = await tables.variants(name, tested.ulabel, page, after, questions)
             answer = replace(tested, status=Status.LISTED, table=name, variants=found, after=rest)

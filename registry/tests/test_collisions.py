@@ -2,6 +2,7 @@
 closed."""
 
 import bisect
+import collections
 import itertools
 import json
 import os
@@ -12,13 +13,15 @@ import sqlite3
 import subprocess
 from collections.abc import Iterable, Sequence
 from pathlib import Path
+from typing import Any
 
 import pytest
 from conftest import LIMIT, PROGRAM, TABLES, Place
 from program import is_registrable, spelled
 
 from idn2_registry import Check, Status
-from idn2_registry.processes import Questions
+from idn2_registry.decisions import REGISTER
+from idn2_registry.processes import Pool, Process, Question, Questions, Time, pipefuls
 from idn2_registry.register import Register, Row, Transaction
 from idn2_registry.together import alone
 
@@ -181,6 +184,44 @@ def test_a_search_takes_few_turns(place: Place) -> None:
             found = alone(zone.tables.collisions.of("abababab", transaction, Questions(zone.tables.pool)))
             assert [label for label, _ in found] == [label for label in spelled_alike if label in registered]
             assert transaction.turns <= 32
+
+
+def test_asks_in_one_turn_what_can_be_asked_together(bare: Place, monkeypatch: pytest.MonkeyPatch) -> None:
+    """However many tables there are, and labels of the holder."""
+    lines = "%version 2\n0061|0062\n0062|0061\n0063\n"
+    for name in ("one", "two", "zone"):
+        bare.write(f"{name}.txt", lines)
+    bare.configure('zone = "zone"', one="one.txt", two="two.txt", zone="zone.txt")
+    bare.load(*("".join(letters) + "\tH1" for letters in itertools.product("ab", repeat=4) if letters != ("a", "b", "a", "b")))
+    told_by_one, asked = Pool._told_by_one, collections.Counter[Question]()
+
+    def counted(pool: Pool, question: Question, *given: Any) -> Any:
+        asked[question] += 1
+        return told_by_one(pool, question, *given)
+
+    monkeypatch.setattr(Pool, "_told_by_one", counted)
+    with bare.zone() as zone:
+        assert zone.check("abab", "H2").status is Status.TAKEN
+        asked.clear()
+        assert zone.check("abab", "H1").status is Status.AVAILABLE
+        by_table = [asked[zone.tables._asked[name]._jump] for name in ("one", "two")]
+        assert by_table == [2, 2], "whether it is admitted, and whether it is offered"
+        asked.clear()
+        assert zone.check("cccc").status is Status.AVAILABLE
+        assert sorted(asked.values()) == [1, 1, 1, 1], "the beginning of the search goes with the first of these"
+
+
+def test_sends_a_pipe_what_it_takes(place: Place) -> None:
+    """Also where that is a page, as where a user has many pipes."""
+    with place.zone() as zone:
+        process = Process(zone.program, REGISTER)
+        lines = [f"{'a' * 60}{number:03}".encode() for number in range(1000)]
+        assert len(list(pipefuls(lines, process._room))) == 1 and len(list(pipefuls(lines, 4096))) == 16
+        for room in (process._room, 4096):
+            process._room = room
+            answers = list(process.ask(lines, Time(LIMIT)))
+            assert [answer["ulabel"].encode() for [answer] in answers] == lines
+        process.close()
 
 
 def reset(register: Register, labels: set[str]) -> None:

@@ -1,5 +1,6 @@
 """Audits, changes of a table, what was stopped and goes on, and a cluster."""
 
+import contextlib
 import io
 import json
 import os
@@ -11,15 +12,17 @@ import sqlite3
 import subprocess
 import sys
 import time
-from collections.abc import Iterator
+from collections.abc import Callable, Iterator
 from pathlib import Path
 
 import pytest
-from conftest import LIMIT, TABLES, Place
+from conftest import LIMIT, PROGRAM, TABLES, Place
+from test_collisions import set_register
 
-from idn2_registry import work
+from idn2_registry import Unusable, work
 from idn2_registry.audit import groups_of
-from idn2_registry.program import Program
+from idn2_registry.faults import Unknown
+from idn2_registry.program import OpenRun, Program
 
 GERMAN = (TABLES / "german.txt").read_text("utf-8")
 WITH_AE = GERMAN.replace("\n00E4\n", "\n") + "0061-0065|00E4\n00E4|0061-0065\n"
@@ -73,12 +76,15 @@ def test_audit_tells_labels_that_may_not_be_registered(place: Place, monkeypatch
 def test_audit_takes_no_other_answer(place: Place, monkeypatch: pytest.MonkeyPatch) -> None:
     """Of a program that stops within what collides with a label, or lists otherwise than it says, nothing is known."""
     place.load("haus", "strasse", "straße")
-    plain = Program.plain
+    plain = OpenRun.plain
     for change in (lambda text: text[:-1], lambda text: text[:text.rindex(b"#end")], lambda text: text + b"#end 1 haus\n",
                    lambda text: text.replace(b"#end 1 ", b"#end 2 ", 1), lambda text: text.replace(b"#end 1 ", b"#end ", 1),
                    lambda text: text + b"#end 0 haus\n"):
-        monkeypatch.setattr(Program, "plain", lambda self, *words, change=change: (
-            change(plain(self, *words)[0]), plain(self, *words)[1]))
+        def changed(run: OpenRun, part: bytes, change: Callable[[bytes], bytes] = change) -> tuple[bytes, list[int]]:
+            output, refused = plain(run, part)
+            return change(output), refused
+
+        monkeypatch.setattr(OpenRun, "plain", changed)
         done = place.run("audit")
         assert done.returncode == 75 and not done.stdout and len(done.stderr.splitlines()) == 1, done
 
@@ -194,69 +200,210 @@ def test_change_wants_a_table_of_the_zone(place: Place) -> None:
         assert done.returncode == 75 and not done.stdout and len(done.stderr.splitlines()) == 1, done
 
 
-@pytest.mark.parametrize("job", ["audit", "load"])
+@pytest.mark.parametrize("job", ["audit", "audit of several tables", "change", "load"])
 def test_goes_on_where_it_was_stopped(place: Place, monkeypatch: pytest.MonkeyPatch, job: str) -> None:
+    """In whichever part of whichever stage: no part is done twice."""
     labels = sorted({f"strasse{number}" for number in range(40)} | {f"straße{number}" for number in range(0, 40, 7)})
     place.write("labels.txt", "".join(f"{label}\n" for label in labels))
-    if job == "audit":
-        place.load(*labels)
-    words = [job, *(["labels.txt"] if job == "load" else [])]
-    small_parts(monkeypatch, 10)
-    keep = work.Kept.keep
-    kept: list[int] = []
+    place.write("new.txt", WITH_AE)
+    if job == "audit of several tables":
+        place.configure('zone = "zone"', de=TABLES / "german.txt", en="new.txt", zone=TABLES / "german.txt")
+    words = [job.partition(" ")[0], *{"load": ["labels.txt"], "change": ["de=new.txt"]}.get(job, [])]
+    small_parts(monkeypatch, 20)
+    keep, kept, last = work.Stage.keep, 0, 0
 
-    def keep_two(self: work.Kept, number: int, result: bytes) -> None:
-        if len(kept) == 2:
+    def keep_some(self: work.Stage, number: int, result: bytes) -> None:
+        nonlocal kept
+        if kept == last:
             raise OSError("no space left")
-        kept.append(number)
+        kept += 1
         keep(self, number, result)
 
-    monkeypatch.setattr(work.Kept, "keep", keep_two)
-    assert place.run(*words).returncode == 75
-    assert place.run("dump").stdout.count(b"\n") == (0 if job == "load" else len(labels))
-    done_again: list[int] = []
+    def run(most: int, *more: str) -> "subprocess.CompletedProcess[bytes]":
+        nonlocal kept, last
+        kept, last = 0, most
+        return place.run(*words, *more)
 
-    def keep_all(self: work.Kept, number: int, result: bytes) -> None:
-        done_again.append(number)
-        keep(self, number, result)
-
-    monkeypatch.setattr(work.Kept, "keep", keep_all)
-    if job == "audit":
-        place.run("register", "maus")
-        refused = place.run(*words, "--resume")
-        assert refused.returncode == 75 and b"leave out --resume" in refused.stderr, refused
-        place.run("release", "maus")
-    resumed = place.run(*words, "--resume")
-    first = [number for number in done_again if number in kept]
-    assert resumed.returncode in (0, 1) and len(kept) == 2 and (job == "audit" or not first), resumed
-    assert not list(place.folder.glob("registry.toml.*")), "what was kept is gone"
-    if job == "audit":
-        assert resumed.stdout == place.run("audit").stdout
-    else:
+    monkeypatch.setattr(work.Stage, "keep", keep_some)
+    set_register(place, [] if job == "load" else labels)
+    whole, parts = run(1000), kept
+    assert whole.returncode in (0, 1) and parts == 3 * {"audit": 1, "load": 1, "change": 3}.get(job, 2), (whole, parts)
+    for stop in range(parts):
+        set_register(place, [] if job == "load" else labels)
+        assert run(stop).returncode == 75 and kept == stop
+        assert place.run("dump").stdout.count(b"\n") == (0 if job == "load" else len(labels))
+        if job != "load" and stop:
+            set_register(place, [*labels, "maus"])
+            refused = run(1000, "--resume")
+            assert refused.returncode == 75 and b"leave out --resume" in refused.stderr and kept == 0, refused
+            set_register(place, labels)
+        resumed = run(1000, "--resume")
+        assert (resumed.stdout, resumed.returncode, kept) == (whole.stdout, whole.returncode, parts - stop), resumed
+        assert not list(place.folder.glob("registry.toml.*")), "what was kept is gone"
         assert place.run("dump").stdout.decode().split() == labels
 
 
-def test_shows_progress_on_a_terminal_alone(place: Place) -> None:
+def test_keeps_no_line_that_was_cut_short(tmp_path: Path) -> None:
+    """As where a process is killed while it writes it."""
+    path, state, results = tmp_path / "audit", [b"state"], {2: b"{}", 0: b"[1, 2]", 1: b""}
+
+    def found(added: dict[int, bytes]) -> dict[int, bytes]:
+        with contextlib.closing(work.Stage(path, state)) as stage:
+            before = dict(stage.found)
+            for number, result in added.items():
+                stage.keep(number, result)
+        return before
+
+    found(results)
+    whole = path.read_bytes()
+    for size in range(len(whole)):
+        path.write_bytes(whole[:size])
+        before = found({})
+        assert [*before.items()] == [*results.items()][:len(before)] and len(before) == max(0, whole[:size].count(b"\n") - 1)
+        found({number: result for number, result in results.items() if number not in before})
+        assert found({}) == results and path.read_bytes() == whole
+    with pytest.raises(Unusable, match="leave out --resume"):
+        work.Stage(path, [b"other"])
+    for line in (2, 3):
+        start = [match.end() for match in re.finditer(b"\n", whole)][line - 2]
+        for place in (start, start + 4, start + 11):
+            path.write_bytes(whole[:place] + b"\0" + whole[place + 1:])
+            with pytest.raises(Unusable, match=f"audit: line {line}: it was changed: leave out --resume"):
+                work.Stage(path, state)
+
+
+def test_two_jobs_at_once_do_not_disturb_each_other(tmp_path: Path) -> None:
+    """At worst nothing is left to go on with."""
+    with contextlib.suppress(InterruptedError), work.Kept(tmp_path / "parts", False) as one:
+        first = one.stage("audit", [b"state"])
+        first.keep(0, b"0")
+        with work.Kept(tmp_path / "parts", False) as other:
+            second = other.stage("audit", [b"state"])
+            first.keep(1, b"1")
+            second.keep(0, b"2")
+        second.close()
+        first.keep(2, b"3")
+        first.close()
+        assert (first.found, second.found) == ({0: b"0", 1: b"1", 2: b"3"}, {0: b"2"})
+        one.stage("audit-tables", [b"state"]).keep(0, b"4")
+        raise InterruptedError
+    with work.Kept(tmp_path / "parts", True) as again:
+        assert (again.stage("audit", [b"state"]).found, again.stage("audit-tables", [b"state"]).found) == ({}, {0: b"4"})
+
+
+def test_a_run_that_is_given_parts_answers_as_one_that_is_given_all(place: Place) -> None:
+    """Also where it is told more than a pipe takes, and says more."""
+    program, words = Program(PROGRAM), ["--variants", str(TABLES / "german.txt"), "--tries", "9"]
+    labels = [b"sss", b"Maus", b"ss" * 30, b"", *(b"%d_%d" % (number, number) for number in range(1500)), b"\xff", b"haus"]
+    parts = [b"".join(label + b"\n" for label in labels * count) for count in (1, 0, 3)]
+    with program.opened(words) as run, program.opened(["--json", *words]) as with_objects:
+        for part in parts:
+            assert run.plain(part) == (program.plain(words, part) if part else (b"", []))
+            told, alone = ([json.loads(line) for line in output.splitlines()]
+                           for output in (with_objects.answered(part), program.answered(words, part)))
+            assert [{**each, "line": 0} for each in told] == [{**each, "line": 0} for each in alone]
+
+
+@pytest.mark.parametrize(("script", "told"), [
+    ("read line; exit 3", "the program ended with status 3"),
+    ("exec 2> /dev/full; exit 3", "the program ended with status 3"),
+    ("read line; echo 'idn2: registered line 1: 3 empty' >&2; exit 1", "status 1: idn2: registered line 1: 3 empty"),
+    ("read line; echo 'idn2: 70 out of memory' >&2; kill -9 $$", "status -9: idn2: 70 out of memory"),
+    ("read line; echo 'idn2: 60 read fault' >&2; echo 'idn2: line 2: 3 empty' >&2; read line; read line",
+     "another answer than it should: b'idn2: 60 read fault")])
+def test_a_run_that_is_given_parts_says_why_it_ended(bare: Place, script: str, told: str) -> None:
+    path = bare.write("program", f"#!/bin/sh\ncase \"$1\" in --version) echo idn2 7;; --register) ;; *) {script};; esac\n")
+    path.chmod(0o755)
+    with Program(path).opened(["--decode"]) as run, pytest.raises(Unknown, match=re.escape(told)):
+        run.plain(b"a\n")
+
+
+# Takes its time with the end of each part of an audit.
+SLOW = """#!/usr/bin/env python3
+import os, subprocess, sys, time
+if "--others" not in sys.argv:
+    os.execv({program!r}, sys.argv)
+child = subprocess.Popen([{program!r}, *sys.argv[1:]], stdin=subprocess.PIPE, close_fds=False)
+time.sleep(1)
+for line in sys.stdin.buffer:
+    child.stdin.write(line)
+    if line == b"\\n":
+        time.sleep(0.6)
+        child.stdin.flush()
+"""
+
+
+def test_shows_progress_on_a_terminal_alone(place: Place, monkeypatch: pytest.MonkeyPatch) -> None:
     place.load("haus", "maus")
     assert place.run("audit").stderr == b""
+    total = 2 * work.SLOW_PART_LINES
+    set_register(place, [f"a{number}" for number in range(total)])
+    place.configure("processes = 1")
+    place.write("slow", SLOW.format(program=str(PROGRAM))).chmod(0o755)
+    monkeypatch.setattr("conftest.PROGRAM", place.folder / "slow")
     master, end = pty.openpty()
     process = place.start("audit", stderr=end)
+    os.close(end)
+    shown = b""
+    # It ends with an error once nobody has the other end.
+    with contextlib.suppress(OSError):
+        while piece := os.read(master, 65_536):
+            shown += piece
+    os.close(master)
+    process.communicate(timeout=LIMIT)
+    drawn = shown.decode().split("\r")[1:]
+    assert process.returncode == 0 and drawn[0] == f"audit [{' ' * work.BAR}] 0 of {total}, 0 s ", drawn
+    # It moves before the first part is done, and before the last one is.
+    assert any(re.fullmatch(rf"audit \[ +\] 0 of {total}, [1-9]\d* s +", each) for each in drawn), drawn
+    assert any(re.fullmatch(rf"audit \[#+ +\] \d+ of {total}, \d+/s, \d+ s left +", each) for each in drawn), drawn
+    assert drawn[-2].startswith(f"audit [{'#' * work.BAR}] {total} of {total}, "), drawn
+
+
+def test_shows_how_many_labels_are_registered(place: Place) -> None:
+    place.write("labels.txt", "haus\nmaus\n")
+    master, end = pty.openpty()
+    process = place.start("load", "labels.txt", stderr=end)
     os.close(end)
     process.communicate(timeout=LIMIT)
     shown = os.read(master, 65_536).decode()
     os.close(master)
-    assert process.returncode == 0 and "audit [####" in shown and "2 of 2" in shown and "s left" in shown, shown
-    # It is there before the first part is done.
-    assert shown.startswith(f"\raudit [{' ' * work.BAR}] 0 of 2 \r"), shown
+    for name in ("load", "load, registered"):
+        assert f"\r{name} [{'#' * work.BAR}] 2 of 2, " in shown, shown
+
+
+def test_goes_on_after_it_was_killed(place: Place, monkeypatch: pytest.MonkeyPatch) -> None:
+    set_register(place, [f"a{number}" for number in range(3 * work.SLOW_PART_LINES)])
+    place.configure("processes = 1")
+    place.write("slow", SLOW.format(program=str(PROGRAM))).chmod(0o755)
+    monkeypatch.setattr("conftest.PROGRAM", place.folder / "slow")
+    process, file = place.start("audit"), place.folder / "registry.toml.audit-parts" / "audit"
+    until = time.monotonic() + LIMIT
+    while not (file.exists() and file.read_bytes().count(b"\n") > 1):
+        assert time.monotonic() < until and process.poll() is None
+        time.sleep(0.05)
+    process.kill()
+    process.communicate(timeout=LIMIT)
+    before, keep, kept = file.read_bytes().count(b"\n") - 1, work.Stage.keep, 0
+
+    def counted(self: work.Stage, number: int, result: bytes) -> None:
+        nonlocal kept
+        kept += 1
+        keep(self, number, result)
+
+    monkeypatch.setattr(work.Stage, "keep", counted)
+    place.expect(["audit", "--resume"], f"{3 * work.SLOW_PART_LINES} labels, 0 invalid, 0 groups\n", 0)
+    assert 0 < before < 3 and kept == 3 - before and not file.exists(), (before, kept)
 
 
 def test_what_was_done_before_has_no_part_in_the_rate(monkeypatch: pytest.MonkeyPatch) -> None:
     shown = io.StringIO()
     monkeypatch.setattr(shown, "isatty", lambda: True)
     monkeypatch.setattr(sys, "stderr", shown)
-    times = iter([100.0, 100.0, 102.0])
+    times = iter([100.0, 102.0])
     monkeypatch.setattr(time, "monotonic", lambda: next(times))
-    work.Progress("load", 1000, 900).add(40)
+    progress = work.Progress("load", 1000, 900)
+    progress.add(40)
+    progress.show()
     assert shown.getvalue().endswith("940 of 1000, 20/s, 3 s left "), shown.getvalue()
 
 
@@ -296,17 +443,18 @@ def test_a_cluster_does_the_same(place: Place, cluster: tuple[str, list["subproc
     labels = [f"strasse{number}" for number in range(300)] + [f"straße{number}" for number in range(0, 300, 7)] + ["中国"]
     place.load(*labels)
     small_parts(monkeypatch, 10)
+    monkeypatch.setattr(work, "BATCH_LINES", 20)
     alone = place.run("audit", "--json")
     killed: list[int] = []
-    keep = work.Kept.keep
+    keep = work.Stage.keep
 
-    def kill_one(self: work.Kept, number: int, result: bytes) -> None:
+    def kill_one(self: work.Stage, number: int, result: bytes) -> None:
         keep(self, number, result)
         if not killed:
             workers[0].send_signal(signal.SIGKILL)
             killed.append(number)
 
-    monkeypatch.setattr(work.Kept, "keep", kill_one)
+    monkeypatch.setattr(work.Stage, "keep", kill_one)
     together = place.run("audit", "--json", "--scheduler", address)
     assert killed and (objects(together), together.returncode) == (objects(alone), 1), together.stderr
     monkeypatch.setattr("idn2_registry.cluster.SECONDS", 1)

@@ -102,7 +102,7 @@ def test_refuses_what_is_no_name_of_a_zone(place: Place) -> None:
 def test_goes_on_with_no_part_that_was_read_otherwise(place: Place, monkeypatch: pytest.MonkeyPatch) -> None:
     """What was kept of a load without --old has refusals of labels that are taken with it."""
     place.write("names.txt", "ab--c\n")
-    monkeypatch.setattr(Kept, "remove", lambda self: None)
+    monkeypatch.setattr(Kept, "__exit__", lambda *_: None)
     assert place.run("load", "names.txt").returncode == 1
     done = place.run("load", "--old", "--resume", "names.txt")
     assert done.returncode == 75 and b"leave out --resume" in done.stderr, done

@@ -183,12 +183,14 @@ def test_co_process_answers_each_request(place: Place) -> None:
         {"job": "check", "label": "a", "page": 1}, {"job": "check", "label": "a", "holder": 1},
         {"job": "check", "label": "a", "holder": "\n"}, [], "a", None, {"id": 3, "job": "check", "label": "\udc80"}]
     lines = [json.dumps(request).encode() for request in requests] + [b"{", b"", b"\xff"]
+    lines += [b'{"id":4,"job":"register","label":"a","label":"b"}', '{"job":"register","label":"a"}'.encode("utf-16")]
     done = place.run("ask", given=b"\n".join(lines) + b"\n")
     told = [json.loads(line) for line in done.stdout.splitlines()]
     assert len(told) == len(lines) and done.returncode == 0
     assert [each.get("status") for each in told[:6]] == ["taken", "registered", "released", "listed", "refused", "refused"]
     assert [each.get("id") for each in told[:3]] == [1, "two", None]
     assert all(each.keys() == {"fault"} for each in (*told[6:14], *told[15:])), told
+    place.expect(["dump"], "strasse\tH2\n", 0)
     assert told[14] == {"id": 3, "label_hex": "80", "status": "refused",
                         "refusal": {"number": 1, "text": "not UTF-8", "byte": 1}}
 

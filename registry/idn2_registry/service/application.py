@@ -7,7 +7,6 @@ from dataclasses import dataclass
 from aiohttp import web
 
 from ..answers import Object
-from ..configuration import Configuration
 from ..faults import Fault, Unusable
 from ..output import complain
 from .answering import Answering
@@ -131,18 +130,3 @@ class Service:
     async def metrics_text(self, request: web.Request) -> web.StreamResponse:
         """What a dashboard reads."""
         return web.Response(body=self.metrics.text().encode(), headers={"Content-Type": METRICS_TYPE})
-
-
-def read_token(configuration: Configuration) -> bytes | None:
-    """The token in the file that is named for it, if one is. Raises Unusable for one that can be guessed."""
-    path = configuration.service.token
-    if path is None:
-        return None
-    try:
-        with open(path, "rb") as file:
-            token = file.read(4097).strip()
-    except OSError as error:
-        raise configuration.file.fault("token", f"{path}: {error.strerror}: mend its path", "service") from error
-    if not 32 <= len(token) <= 4096 or not token.isascii() or len(token.split()) != 1:
-        raise Unusable(f"{path}: a token is a word of 32 letters or more: openssl rand -hex 32 makes one")
-    return token

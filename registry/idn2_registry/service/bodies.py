@@ -1,16 +1,14 @@
 """Requests and answers as HTTP has them."""
 
 import asyncio
-import json
 import urllib.parse
 from collections.abc import Sequence
-from typing import Any
 
 from aiohttp import web
 
 from ..answers import Answer, Object, Status
 from ..output import text_of
-from ..requests import TYPES, Request
+from ..requests import TYPES, Request, told_in
 
 MOST_BYTES = 1_048_576
 MOST_LABELS = 1_000
@@ -66,20 +64,12 @@ async def body_of(request: web.Request) -> Object:
     except ConnectionError as error:
         raise ValueError("the body isn't whole") from error
     try:
-        # UTF-8 alone, by which every reader has the same text (RFC 8259, section 8.1).
-        told: Any = json.loads(body.decode("utf-8-sig"), object_pairs_hook=object_of)
+        told = told_in(body)
     except (ValueError, RecursionError) as error:
         raise ValueError(f"the body is no JSON: {error}") from error
     if not isinstance(told, dict):
         raise ValueError("a body is an object")
     return told
-
-
-def object_of(members: list[tuple[str, Any]]) -> Object:
-    """An object of its members. Raises ValueError if one comes twice, since readers don't agree which of them holds."""
-    if len(dict(members)) != len(members):
-        raise ValueError("a member comes twice")
-    return dict(members)
 
 
 def requests_of_labels(job: str, told: Object) -> list[Request]:

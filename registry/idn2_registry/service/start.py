@@ -11,11 +11,11 @@ from pathlib import Path
 
 from aiohttp import web
 
-from ..configuration import Configuration
+from ..configuration import Configuration, read_token
 from ..output import complain
 from ..zone import Zone
 from .answering import Answering
-from .application import Service, read_token
+from .application import Service
 from .connections import Connections
 from .metrics import Metrics
 
